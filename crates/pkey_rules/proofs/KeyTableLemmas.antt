@@ -1,0 +1,59 @@
+use Rattle.std.proofs.Common.{◌≡◌, ℕ, Bool, true, false, ◌==◌, ◌&&◌, ◌||◌, not, List, [], ◌∷◌, ◌++◌, refl, inl, inr, ◌∙◌, sym, arith}
+use Rattle.std.specs.List.{IsDistinct, list_any}
+use Rattle.std.proofs.lemmas.Map.Keys.{IsDistinct-push}
+use Rattle.std.proofs.lemmas.Cmp.{nat_eq_equiv, on_equiv}
+use Rattle.std.proofs.lemmas.Bool.{and_parts, and_from, or_cases, or_left, or_right, eq-eqb}
+use Rattle.std.proofs.lemmas.Bool.Decides.{nat_tests}
+use Rattle.pkey_rules.specs.PKey.{base_of, is_full, matches}
+use Rattle.pkey_rules.specs.KeyTable.{accepts, has_base, same_base, shares, shares_base, SomeSharedBase}
+
+pub distinct_nil : IsDistinct same_base []
+unfolding IsDistinct
+distinct_nil = tt
+
+same_either_way : (a b : ℕ) → (a == b) ≡ (b == a)
+same_either_way a b = grind (arith, nat_tests)
+
+has_base-same_base : (key : ℕ) (keys : List ℕ) → has_base (base_of key) keys ≡ list_any (same_base key) keys
+has_base-same_base key [] = refl
+has_base-same_base key (held ∷ keys) =
+    rw (same_either_way (base_of held) (base_of key), has_base-same_base key keys) refl
+
+-- a key of a base that is not there may be added
+pub distinct_push : (key : ℕ) (keys : List ℕ) → has_base (base_of key) keys ≡ false → IsDistinct same_base keys → IsDistinct same_base (keys ++ key ∷ [])
+distinct_push key keys free distinct =
+    IsDistinct-push (on_equiv base_of nat_eq_equiv) keys key distinct (rw (← has_base-same_base key keys) free)
+
+-- what passes a test passes a weaker one
+list_any_weaker : {X : Type 0} (strong weak : X → Bool) → ((x : X) → strong x ≡ true → weak x ≡ true) → (xs : List X) → list_any strong xs ≡ true → list_any weak xs ≡ true
+list_any_weaker strong weak implies [] h = h
+list_any_weaker strong weak implies (x ∷ xs) h =
+    elim (or_cases (strong x) (list_any strong xs) h) [
+      | inl here ↦ or_left (weak x) (list_any weak xs) (implies x here)
+      | inr later ↦ or_right (weak x) (list_any weak xs) (list_any_weaker strong weak implies xs later)
+    ]
+
+-- matching keys are of one base
+matches_same_base : (a b : ℕ) → matches a b ≡ true → ((base_of a == base_of b) && matches a b) ≡ true
+matches_same_base a b h = and_from (base_of a == base_of b) (matches a b) (and_parts (base_of a == base_of b) _ h).0 h
+
+pub shared_base : (ps qs : List ℕ) → shares ps qs ≡ true → SomeSharedBase ps qs
+shared_base [] qs h = absurd (cc)
+shared_base (p ∷ ps) qs h =
+    elim (or_cases (accepts p qs) (shares ps qs) h) [
+      | inl here ↦ (
+        base_of p,
+        or_left _ (shares_base (base_of p) ps qs)
+            (and_from (base_of p == base_of p) _ (eq-eqb (base_of p) (base_of p) refl)
+            (list_any_weaker (λ q. matches q p) (λ q. (base_of q == base_of p) && matches q p) (λ q e. matches_same_base q p e) qs here)),
+      )
+      | inr later ↦ let found : SomeSharedBase ps qs = shared_base ps qs later in
+          (found.0, or_right _ (shares_base found.0 ps qs) found.1)
+    ]
+
+pub shares_from_base : (base : ℕ) (ps qs : List ℕ) → shares_base base ps qs ≡ true → shares ps qs ≡ true
+shares_from_base base ps qs h =
+    list_any_weaker (λ p. (base_of p == base) && list_any (λ q. (base_of q == base) && matches q p) qs) (λ p. accepts p qs)
+    (λ p e. list_any_weaker (λ q. (base_of q == base) && matches q p) (λ q. matches q p) (λ q f. (and_parts (base_of q == base) (matches q p) f).1) qs
+    (and_parts (base_of p == base) _ e).1)
+    ps h

@@ -1,0 +1,2 @@
+pub mod PKey
+pub mod KeyTable

@@ -1,0 +1,19 @@
+//! Partition keys: who may talk to whom in an InfiniBand subnet.
+//!
+//! A [`PKey`] names a partition and says whether its holder is a full or a limited member. A
+//! [`KeyTable`] is what a port holds: a list of keys, no two of one partition. Contracts see a key
+//! as its number and a table as its list of numbers, and every layer above cites the two tests that
+//! stand here: whether two keys match (`specs/PKey.antt`), and whether two tables share a partition
+//! (`specs/KeyTable.antt`). The keys and their table are those of the InfiniBand Architecture
+//! Specification, volume 1, 14.2.5.7.
+#![tactic(auto)]
+
+mod end_port;
+mod key_table;
+mod p_key;
+#[cfg(test)]
+mod tests;
+
+pub use crate::end_port::EndPort;
+pub use crate::key_table::{KeyTable, PARTITIONS, PushRefusal};
+pub use crate::p_key::{InvalidBase, PKey};
