@@ -1,11 +1,11 @@
-use Rattle.std.proofs.Common.{◌≡◌, ℕ, Bool, true, false, ◌==◌, ◌&&◌, ◌||◌, not, List, [], ◌∷◌, ◌++◌, refl, inl, inr, ◌∙◌, sym, arith}
+use Rattle.std.proofs.Common.{◌≡◌, ℕ, Bool, true, false, ◌==◌, ◌&&◌, ◌||◌, not, List, find, is_some, IfSome, [], ◌∷◌, ◌++◌, refl, inl, inr, ◌∙◌, sym, arith}
 use Rattle.std.specs.List.{IsDistinct, list_any}
 use Rattle.std.proofs.lemmas.Map.Keys.{IsDistinct-push}
 use Rattle.std.proofs.lemmas.Cmp.{nat_eq_equiv, on_equiv}
-use Rattle.std.proofs.lemmas.Bool.{and_parts, and_from, or_cases, or_left, or_right, eq-eqb}
+use Rattle.std.proofs.lemmas.Bool.{and_parts, and_from, or_cases, or_left, or_right, eq-eqb, eqb-true, cases_Bool}
 use Rattle.std.proofs.lemmas.Bool.Decides.{nat_tests}
 use Rattle.pkey_rules.specs.PKey.{base_of, is_full, matches}
-use Rattle.pkey_rules.specs.KeyTable.{accepts, has_base, same_base, shares, shares_base, SomeSharedBase}
+use Rattle.pkey_rules.specs.KeyTable.{accepts, holds, has_base, same_base, shares, shares_base, SomeSharedBase}
 
 pub distinct_nil : IsDistinct same_base []
 unfolding IsDistinct
@@ -57,3 +57,18 @@ shares_from_base base ps qs h =
     (λ p e. list_any_weaker (λ q. (base_of q == base) && matches q p) (λ q. matches q p) (λ q f. (and_parts (base_of q == base) (matches q p) f).1) qs
     (and_parts (base_of p == base) _ e).1)
     ps h
+
+-- what is found is there, and is what was looked for
+pub find_is_some : (bits : ℕ) (keys : List ℕ) → is_some (find (λ held. held == bits) keys) ≡ holds bits keys
+find_is_some bits [] = refl
+find_is_some bits (key ∷ keys) = elim (cases_Bool (key == bits)) [
+  | inl here ↦ rw here refl
+  | inr other ↦ rw other (find_is_some bits keys)
+]
+
+pub find_is_same : (bits : ℕ) (keys : List ℕ) → IfSome (find (λ held. held == bits) keys) (λ key. key ≡ bits)
+find_is_same bits [] = tt
+find_is_same bits (key ∷ keys) = elim (cases_Bool (key == bits)) [
+  | inl here ↦ rw here (eqb-true key bits here)
+  | inr other ↦ rw other (find_is_same bits keys)
+]

@@ -1,4 +1,4 @@
-ghost use Rattle.std.specs.Prelude.{◌≡◌, ◌≤◌, ◌↔◌, false, true, [], ◌∷◌, ◌++◌, length, IsErrOf, OnOk, OnErr};
+ghost use Rattle.std.specs.Prelude.{◌≡◌, ◌≤◌, ◌↔◌, false, true, [], ◌∷◌, ◌++◌, length, ◌==◌, find, is_some, IfSome, IsErrOf, OnOk, OnErr};
 ghost use Rattle.pkey_rules.specs.PKey.{base_of};
 ghost use Rattle.pkey_rules.specs.KeyTable.{accepts, holds, find_base, has_base, shares, SomeSharedBase};
 
@@ -91,6 +91,20 @@ impl<const CAP: usize> KeyTable<CAP> {
         ensures { result ≡ holds key self.now }
     {
         self.keys.iter().any(|held| *held == key)
+    }
+
+    /// The key of exactly these bits, if the table has it.
+    pub fn find(&self, bits: u16) -> Option<PKey>
+        ensures found { is_some result ≡ holds bits self.now }
+        ensures key { IfSome result (λ key. key ≡ bits) }
+    {
+        self.find_bits(bits)
+    }
+
+    fn find_bits(&self, bits: u16) -> Option<PKey>
+        ensures { result ≡ find (λ held. held == bits) self.now }
+    {
+        self.keys.iter().copied().find(|held| held.bits() == bits)
     }
 
     /// The key of that base, if the table has one.

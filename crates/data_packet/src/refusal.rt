@@ -1,0 +1,35 @@
+ghost use Rattle.std.specs.Prelude.{◌≡◌};
+ghost use Rattle.data_packet.specs.Refusal.{code_of};
+
+use thiserror::Error;
+
+/// Why a port refuses to send a packet, in the order in which it looks.
+#[derive(Clone, Copy, Debug, PartialEq, Eq, Error)]
+pub enum Refusal {
+    /// The port is not Active.
+    #[error("the port is not active")]
+    PortNotActive,
+    /// The packet's P_Key is not in the port's table.
+    #[error("the port does not hold this partition key")]
+    KeyNotHeld,
+    /// Queue pair 0 is for subnet management packets alone.
+    #[error("data cannot go to queue pair 0")]
+    QpZero,
+    /// LID 0 is nobody's, and 0xffff is for directed-route packets.
+    #[error("this LID is reserved")]
+    ReservedDlid,
+}
+
+impl Refusal {
+    /// The code that a report prints.
+    pub fn code(self) -> &'static str
+        ensures { result.now ≡ code_of self }
+    {
+        match self {
+            Refusal::KeyNotHeld => "AR1",
+            Refusal::QpZero => "AR2",
+            Refusal::ReservedDlid => "AR3",
+            Refusal::PortNotActive => "AR4",
+        }
+    }
+}

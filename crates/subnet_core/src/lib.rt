@@ -1,0 +1,4 @@
+//! Whole runs.
+#![tactic(auto)]
+
+mod text;

@@ -1,0 +1,129 @@
+ghost use Rattle.std.specs.Prelude.{◌≡◌, ◌++◌, [], ◌∷◌, drop, OnOk, IfOk, decimal};
+ghost use Rattle.std.specs.Int.{w16, w32, to_be_bytes};
+ghost use Rattle.subnet_model.specs.Delivery.{port_of};
+ghost use Rattle.hex.specs.Hex.{encode_lower};
+ghost use Rattle.subnet_core.specs.Text.{port_text, name_text, hex_text, trimmed, payload_text, packet_text, outcome_text, line_text, report_text};
+
+use data_packet::Packet;
+use itoa::Buffer;
+use std::alloc::{AllocError, Global};
+use subnet_model::{Event, Outcome, SubnetPort, port_of};
+
+/// The lines of these events, one each.
+pub(crate) fn report_text(
+    alloc: Global,
+    ports: &[SubnetPort],
+    events: &[Event],
+) -> Result<Vec<u8>, AllocError>
+    ensures { IfOk result (λ text. text.items ≡ report_text ports.now events.now) }
+{
+    let mut text = Vec::new(alloc);
+    for event in events {
+        push_line(&mut text, alloc, ports, event)?;
+    }
+    Ok(text)
+}
+
+fn push_line(
+    text: &mut Vec<u8>,
+    alloc: Global,
+    ports: &[SubnetPort],
+    event: &Event,
+) -> Result<(), AllocError>
+    ensures { OnOk result (text.new.items ≡ text.old.items ++ line_text ports.now event.now) }
+{
+    push_name(text, ports, event.port)?;
+    push_outcome(text, alloc, &event.what)?;
+    text.push(b'\n')?;
+    Ok(())
+}
+
+fn push_name(text: &mut Vec<u8>, ports: &[SubnetPort], guid: u64) -> Result<(), AllocError>
+    ensures { OnOk result (text.new.items ≡ text.old.items ++ name_text (port_of ports.now guid)) }
+{
+    match port_of(ports, guid) {
+        Some(port) => push_port(text, port),
+        None => Ok(()),
+    }
+}
+
+/// `NODE/NUMBER`.
+pub(crate) fn push_port(text: &mut Vec<u8>, port: &SubnetPort) -> Result<(), AllocError>
+    ensures { OnOk result (text.new.items ≡ text.old.items ++ port_text port.now) }
+{
+    text.extend_from_slice(port.node.as_slice())?;
+    text.extend_from_slice(b"/")?;
+    push_decimal(text, usize::from(port.number))
+}
+
+fn push_outcome(text: &mut Vec<u8>, alloc: Global, what: &Outcome) -> Result<(), AllocError>
+    ensures { OnOk result (text.new.items ≡ text.old.items ++ outcome_text what.now) }
+{
+    match what {
+        Outcome::Received(packet) => push_packet(text, alloc, packet),
+        Outcome::Refused(refusal) => {
+            text.extend_from_slice(b" refused ")?;
+            text.extend_from_slice(refusal.code().as_bytes())
+        }
+    }
+}
+
+fn push_packet(text: &mut Vec<u8>, alloc: Global, packet: &Packet) -> Result<(), AllocError>
+    ensures { OnOk result (text.new.items ≡ text.old.items ++ packet_text packet.now) }
+{
+    text.extend_from_slice(b" recv ")?;
+    push_hex(text, alloc, &packet.slid.to_be_bytes())?;
+    text.extend_from_slice(b" ")?;
+    push_hex(text, alloc, &packet.dlid.to_be_bytes())?;
+    text.extend_from_slice(b" ")?;
+    push_hex(text, alloc, &packet.p_key.bits().to_be_bytes())?;
+    text.extend_from_slice(b" ")?;
+    push_hex(
+        text,
+        alloc,
+        &packet.destination_qp.number().to_be_bytes()[1..],
+    )?;
+    text.extend_from_slice(b" ")?;
+    push_payload(text, alloc, packet.payload.as_slice())
+}
+
+/// `0x` and two digits a byte.
+fn push_hex(text: &mut Vec<u8>, alloc: Global, bytes: &[u8]) -> Result<(), AllocError>
+    ensures { OnOk result (text.new.items ≡ text.old.items ++ hex_text bytes.now) }
+{
+    text.extend_from_slice(b"0x")?;
+    push_digits(text, alloc, bytes)
+}
+
+fn push_payload(text: &mut Vec<u8>, alloc: Global, bytes: &[u8]) -> Result<(), AllocError>
+    ensures { OnOk result (text.new.items ≡ text.old.items ++ payload_text bytes.now) }
+{
+    push_decimal(text, bytes.len())?;
+    text.extend_from_slice(b":")?;
+    push_digits(text, alloc, trimmed(bytes))
+}
+
+fn push_digits(text: &mut Vec<u8>, alloc: Global, bytes: &[u8]) -> Result<(), AllocError>
+    ensures { OnOk result (text.new.items ≡ text.old.items ++ encode_lower bytes.now) }
+{
+    let digits = hex::encode(alloc, bytes)?;
+    text.extend_from_slice(digits.as_bytes())
+}
+
+fn push_decimal(text: &mut Vec<u8>, number: usize) -> Result<(), AllocError>
+    ensures { OnOk result (text.new.items ≡ text.old.items ++ decimal number) }
+{
+    let mut buffer = Buffer::new();
+    text.extend_from_slice(buffer.format(number).as_bytes())
+}
+
+/// The bytes without the zero bytes at their end.
+fn trimmed(bytes: &[u8]) -> &[u8]
+    ensures { result.now ≡ trimmed bytes.now }
+{
+    let mut end = bytes.len();
+    while end > 0 && bytes[end - 1] == 0 {
+        end -= 1;
+    }
+    &bytes[..end]
+}

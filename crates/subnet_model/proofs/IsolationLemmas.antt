@@ -1,0 +1,216 @@
+use Rattle.std.proofs.Common.{◌≡◌, ℕ, Bool, true, false, ◌==◌, ◌&&◌, ◌||◌, not, List, [], ◌∷◌, ◌++◌, Option, Some, None, find, filter, map, All, refl, inl, inr, ◌∙◌, sym, ap, arith}
+use Rattle.std.specs.List.{list_any, IsDistinct, AllByRecursion}
+use Rattle.std.proofs.lemmas.List.Elements.{All-nil, All-cons, All-same, All-append, All-filter, All-map, All-weaker, All-from_recursion, filter-append}
+use Rattle.std.proofs.lemmas.List.Folds.{list_any_none}
+use Rattle.std.proofs.lemmas.Bool.{cases_Bool, both_ways, false_from_ne_true, and_parts, and_from, and_left, and_cases, or_cases, or_parts, or_left, or_right, eq-eqb, eqb-true}
+use Rattle.std.proofs.lemmas.Bool.Decides.{nat_tests}
+use Rattle.data_packet.specs.declared.refusal.Refusal.{Refusal}
+use Rattle.data_packet.specs.declared.refusal.Refusal.TheVariants.{KeyNotHeld}
+use Rattle.pkey_rules.specs.PKey.{matches}
+use Rattle.pkey_rules.specs.KeyTable.{accepts, holds, shares}
+use Rattle.subnet_model.specs.declared.subnet_port.SubnetPort.{SubnetPort}
+use Rattle.subnet_model.specs.declared.command.Command.{Command}
+use Rattle.subnet_model.specs.declared.command.Command.TheVariants.{Send}
+use Rattle.subnet_model.specs.declared.command.SendCommand.{SendCommand}
+use Rattle.subnet_model.specs.declared.event.Event.{Event}
+use Rattle.subnet_model.specs.declared.event.Outcome.TheVariants.{Received, Refused}
+use Rattle.subnet_model.specs.declared.state.State.{State}
+use Rattle.subnet_model.specs.State.{start, view}
+use Rattle.subnet_model.specs.Near.{shares_with, ports_share, is_near}
+use Rattle.subnet_model.specs.Delivery.{port_of, refusal_of, reaches, is_for_sa}
+use Rattle.subnet_model.specs.Report.{packet_of, received, unless_refused, sent_from, step, events_from, report}
+use Rattle.subnet_model.specs.Restriction.{actor, commands_of, events_at}
+use Rattle.subnet_model.specs.Source.{is_lid_near, IsFromNear, ComesFromNear, same_lid}
+use Rattle.subnet_model.specs.Isolation.{Isolates, IsIsolated}
+
+-- a step that keeps a port to itself brings it the same events when what is far from it is left out
+pub isolated : {S V C E : Type 0} {step : S → C → List E × S} {view : S → V} {is_near : C → Bool} {at : List E → List E} → Isolates step view is_near at → (commands : List C) (s t : S) → view s ≡ view t → at (events_from step s commands) ≡ at (events_from step t (filter is_near commands))
+isolated law [] s t same = refl
+isolated {step = step} {view = view} {is_near = is_near} {at = at} law (c ∷ cs) s t same = elim (cases_Bool (is_near c)) [
+  | inl near ↦ rw near (law.joined (step s c).0 (events_from step (step s c).1 cs)
+      ∙ (ap (λ first. first ++ at (events_from step (step s c).1 cs)) (law.near_events s t c near same)
+      ∙ (ap (λ rest. at (step t c).0 ++ rest) (isolated law cs (step s c).1 (step t c).1 (law.near_state s t c near same))
+      ∙ sym (law.joined (step t c).0 (events_from step (step t c).1 (filter is_near cs))))))
+  | inr far ↦ rw far (law.joined (step s c).0 (events_from step (step s c).1 cs)
+      ∙ (ap (λ first. first ++ at (events_from step (step s c).1 cs)) (law.far_events s c far)
+      ∙ isolated law cs (step s c).1 t (law.far_state s c far ∙ same)))
+]
+
+-- what passes a test passes a weaker one
+list_any_weaker : {X : Type 0} (strong weak : X → Bool) → ((x : X) → strong x ≡ true → weak x ≡ true) → (xs : List X) → list_any strong xs ≡ true → list_any weak xs ≡ true
+list_any_weaker strong weak implies [] h = h
+list_any_weaker strong weak implies (x ∷ xs) h = elim (or_cases (strong x) (list_any strong xs) h) [
+  | inl here ↦ or_left (weak x) (list_any weak xs) (implies x here)
+  | inr later ↦ or_right (weak x) (list_any weak xs) (list_any_weaker strong weak implies xs later)
+]
+
+-- what is found by a test passes it, and is in the list
+found_passes : {X : Type 0} (test : X → Bool) (xs : List X) (x : X) → find test xs ≡ Some x → test x ≡ true
+found_passes test [] x h = absurd (cc)
+found_passes test (y ∷ ys) x h = elim (cases_Bool (test y)) [
+  | inl here ↦ let same : Some y ≡ Some x = rw here at h in let e : y ≡ x = cc in ap test (sym e) ∙ here
+  | inr other ↦ let later : find test ys ≡ Some x = rw other at h in found_passes test ys x later
+]
+
+found_in : {X : Type 0} (test other : X → Bool) (xs : List X) (x : X) → find test xs ≡ Some x → other x ≡ true → list_any other xs ≡ true
+found_in test other [] x h p = absurd (cc)
+found_in test other (y ∷ ys) x h p = elim (cases_Bool (test y)) [
+  | inl here ↦ let same : Some y ≡ Some x = rw here at h in let e : y ≡ x = cc in or_left (other y) (list_any other ys) (ap other e ∙ p)
+  | inr not_here ↦ let later : find test ys ≡ Some x = rw not_here at h in or_right (other y) (list_any other ys) (found_in test other ys x later p)
+]
+
+matches_either_way : (a b : ℕ) → matches a b ≡ matches b a
+matches_either_way a b = grind (arith, nat_tests)
+
+-- who holds a key shares a partition with whoever accepts it
+holder_accepts : (key other : ℕ) (held : List ℕ) → holds key held ≡ true → matches key other ≡ true → accepts other held ≡ true
+holder_accepts key other held h m =
+    list_any_weaker (λ k. k == key) (λ k. matches k other) (λ k e. ap (λ n. matches n other) (eqb-true k key e) ∙ m) held h
+
+shares_from_holder : (key : ℕ) (held others : List ℕ) → holds key held ≡ true → accepts key others ≡ true → shares others held ≡ true
+shares_from_holder key held others h =
+    list_any_weaker (λ other. matches other key) (λ other. accepts other held) (λ other m. holder_accepts key other held h (matches_either_way key other ∙ m)) others
+
+not_at_p : (port : SubnetPort) (p : ℕ) (command : SendCommand) → ((port.guid == p) && reaches command port) ≡ false → reaches command port ≡ true → (port.guid == p) ≡ false
+not_at_p port p command h reached = elim (and_cases (port.guid == p) (reaches command port) h) [
+  | inl other ↦ other
+  | inr not_reached ↦ absurd (both_ways (reaches command port) not_reached reached)
+]
+
+-- at a port that the packet does not reach, nothing is received
+quiet : (p : ℕ) (all : List SubnetPort) (sender : SubnetPort) (command : SendCommand) → list_any (λ port. (port.guid == p) && reaches command port) all ≡ false → events_at p (received all sender command) ≡ []
+quiet p [] sender command h = refl
+quiet p (port ∷ ports) sender command h =
+    let parts : (((port.guid == p) && reaches command port) ≡ false) × (list_any (λ q. (q.guid == p) && reaches command q) ports ≡ false) = or_parts _ _ h in
+    elim (cases_Bool (reaches command port && not (is_for_sa command port))) [
+      | inl here ↦ rw here (rw (not_at_p port p command parts.0 (and_parts (reaches command port) (not (is_for_sa command port)) here).0) (quiet p ports sender command parts.1))
+      | inr passes_by ↦ rw passes_by (quiet p ports sender command parts.1)
+    ]
+
+-- whoever a packet reaches shares a partition with its sender
+reached_is_near : (ports : List SubnetPort) (p : ℕ) (sender : SubnetPort) (command : SendCommand) → port_of ports command.port ≡ Some sender → holds command.p_key sender.keys ≡ true → list_any (λ port. (port.guid == p) && reaches command port) ports ≡ true → is_near ports p command.port ≡ true
+reached_is_near ports p sender command found held h =
+    or_right (command.port == p) (ports_share ports p command.port)
+    (list_any_weaker (λ port. (port.guid == p) && reaches command port) (λ port. (port.guid == p) && shares_with ports port command.port)
+    (λ port e. let parts : ((port.guid == p) ≡ true) × (reaches command port ≡ true) = and_parts (port.guid == p) (reaches command port) e in
+    and_from (port.guid == p) (shares_with ports port command.port) parts.0
+    (found_in (λ other. other.guid == command.port) (λ other. (other.guid == command.port) && shares port.keys other.keys) ports sender found
+    (and_from (sender.guid == command.port) (shares port.keys sender.keys) (found_passes (λ other. other.guid == command.port) ports sender found)
+    (shares_from_holder command.p_key sender.keys port.keys held
+    (and_parts (port.lid == command.dlid) (accepts command.p_key port.keys) (and_parts _ _ parts.1).1).1))))
+    ports h)
+
+held_unless_refused : (sender : SubnetPort) (command : SendCommand) → refusal_of sender command ≡ None → holds command.p_key sender.keys ≡ true
+held_unless_refused sender command e = elim (cases_Bool (holds command.p_key sender.keys)) [
+  | inl held ↦ held
+  | inr not_held ↦ let told : Some KeyNotHeld ≡ None = rw not_held at e in absurd (cc)
+]
+
+far_unreached : (ports : List SubnetPort) (p : ℕ) (command : SendCommand) (sender : SubnetPort) → port_of ports command.port ≡ Some sender → is_near ports p command.port ≡ false → holds command.p_key sender.keys ≡ true → list_any (λ port. (port.guid == p) && reaches command port) ports ≡ false
+far_unreached ports p command sender found far held =
+    false_from_ne_true (list_any (λ port. (port.guid == p) && reaches command port) ports)
+    (λ reached. both_ways (is_near ports p command.port) far (reached_is_near ports p sender command found held reached))
+
+far_answer : (ports : List SubnetPort) (p : ℕ) (command : SendCommand) (sender : SubnetPort) → port_of ports command.port ≡ Some sender → is_near ports p command.port ≡ false → (refusal : Option Refusal) → refusal_of sender command ≡ refusal → events_at p (unless_refused refusal command.port (received ports sender command)) ≡ []
+far_answer ports p command sender found far (Some refusal) e = rw (or_parts (command.port == p) (ports_share ports p command.port) far).0 refl
+far_answer ports p command sender found far None e =
+    quiet p ports sender command (far_unreached ports p command sender found far (held_unless_refused sender command e))
+
+far_send : (ports : List SubnetPort) (p : ℕ) (command : SendCommand) (sender : Option SubnetPort) → port_of ports command.port ≡ sender → is_near ports p command.port ≡ false → events_at p (sent_from sender ports command) ≡ []
+far_send ports p command None found far = refl
+far_send ports p command (Some sender) found far = far_answer ports p command sender found far (refusal_of sender command) refl
+
+-- a command of a port that is far from p brings p nothing
+far_events : (ports : List SubnetPort) (p : ℕ) (s : State) (command : Command) → is_near ports p (actor command) ≡ false → events_at p (step ports s command).0 ≡ []
+far_events ports p s (Send command) far = far_send ports p command (port_of ports command.port) refl far
+
+far_state : (ports : List SubnetPort) (p : ℕ) (s : State) (command : Command) → is_near ports p (actor command) ≡ false → view ports p (step ports s command).1 ≡ view ports p s
+far_state ports p s (Send command) far = refl
+
+near_events : (ports : List SubnetPort) (p : ℕ) (s t : State) (command : Command) → view ports p s ≡ view ports p t → events_at p (step ports s command).0 ≡ events_at p (step ports t command).0
+near_events ports p s t (Send command) same = refl
+
+near_state : (ports : List SubnetPort) (p : ℕ) (s t : State) (command : Command) → view ports p s ≡ view ports p t → view ports p (step ports s command).1 ≡ view ports p (step ports t command).1
+near_state ports p s t (Send command) same = same
+
+pub step_isolates : (ports : List SubnetPort) (p : ℕ) → Isolates (step ports) (view ports p) (λ command. is_near ports p (actor command)) (events_at p)
+step_isolates ports p = record {
+  far_events = λ s command far. far_events ports p s command far;
+  far_state = λ s command far. far_state ports p s command far;
+  near_events = λ s t command near same. near_events ports p s t command same;
+  near_state = λ s t command near same. near_state ports p s t command same;
+  joined = λ xs ys. filter-append (λ event. event.port == p) xs ys;
+  nothing = refl;
+}
+
+pub depends_on_near : (ports : List SubnetPort) (p : ℕ) (commands : List Command) → events_at p (report ports commands) ≡ events_at p (report ports (commands_of (is_near ports p) commands))
+depends_on_near ports p commands = isolated (step_isolates ports p) commands start start refl
+
+-- the sender of a packet is near whomever its command is near
+sender_lid_near : (ports : List SubnetPort) (p : ℕ) (command : SendCommand) (sender : SubnetPort) → port_of ports command.port ≡ Some sender → is_near ports p command.port ≡ true → is_lid_near ports p sender.lid ≡ true
+sender_lid_near ports p command sender found near =
+    let same : sender.guid ≡ command.port = eqb-true sender.guid command.port (found_passes (λ other. other.guid == command.port) ports sender found) in
+    found_in (λ other. other.guid == command.port) (λ other. (other.lid == sender.lid) && is_near ports p other.guid) ports sender found
+    (and_from (sender.lid == sender.lid) (is_near ports p sender.guid) (eq-eqb sender.lid sender.lid refl) (ap (is_near ports p) same ∙ near))
+
+abbrev AllFromNear : List SubnetPort → ℕ → List Event → Type 0
+AllFromNear ports p events = All (λ event. IsFromNear ports p event.what) events
+
+answer_from_near : (ports : List SubnetPort) (p : ℕ) (command : SendCommand) (sender : SubnetPort) → port_of ports command.port ≡ Some sender → is_near ports p command.port ≡ true → (refusal : Option Refusal) → AllFromNear ports p (unless_refused refusal command.port (received ports sender command))
+answer_from_near ports p command sender found near (Some refusal) = All-cons (λ event. IsFromNear ports p event.what) (record { port = command.port; what = Refused refusal }) [] tt (All-nil (λ event. IsFromNear ports p event.what))
+answer_from_near ports p command sender found near None =
+    All-map (λ event. IsFromNear ports p event.what) (λ port. record { port = port.guid; what = Received (packet_of sender command) })
+    (filter (λ port. reaches command port && not (is_for_sa command port)) ports)
+    (λ k d h. sender_lid_near ports p command sender found near)
+
+send_from_near : (ports : List SubnetPort) (p : ℕ) (command : SendCommand) (sender : Option SubnetPort) → port_of ports command.port ≡ sender → is_near ports p command.port ≡ true → AllFromNear ports p (sent_from sender ports command)
+send_from_near ports p command None found near = All-nil (λ event. IsFromNear ports p event.what)
+send_from_near ports p command (Some sender) found near = answer_from_near ports p command sender found near (refusal_of sender command)
+
+near_step : (ports : List SubnetPort) (p : ℕ) (s : State) (command : Command) → is_near ports p (actor command) ≡ true → AllFromNear ports p (step ports s command).0
+near_step ports p s (Send command) near = send_from_near ports p command (port_of ports command.port) refl near
+
+step_from_near : (ports : List SubnetPort) (p : ℕ) (s : State) (command : Command) → ComesFromNear ports p (step ports s command).0
+step_from_near ports p s command = elim (cases_Bool (is_near ports p (actor command))) [
+  | inl near ↦ All-filter (λ event. event.port == p) (λ event. IsFromNear ports p event.what) (step ports s command).0 (near_step ports p s command near)
+  | inr far ↦ All-same (λ event. IsFromNear ports p event.what) (events_at p (step ports s command).0) [] (far_events ports p s command far) (All-nil (λ event. IsFromNear ports p event.what))
+]
+
+all_from_near : (ports : List SubnetPort) (p : ℕ) (commands : List Command) (s : State) → ComesFromNear ports p (events_from (step ports) s commands)
+all_from_near ports p [] s = All-nil (λ event. IsFromNear ports p event.what)
+all_from_near ports p (command ∷ commands) s =
+    All-same (λ event. IsFromNear ports p event.what) (events_at p ((step ports s command).0 ++ events_from (step ports) (step ports s command).1 commands))
+    (events_at p (step ports s command).0 ++ events_at p (events_from (step ports) (step ports s command).1 commands))
+    (filter-append (λ event. event.port == p) (step ports s command).0 (events_from (step ports) (step ports s command).1 commands))
+    (All-append (λ event. IsFromNear ports p event.what) (events_at p (step ports s command).0) (events_at p (events_from (step ports) (step ports s command).1 commands))
+    (step_from_near ports p s command) (all_from_near ports p commands (step ports s command).1))
+
+pub comes_from_near : (ports : List SubnetPort) (p : ℕ) (commands : List Command) → ComesFromNear ports p (report ports commands)
+comes_from_near ports p commands = all_from_near ports p commands start
+
+other_lid : (lid : ℕ) (x : SubnetPort) (test : SubnetPort → Bool) (y : SubnetPort) → x.lid ≡ lid → same_lid x y ≡ false → ((y.lid == lid) && test y) ≡ false
+other_lid lid x test y e apart = and_left (y.lid == lid) (test y) (grind (arith, nat_tests))
+
+only_one : (test : SubnetPort → Bool) (lid : ℕ) (ports : List SubnetPort) → IsDistinct same_lid ports → list_any (λ port. (port.lid == lid) && test port) ports ≡ true → All (λ port. port.lid ≡ lid → test port ≡ true) ports
+unfolding IsDistinct
+only_one test lid [] distinct h = All-nil (λ port. port.lid ≡ lid → test port ≡ true)
+only_one test lid (x ∷ xs) distinct h =
+    let apart : All (λ y. same_lid x y ≡ false) xs = All-from_recursion (λ y. same_lid x y ≡ false) xs distinct.0 in
+    elim (or_cases ((x.lid == lid) && test x) (list_any (λ port. (port.lid == lid) && test port) xs) h) [
+      | inl here ↦ let parts : ((x.lid == lid) ≡ true) × (test x ≡ true) = and_parts (x.lid == lid) (test x) here in
+          All-cons (λ port. port.lid ≡ lid → test port ≡ true) x xs (λ e. parts.1)
+          (All-weaker (λ y. same_lid x y ≡ false) (λ y. y.lid ≡ lid → test y ≡ true) (λ y other e. absurd (both_ways (same_lid x y) other (eq-eqb x.lid y.lid (eqb-true x.lid lid parts.0 ∙ sym e)))) xs apart)
+      | inr later ↦ All-cons (λ port. port.lid ≡ lid → test port ≡ true) x xs
+          (λ e. absurd (both_ways (list_any (λ port. (port.lid == lid) && test port) xs)
+          (list_any_none (λ port. (port.lid == lid) && test port) xs (All-weaker (λ y. same_lid x y ≡ false) (λ y. ((y.lid == lid) && test y) ≡ false) (λ y other. other_lid lid x test y e other) xs apart))
+          later))
+          (only_one test lid xs distinct.1 later)
+    ]
+
+pub names_near_port : (ports : List SubnetPort) (p lid : ℕ) → IsDistinct same_lid ports → is_lid_near ports p lid ≡ true → All (λ port. port.lid ≡ lid → is_near ports p port.guid ≡ true) ports
+names_near_port ports p lid distinct h = only_one (λ port. is_near ports p port.guid) lid ports distinct h
+
+-- what is the report of the commands is isolated
+pub report_is_isolated : (ports : List SubnetPort) (commands : List Command) (events : List Event) → events ≡ report ports commands → IsIsolated ports commands events
+report_is_isolated ports commands events same =
+    λ p. rw same (depends_on_near ports p commands, comes_from_near ports p commands)

@@ -1,0 +1,40 @@
+-- Whether a packet may be sent, and whom it reaches.
+use Rattle.std.specs.Prelude.{ℕ, Bool, true, false, not, ◌==◌, ◌&&◌, ◌||◌, List, Option, Some, None, if◌then◌else◌, find}
+use Rattle.pkey_rules.specs.KeyTable.{accepts, holds}
+use Rattle.data_packet.specs.declared.refusal.Refusal.{Refusal}
+use Rattle.data_packet.specs.declared.refusal.Refusal.TheVariants.{KeyNotHeld, QpZero, ReservedDlid}
+use Rattle.subnet_model.specs.declared.subnet_port.SubnetPort.{SubnetPort}
+use Rattle.subnet_model.specs.declared.subnet_port.PortKind.{PortKind}
+use Rattle.subnet_model.specs.declared.subnet_port.PortKind.TheVariants.{ChannelAdapter, Switch}
+use Rattle.subnet_model.specs.declared.command.SendCommand.{SendCommand}
+
+-- the port that a command names
+abbrev pub port_of : List SubnetPort → ℕ → Option SubnetPort
+port_of ports guid = find (λ port. port.guid == guid) ports
+
+-- LID 0 is nobody's, and the greatest one is for directed-route packets alone
+abbrev pub is_reserved : ℕ → Bool
+is_reserved lid = (lid == 0) || (lid == 0xffff)
+
+-- why a port will not send: it holds no such key, or the queue pair is 0, or the LID is reserved
+abbrev pub refusal_of : SubnetPort → SendCommand → Option Refusal
+refusal_of sender command =
+    if not (holds command.p_key sender.keys)
+    then Some KeyNotHeld
+    else if command.destination_qp == 0
+    then Some QpZero
+    else if is_reserved command.dlid
+    then Some ReservedDlid
+    else None
+
+abbrev pub is_adapter : PortKind → Bool
+is_adapter ChannelAdapter = true
+is_adapter Switch = false
+
+-- a packet reaches the adapter port of its destination LID, if that port holds a key that matches the packet's
+abbrev pub reaches : SendCommand → SubnetPort → Bool
+reaches command port = is_adapter port.kind && ((port.lid == command.dlid) && accepts command.p_key port.keys)
+
+-- what comes to the subnet manager's port at queue pair 1 is for the subnet administration
+abbrev pub is_for_sa : SendCommand → SubnetPort → Bool
+is_for_sa command port = (port.lid == 1) && (command.destination_qp == 1)

@@ -1,0 +1,10 @@
+pub mod EndPorts
+pub mod Near
+pub mod State
+pub mod Delivery
+pub mod Report
+pub mod Restriction
+pub mod Source
+pub mod Isolation
+pub use Rattle.pkey_rules.specs.PKey
+pub use Rattle.pkey_rules.specs.KeyTable

@@ -1,0 +1,52 @@
+-- What happens in a subnet, command by command.
+use Rattle.std.specs.Prelude.{ℕ, not, ◌==◌, ◌&&◌, List, [], ◌∷◌, ◌++◌, Option, Some, None, filter, map}
+use Rattle.data_packet.specs.declared.packet.Packet.{Packet}
+use Rattle.data_packet.specs.declared.refusal.Refusal.{Refusal}
+use Rattle.subnet_model.specs.declared.subnet_port.SubnetPort.{SubnetPort}
+use Rattle.subnet_model.specs.declared.command.Command.{Command}
+use Rattle.subnet_model.specs.declared.command.Command.TheVariants.{Send}
+use Rattle.subnet_model.specs.declared.command.SendCommand.{SendCommand}
+use Rattle.subnet_model.specs.declared.event.Event.{Event}
+use Rattle.subnet_model.specs.declared.event.Outcome.TheVariants.{Received, Refused}
+use Rattle.subnet_model.specs.declared.state.State.{State}
+use Rattle.subnet_model.specs.State.{start}
+use Rattle.subnet_model.specs.Delivery.{port_of, refusal_of, reaches, is_for_sa}
+
+-- the packet as it arrives
+abbrev pub packet_of : SubnetPort → SendCommand → Packet
+packet_of sender command = record {
+  slid = sender.lid;
+  dlid = command.dlid;
+  p_key = command.p_key;
+  destination_qp = command.destination_qp;
+  payload = command.payload;
+}
+
+-- each port that the packet reaches receives it, and what is for the subnet administration gives no event of its own
+abbrev pub received : List SubnetPort → SubnetPort → SendCommand → List Event
+received ports sender command =
+    map (λ port. record { port = port.guid; what = Received (packet_of sender command) })
+    (filter (λ port. reaches command port && not (is_for_sa command port)) ports)
+
+abbrev pub unless_refused : Option Refusal → ℕ → List Event → List Event
+unless_refused (Some refusal) port events = record { port = port; what = Refused refusal } ∷ []
+unless_refused None port events = events
+
+abbrev pub sent_from : Option SubnetPort → List SubnetPort → SendCommand → List Event
+sent_from (Some sender) ports command =
+    unless_refused (refusal_of sender command) command.port (received ports sender command)
+sent_from None ports command = []
+
+-- the events of one command, and the state after it
+abbrev pub step : List SubnetPort → State → Command → List Event × State
+step ports state (Send command) = (sent_from (port_of ports command.port) ports command, state)
+
+-- the events of commands that follow one another from a state
+abbrev pub events_from : {S C E : Type 0} → (S → C → List E × S) → S → List C → List E
+events_from step state [] = []
+events_from step state (command ∷ commands) =
+    (step state command).0 ++ events_from step (step state command).1 commands
+
+-- the report of a list of commands
+abbrev pub report : List SubnetPort → List Command → List Event
+report ports commands = events_from (step ports) start commands

@@ -1,0 +1,23 @@
+use data_packet::{Payload, QueuePair};
+
+/// What a port is told to do.
+#[derive(Debug, Drop, PartialEq, Eq)]
+pub enum Command {
+    /// To send a packet.
+    Send(SendCommand),
+}
+
+/// A packet that a port is told to send.
+#[derive(Debug, Drop, PartialEq, Eq)]
+pub struct SendCommand {
+    /// The GUID of the port that sends.
+    pub port: u64,
+    /// The LID that it sends to.
+    pub dlid: u16,
+    /// The key under which it is to travel, valid or not.
+    pub p_key: u16,
+    /// The queue pair that it is meant for.
+    pub destination_qp: QueuePair,
+    /// What it carries.
+    pub payload: Payload,
+}

@@ -1,0 +1,30 @@
+//! What a subnet is, and why its partitions keep apart.
+//!
+//! Here are the definitions that the product's promises are made of: who is near whom
+//! (`specs/Near.antt`), whom a packet reaches (`specs/Delivery.antt`), what a list of commands brings
+//! about (`specs/Report.antt`), and the sentence itself, that what a port receives depends only on
+//! the ports near it (`specs/Isolation.antt`). There is no cable, table or hop in them: a subnet is a
+//! list of ports with their LIDs and keys (IBA volume 1, chapters 10 and 14). Beside them stands the
+//! plain, slow program over such a list: [`report`], whose contract is the definition and the
+//! sentence, for every list of ports and every list of commands.
+#![tactic(auto)]
+
+mod command;
+mod evaluation;
+mod event;
+mod law;
+mod lids;
+mod nearness;
+mod node_name;
+mod state;
+mod subnet_port;
+
+pub use crate::command::{Command, SendCommand};
+pub use crate::evaluation::{port_of, report, step};
+pub use crate::event::{Event, Outcome};
+pub use crate::law::isolation;
+pub use crate::lids::lids_of;
+pub use crate::nearness::{is_near, near};
+pub use crate::node_name::{NODE_NAME_BYTES, NodeName};
+pub use crate::state::State;
+pub use crate::subnet_port::{PortKind, SubnetPort};

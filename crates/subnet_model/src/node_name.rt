@@ -1,0 +1,43 @@
+ghost use Rattle.std.specs.Prelude.{◌≡◌, ◌≤◌, length};
+ghost use Rattle.subnet_model.specs.declared.node_name.TheConstants.{NODE_NAME_BYTES};
+
+use arrayvec::ArrayVec;
+use std::marker::Model;
+
+/// How many bytes the name of a node has at most.
+pub const NODE_NAME_BYTES: usize = 32;
+
+/// The name of a node, as its description shows it.
+#[derive(Debug, Drop)]
+pub struct NodeName {
+    bytes: ArrayVec<u8, NODE_NAME_BYTES>,
+}
+
+impl Model for NodeName {
+    ghost use Rattle.std.specs.Prelude.{ℕ, List};
+
+    ghost Value = { List ℕ };
+
+    ghost view = { λ name. name.bytes.items };
+}
+
+impl NodeName {
+    /// The name that these bytes spell.
+    pub fn new(bytes: &[u8]) -> NodeName
+        requires { length bytes.now ≤ NODE_NAME_BYTES }
+        ensures { result ≡ bytes.now }
+    {
+        let mut name = ArrayVec::new();
+        for byte in bytes {
+            name.push(*byte);
+        }
+        NodeName { bytes: name }
+    }
+
+    /// Its bytes.
+    pub fn as_slice(&self) -> &[u8]
+        ensures { result.now ≡ self.now }
+    {
+        self.bytes.as_slice()
+    }
+}

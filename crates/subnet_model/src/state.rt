@@ -1,0 +1,17 @@
+ghost use Rattle.std.specs.Prelude.{◌≡◌};
+
+/// What a subnet remembers between two commands. It is empty for now: a packet leaves no trace, and
+/// no port can ask the subnet administration for anything yet.
+#[derive(Debug, Drop, PartialEq, Eq)]
+pub struct State {}
+
+impl State {
+    ghost use Rattle.subnet_model.specs.State.{start};
+
+    /// The state before the first command.
+    pub fn new() -> State
+        ensures { result ≡ start }
+    {
+        State {}
+    }
+}

@@ -1,0 +1,29 @@
+use crate::node_name::NodeName;
+use pkey_rules::{KeyTable, PARTITIONS};
+
+/// What kind of node an end port belongs to.
+#[derive(Clone, Copy, Debug, PartialEq, Eq)]
+pub enum PortKind {
+    /// A port of a channel adapter: it sends and receives data.
+    ChannelAdapter,
+    /// Port 0 of a switch: it has a LID and keys, and takes no data.
+    Switch,
+}
+
+/// An end port of a subnet: all that the subnet knows it by. The ports of a subnet stand in order of
+/// their LIDs.
+#[derive(Debug, Drop)]
+pub struct SubnetPort {
+    /// Its address within the subnet, from 1; the subnet manager's port has 1.
+    pub lid: u16,
+    /// Its GUID.
+    pub guid: u64,
+    /// The name of its node.
+    pub node: NodeName,
+    /// Which port of its node it is: from 1 on a channel adapter, 0 on a switch.
+    pub number: u8,
+    /// The kind of its node.
+    pub kind: PortKind,
+    /// The keys that it holds.
+    pub keys: KeyTable<PARTITIONS>,
+}

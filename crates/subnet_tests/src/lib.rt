@@ -1,0 +1,8 @@
+//! Tests of what a subnet is and of whole runs, through public calls alone. They say what no clause
+//! does: worked examples with numbers from outside, and that calls succeed where memory is there.
+#![tactic(auto)]
+
+#[cfg(test)]
+mod fixtures;
+#[cfg(test)]
+mod neighbours;
