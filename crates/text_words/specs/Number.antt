@@ -1,0 +1,19 @@
+-- Numbers, as topology files, scripts and partition files spell them.
+use Rattle.std.specs.Prelude.{ℕ, ◌+◌, ◌*◌, ◌^◌, ◌&&◌, nat_eq, nat_lt, if◌then◌else◌, List, length, drop, codes, Option, Some, None}
+use Rattle.std.specs.List.{list_all, starts_with}
+use Rattle.std.specs.Char.{is_digit, digit_value}
+use Rattle.std.specs.Str.Parse.{digits_value}
+
+-- the number that a row of digits spells: at least one digit, all of this radix, and a value of 128 bits
+abbrev pub digits_in : ℕ → List ℕ → Option ℕ
+digits_in radix digits =
+    if nat_lt 0 (length digits) && (list_all (λ byte. is_digit byte radix) digits && nat_lt (digits_value radix digits) (2 ^ 128)) then Some (digits_value radix digits) else None
+
+-- decimal digits, or `0x` and hexadecimal digits of either case
+abbrev pub number_in : List ℕ → Option ℕ
+number_in word = if starts_with nat_eq word (codes "0x") then digits_in 16 (drop 2 word) else digits_in 10 word
+
+-- the number that one more digit makes
+abbrev pub digit_step : ℕ → ℕ → ℕ → Option ℕ
+digit_step radix value byte =
+    if is_digit byte radix && nat_lt (value * radix + digit_value byte) (2 ^ 128) then Some (value * radix + digit_value byte) else None

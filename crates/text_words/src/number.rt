@@ -1,0 +1,40 @@
+ghost use Rattle.std.specs.Prelude.{◌≡◌, ◌≤◌};
+ghost use Rattle.text_words.specs.Number.{digits_in, digit_step, number_in};
+
+/// The number that a word spells, in decimal digits or as `0x` and hexadecimal digits of either
+/// case; none where it is spelt otherwise or past 128 bits.
+pub fn number_in(word: &[u8]) -> Option<u128>
+    ensures { result ≡ number_in word.now }
+{
+    match word.strip_prefix(b"0x") {
+        Some(digits) => digits_in(16, digits),
+        None => digits_in(10, word),
+    }
+}
+
+fn digits_in(radix: u32, digits: &[u8]) -> Option<u128>
+    requires low { 2 ≤ radix }
+    requires high { radix ≤ 36 }
+    ensures { result ≡ digits_in radix digits.now }
+{
+    if digits.is_empty() {
+        return None;
+    }
+    let mut value = 0;
+    for byte in digits {
+        value = with_digit(radix, value, *byte)?;
+    }
+    Some(value)
+}
+
+/// The number that one more digit makes, if it is a digit and 128 bits hold the number.
+fn with_digit(radix: u32, value: u128, byte: u8) -> Option<u128>
+    requires low { 2 ≤ radix }
+    requires high { radix ≤ 36 }
+    ensures { result ≡ digit_step radix value byte }
+{
+    let digit = char::from(byte).to_digit(radix)?;
+    value
+        .checked_mul(u128::from(radix))?
+        .checked_add(u128::from(digit))
+}

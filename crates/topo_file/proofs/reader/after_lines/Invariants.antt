@@ -1,0 +1,8 @@
+use Rattle.topo_file.proofs.reader.after_lines.Given as goal
+use Rattle.std.proofs.Common.{◌≡◌, ◌+◌, ◌≤◌, length}
+use Rattle.text_words.specs.Lines.{lines}
+use Rattle.topo_file.specs.Topology.{after_lines, nothing}
+use Rattle.topo_file.proofs.LoopLemmas.{IsLeft}
+
+abbrev pub invariant-loop-line : goal.invariant-loop-line
+invariant-loop-line l = IsLeft l.number l.draft l.line-iterator l.text

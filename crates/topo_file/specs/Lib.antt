@@ -1,0 +1,9 @@
+pub mod Node
+pub mod NewNode
+pub mod Cable
+pub mod Connectivity
+pub mod Topology
+pub mod Reading
+pub use Rattle.text_words.specs.Lines
+pub use Rattle.text_words.specs.Number
+pub use Rattle.text_words.specs.Words

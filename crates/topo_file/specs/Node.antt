@@ -1,0 +1,59 @@
+-- Nodes: switches and adapters, their names, ports and GUIDs.
+use Rattle.std.specs.Prelude.{ℕ, ◌+◌, Bool, true, false, ◌&&◌, ◌||◌, nat_le, nat_lt, List, length, position, count_by, sum_by, slice_get, Option}
+use Rattle.std.specs.List.{list_any}
+use Rattle.std.specs.Option.{option_map_or}
+use Rattle.std.specs.Str.{bytes_eq}
+use Rattle.topo_file.specs.declared.node.Node.{Node}
+use Rattle.topo_file.specs.declared.node.NodeKind.{NodeKind}
+use Rattle.topo_file.specs.declared.node.NodeKind.TheVariants.{Switch, Adapter}
+
+abbrev pub is_switch_kind : NodeKind → Bool
+is_switch_kind Switch = true
+is_switch_kind Adapter = false
+
+abbrev pub is_switch : Node → Bool
+is_switch node = is_switch_kind node.kind
+
+-- where the node of this name stands
+abbrev pub place_of : List ℕ → List Node → Option ℕ
+place_of name nodes = position (λ node. bytes_eq name node.name) nodes
+
+-- a node stands there, and it is a switch
+abbrev pub is_switch_at : List Node → ℕ → Bool
+is_switch_at nodes place = option_map_or is_switch (slice_get nodes place) false
+
+-- how many ports the node there has; they count from 1
+abbrev pub ports_at : List Node → ℕ → ℕ
+ports_at nodes place = option_map_or (λ node. node.ports) (slice_get nodes place) 0
+
+-- a switch has one GUID for itself and its port 0; port p of an adapter with GUID g has the GUID g + p
+abbrev pub port_guids : NodeKind → ℕ → ℕ
+port_guids Switch ports = 0
+port_guids Adapter ports = ports
+
+abbrev pub last_guid : Node → ℕ
+last_guid node = node.guid + port_guids node.kind node.ports
+
+-- some GUID is both nodes'
+abbrev pub shares_guid : Node → Node → Bool
+shares_guid a b = nat_le a.guid (last_guid b) && nat_le b.guid (last_guid a)
+
+-- GUIDs have 64 bits, and each is used once
+abbrev pub lacks_guids : List Node → Node → Bool
+lacks_guids nodes node = nat_lt 18446744073709551615 (last_guid node) || list_any (λ other. shares_guid node other) nodes
+
+-- a switch has 1 to 36 ports, an adapter 1 to 8
+abbrev pub most_ports : NodeKind → ℕ
+most_ports Switch = 36
+most_ports Adapter = 8
+
+abbrev pub switch_count : List Node → ℕ
+switch_count nodes = count_by is_switch nodes
+
+abbrev pub adapter_ports : List Node → ℕ
+adapter_ports nodes = sum_by (λ node. port_guids node.kind node.ports) nodes
+
+-- a fabric has at most 64 switches, and 256 adapter ports in all
+abbrev pub is_one_too_many : List Node → NodeKind → ℕ → Bool
+is_one_too_many nodes Switch ports = nat_le 64 (switch_count nodes)
+is_one_too_many nodes Adapter ports = nat_lt 256 (adapter_ports nodes + ports)

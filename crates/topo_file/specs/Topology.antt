@@ -1,0 +1,155 @@
+-- What a topology text describes, or the first line that is at fault.
+use Rattle.std.specs.Prelude.{ℕ, ◌+◌, Bool, not, ◌&&◌, ◌||◌, nat_le, nat_lt, List, [], ◌∷◌, ◌++◌, codes, Option, Some, None, is_some, Result, Ok, Err, if◌then◌else◌}
+use Rattle.std.specs.Option.{ok_or}
+use Rattle.std.specs.Str.{bytes_eq}
+use Rattle.text_words.specs.Lines.{lines, has_bad_character, words}
+use Rattle.text_words.specs.Number.{number_in}
+use Rattle.text_words.specs.Words.{Port, is_name, port_in}
+use Rattle.topo_file.specs.declared.cable.Cable.{Cable}
+use Rattle.topo_file.specs.declared.cable.PortRef.{PortRef}
+use Rattle.topo_file.specs.declared.fault.TopologyFault.{TopologyFault}
+use Rattle.topo_file.specs.declared.fault.TopologyFault.TheVariants.{Malformed, DuplicateName, DuplicateGuid, UnknownNode, NoSuchPort, PortTaken, WrongCableEnds, WrongManager, Disconnected, OverLimit, ManagerUncabled}
+use Rattle.topo_file.specs.declared.node.Node.{Node}
+use Rattle.topo_file.specs.declared.node.NodeKind.{NodeKind}
+use Rattle.topo_file.specs.declared.node.NodeKind.TheVariants.{Switch, Adapter}
+use Rattle.topo_file.specs.declared.reader.Manager.{Manager}
+use Rattle.topo_file.specs.Node.{place_of, is_switch_at, lacks_guids, is_one_too_many, most_ports}
+use Rattle.topo_file.specs.Cable.{port_at, is_cabled, may_join}
+use Rattle.topo_file.specs.Connectivity.{is_connected}
+
+-- a topology: its nodes and cables in the order of their lines, and the subnet manager's port
+pub record Plan : Type 0 where
+  pub nodes : List Node
+  pub cables : List Cable
+  pub sm : PortRef
+
+-- what the lines so far declare
+pub record Declarations : Type 0 where
+  pub nodes : List Node
+  pub cables : List Cable
+  pub manager : Option Manager
+
+-- a fault with the line that it is told for
+pub record LineFault : Type 0 where
+  pub line : ℕ
+  pub cause : TopologyFault
+
+infixl 10 ◌>>=◌
+abbrev pub ◌>>=◌ : {A B E : Type 0} → Result A E → (A → Result B E) → Result B E
+(Ok x) >>= f = f x
+(Err e) >>= f = Err e
+
+-- ---- words
+abbrev pub name_of : List ℕ → Result (List ℕ) TopologyFault
+name_of word = if is_name word then Ok word else Err Malformed
+
+abbrev pub within : ℕ → Option ℕ → Result ℕ TopologyFault
+within top (Some n) = if nat_le 1 n && nat_le n top then Ok n else Err Malformed
+within top None = Err Malformed
+
+-- a number from 1 to this one
+abbrev pub number_up_to : ℕ → List ℕ → Result ℕ TopologyFault
+number_up_to top word = within top (number_in word)
+
+abbrev pub port_of : List ℕ → Result Port TopologyFault
+port_of word = ok_or (port_in word) Malformed
+
+-- ---- lines: `switch NAME GUID PORTS` and `adapter NAME GUID PORTS`
+abbrev pub new_node : List Node → Node → Result Node TopologyFault
+new_node nodes node =
+    if is_some (place_of node.name nodes) then Err DuplicateName else (if lacks_guids nodes node then Err DuplicateGuid else (if is_one_too_many nodes node.kind node.ports then Err OverLimit else Ok node))
+
+unfoldable pub node_spelt : NodeKind → List Node → List ℕ → List ℕ → List ℕ → Result Node TopologyFault
+node_spelt kind nodes name guid ports = do
+  named ← name_of name
+  number ← number_up_to 18446744073709551615 guid
+  count ← number_up_to (most_ports kind) ports
+  new_node nodes (record { name = named; kind = kind; guid = number; ports = count })
+
+unfoldable pub node_of : NodeKind → List Node → List (List ℕ) → Result Node TopologyFault
+node_of kind nodes (name ∷ guid ∷ ports ∷ []) = node_spelt kind nodes name guid ports
+node_of kind nodes _ = Err Malformed
+
+-- `cable PORT PORT`
+abbrev pub new_cable : List Node → List Cable → PortRef → PortRef → Result Cable TopologyFault
+new_cable nodes cables first second =
+    if is_cabled cables first || is_cabled cables second then Err PortTaken else (if may_join nodes first.node second.node then Ok (record { first = first; second = second }) else Err WrongCableEnds)
+
+unfoldable pub cable_spelt : List Node → List Cable → List ℕ → List ℕ → Result Cable TopologyFault
+cable_spelt nodes cables one other = do
+  a ← port_of one
+  b ← port_of other
+  i ← ok_or (place_of a.name nodes) UnknownNode
+  j ← ok_or (place_of b.name nodes) UnknownNode
+  first ← ok_or (port_at nodes i a.number) NoSuchPort
+  second ← ok_or (port_at nodes j b.number) NoSuchPort
+  new_cable nodes cables first second
+
+unfoldable pub cable_of : List Node → List Cable → List (List ℕ) → Result Cable TopologyFault
+cable_of nodes cables (one ∷ other ∷ []) = cable_spelt nodes cables one other
+cable_of nodes cables _ = Err Malformed
+
+-- `sm PORT`, which stands once and names a port of an adapter
+abbrev pub new_manager : List Node → Option Manager → ℕ → PortRef → Result Manager TopologyFault
+new_manager nodes manager number port = if is_some manager || is_switch_at nodes port.node then Err WrongManager else Ok (record { port = port; line = number })
+
+unfoldable pub manager_spelt : List Node → Option Manager → ℕ → List ℕ → Result Manager TopologyFault
+manager_spelt nodes manager number word = do
+  a ← port_of word
+  i ← ok_or (place_of a.name nodes) UnknownNode
+  port ← ok_or (port_at nodes i a.number) NoSuchPort
+  new_manager nodes manager number port
+
+unfoldable pub manager_of : List Node → Option Manager → ℕ → List (List ℕ) → Result Manager TopologyFault
+manager_of nodes manager number (word ∷ []) = manager_spelt nodes manager number word
+manager_of nodes manager number _ = Err Malformed
+
+-- ---- a line after those before it
+abbrev pub with_node : Declarations → Result Node TopologyFault → Result Declarations TopologyFault
+with_node so_far told = told >>= λ node. Ok (record so_far { nodes = so_far.nodes ++ node ∷ [] })
+
+abbrev pub with_cable : Declarations → Result Cable TopologyFault → Result Declarations TopologyFault
+with_cable so_far told = told >>= λ cable. Ok (record so_far { cables = so_far.cables ++ cable ∷ [] })
+
+abbrev pub with_manager : Declarations → Result Manager TopologyFault → Result Declarations TopologyFault
+with_manager so_far told = told >>= λ manager. Ok (record so_far { manager = Some manager })
+
+-- the first word says what the line declares; a line without words declares nothing
+unfoldable pub after_words : ℕ → Declarations → List (List ℕ) → Result Declarations TopologyFault
+after_words number so_far [] = Ok so_far
+after_words number so_far (first ∷ rest) =
+    if bytes_eq first (codes "switch") then with_node so_far (node_of Switch so_far.nodes rest)
+    else (if bytes_eq first (codes "adapter") then with_node so_far (node_of Adapter so_far.nodes rest)
+    else (if bytes_eq first (codes "cable") then with_cable so_far (cable_of so_far.nodes so_far.cables rest)
+    else (if bytes_eq first (codes "sm") then with_manager so_far (manager_of so_far.nodes so_far.manager number rest)
+    else Err Malformed)))
+
+abbrev pub after_line : ℕ → Declarations → List ℕ → Result Declarations TopologyFault
+after_line number so_far line = if has_bad_character line then Err Malformed else after_words number so_far (words line)
+
+abbrev pub on_line : {X : Type 0} → ℕ → Result X TopologyFault → Result X LineFault
+on_line number (Ok x) = Ok x
+on_line number (Err fault) = Err (record { line = number; cause = fault })
+
+-- the lines one after the other, counted from this number
+unfoldable pub after_lines : ℕ → Declarations → List (List ℕ) → Result Declarations LineFault
+after_lines number so_far [] = Ok so_far
+after_lines number so_far (line ∷ rest) = on_line number (after_line number so_far line) >>= λ next. after_lines (number + 1) next rest
+
+-- ---- the whole text: after the last line, a manager, its cable, and switches that cables join
+abbrev pub sound : Declarations → Manager → Result Plan LineFault
+sound all manager =
+    if not (is_cabled all.cables manager.port) then Err (record { line = manager.line; cause = ManagerUncabled })
+    else (if not (is_connected all.nodes all.cables) then Err (record { line = 0; cause = Disconnected })
+    else Ok (record { nodes = all.nodes; cables = all.cables; sm = manager.port }))
+
+unfoldable pub whole : Declarations → Result Plan LineFault
+whole all = do
+  manager ← on_line 0 (ok_or all.manager WrongManager)
+  sound all manager
+
+abbrev pub nothing : Declarations
+nothing = record { nodes = []; cables = []; manager = None }
+
+unfoldable pub topology_of : List ℕ → Result Plan LineFault
+topology_of text = after_lines 1 nothing (lines text) >>= whole

@@ -1,0 +1,123 @@
+//! Why a topology text is refused.
+
+ghost use Rattle.std.specs.Prelude.{◌≡◌};
+ghost use Rattle.topo_file.specs.declared.fault.LineError.TheVariants.{NoMemory, Fault};
+
+use std::alloc::{AllocError, AllocFailed};
+use thiserror::Error;
+
+/// What is wrong with a line, or with the text as a whole.
+#[derive(Clone, Copy, Debug, PartialEq, Eq, Error)]
+pub enum TopologyFault {
+    /// The line has a bad character, an unknown first word, too few or too many words, or a word
+    /// that is misspelt or out of its range.
+    #[error("the line is malformed")]
+    Malformed,
+    /// A node of this name is declared already.
+    #[error("a node of this name is declared already")]
+    DuplicateName,
+    /// A GUID of the node is used already, or would be past 64 bits.
+    #[error("a GUID of the node is used already, or does not fit in 64 bits")]
+    DuplicateGuid,
+    /// No earlier line declares a node of this name.
+    #[error("no earlier line declares a node of this name")]
+    UnknownNode,
+    /// The node has no port of this number.
+    #[error("the node has no port of this number")]
+    NoSuchPort,
+    /// The port has a cable already.
+    #[error("the port has a cable already")]
+    PortTaken,
+    /// The cable joins neither two different switches nor a switch and an adapter.
+    #[error("a cable joins two different switches, or a switch and an adapter")]
+    WrongCableEnds,
+    /// No line places the subnet manager, a second one does, or one places it on a switch.
+    #[error("one line places the subnet manager, on a port of an adapter")]
+    WrongManager,
+    /// Cables do not join all switches.
+    #[error("cables do not join all switches")]
+    Disconnected,
+    /// The node is one switch or one adapter port too many.
+    #[error("the node is past the limit on switches or adapter ports")]
+    OverLimit,
+    /// The subnet manager's port has no cable.
+    #[error("the subnet manager's port has no cable")]
+    ManagerUncabled,
+}
+
+impl TopologyFault {
+    /// The code that is printed for the fault.
+    pub fn code(self) -> &'static str {
+        match self {
+            TopologyFault::Malformed => "TF1",
+            TopologyFault::DuplicateName => "TF2",
+            TopologyFault::DuplicateGuid => "TF3",
+            TopologyFault::UnknownNode => "TF4",
+            TopologyFault::NoSuchPort => "TF5",
+            TopologyFault::PortTaken => "TF6",
+            TopologyFault::WrongCableEnds => "TF7",
+            TopologyFault::WrongManager => "TF8",
+            TopologyFault::Disconnected => "TF9",
+            TopologyFault::OverLimit => "TF10",
+            TopologyFault::ManagerUncabled => "TF11",
+        }
+    }
+}
+
+/// Why a topology text was not read.
+#[derive(Clone, Copy, Debug, PartialEq, Eq, Error)]
+pub enum TopoFault {
+    /// Memory was refused.
+    #[error("out of memory")]
+    NoMemory,
+    /// The first fault of the text.
+    #[error("line {line}: {cause}")]
+    At {
+        /// The line, counted from 1; 0 where the fault is of no line, but of the text as a whole.
+        line: usize,
+        /// What is wrong.
+        cause: TopologyFault,
+    },
+}
+
+/// Why a line was not taken.
+#[derive(Clone, Copy, Debug, PartialEq, Eq)]
+pub enum LineError {
+    NoMemory,
+    Fault(TopologyFault),
+}
+
+impl From<AllocError> for LineError {
+    ghost from_gives = { λ _ e. e ≡ NoMemory };
+
+    fn from(_error: AllocError) -> LineError {
+        LineError::NoMemory
+    }
+}
+
+impl<T: Drop> From<AllocFailed<T>> for LineError {
+    ghost from_gives = { λ _ e. e ≡ NoMemory };
+
+    fn from(_error: AllocFailed<T>) -> LineError {
+        LineError::NoMemory
+    }
+}
+
+impl From<TopologyFault> for LineError {
+    ghost from_gives = { λ fault e. e ≡ Fault fault };
+
+    fn from(fault: TopologyFault) -> LineError {
+        LineError::Fault(fault)
+    }
+}
+
+impl From<AllocError> for TopoFault {
+    ghost use Rattle.std.specs.Prelude.{◌≡◌};
+    ghost use Rattle.topo_file.specs.declared.fault.TopoFault.TheVariants as text;
+
+    ghost from_gives = { λ _ e. e ≡ text.NoMemory };
+
+    fn from(_error: AllocError) -> TopoFault {
+        TopoFault::NoMemory
+    }
+}

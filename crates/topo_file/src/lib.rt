@@ -1,0 +1,20 @@
+//! Topology files: the nodes, cables and subnet manager of a simulated fabric, read from a text.
+//!
+//! [`read`] gives the [`Topology`] that a text describes, or the first fault with its line. What a
+//! text describes is stated in `specs/Topology.antt`, line by line, over the words of `text_words`.
+//! [`is_connected`] is the last question that a text is asked: whether cables join all switches.
+#![tactic(auto)]
+
+mod cable;
+mod connectivity;
+mod fault;
+mod node;
+mod reader;
+mod topology;
+
+pub use crate::cable::{Cable, PortRef};
+pub use crate::connectivity::is_connected;
+pub use crate::fault::{TopoFault, TopologyFault};
+pub use crate::node::{Name, Node, NodeKind};
+pub use crate::reader::read;
+pub use crate::topology::Topology;

@@ -1,0 +1,263 @@
+ghost use Rattle.std.specs.Prelude.{◌≡◌, ◌+◌, [], ◌∷◌, ◌++◌, None, IfOk, OnOk};
+ghost use Rattle.topo_file.specs.Node.{adapter_ports, is_one_too_many, is_switch, is_switch_at, is_switch_kind, lacks_guids, last_guid, most_ports, place_of, port_guids, ports_at, shares_guid, switch_count};
+ghost use Rattle.std.specs.List.{list_any};
+ghost use Rattle.topo_file.specs.NewNode.{seen};
+
+use indexmap::IndexSet;
+use std::alloc::{AllocError, Global};
+use std::marker::Model;
+
+/// How many switches a fabric has at most.
+const SWITCHES: usize = 64;
+
+/// How many ports the adapters of a fabric have at most, all together.
+const ADAPTER_PORTS: u128 = 256;
+
+/// The name of a node: 1 to 32 letters, digits, `_`, `-` and `.`.
+#[derive(Debug, Drop)]
+pub struct Name {
+    bytes: Vec<u8>,
+}
+
+impl Model for Name {
+    ghost use Rattle.std.specs.Prelude.{ℕ, List};
+
+    ghost Value = { List ℕ };
+
+    ghost view = { λ name. name.bytes.items };
+}
+
+impl Name {
+    fn new(alloc: Global, word: &[u8]) -> Result<Name, AllocError>
+        ensures { IfOk result (λ name. name ≡ word.now) }
+    {
+        let bytes = Vec::from_slice(alloc, word)?;
+        Ok(Name { bytes })
+    }
+
+    /// The name as it is written.
+    pub fn as_bytes(&self) -> &[u8]
+        ensures { result.now ≡ self.now }
+    {
+        self.bytes.as_slice()
+    }
+}
+
+/// What a node is.
+#[derive(Clone, Copy, Debug, PartialEq, Eq)]
+pub enum NodeKind {
+    /// A switch: its ports count from 1, and port 0 is the switch itself.
+    Switch,
+    /// A channel adapter: its ports count from 1.
+    Adapter,
+}
+
+impl NodeKind {
+    /// Whether it is a switch.
+    pub fn is_switch(self) -> bool
+        ensures { result ≡ is_switch_kind self }
+    {
+        match self {
+            NodeKind::Switch => true,
+            NodeKind::Adapter => false,
+        }
+    }
+
+    /// How many ports such a node has at most.
+    pub(crate) fn most_ports(self) -> u64
+        ensures { result ≡ most_ports self }
+    {
+        match self {
+            NodeKind::Switch => 36,
+            NodeKind::Adapter => 8,
+        }
+    }
+
+    /// How many of a node's ports have a GUID of their own.
+    fn port_guids(self, ports: u8) -> u8
+        ensures { result ≡ port_guids self ports }
+    {
+        match self {
+            NodeKind::Switch => 0,
+            NodeKind::Adapter => ports,
+        }
+    }
+}
+
+/// A node of the fabric.
+#[derive(Debug, Drop)]
+pub struct Node {
+    /// Its name, which no other node has.
+    pub name: Name,
+    /// What it is.
+    pub kind: NodeKind,
+    /// The GUID of the node. A switch uses it for its port 0 too; port `p` of an adapter has the
+    /// GUID that is `p` above it.
+    pub guid: u64,
+    /// How many ports it has, which count from 1.
+    pub ports: u8,
+}
+
+impl Node {
+    /// Whether it is a switch.
+    pub fn is_switch(&self) -> bool
+        ensures { result ≡ is_switch self.now }
+    {
+        self.kind.is_switch()
+    }
+
+    /// The last GUID that the node uses, which may be past 64 bits.
+    fn last_guid(&self) -> u128
+        ensures { result ≡ last_guid self.now }
+    {
+        u128::from(self.guid) + u128::from(self.kind.port_guids(self.ports))
+    }
+}
+
+/// What a line says of a node, before it is one.
+#[derive(Clone, Copy, Debug)]
+pub(crate) struct NewNode<'a> {
+    pub(crate) name: &'a [u8],
+    pub(crate) kind: NodeKind,
+    pub(crate) guid: u64,
+    pub(crate) ports: u8,
+}
+
+impl NewNode<'_> {
+    ghost use Rattle.topo_file.specs.NewNode.{seen};
+    ghost use Rattle.topo_file.specs.Node.{last_guid, shares_guid};
+
+    fn last_guid(&self) -> u128
+        ensures { result ≡ last_guid (seen self.now) }
+    {
+        u128::from(self.guid) + u128::from(self.kind.port_guids(self.ports))
+    }
+
+    fn shares_guid(&self, other: &Node) -> bool
+        ensures { result ≡ shares_guid (seen self.now) other.now }
+    {
+        u128::from(self.guid) <= other.last_guid() && u128::from(other.guid) <= self.last_guid()
+    }
+}
+
+/// Nodes with different names, in the order in which they were added, and found by name in constant
+/// time.
+#[derive(Debug, Drop)]
+pub struct NodeList {
+    // The names again, each at the place of its node.
+    names: IndexSet<Vec<u8>>,
+    nodes: Vec<Node>,
+}
+
+impl Model for NodeList {
+    ghost use Rattle.std.specs.Prelude.{◌≡◌, List, map};
+    ghost use Rattle.topo_file.specs.declared.node.Node.{Node};
+
+    ghost Value = { List Node };
+
+    ghost view = { λ list. list.nodes.items };
+
+    ghost invariant = { λ list. map (λ key. key.items) list.names.keys ≡ map (λ node. node.name) list.nodes.items };
+}
+
+impl NodeList {
+    pub(crate) fn new(alloc: Global) -> NodeList
+        ensures { result ≡ [] }
+    {
+        NodeList {
+            names: IndexSet::new(alloc),
+            nodes: Vec::new(alloc),
+        }
+    }
+
+    pub(crate) fn as_slice(&self) -> &[Node]
+        ensures { result.now ≡ self.now }
+    {
+        self.nodes.as_slice()
+    }
+
+    /// Where the node of this name stands, looked up in constant time.
+    pub(crate) fn place_of(&self, name: &[u8]) -> Option<usize>
+        ensures { result ≡ place_of name.now self.now }
+    {
+        self.names.get_index_of(name)
+    }
+
+    /// Adds a node at the end. Memory alone can be refused, and then the list stays as it was.
+    pub(crate) fn push(&mut self, alloc: Global, node: &NewNode) -> Result<(), AllocError>
+        requires { place_of node.now.name.now self.old ≡ None }
+        ensures { OnOk result (self.new ≡ self.old ++ seen node.now ∷ []) }
+    {
+        let key = Vec::from_slice(alloc, node.name)?;
+        let name = Name::new(alloc, node.name)?;
+        self.nodes.reserve(1)?;
+        self.names.insert(key)?;
+        self.nodes.push(Node {
+            name,
+            kind: node.kind,
+            guid: node.guid,
+            ports: node.ports,
+        })?;
+        Ok(())
+    }
+}
+
+/// Whether the node there is a switch.
+pub(crate) fn is_switch_at(nodes: &[Node], place: usize) -> bool
+    ensures { result ≡ is_switch_at nodes.now place }
+{
+    match nodes.get(place) {
+        Some(node) => node.is_switch(),
+        None => false,
+    }
+}
+
+/// How many ports the node there has.
+pub(crate) fn ports_at(nodes: &[Node], place: usize) -> u8
+    ensures { result ≡ ports_at nodes.now place }
+{
+    match nodes.get(place) {
+        Some(node) => node.ports,
+        None => 0,
+    }
+}
+
+/// Whether a GUID of the node is used already, or does not fit.
+pub(crate) fn lacks_guids(nodes: &[Node], node: &NewNode) -> bool
+    ensures { result ≡ lacks_guids nodes.now (seen node.now) }
+{
+    node.last_guid() > u128::from(u64::MAX) || shares_some_guid(nodes, node)
+}
+
+fn shares_some_guid(nodes: &[Node], node: &NewNode) -> bool
+    ensures { result ≡ list_any (λ other. shares_guid (seen node.now) other) nodes.now }
+{
+    nodes.iter().any(|other| node.shares_guid(other))
+}
+
+/// How many switches there are.
+pub(crate) fn switch_count(nodes: &[Node]) -> usize
+    ensures { result ≡ switch_count nodes.now }
+{
+    nodes.iter().filter(|node| node.is_switch()).count()
+}
+
+/// How many ports the adapters have, all together.
+fn adapter_ports(nodes: &[Node]) -> u128
+    ensures { result ≡ adapter_ports nodes.now }
+{
+    nodes
+        .iter()
+        .map(|node| u128::from(node.kind.port_guids(node.ports)))
+        .sum()
+}
+
+/// Whether one more node of this kind is past the limits of a fabric.
+pub(crate) fn is_one_too_many(nodes: &[Node], kind: NodeKind, ports: u8) -> bool
+    ensures { result ≡ is_one_too_many nodes.now kind ports }
+{
+    match kind {
+        NodeKind::Switch => switch_count(nodes) >= SWITCHES,
+        NodeKind::Adapter => adapter_ports(nodes) > ADAPTER_PORTS - u128::from(ports),
+    }
+}
