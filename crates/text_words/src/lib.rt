@@ -13,4 +13,4 @@ mod word;
 
 pub use crate::line::{Lines, has_bad_character, words};
 pub use crate::number::number_in;
-pub use crate::word::{PortWord, is_name, port_in};
+pub use crate::word::{NAME_LENGTH, PortWord, is_name, port_in};

@@ -1,4 +1,4 @@
-ghost use Rattle.std.specs.Prelude.{◌≡◌};
+ghost use Rattle.std.specs.Prelude.{◌≡◌, ◌≤◌, true, length};
 ghost use Rattle.std.specs.List.{list_all};
 ghost use Rattle.std.specs.Option.{option_map};
 ghost use Rattle.text_words.specs.Words.{is_name, is_name_byte, port_in, seen};
@@ -7,7 +7,7 @@ use crate::line::place_or_end;
 use crate::number::number_in;
 
 /// The longest name, in bytes.
-const NAME_LENGTH: usize = 32;
+pub const NAME_LENGTH: usize = 32;
 
 /// A port as a text writes it, before it is known whether there is such a node or port.
 #[derive(Clone, Copy, Debug)]
@@ -20,7 +20,8 @@ pub struct PortWord<'a> {
 
 /// Whether a word is a name: 1 to 32 letters, digits, `_`, `-` and `.`.
 pub fn is_name(word: &[u8]) -> bool
-    ensures { result ≡ is_name word.now }
+    ensures value { result ≡ is_name word.now }
+    ensures short { result ≡ true → length word.now ≤ NAME_LENGTH }
 {
     !word.is_empty() && word.len() <= NAME_LENGTH && all_in_names(word)
 }

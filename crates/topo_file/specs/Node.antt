@@ -1,5 +1,5 @@
 -- Nodes: switches and adapters, their names, ports and GUIDs.
-use Rattle.std.specs.Prelude.{ℕ, ◌+◌, Bool, true, false, ◌&&◌, ◌||◌, nat_le, nat_lt, List, length, position, count_by, sum_by, slice_get, Option}
+use Rattle.std.specs.Prelude.{ℕ, ◌+◌, ◌^◌, ◌<◌, Bool, true, false, ◌&&◌, ◌||◌, nat_le, nat_lt, List, length, position, count_by, sum_by, slice_get, Option}
 use Rattle.std.specs.List.{list_any}
 use Rattle.std.specs.Option.{option_map_or}
 use Rattle.std.specs.Str.{bytes_eq}
@@ -33,6 +33,10 @@ port_guids Adapter ports = ports
 
 abbrev pub last_guid : Node → ℕ
 last_guid node = node.guid + port_guids node.kind node.ports
+
+-- all GUIDs of the node have 64 bits
+abbrev pub HasGuids : Node → Type 0
+HasGuids node = last_guid node < 2 ^ 64
 
 -- some GUID is both nodes'
 abbrev pub shares_guid : Node → Node → Bool

@@ -4,7 +4,7 @@ ghost use Rattle.topo_file.specs.Cable.{ends_at, is_cabled, is_same_port, may_jo
 use crate::node::{Node, is_switch_at, ports_at};
 
 /// A port of a node.
-#[derive(Clone, Copy, Debug, PartialEq, Eq)]
+#[derive(Clone, Copy, Debug, PartialEq, Eq, Hash)]
 pub struct PortRef {
     /// The place of the node among the nodes of the topology.
     pub node: usize,

@@ -1,7 +1,8 @@
-ghost use Rattle.std.specs.Prelude.{◌≡◌, ◌+◌, [], ◌∷◌, ◌++◌, None, IfOk, OnOk};
-ghost use Rattle.topo_file.specs.Node.{adapter_ports, is_one_too_many, is_switch, is_switch_at, is_switch_kind, lacks_guids, last_guid, most_ports, place_of, port_guids, ports_at, shares_guid, switch_count};
+ghost use Rattle.std.specs.Prelude.{◌≡◌, ◌≤◌, ◌+◌, length, [], ◌∷◌, ◌++◌, None, All, IfOk, OnOk};
+ghost use Rattle.topo_file.specs.Node.{HasGuids, adapter_ports, is_one_too_many, is_switch, is_switch_at, is_switch_kind, lacks_guids, last_guid, most_ports, place_of, port_guids, ports_at, shares_guid, switch_count};
 ghost use Rattle.std.specs.List.{list_any};
 ghost use Rattle.topo_file.specs.NewNode.{seen};
+ghost use Rattle.text_words.specs.declared.word.TheConstants.{NAME_LENGTH};
 
 use indexmap::IndexSet;
 use std::alloc::{AllocError, Global};
@@ -24,11 +25,17 @@ impl Model for Name {
 
     ghost Value = { List ℕ };
 
+    ghost use Rattle.std.specs.Prelude.{◌≤◌, length};
+    ghost use Rattle.text_words.specs.declared.word.TheConstants.{NAME_LENGTH};
+
     ghost view = { λ name. name.bytes.items };
+
+    ghost invariant = { λ name. length name.bytes.items ≤ NAME_LENGTH };
 }
 
 impl Name {
     fn new(alloc: Global, word: &[u8]) -> Result<Name, AllocError>
+        requires { length word.now ≤ NAME_LENGTH }
         ensures { IfOk result (λ name. name ≡ word.now) }
     {
         let bytes = Vec::from_slice(alloc, word)?;
@@ -37,7 +44,8 @@ impl Name {
 
     /// The name as it is written.
     pub fn as_bytes(&self) -> &[u8]
-        ensures { result.now ≡ self.now }
+        ensures value { result.now ≡ self.now }
+        ensures short { length result.now ≤ NAME_LENGTH }
     {
         self.bytes.as_slice()
     }
@@ -157,7 +165,11 @@ impl Model for NodeList {
 
     ghost view = { λ list. list.nodes.items };
 
-    ghost invariant = { λ list. map (λ key. key.items) list.names.keys ≡ map (λ node. node.name) list.nodes.items };
+    ghost use Rattle.std.specs.Prelude.{All};
+    ghost use Rattle.topo_file.specs.Node.{HasGuids};
+
+    ghost invariant = { λ list. (map (λ key. key.items) list.names.keys ≡ map (λ node. node.name) list.nodes.items)
+        × All HasGuids list.nodes.items };
 }
 
 impl NodeList {
@@ -171,7 +183,8 @@ impl NodeList {
     }
 
     pub(crate) fn as_slice(&self) -> &[Node]
-        ensures { result.now ≡ self.now }
+        ensures value { result.now ≡ self.now }
+        ensures guids { All HasGuids result.now }
     {
         self.nodes.as_slice()
     }
@@ -185,7 +198,9 @@ impl NodeList {
 
     /// Adds a node at the end. Memory alone can be refused, and then the list stays as it was.
     pub(crate) fn push(&mut self, alloc: Global, node: &NewNode) -> Result<(), AllocError>
-        requires { place_of node.now.name.now self.old ≡ None }
+        requires new { place_of node.now.name.now self.old ≡ None }
+        requires short { length node.now.name.now ≤ NAME_LENGTH }
+        requires guids { HasGuids (seen node.now) }
         ensures { OnOk result (self.new ≡ self.old ++ seen node.now ∷ []) }
     {
         let key = Vec::from_slice(alloc, node.name)?;

@@ -1,9 +1,10 @@
-ghost use Rattle.std.specs.Prelude.{◌≡◌, ◌≤◌, None, map, IfOk};
+ghost use Rattle.std.specs.Prelude.{◌≡◌, ◌≤◌, None, length, map, IfOk, OnOk};
 ghost use Rattle.std.specs.Option.{ok_or};
 ghost use Rattle.text_words.specs.Lines.{lines};
+ghost use Rattle.text_words.specs.declared.word.TheConstants.{NAME_LENGTH};
 ghost use Rattle.text_words.specs.Words.{seen as port_seen};
 ghost use Rattle.topo_file.specs.declared.fault.TopologyFault.TheVariants.{UnknownNode, NoSuchPort};
-ghost use Rattle.topo_file.specs.Node.{place_of};
+ghost use Rattle.topo_file.specs.Node.{HasGuids, place_of};
 ghost use Rattle.topo_file.specs.NewNode.{seen};
 ghost use Rattle.topo_file.specs.Cable.{port_at};
 ghost use Rattle.topo_file.specs.Reading.{Gives, TextGives, seen_by};
@@ -54,13 +55,11 @@ impl Draft {
 
     /// The node that a line declares, by the words after the first.
     #[tactic(auto, unfolding(crate::specs::Topology::node_of))]
-    fn node_of<'a>(
-        &self,
-        kind: NodeKind,
-        words: &[&'a [u8]],
-    ) -> Result<NewNode<'a>, TopologyFault>
+    fn node_of<'a>(&self, kind: NodeKind, words: &[&'a [u8]]) -> Result<NewNode<'a>, TopologyFault>
         ensures value { seen_by seen result ≡ node_of kind self.now.nodes (map (λ word. word.now) words.now) }
         ensures new { IfOk result (λ node. place_of node.name.now self.now.nodes ≡ None) }
+        ensures short { IfOk result (λ node. length node.name.now ≤ NAME_LENGTH) }
+        ensures guids { IfOk result (λ node. HasGuids (seen node)) }
     {
         let [name, guid, ports] = words else {
             return Err(TopologyFault::Malformed);
@@ -78,6 +77,8 @@ impl Draft {
     ) -> Result<NewNode<'a>, TopologyFault>
         ensures value { seen_by seen result ≡ node_spelt kind self.now.nodes name.now guid.now ports.now }
         ensures new { IfOk result (λ node. place_of node.name.now self.now.nodes ≡ None) }
+        ensures short { IfOk result (λ node. length node.name.now ≤ NAME_LENGTH) }
+        ensures guids { IfOk result (λ node. HasGuids (seen node)) }
     {
         let name = name_of(name)?;
         let guid = number_up_to(u64::MAX, guid)?;
@@ -95,6 +96,7 @@ impl Draft {
     fn new_node(&self, node: &NewNode) -> Result<(), TopologyFault>
         ensures value { seen_by (λ _. seen node.now) result ≡ new_node self.now.nodes (seen node.now) }
         ensures new { IfOk result (λ _. place_of node.now.name.now self.now.nodes ≡ None) }
+        ensures guids { OnOk result (HasGuids (seen node.now)) }
     {
         let nodes = self.nodes.as_slice();
         if self.nodes.place_of(node.name).is_some() {
@@ -187,12 +189,7 @@ impl Draft {
         port_at(self.nodes.as_slice(), place, number).ok_or(TopologyFault::NoSuchPort)
     }
 
-    fn take_node(
-        &mut self,
-        alloc: Global,
-        kind: NodeKind,
-        words: &[&[u8]],
-    ) -> Result<(), LineError>
+    fn take_node(&mut self, alloc: Global, kind: NodeKind, words: &[&[u8]]) -> Result<(), LineError>
         ensures { Gives (λ _. self.new) result (with_node self.old (node_of kind self.old.nodes (map (λ word. word.now) words.now))) }
     {
         let node = self.node_of(kind, words)?;
@@ -217,12 +214,7 @@ impl Draft {
     }
 
     #[tactic(auto, unfolding(crate::specs::Topology::after_words))]
-    fn take_words(
-        &mut self,
-        alloc: Global,
-        number: usize,
-        words: &[&[u8]],
-    ) -> Result<(), LineError>
+    fn take_words(&mut self, alloc: Global, number: usize, words: &[&[u8]]) -> Result<(), LineError>
         ensures { Gives (λ _. self.new) result (after_words number self.old (map (λ word. word.now) words.now)) }
     {
         let [first, rest @ ..] = words else {
@@ -299,7 +291,8 @@ impl Draft {
 }
 
 fn name_of(word: &[u8]) -> Result<&[u8], TopologyFault>
-    ensures { seen_by (λ name. name.now) result ≡ name_of word.now }
+    ensures value { seen_by (λ name. name.now) result ≡ name_of word.now }
+    ensures short { IfOk result (λ name. length name.now ≤ NAME_LENGTH) }
 {
     if !is_name(word) {
         return Err(TopologyFault::Malformed);

@@ -1,5 +1,5 @@
-ghost use Rattle.std.specs.Prelude.{◌≡◌};
-ghost use Rattle.topo_file.specs.Node.{place_of};
+ghost use Rattle.std.specs.Prelude.{◌≡◌, All};
+ghost use Rattle.topo_file.specs.Node.{HasGuids, place_of};
 
 use crate::cable::{Cable, PortRef};
 use crate::node::{Node, NodeList};
@@ -24,7 +24,8 @@ impl Model for Topology {
 impl Topology {
     /// The nodes, in the order of their lines.
     pub fn nodes(&self) -> &[Node]
-        ensures { result.now ≡ self.now.nodes }
+        ensures value { result.now ≡ self.now.nodes }
+        ensures guids { All HasGuids result.now }
     {
         self.nodes.as_slice()
     }
