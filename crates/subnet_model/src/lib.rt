@@ -23,7 +23,7 @@ pub use crate::command::{Command, SendCommand};
 pub use crate::evaluation::{port_of, report, step};
 pub use crate::event::{Event, Outcome};
 pub use crate::law::isolation;
-pub use crate::lids::lids_of;
+pub use crate::lids::{lid_of, lids_of};
 pub use crate::nearness::{is_near, near};
 pub use crate::node_name::{NODE_NAME_BYTES, NodeName};
 pub use crate::state::State;

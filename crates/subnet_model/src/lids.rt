@@ -12,7 +12,8 @@ pub fn lids_of(alloc: Global, ports: &[EndPort]) -> Result<Vec<u16>, AllocError>
     ports.iter().map(|port| lid_of(ports, port)).collect(alloc)
 }
 
-fn lid_of(ports: &[EndPort], port: &EndPort) -> u16
+/// The LID of an end port among all of them.
+pub fn lid_of(ports: &[EndPort], port: &EndPort) -> u16
     requires { length ports.now < 0xbfff }
     ensures { result ≡ lid_of ports.now port.now }
 {

@@ -1,3 +1,4 @@
 pub mod NodeLemmas
 pub mod LineLemmas
 pub mod LoopLemmas
+pub mod LimitLemmas

@@ -1,5 +1,5 @@
 -- Nodes: switches and adapters, their names, ports and GUIDs.
-use Rattle.std.specs.Prelude.{ℕ, ◌+◌, ◌^◌, ◌<◌, Bool, true, false, ◌&&◌, ◌||◌, nat_le, nat_lt, List, length, position, count_by, sum_by, slice_get, Option}
+use Rattle.std.specs.Prelude.{ℕ, ◌+◌, ◌^◌, ◌<◌, ◌≤◌, Bool, true, false, ◌&&◌, ◌||◌, nat_le, nat_lt, List, length, position, count_by, sum_by, slice_get, Option}
 use Rattle.std.specs.List.{list_any}
 use Rattle.std.specs.Option.{option_map_or}
 use Rattle.std.specs.Str.{bytes_eq}
@@ -61,3 +61,7 @@ adapter_ports nodes = sum_by (λ node. port_guids node.kind node.ports) nodes
 abbrev pub is_one_too_many : List Node → NodeKind → ℕ → Bool
 is_one_too_many nodes Switch ports = nat_le 64 (switch_count nodes)
 is_one_too_many nodes Adapter ports = nat_lt 256 (adapter_ports nodes + ports)
+
+-- no limit is passed
+abbrev pub IsWithinLimits : List Node → Type 0
+IsWithinLimits nodes = (switch_count nodes ≤ 64) × (adapter_ports nodes ≤ 256)

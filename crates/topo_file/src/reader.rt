@@ -1,10 +1,10 @@
-ghost use Rattle.std.specs.Prelude.{◌≡◌, ◌≤◌, None, length, map, IfOk, OnOk};
+ghost use Rattle.std.specs.Prelude.{◌≡◌, ◌≤◌, None, length, false, map, IfOk, OnOk};
 ghost use Rattle.std.specs.Option.{ok_or};
 ghost use Rattle.text_words.specs.Lines.{lines};
 ghost use Rattle.text_words.specs.declared.word.TheConstants.{NAME_LENGTH};
 ghost use Rattle.text_words.specs.Words.{seen as port_seen};
 ghost use Rattle.topo_file.specs.declared.fault.TopologyFault.TheVariants.{UnknownNode, NoSuchPort};
-ghost use Rattle.topo_file.specs.Node.{HasGuids, place_of};
+ghost use Rattle.topo_file.specs.Node.{HasGuids, is_one_too_many, place_of};
 ghost use Rattle.topo_file.specs.NewNode.{seen};
 ghost use Rattle.topo_file.specs.Cable.{port_at};
 ghost use Rattle.topo_file.specs.Reading.{Gives, TextGives, seen_by};
@@ -60,6 +60,7 @@ impl Draft {
         ensures new { IfOk result (λ node. place_of node.name.now self.now.nodes ≡ None) }
         ensures short { IfOk result (λ node. length node.name.now ≤ NAME_LENGTH) }
         ensures guids { IfOk result (λ node. HasGuids (seen node)) }
+        ensures limits { IfOk result (λ node. is_one_too_many self.now.nodes node.kind node.ports ≡ false) }
     {
         let [name, guid, ports] = words else {
             return Err(TopologyFault::Malformed);
@@ -79,6 +80,7 @@ impl Draft {
         ensures new { IfOk result (λ node. place_of node.name.now self.now.nodes ≡ None) }
         ensures short { IfOk result (λ node. length node.name.now ≤ NAME_LENGTH) }
         ensures guids { IfOk result (λ node. HasGuids (seen node)) }
+        ensures limits { IfOk result (λ node. is_one_too_many self.now.nodes node.kind node.ports ≡ false) }
     {
         let name = name_of(name)?;
         let guid = number_up_to(u64::MAX, guid)?;
@@ -97,6 +99,7 @@ impl Draft {
         ensures value { seen_by (λ _. seen node.now) result ≡ new_node self.now.nodes (seen node.now) }
         ensures new { IfOk result (λ _. place_of node.now.name.now self.now.nodes ≡ None) }
         ensures guids { OnOk result (HasGuids (seen node.now)) }
+        ensures limits { OnOk result (is_one_too_many self.now.nodes node.now.kind node.now.ports ≡ false) }
     {
         let nodes = self.nodes.as_slice();
         if self.nodes.place_of(node.name).is_some() {

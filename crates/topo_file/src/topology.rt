@@ -1,7 +1,8 @@
 ghost use Rattle.std.specs.Prelude.{◌≡◌, All};
-ghost use Rattle.topo_file.specs.Node.{HasGuids, place_of};
+ghost use Rattle.topo_file.specs.Cable.{is_cabled};
+ghost use Rattle.topo_file.specs.Node.{HasGuids, IsWithinLimits, place_of};
 
-use crate::cable::{Cable, PortRef};
+use crate::cable::{Cable, PortRef, is_cabled};
 use crate::node::{Node, NodeList};
 use std::marker::Model;
 
@@ -26,6 +27,7 @@ impl Topology {
     pub fn nodes(&self) -> &[Node]
         ensures value { result.now ≡ self.now.nodes }
         ensures guids { All HasGuids result.now }
+        ensures limits { IsWithinLimits result.now }
     {
         self.nodes.as_slice()
     }
@@ -42,6 +44,13 @@ impl Topology {
         ensures { result ≡ self.now.sm }
     {
         self.sm
+    }
+
+    /// Whether the port has a cable, which is looked for among all cables.
+    pub fn is_cabled(&self, port: PortRef) -> bool
+        ensures { result ≡ is_cabled self.now.cables port }
+    {
+        is_cabled(&self.cables, port)
     }
 
     /// Where the node of this name stands among the nodes, looked up in constant time.

@@ -1,0 +1,87 @@
+-- The end ports of a subnet, as a topology has them.
+use Rattle.std.specs.Prelude.{ℕ, ◌+◌, Bool, true, false, List, [], ◌∷◌, ◌++◌, map, fold, slice_get, nat_le, if◌then◌else◌}
+use Rattle.std.specs.List.{flat_map, enumerate_from, range_with_len}
+use Rattle.std.specs.Option.{option_map_or}
+use Rattle.pkey_rules.specs.declared.end_port.EndPort.{EndPort}
+use Rattle.subnet_model.specs.EndPorts.{lid_of}
+use Rattle.subnet_model.specs.declared.subnet_port.SubnetPort.{SubnetPort}
+use Rattle.subnet_model.specs.declared.subnet_port.PortKind.{PortKind}
+use Rattle.subnet_model.specs.declared.subnet_port.PortKind.TheVariants as port
+use Rattle.topo_file.specs.declared.cable.PortRef.{PortRef}
+use Rattle.topo_file.specs.declared.node.Node.{Node}
+use Rattle.topo_file.specs.declared.node.NodeKind.{NodeKind}
+use Rattle.topo_file.specs.declared.node.NodeKind.TheVariants as node
+use Rattle.subnet_core.specs.declared.end_ports.Seat.{Seat}
+use Rattle.topo_file.specs.Cable.{is_cabled, is_same_port}
+use Rattle.topo_file.specs.Topology.{Plan}
+
+-- port 0 of a switch, which has the GUID of the switch
+abbrev pub switch_seat : ℕ → Node → Seat
+switch_seat place node = record { place = place; number = 0; port = record { guid = node.guid; is_switch = true; is_sm = false } }
+
+-- port p of an adapter of GUID g, which has the GUID g + p
+abbrev pub adapter_seat : PortRef → Node → PortRef → Seat
+adapter_seat sm node at = record {
+  place = at.node;
+  number = at.port;
+  port = record { guid = node.guid + at.port; is_switch = false; is_sm = is_same_port at sm };
+}
+
+-- a port of an adapter is an end port if it has a cable
+abbrev pub seat_if_cabled : Plan → Node → PortRef → List Seat
+seat_if_cabled plan node at = if is_cabled plan.cables at then adapter_seat plan.sm node at ∷ [] else []
+
+abbrev pub adapter_seats : Plan → ℕ → Node → ℕ → List Seat
+adapter_seats plan place node count =
+    flat_map (λ number. seat_if_cabled plan node (record { node = place; port = number })) (range_with_len 1 count)
+
+abbrev pub seats_of_kind : NodeKind → Plan → ℕ → Node → List Seat
+seats_of_kind node.Switch plan place node = switch_seat place node ∷ []
+seats_of_kind node.Adapter plan place node = adapter_seats plan place node node.ports
+
+-- the end ports of the nodes, one node after the other
+abbrev pub seats : Plan → List Seat
+seats plan = flat_map (λ p. seats_of_kind p.1.kind plan p.0 p.1) (enumerate_from 0 plan.nodes)
+
+abbrev pub end_ports : List Seat → List EndPort
+end_ports all = map (λ seat. seat.port) all
+
+abbrev pub kind_of : Bool → PortKind
+kind_of true = port.Switch
+kind_of false = port.ChannelAdapter
+
+-- the name of the node there
+abbrev pub name_at : List Node → ℕ → List ℕ
+name_at nodes place = option_map_or (λ node. node.name) (slice_get nodes place) []
+
+-- an end port as the subnet knows it
+abbrev pub seated : List Node → List ℕ → ℕ → Seat → SubnetPort
+seated nodes keys lid seat = record {
+  lid = lid;
+  guid = seat.port.guid;
+  node = name_at nodes seat.place;
+  number = seat.number;
+  kind = kind_of seat.port.is_switch;
+  keys = keys;
+}
+
+-- the port at its place in a list in order of LID
+abbrev pub with_port : List SubnetPort → SubnetPort → List SubnetPort
+with_port [] port = port ∷ []
+with_port (first ∷ rest) port = if nat_le first.lid port.lid then first ∷ with_port rest port else port ∷ first ∷ rest
+
+-- one more end port, with its LID and these keys
+abbrev pub with_seat : List Node → List ℕ → List EndPort → List SubnetPort → Seat → List SubnetPort
+with_seat nodes keys all ports seat = with_port ports (seated nodes keys (lid_of all seat.port) seat)
+
+-- all of them, in order of LID
+abbrev pub in_order : List Node → List ℕ → List EndPort → List Seat → List SubnetPort
+in_order nodes keys all some = fold (with_seat nodes keys all) [] some
+
+-- without a partition file every port is a full member of the default partition
+abbrev pub default_keys : List ℕ
+default_keys = 0xffff ∷ []
+
+-- the end ports of a topology
+abbrev pub ports_of : Plan → List SubnetPort
+ports_of plan = in_order plan.nodes default_keys (end_ports (seats plan)) (seats plan)

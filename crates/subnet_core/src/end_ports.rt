@@ -1,0 +1,185 @@
+ghost use Rattle.std.specs.Prelude.{◌≡◌, ◌+◌, ◌^◌, ◌<◌, ◌≤◌, [], ◌∷◌, ◌++◌, length, map, All, IfOk, OnOk};
+ghost use Rattle.topo_file.specs.Node.{HasGuids};
+ghost use Rattle.subnet_core.specs.Ports.{switch_seat, adapter_seat, seat_if_cabled, adapter_seats, seats_of_kind, seats, end_ports, kind_of, name_at, seated, with_port, with_seat, in_order, default_keys, ports_of};
+ghost use Rattle.subnet_model.specs.EndPorts.{lid_of};
+
+use pkey_rules::{EndPort, KeyTable, PKey};
+use std::alloc::{AllocError, Global};
+use subnet_model::{NodeName, PortKind, SubnetPort, lid_of};
+use topo_file::{Cable, Node, NodeKind, PortRef, Topology};
+
+/// Where an end port stands: the place of its node in the topology, and its number there.
+#[derive(Clone, Copy, Debug)]
+pub(crate) struct Seat {
+    place: usize,
+    number: u8,
+    port: EndPort,
+}
+
+/// The end ports of a topology, in order of their LIDs, each with the keys that it has without a
+/// partition file.
+pub fn ports_of(alloc: Global, topology: &Topology) -> Result<Vec<SubnetPort>, AllocError>
+    ensures { IfOk result (λ ports. ports.items ≡ ports_of topology.now) }
+{
+    let seats = seats(alloc, topology)?;
+    let all = end_ports(alloc, &seats)?;
+    in_order(alloc, topology.nodes(), &all, &seats)
+}
+
+fn seats(alloc: Global, topology: &Topology) -> Result<Vec<Seat>, AllocError>
+    ensures { IfOk result (λ all. all.items ≡ seats topology.now) }
+{
+    let mut all = Vec::new(alloc);
+    for (place, node) in topology.nodes().iter().enumerate() {
+        push_seats(&mut all, topology, place, node)?;
+    }
+    Ok(all)
+}
+
+fn push_seats(all: &mut Vec<Seat>, topology: &Topology, place: usize, node: &Node) -> Result<(), AllocError>
+    requires { HasGuids node.now }
+    ensures { OnOk result (all.new.items ≡ all.old.items ++ seats_of_kind node.now.kind topology.now place node.now) }
+{
+    match node.kind {
+        NodeKind::Switch => {
+            all.push(switch_seat(place, node))?;
+            Ok(())
+        }
+        NodeKind::Adapter => push_adapter_seats(all, topology, place, node),
+    }
+}
+
+fn switch_seat(place: usize, node: &Node) -> Seat
+    ensures { result ≡ switch_seat place node.now }
+{
+    Seat {
+        place,
+        number: 0,
+        port: EndPort {
+            guid: node.guid,
+            is_switch: true,
+            is_sm: false,
+        },
+    }
+}
+
+fn push_adapter_seats(
+    all: &mut Vec<Seat>,
+    topology: &Topology,
+    place: usize,
+    node: &Node,
+) -> Result<(), AllocError>
+    requires { node.now.guid + node.now.ports < 2 ^ 64 }
+    ensures { OnOk result (all.new.items ≡ all.old.items ++ adapter_seats topology.now place node.now node.now.ports) }
+{
+    for index in 0..node.ports {
+        let at = PortRef {
+            node: place,
+            port: index + 1,
+        };
+        push_if_cabled(all, topology, node, at)?;
+    }
+    Ok(())
+}
+
+fn push_if_cabled(
+    all: &mut Vec<Seat>,
+    topology: &Topology,
+    node: &Node,
+    at: PortRef,
+) -> Result<(), AllocError>
+    requires { node.now.guid + at.port < 2 ^ 64 }
+    ensures { OnOk result (all.new.items ≡ all.old.items ++ seat_if_cabled topology.now node.now at) }
+{
+    if topology.is_cabled(at) {
+        all.push(adapter_seat(topology.sm(), node, at))?;
+    }
+    Ok(())
+}
+
+fn adapter_seat(sm: PortRef, node: &Node, at: PortRef) -> Seat
+    requires { node.now.guid + at.port < 2 ^ 64 }
+    ensures { result ≡ adapter_seat sm node.now at }
+{
+    Seat {
+        place: at.node,
+        number: at.port,
+        port: EndPort {
+            guid: node.guid + u64::from(at.port),
+            is_switch: false,
+            is_sm: at.is_same(sm),
+        },
+    }
+}
+
+fn end_ports(alloc: Global, seats: &[Seat]) -> Result<Vec<EndPort>, AllocError>
+    ensures { IfOk result (λ ports. ports.items ≡ end_ports seats.now) }
+{
+    seats.iter().map(|seat| seat.port).collect(alloc)
+}
+
+fn in_order(alloc: Global, nodes: &[Node], all: &[EndPort], seats: &[Seat]) -> Result<Vec<SubnetPort>, AllocError>
+    ensures { IfOk result (λ ports. ports.items ≡ in_order nodes.now default_keys all.now seats.now) }
+{
+    let mut ports = Vec::new(alloc);
+    for seat in seats {
+        let port = seated(nodes, lid_of(all, &seat.port), seat);
+        insert_port(&mut ports, port)?;
+    }
+    Ok(ports)
+}
+
+/// Puts a port behind those of lesser LIDs.
+fn insert_port(ports: &mut Vec<SubnetPort>, port: SubnetPort) -> Result<(), AllocError>
+    ensures { OnOk result (ports.new.items ≡ with_port ports.old.items port) }
+{
+    let place = place_for(ports, port.lid);
+    ports.insert(place, port)?;
+    Ok(())
+}
+
+fn place_for(ports: &[SubnetPort], lid: u16) -> usize
+    ensures value { result ≡ position_or_len (λ other. nat_lt lid other.lid) ports.now }
+    ensures within { result ≤ length ports.now }
+{
+    ports.iter().position(|other| other.lid > lid).unwrap_or(ports.len())
+}
+
+fn seated(nodes: &[Node], lid: u16, seat: &Seat) -> SubnetPort
+    ensures { result ≡ seated nodes.now default_keys lid seat.now }
+{
+    SubnetPort {
+        lid,
+        guid: seat.port.guid,
+        node: name_at(nodes, seat.place),
+        number: seat.number,
+        kind: kind_of(seat.port.is_switch),
+        keys: default_keys(),
+    }
+}
+
+fn kind_of(is_switch: bool) -> PortKind
+    ensures { result ≡ kind_of is_switch }
+{
+    if is_switch {
+        PortKind::Switch
+    } else {
+        PortKind::ChannelAdapter
+    }
+}
+
+fn name_at(nodes: &[Node], place: usize) -> NodeName
+    ensures { result ≡ name_at nodes.now place }
+{
+    match nodes.get(place) {
+        Some(node) => NodeName::new(node.name.as_bytes()),
+        None => NodeName::new(&[]),
+    }
+}
+
+/// The keys of a port where there is no partition file: full in the default partition.
+fn default_keys() -> KeyTable<PARTITIONS>
+    ensures { result ≡ default_keys }
+{
+    KeyTable::of_one(PKey::default())
+}
