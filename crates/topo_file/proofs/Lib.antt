@@ -1,3 +1,5 @@
 pub mod NodeLemmas
 pub mod LineLemmas
 pub mod LoopLemmas
+pub mod MarkLemmas
+pub mod WalkLemmas
