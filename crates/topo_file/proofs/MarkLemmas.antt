@@ -80,16 +80,16 @@ same_or_more (x ∷ xs) [] e h = absurd cc
 same_or_more (true ∷ xs) (true ∷ ys) e h =
     let shorter : length xs ≡ length ys = omega (arith, e) in
     let rest : (xs ≡ ys) ⊎ (marked_count xs + 1 ≤ marked_count ys) = same_or_more xs ys shorter (λ (i : ℕ). h (suc i)) in
-    elim rest [ | inl p ↦ inl (ap (λ (l : List Bool). true ∷ l) p) | inr m ↦ inr (rw (count-marked xs, count-marked ys) (omega (arith, m))) ]
+    elim rest [ inl p ↦ inl (ap (λ (l : List Bool). true ∷ l) p) | inr m ↦ inr (rw (count-marked xs, count-marked ys) (omega (arith, m))) ]
 same_or_more (true ∷ xs) (false ∷ ys) e h = let never : is_marked (false ∷ ys) 0 ≡ true = h 0 refl in absurd cc
 same_or_more (false ∷ xs) (true ∷ ys) e h =
     let shorter : length xs ≡ length ys = omega (arith, e) in
     let rest : (xs ≡ ys) ⊎ (marked_count xs + 1 ≤ marked_count ys) = same_or_more xs ys shorter (λ (i : ℕ). h (suc i)) in
-    elim rest [ | inl p ↦ inr (let same : marked_count xs ≡ marked_count ys = ap (λ (l : List Bool). marked_count l) p in rw (count-marked, count-unmarked) (omega (arith, same))) | inr m ↦ inr (rw (count-marked, count-unmarked) (omega (arith, m))) ]
+    elim rest [ inl p ↦ inr (let same : marked_count xs ≡ marked_count ys = ap (λ (l : List Bool). marked_count l) p in rw (count-marked, count-unmarked) (omega (arith, same))) | inr m ↦ inr (rw (count-marked, count-unmarked) (omega (arith, m))) ]
 same_or_more (false ∷ xs) (false ∷ ys) e h =
     let shorter : length xs ≡ length ys = omega (arith, e) in
     let rest : (xs ≡ ys) ⊎ (marked_count xs + 1 ≤ marked_count ys) = same_or_more xs ys shorter (λ (i : ℕ). h (suc i)) in
-    elim rest [ | inl p ↦ inl (ap (λ (l : List Bool). false ∷ l) p) | inr m ↦ inr (rw (count-unmarked xs, count-unmarked ys) m) ]
+    elim rest [ inl p ↦ inl (ap (λ (l : List Bool). false ∷ l) p) | inr m ↦ inr (rw (count-unmarked xs, count-unmarked ys) m) ]
 
 some_marked : (marks : List Bool) (i : ℕ) → is_marked marks i ≡ true → 1 ≤ marked_count marks
 some_marked [] i h = absurd cc

@@ -182,4 +182,4 @@ if_joined nodes cables all = by (position is_switch nodes) refl
         let start = first_is_switch nodes place e in
         let marks = after_rounds nodes cables place (switch_count nodes) in
         from_marked 0 nodes marks (λ i s. let walk = all place i start s in
-            subst (λ (k : ℕ). is_marked marks k ≡ true) (sym (zero-add i)) (complete nodes cables place start place walk.0 i (start_marked nodes cables place (switch_count nodes) start) walk.1))
+        subst (λ (k : ℕ). is_marked marks k ≡ true) (sym (zero-add i)) (complete nodes cables place start place walk.0 i (start_marked nodes cables place (switch_count nodes) start) walk.1))

@@ -106,8 +106,5 @@ fn is_marked(marks: &[bool], place: usize) -> bool
 fn marks_all(nodes: &[Node], marks: &[bool]) -> bool
     ensures { result ≡ marks_all nodes.now marks.now }
 {
-    nodes
-        .iter()
-        .enumerate()
-        .all(|(place, node)| !node.is_switch() || is_marked(marks, place))
+    nodes.iter().enumerate().all(|(place, node)| !node.is_switch() || is_marked(marks, place))
 }

@@ -54,11 +54,7 @@ impl Draft {
 
     /// The node that a line declares, by the words after the first.
     #[tactic(auto, unfolding(crate::specs::Topology::node_of))]
-    fn node_of<'a>(
-        &self,
-        kind: NodeKind,
-        words: &[&'a [u8]],
-    ) -> Result<NewNode<'a>, TopologyFault>
+    fn node_of<'a>(&self, kind: NodeKind, words: &[&'a [u8]]) -> Result<NewNode<'a>, TopologyFault>
         ensures value { seen_by seen result ≡ node_of kind self.now.nodes (map (λ word. word.now) words.now) }
         ensures new { IfOk result (λ node. place_of node.name.now self.now.nodes ≡ None) }
     {
@@ -187,12 +183,7 @@ impl Draft {
         port_at(self.nodes.as_slice(), place, number).ok_or(TopologyFault::NoSuchPort)
     }
 
-    fn take_node(
-        &mut self,
-        alloc: Global,
-        kind: NodeKind,
-        words: &[&[u8]],
-    ) -> Result<(), LineError>
+    fn take_node(&mut self, alloc: Global, kind: NodeKind, words: &[&[u8]]) -> Result<(), LineError>
         ensures { Gives (λ _. self.new) result (with_node self.old (node_of kind self.old.nodes (map (λ word. word.now) words.now))) }
     {
         let node = self.node_of(kind, words)?;
@@ -217,12 +208,7 @@ impl Draft {
     }
 
     #[tactic(auto, unfolding(crate::specs::Topology::after_words))]
-    fn take_words(
-        &mut self,
-        alloc: Global,
-        number: usize,
-        words: &[&[u8]],
-    ) -> Result<(), LineError>
+    fn take_words(&mut self, alloc: Global, number: usize, words: &[&[u8]]) -> Result<(), LineError>
         ensures { Gives (λ _. self.new) result (after_words number self.old (map (λ word. word.now) words.now)) }
     {
         let [first, rest @ ..] = words else {
