@@ -14,10 +14,11 @@ pub fn is_connected(alloc: Global, nodes: &[Node], cables: &[Cable]) -> Result<b
     // Some walk over cables leads from each switch to each other.
     ensures walks { IfOk result (λ answer. answer ≡ true ↔ AllJoined nodes.now cables.now) }
 {
-    test(alloc, nodes, cables)
+    reaches_all(alloc, nodes, cables)
 }
 
-fn test(alloc: Global, nodes: &[Node], cables: &[Cable]) -> Result<bool, AllocError>
+/// Whether each switch is reached from the first.
+fn reaches_all(alloc: Global, nodes: &[Node], cables: &[Cable]) -> Result<bool, AllocError>
     ensures { IfOk result (λ answer. answer ≡ is_connected nodes.now cables.now) }
 {
     let Some(place) = first_switch(nodes) else {
