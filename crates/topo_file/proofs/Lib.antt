@@ -1,4 +1,6 @@
 pub mod NodeLemmas
+pub mod LimitLemmas
 pub mod LineLemmas
 pub mod LoopLemmas
-pub mod LimitLemmas
+pub mod MarkLemmas
+pub mod WalkLemmas

@@ -22,7 +22,7 @@ pub place_of-keys : {K : Type 0} (spelt : K → List ℕ) (name : List ℕ) (key
 place_of-keys spelt name keys nodes same =
     position-map (bytes_eq name) spelt keys ∙ ap (position (bytes_eq name)) same ∙ sym (position-map (bytes_eq name) (λ node. node.name) nodes)
 
-one_more : (m n : ℕ) → nat_lt m n ≡ nat_lt (1 + m) (suc n)
+pub one_more : (m n : ℕ) → nat_lt m n ≡ nat_lt (1 + m) (suc n)
 one_more m n = grind (arith, nat_tests)
 
 list_any_place : {X : Type 0} (p : X → Bool) (xs : List X) → list_any p xs ≡ nat_lt (position_or_len p xs) (length xs)
@@ -37,7 +37,7 @@ none_below : (b : Bool) (n : ℕ) → cond b (Some n) None ≡ None → b ≡ fa
 none_below true n h = absurd cc
 none_below false n h = refl
 
-not_there : {X : Type 0} (p : X → Bool) (xs : List X) → position p xs ≡ None → list_any p xs ≡ false
+pub not_there : {X : Type 0} (p : X → Bool) (xs : List X) → position p xs ≡ None → list_any p xs ≡ false
 not_there p xs h = list_any_place p xs ∙ none_below (nat_lt (position_or_len p xs) (length xs)) (position_or_len p xs) h
 
 -- a new name goes last, as its node does

@@ -1,14 +1,24 @@
-ghost use Rattle.std.specs.Prelude.{◌≡◌, ◌==◌, ◌||◌, true, IfOk, map, position};
+ghost use Rattle.std.specs.Prelude.{◌≡◌, ◌↔◌, ◌==◌, ◌||◌, true, IfOk, map, position};
 ghost use Rattle.std.specs.List.{enumerate_from, list_any};
 ghost use Rattle.topo_file.specs.Node.{is_switch, switch_count};
-ghost use Rattle.topo_file.specs.Connectivity.{after_rounds, is_connected, is_marked, leads_to, marks_all, only, reaches_all, spread};
+ghost use Rattle.topo_file.specs.Connectivity.{AllJoined, after_rounds, is_connected, is_marked, leads_to, marks_all, only, reaches_all, spread};
 
 use crate::cable::Cable;
 use crate::node::{Node, switch_count};
 use std::alloc::{AllocError, Global};
 
-/// Whether cables between switches join all switches.
+/// Whether cables between switches join all switches; an adapter with several ports joins none.
+#[tactic(auto, using(crate::proofs::WalkLemmas::joined_if, crate::proofs::WalkLemmas::if_joined))]
 pub fn is_connected(alloc: Global, nodes: &[Node], cables: &[Cable]) -> Result<bool, AllocError>
+    ensures value { IfOk result (λ answer. answer ≡ is_connected nodes.now cables.now) }
+    // Some walk over cables leads from each switch to each other.
+    ensures walks { IfOk result (λ answer. answer ≡ true ↔ AllJoined nodes.now cables.now) }
+{
+    reaches_all(alloc, nodes, cables)
+}
+
+/// Whether each switch is reached from the first.
+fn reaches_all(alloc: Global, nodes: &[Node], cables: &[Cable]) -> Result<bool, AllocError>
     ensures { IfOk result (λ answer. answer ≡ is_connected nodes.now cables.now) }
 {
     let Some(place) = first_switch(nodes) else {

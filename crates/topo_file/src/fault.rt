@@ -82,7 +82,7 @@ pub enum TopoFault {
 
 /// Why a line was not taken.
 #[derive(Clone, Copy, Debug, PartialEq, Eq)]
-pub enum LineError {
+pub(crate) enum LineError {
     NoMemory,
     Fault(TopologyFault),
 }

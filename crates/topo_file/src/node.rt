@@ -151,7 +151,7 @@ impl NewNode<'_> {
 /// Nodes with different names, in the order in which they were added, and found by name in constant
 /// time.
 #[derive(Debug, Drop)]
-pub struct NodeList {
+pub(crate) struct NodeList {
     // The names again, each at the place of its node.
     names: IndexSet<Vec<u8>>,
     nodes: Vec<Node>,

@@ -21,7 +21,7 @@ use text_words::{Lines, PortWord, has_bad_character, is_name, number_in, port_in
 
 /// The subnet manager's port, and the line that places it there.
 #[derive(Clone, Copy, Debug, PartialEq, Eq)]
-pub struct Manager {
+pub(crate) struct Manager {
     pub(crate) port: PortRef,
     pub(crate) line: usize,
 }

@@ -1,0 +1,67 @@
+use std::alloc::{AllocError, Global};
+use topo_file::{TopoFault, Topology, TopologyFault, read};
+
+/// Two switches, each with two adapters, and the subnet manager on the first adapter.
+pub const TWO_SWITCHES: &str = "\
+switch A 0x10 4
+switch B 0x20 4
+adapter h0 0x100 1
+adapter h1 0x110 1
+adapter h2 0x120 1
+adapter h3 0x130 1
+cable A/1 h0/1
+cable A/2 h1/1
+cable A/3 B/3
+cable B/1 h2/1
+cable B/2 h3/1
+sm h0/1
+";
+
+/// The two-switch fabric with another line in the place of one, counted from 1; an empty one takes
+/// the line out.
+pub fn with_line(alloc: Global, number: usize, told: &str) -> Result<String, AllocError> {
+    let mut text = String::new(alloc);
+    let mut before = 1;
+    for line in TWO_SWITCHES.lines() {
+        let kept = if before == number { told } else { line };
+        if !kept.is_empty() {
+            text.push_str(kept)?;
+            text.push_str("\n")?;
+        }
+        before = before.wrapping_add(1);
+    }
+    Ok(text)
+}
+
+/// The two-switch fabric with further lines after its own.
+pub fn with_more(alloc: Global, told: &str) -> Result<String, AllocError> {
+    let mut text = String::new(alloc);
+    text.push_str(TWO_SWITCHES)?;
+    text.push_str(told)?;
+    Ok(text)
+}
+
+/// The fault of a text, if it has one.
+pub fn fault_of(alloc: Global, text: &[u8]) -> Option<TopoFault> {
+    match read(alloc, text) {
+        Ok(_) => None,
+        Err(fault) => Some(fault),
+    }
+}
+
+pub fn at(line: usize, cause: TopologyFault) -> Option<TopoFault> {
+    Some(TopoFault::At { line, cause })
+}
+
+/// Whether two topologies have the same nodes, cables and manager.
+pub fn is_same(a: &Topology, b: &Topology) -> bool {
+    a.sm() == b.sm()
+        && a.cables() == b.cables()
+        && a.nodes().len() == b.nodes().len()
+        && a.nodes().iter().zip(b.nodes()).all(|(x, y)| {
+            x.name.as_bytes() == y.name.as_bytes()
+                && x.kind == y.kind
+                && x.guid == y.guid
+                && x.ports == y.ports
+        })
+}

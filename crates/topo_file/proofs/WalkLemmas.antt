@@ -1,0 +1,185 @@
+-- Walks over cables, and the law: the test is true exactly where walks join every two switches.
+use Rattle.std.proofs.Common.{◌≡◌, ℕ, zero, suc, ◌+◌, Bool, true, false, cond, not, eqb, ◌==◌, ◌&&◌, ◌||◌, nat_lt, List, [], ◌∷◌, ◌++◌, length, slice_get, position, Option, Some, None, refl, sym, ap, subst, ◌∙◌, inl, inr, ◌⊎◌, arith, zero-add}
+use Rattle.std.specs.List.{list_any, position_or_len}
+use Rattle.std.specs.Option.{option_map_or}
+use Rattle.std.proofs.lemmas.Bool.{and_parts, and_from, or_cases, or_left, or_right, eqb-true, eq-eqb}
+use Rattle.std.proofs.lemmas.Option.{cond_some}
+use Rattle.topo_file.specs.declared.cable.Cable.{Cable}
+use Rattle.topo_file.specs.declared.node.Node.{Node}
+use Rattle.topo_file.specs.Node.{is_switch, is_switch_at, switch_count}
+use Rattle.topo_file.specs.Connectivity.{is_marked, leads_to, after_rounds, reaches_all, is_connected, joins, is_walk, Joined, AllJoined}
+use Rattle.topo_file.proofs.NodeLemmas.{one_more, not_there}
+use Rattle.topo_file.proofs.MarkLemmas.{mark-spread, mark-only, only_marks, marked_switch, stays, rests, all_marked, from_marked}
+
+-- what passes a test passes a weaker one
+weaker : {X : Type 0} (strong weak : X → Bool) → ((x : X) → strong x ≡ true → weak x ≡ true) → (xs : List X) → list_any strong xs ≡ true → list_any weak xs ≡ true
+weaker strong weak implies [] h = h
+weaker strong weak implies (x ∷ xs) h =
+    elim (or_cases (strong x) (list_any strong xs) h) [
+      | inl here ↦ or_left (weak x) (list_any weak xs) (implies x here)
+      | inr later ↦ or_right (weak x) (list_any weak xs) (weaker strong weak implies xs later)
+    ]
+
+-- a cable joins both ways
+joins-back : (a b : ℕ) (cable : Cable) → joins a b cable ≡ true → joins b a cable ≡ true
+joins-back a b cable h =
+    elim (or_cases ((cable.first.node == a) && (cable.second.node == b)) ((cable.first.node == b) && (cable.second.node == a)) h) [
+      | inl one ↦ or_right ((cable.first.node == b) && (cable.second.node == a)) _ one
+      | inr other ↦ or_left _ ((cable.first.node == a) && (cable.second.node == b)) other
+    ]
+
+-- ---- walks
+walk_more : (nodes : List Node) (cables : List Cable) (a : ℕ) (steps : List ℕ) (b c : ℕ) → is_walk nodes cables a steps b ≡ true
+    → list_any (λ cable. joins b c cable) cables ≡ true → is_switch_at nodes c ≡ true → is_walk nodes cables a (steps ++ c ∷ []) c ≡ true
+walk_more nodes cables a [] b c w j s =
+    let parts = and_parts (is_switch_at nodes a) (a == b) w in
+    let here : list_any (λ cable. joins a c cable) cables ≡ true = subst (λ (k : ℕ). list_any (λ cable. joins k c cable) cables ≡ true) (sym (eqb-true a b parts.1)) j in
+    and_from (is_switch_at nodes a) _ parts.0
+    (and_from (list_any (λ cable. joins a c cable) cables) _ here
+    (and_from (is_switch_at nodes c) (c == c) s (eq-eqb c c refl)))
+walk_more nodes cables a (next ∷ steps) b c w j s =
+    let first = and_parts (is_switch_at nodes a) _ w in
+    let second = and_parts (list_any (λ cable. joins a next cable) cables) _ first.1 in
+    and_from (is_switch_at nodes a) _ first.0
+    (and_from (list_any (λ cable. joins a next cable) cables) _ second.0 (walk_more nodes cables next steps b c second.1 j s))
+
+walk_back : (nodes : List Node) (cables : List Cable) (a : ℕ) (steps : List ℕ) (b : ℕ) → is_walk nodes cables a steps b ≡ true → Joined nodes cables b a
+walk_back nodes cables a [] b w =
+    let parts = and_parts (is_switch_at nodes a) (a == b) w in
+    let same = eqb-true a b parts.1 in
+    ([], and_from (is_switch_at nodes b) (b == a) (subst (λ (k : ℕ). is_switch_at nodes k ≡ true) same parts.0) (eq-eqb b a (sym same)))
+walk_back nodes cables a (next ∷ steps) b w =
+    let first = and_parts (is_switch_at nodes a) _ w in
+    let second = and_parts (list_any (λ cable. joins a next cable) cables) _ first.1 in
+    let back : Joined nodes cables b next = walk_back nodes cables next steps b second.1 in
+    (back.0 ++ a ∷ [], walk_more nodes cables b back.0 next a back.1 (weaker (λ cable. joins a next cable) (λ cable. joins next a cable) (λ cable h. joins-back a next cable h) cables second.0) first.0)
+
+walk_on : (nodes : List Node) (cables : List Cable) (a : ℕ) (steps : List ℕ) (b c : ℕ) → is_walk nodes cables a steps b ≡ true → Joined nodes cables b c → Joined nodes cables a c
+walk_on nodes cables a [] b c w more =
+    let parts = and_parts (is_switch_at nodes a) (a == b) w in
+    subst (λ (k : ℕ). Joined nodes cables k c) (sym (eqb-true a b parts.1)) more
+walk_on nodes cables a (next ∷ steps) b c w more =
+    let first = and_parts (is_switch_at nodes a) _ w in
+    let second = and_parts (list_any (λ cable. joins a next cable) cables) _ first.1 in
+    let rest : Joined nodes cables next c = walk_on nodes cables next steps b c second.1 more in
+    (next ∷ rest.0, and_from (is_switch_at nodes a) _ first.0 (and_from (list_any (λ cable. joins a next cable) cables) _ second.0 rest.1))
+
+-- ---- marks and walks
+led_by : (marks : List Bool) (i : ℕ) (cable : Cable) → leads_to marks i cable ≡ true → (j : ℕ) × ((is_marked marks j ≡ true) × (joins j i cable ≡ true))
+led_by marks i cable h =
+    elim (or_cases ((cable.first.node == i) && is_marked marks cable.second.node) ((cable.second.node == i) && is_marked marks cable.first.node) h) [
+      | inl one ↦ let parts = and_parts (cable.first.node == i) _ one in
+          (cable.second.node, (parts.1, or_right ((cable.first.node == cable.second.node) && (cable.second.node == i)) _ (and_from (cable.first.node == i) _ parts.0 (eq-eqb cable.second.node cable.second.node refl))))
+      | inr other ↦ let parts = and_parts (cable.second.node == i) _ other in
+          (cable.first.node, (parts.1, or_left _ ((cable.first.node == i) && (cable.second.node == cable.first.node)) (and_from (cable.first.node == cable.first.node) _ (eq-eqb cable.first.node cable.first.node refl) parts.0)))
+    ]
+
+led_from : (marks : List Bool) (i : ℕ) (cables : List Cable) → list_any (λ cable. leads_to marks i cable) cables ≡ true
+    → (j : ℕ) × ((is_marked marks j ≡ true) × (list_any (λ cable. joins j i cable) cables ≡ true))
+led_from marks i [] h = absurd cc
+led_from marks i (cable ∷ cables) h =
+    elim (or_cases (leads_to marks i cable) (list_any (λ c. leads_to marks i c) cables) h) [
+      | inl here ↦ let found = led_by marks i cable here in
+          (found.0, (found.1.0, or_left (joins found.0 i cable) (list_any (λ c. joins found.0 i c) cables) found.1.1))
+      | inr later ↦ let found = led_from marks i cables later in
+          (found.0, (found.1.0, or_right (joins found.0 i cable) (list_any (λ c. joins found.0 i c) cables) found.1.1))
+    ]
+
+leads_so : (marks : List Bool) (j i : ℕ) (cable : Cable) → is_marked marks j ≡ true → joins j i cable ≡ true → leads_to marks i cable ≡ true
+leads_so marks j i cable m h =
+    elim (or_cases ((cable.first.node == j) && (cable.second.node == i)) ((cable.first.node == i) && (cable.second.node == j)) h) [
+      | inl one ↦ let parts = and_parts (cable.first.node == j) _ one in
+          or_right ((cable.first.node == i) && is_marked marks cable.second.node) _ (and_from (cable.second.node == i) _ parts.1 (subst (λ (k : ℕ). is_marked marks k ≡ true) (sym (eqb-true cable.first.node j parts.0)) m))
+      | inr other ↦ let parts = and_parts (cable.first.node == i) _ other in
+          or_left _ ((cable.second.node == i) && is_marked marks cable.first.node) (and_from (cable.first.node == i) _ parts.0 (subst (λ (k : ℕ). is_marked marks k ≡ true) (sym (eqb-true cable.second.node j parts.1)) m))
+    ]
+
+-- what is marked is joined to the start
+sound : (nodes : List Node) (cables : List Cable) (place rounds i : ℕ) → is_switch_at nodes place ≡ true
+    → is_marked (after_rounds nodes cables place rounds) i ≡ true → Joined nodes cables place i
+sound nodes cables place zero i start h =
+    ([], and_from (is_switch_at nodes place) (place == i) start (eq-eqb place i (sym (mark-only nodes place i h))))
+sound nodes cables place (suc rounds) i start h =
+    let marks = after_rounds nodes cables place rounds in
+    let parts = and_parts (is_switch_at nodes i) _ (sym (mark-spread nodes cables marks i) ∙ h) in
+    elim (or_cases (is_marked marks i) (list_any (λ cable. leads_to marks i cable) cables) parts.1) [
+      | inl before ↦ sound nodes cables place rounds i start before
+      | inr now ↦ let found = led_from marks i cables now in
+          let walk : Joined nodes cables place found.0 = sound nodes cables place rounds found.0 start found.1.0 in
+          (walk.0 ++ i ∷ [], walk_more nodes cables place walk.0 found.0 i walk.1 found.1.1 parts.0)
+    ]
+
+starts_at_switch : (nodes : List Node) (cables : List Cable) (a : ℕ) (steps : List ℕ) (b : ℕ) → is_walk nodes cables a steps b ≡ true → is_switch_at nodes a ≡ true
+starts_at_switch nodes cables a [] b w = (and_parts (is_switch_at nodes a) _ w).0
+starts_at_switch nodes cables a (next ∷ steps) b w = (and_parts (is_switch_at nodes a) _ w).0
+
+-- once the rounds rest, a walk from a mark leads to marks alone
+complete : (nodes : List Node) (cables : List Cable) (place : ℕ) → is_switch_at nodes place ≡ true → (a : ℕ) (steps : List ℕ) (b : ℕ)
+    → is_marked (after_rounds nodes cables place (switch_count nodes)) a ≡ true → is_walk nodes cables a steps b ≡ true → is_marked (after_rounds nodes cables place (switch_count nodes)) b ≡ true
+complete nodes cables place start a [] b m w =
+    let parts = and_parts (is_switch_at nodes a) (a == b) w in
+    subst (λ (k : ℕ). is_marked (after_rounds nodes cables place (switch_count nodes)) k ≡ true) (eqb-true a b parts.1) m
+complete nodes cables place start a (next ∷ steps) b m w =
+    let marks = after_rounds nodes cables place (switch_count nodes) in
+    let first = and_parts (is_switch_at nodes a) _ w in
+    let second = and_parts (list_any (λ cable. joins a next cable) cables) _ first.1 in
+    let led = weaker (λ cable. joins a next cable) (λ cable. leads_to marks next cable) (λ cable h. leads_so marks a next cable m h) cables second.0 in
+    let after = mark-spread nodes cables marks next ∙ and_from (is_switch_at nodes next) _ (starts_at_switch nodes cables next steps b second.1) (or_right (is_marked marks next) _ led) in
+    complete nodes cables place start next steps b (subst (λ (l : List Bool). is_marked l next ≡ true) (sym (rests nodes cables place start)) after) second.1
+
+-- the start is marked in each round
+start_marked : (nodes : List Node) (cables : List Cable) (place rounds : ℕ) → is_switch_at nodes place ≡ true → is_marked (after_rounds nodes cables place rounds) place ≡ true
+start_marked nodes cables place zero start = only_marks nodes place start
+start_marked nodes cables place (suc rounds) start = stays nodes cables place rounds place start (start_marked nodes cables place rounds start)
+
+-- ---- the first switch
+passes_at : {X : Type 0} (p : X → Bool) (xs : List X) → nat_lt (position_or_len p xs) (length xs) ≡ true → option_map_or p (slice_get xs (position_or_len p xs)) false ≡ true
+passes_at p [] h = absurd cc
+passes_at p (x ∷ xs) h = by (p x) refl (passes_at p xs)
+  where
+    by : (b : Bool) → p x ≡ b → (nat_lt (position_or_len p xs) (length xs) ≡ true → option_map_or p (slice_get xs (position_or_len p xs)) false ≡ true)
+        → option_map_or p (slice_get (x ∷ xs) (position_or_len p (x ∷ xs))) false ≡ true
+    by true e later = rw e e
+    by false e later =
+        let one : 1 + position_or_len p xs ≡ suc (position_or_len p xs) = omega arith in
+        let within : nat_lt (position_or_len p xs) (length xs) ≡ true = one_more (position_or_len p xs) (length xs) ∙ (rw e at h) in
+        rw (e, one) (later within)
+
+first_is_switch : (nodes : List Node) (place : ℕ) → position is_switch nodes ≡ Some place → is_switch_at nodes place ≡ true
+first_is_switch nodes place h =
+    let found = cond_some (nat_lt (position_or_len is_switch nodes) (length nodes)) (position_or_len is_switch nodes) place h in
+    subst (λ (k : ℕ). is_switch_at nodes k ≡ true) found.1 (passes_at is_switch nodes found.0)
+
+neither : (a b : Bool) → (a || b) ≡ false → (a ≡ false) × (b ≡ false)
+neither true b h = absurd cc
+neither false b h = (refl, h)
+
+fails_at : {X : Type 0} (p : X → Bool) (xs : List X) (i : ℕ) → list_any p xs ≡ false → option_map_or p (slice_get xs i) false ≡ false
+fails_at p [] i h = refl
+fails_at p (x ∷ xs) zero h = (neither (p x) _ h).0
+fails_at p (x ∷ xs) (suc i) h = fails_at p xs i (neither (p x) _ h).1
+
+-- ---- the law
+pub joined_if : (nodes : List Node) (cables : List Cable) → is_connected nodes cables ≡ true → AllJoined nodes cables
+joined_if nodes cables h = by (position is_switch nodes) refl h
+  where
+    by : (o : Option ℕ) → position is_switch nodes ≡ o → reaches_all nodes cables o ≡ true → AllJoined nodes cables
+    by None e told a b at bt = absurd (let never = fails_at is_switch nodes a (not_there is_switch nodes e) in cc)
+    by (Some place) e told a b at bt =
+        let start = first_is_switch nodes place e in
+        let marks = after_rounds nodes cables place (switch_count nodes) in
+        let to_a = sound nodes cables place (switch_count nodes) a start (subst (λ (k : ℕ). is_marked marks k ≡ true) (zero-add a) (all_marked 0 nodes marks told a at)) in
+        let to_b = sound nodes cables place (switch_count nodes) b start (subst (λ (k : ℕ). is_marked marks k ≡ true) (zero-add b) (all_marked 0 nodes marks told b bt)) in
+        let back : Joined nodes cables a place = walk_back nodes cables place to_a.0 a to_a.1 in
+        walk_on nodes cables a back.0 place b back.1 to_b
+
+pub if_joined : (nodes : List Node) (cables : List Cable) → AllJoined nodes cables → is_connected nodes cables ≡ true
+if_joined nodes cables all = by (position is_switch nodes) refl
+  where
+    by : (o : Option ℕ) → position is_switch nodes ≡ o → reaches_all nodes cables o ≡ true
+    by None e = refl
+    by (Some place) e =
+        let start = first_is_switch nodes place e in
+        let marks = after_rounds nodes cables place (switch_count nodes) in
+        from_marked 0 nodes marks (λ i s. let walk = all place i start s in
+        subst (λ (k : ℕ). is_marked marks k ≡ true) (sym (zero-add i)) (complete nodes cables place start place walk.0 i (start_marked nodes cables place (switch_count nodes) start) walk.1))
