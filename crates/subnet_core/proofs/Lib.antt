@@ -1,1 +1,2 @@
+pub mod PortLemmas
 pub mod TextLemmas

@@ -33,15 +33,19 @@ seat_if_cabled plan node at = if is_cabled plan.cables at then adapter_seat plan
 
 abbrev pub adapter_seats : Plan → ℕ → Node → ℕ → List Seat
 adapter_seats plan place node count =
-    flat_map (λ number. seat_if_cabled plan node (record { node = place; port = number })) (range_with_len 1 count)
+    flat_map (seat_if_cabled plan node) (map (λ number. record { node = place; port = number }) (range_with_len 1 count))
 
 abbrev pub seats_of_kind : NodeKind → Plan → ℕ → Node → List Seat
 seats_of_kind node.Switch plan place node = switch_seat place node ∷ []
 seats_of_kind node.Adapter plan place node = adapter_seats plan place node node.ports
 
--- the end ports of the nodes, one node after the other
+-- the end ports of the node at its place
+abbrev pub seats_at : Plan → ℕ × Node → List Seat
+seats_at plan placed = seats_of_kind placed.1.kind plan placed.0 placed.1
+
+-- the end ports of all nodes, one node after the other
 abbrev pub seats : Plan → List Seat
-seats plan = flat_map (λ p. seats_of_kind p.1.kind plan p.0 p.1) (enumerate_from 0 plan.nodes)
+seats plan = flat_map (seats_at plan) (enumerate_from 0 plan.nodes)
 
 abbrev pub end_ports : List Seat → List EndPort
 end_ports all = map (λ seat. seat.port) all

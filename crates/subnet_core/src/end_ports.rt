@@ -1,12 +1,13 @@
-ghost use Rattle.std.specs.Prelude.{◌≡◌, ◌+◌, ◌^◌, ◌<◌, ◌≤◌, [], ◌∷◌, ◌++◌, length, map, All, IfOk, OnOk};
+ghost use Rattle.std.specs.Prelude.{◌≡◌, ◌+◌, ◌^◌, ◌<◌, ◌≤◌, [], ◌∷◌, ◌++◌, length, map, nat_le, All, IfOk, OnOk};
+ghost use Rattle.std.specs.List.{prefix_len};
 ghost use Rattle.topo_file.specs.Node.{HasGuids};
 ghost use Rattle.subnet_core.specs.Ports.{switch_seat, adapter_seat, seat_if_cabled, adapter_seats, seats_of_kind, seats, end_ports, kind_of, name_at, seated, with_port, with_seat, in_order, default_keys, ports_of};
 ghost use Rattle.subnet_model.specs.EndPorts.{lid_of};
 
-use pkey_rules::{EndPort, KeyTable, PKey};
+use pkey_rules::{EndPort, KeyTable, PARTITIONS, PKey};
 use std::alloc::{AllocError, Global};
 use subnet_model::{NodeName, PortKind, SubnetPort, lid_of};
-use topo_file::{Cable, Node, NodeKind, PortRef, Topology};
+use topo_file::{Node, NodeKind, PortRef, Topology};
 
 /// Where an end port stands: the place of its node in the topology, and its number there.
 #[derive(Clone, Copy, Debug)]
@@ -27,7 +28,8 @@ pub fn ports_of(alloc: Global, topology: &Topology) -> Result<Vec<SubnetPort>, A
 }
 
 fn seats(alloc: Global, topology: &Topology) -> Result<Vec<Seat>, AllocError>
-    ensures { IfOk result (λ all. all.items ≡ seats topology.now) }
+    ensures value { IfOk result (λ all. all.items ≡ seats topology.now) }
+    ensures few { IfOk result (λ all. length all.items ≤ 320) }
 {
     let mut all = Vec::new(alloc);
     for (place, node) in topology.nodes().iter().enumerate() {
@@ -36,7 +38,12 @@ fn seats(alloc: Global, topology: &Topology) -> Result<Vec<Seat>, AllocError>
     Ok(all)
 }
 
-fn push_seats(all: &mut Vec<Seat>, topology: &Topology, place: usize, node: &Node) -> Result<(), AllocError>
+fn push_seats(
+    all: &mut Vec<Seat>,
+    topology: &Topology,
+    place: usize,
+    node: &Node,
+) -> Result<(), AllocError>
     requires { HasGuids node.now }
     ensures { OnOk result (all.new.items ≡ all.old.items ++ seats_of_kind node.now.kind topology.now place node.now) }
 {
@@ -107,7 +114,7 @@ fn adapter_seat(sm: PortRef, node: &Node, at: PortRef) -> Seat
         port: EndPort {
             guid: node.guid + u64::from(at.port),
             is_switch: false,
-            is_sm: at.is_same(sm),
+            is_sm: at == sm,
         },
     }
 }
@@ -118,7 +125,13 @@ fn end_ports(alloc: Global, seats: &[Seat]) -> Result<Vec<EndPort>, AllocError>
     seats.iter().map(|seat| seat.port).collect(alloc)
 }
 
-fn in_order(alloc: Global, nodes: &[Node], all: &[EndPort], seats: &[Seat]) -> Result<Vec<SubnetPort>, AllocError>
+fn in_order(
+    alloc: Global,
+    nodes: &[Node],
+    all: &[EndPort],
+    seats: &[Seat],
+) -> Result<Vec<SubnetPort>, AllocError>
+    requires { length all.now ≤ 320 }
     ensures { IfOk result (λ ports. ports.items ≡ in_order nodes.now default_keys all.now seats.now) }
 {
     let mut ports = Vec::new(alloc);
@@ -138,11 +151,12 @@ fn insert_port(ports: &mut Vec<SubnetPort>, port: SubnetPort) -> Result<(), Allo
     Ok(())
 }
 
+/// How many ports stand before the first of a greater LID.
 fn place_for(ports: &[SubnetPort], lid: u16) -> usize
-    ensures value { result ≡ position_or_len (λ other. nat_lt lid other.lid) ports.now }
+    ensures value { result ≡ prefix_len (λ other. nat_le other.lid lid) ports.now }
     ensures within { result ≤ length ports.now }
 {
-    ports.iter().position(|other| other.lid > lid).unwrap_or(ports.len())
+    ports.iter().take_while(|other| other.lid <= lid).count()
 }
 
 fn seated(nodes: &[Node], lid: u16, seat: &Seat) -> SubnetPort
@@ -181,5 +195,7 @@ fn name_at(nodes: &[Node], place: usize) -> NodeName
 fn default_keys() -> KeyTable<PARTITIONS>
     ensures { result ≡ default_keys }
 {
-    KeyTable::of_one(PKey::default())
+    let mut keys = KeyTable::new();
+    let _ = keys.push(PKey::default());
+    keys
 }

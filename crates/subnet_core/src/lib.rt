@@ -1,4 +1,7 @@
 //! Whole runs.
 #![tactic(auto)]
 
+mod end_ports;
 mod text;
+
+pub use crate::end_ports::ports_of;
