@@ -11,6 +11,6 @@ mod line;
 mod number;
 mod word;
 
-pub use crate::line::{Lines, has_bad_character, words};
+pub use crate::line::{Lines, cut_at, has_bad_character, words};
 pub use crate::number::number_in;
 pub use crate::word::{NAME_LENGTH, PortWord, is_name, port_in};

@@ -1,5 +1,7 @@
 ghost use Rattle.std.specs.Prelude.{◌≡◌, ◌≤◌, ◌==◌, not, [], ◌∷◌, length, take, drop, map, position, ◌<◌, IfOk, IfSome, MatchOption};
 ghost use Rattle.std.specs.List.{list_any, position_or_len};
+ghost use Rattle.std.specs.Option.{option_map};
+ghost use Rattle.text_words.specs.Cut.{both, cut_at};
 ghost use Rattle.text_words.specs.Lines.{body, content, has_bad_character, is_blank, is_line_end, is_plain, lines, uncommented, words};
 
 use std::alloc::{AllocError, Global};
@@ -97,6 +99,18 @@ pub(crate) fn place_or_end(wanted: u8, text: &[u8]) -> usize
         Some(place) => place,
         None => text.len(),
     }
+}
+
+/// What stands before and behind the first such byte, if there is one.
+#[tactic(auto, using(crate::proofs::LineLemmas::list_any_place))]
+pub fn cut_at(wanted: u8, text: &[u8]) -> Option<(&[u8], &[u8])>
+    ensures { option_map both result ≡ cut_at (λ byte. byte == wanted) text.now }
+{
+    let place = place_or_end(wanted, text);
+    if place == text.len() {
+        return None;
+    }
+    Some((&text[..place], &text[place + 1..]))
 }
 
 fn place_of(wanted: u8, text: &[u8]) -> Option<usize>

@@ -26,6 +26,10 @@ is_switch_at nodes place = option_map_or is_switch (slice_get nodes place) false
 abbrev pub ports_at : List Node → ℕ → ℕ
 ports_at nodes place = option_map_or (λ node. node.ports) (slice_get nodes place) 0
 
+-- the GUID of the node there
+abbrev pub guid_at : List Node → ℕ → ℕ
+guid_at nodes place = option_map_or (λ node. node.guid) (slice_get nodes place) 0
+
 -- a switch has one GUID for itself and its port 0; port p of an adapter with GUID g has the GUID g + p
 abbrev pub port_guids : NodeKind → ℕ → ℕ
 port_guids Switch ports = 0

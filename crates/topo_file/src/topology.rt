@@ -1,9 +1,9 @@
-ghost use Rattle.std.specs.Prelude.{◌≡◌, All};
-ghost use Rattle.topo_file.specs.Cable.{is_cabled};
-ghost use Rattle.topo_file.specs.Node.{HasGuids, IsWithinLimits, place_of};
+ghost use Rattle.std.specs.Prelude.{◌≡◌, ◌+◌, ◌≤◌, false, All, IfSome};
+ghost use Rattle.topo_file.specs.Cable.{is_cabled, port_at};
+ghost use Rattle.topo_file.specs.Node.{HasGuids, IsWithinLimits, guid_at, is_switch_at, place_of, ports_at};
 
-use crate::cable::{Cable, PortRef, is_cabled};
-use crate::node::{Node, NodeList};
+use crate::cable::{Cable, PortRef, is_cabled, port_at};
+use crate::node::{Node, NodeList, is_switch_at};
 use std::marker::Model;
 
 /// The nodes and cables of a fabric, and the port that the subnet manager runs on.
@@ -44,6 +44,33 @@ impl Topology {
         ensures { result ≡ self.now.sm }
     {
         self.sm
+    }
+
+    /// Whether the node there is a switch.
+    pub fn is_switch_at(&self, place: usize) -> bool
+        ensures { result ≡ is_switch_at self.now.nodes place }
+    {
+        is_switch_at(self.nodes.as_slice(), place)
+    }
+
+    /// The port of this number at the node there, if there is one.
+    pub fn port_at(&self, place: usize, number: u128) -> Option<PortRef>
+        ensures value { result ≡ port_at self.now.nodes place number }
+        ensures within { IfSome result (λ port. port.port ≤ ports_at self.now.nodes port.node) }
+    {
+        port_at(self.nodes.as_slice(), place, number)
+    }
+
+    /// The GUID of a port of an adapter.
+    pub fn guid_of(&self, port: PortRef) -> u64
+        requires adapter { is_switch_at self.now.nodes port.node ≡ false }
+        requires within { port.port ≤ ports_at self.now.nodes port.node }
+        ensures { result ≡ guid_at self.now.nodes port.node + port.port }
+    {
+        match self.nodes.as_slice().get(port.node) {
+            Some(node) => node.guid + u64::from(port.port),
+            None => u64::from(port.port),
+        }
     }
 
     /// Whether the port has a cable, which is looked for among all cables.

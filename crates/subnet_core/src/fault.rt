@@ -1,0 +1,143 @@
+//! Why a run does not begin, and why a step does not complete.
+
+ghost use Rattle.std.specs.Prelude.{◌≡◌};
+ghost use Rattle.subnet_core.specs.Fault.{code_of};
+ghost use Rattle.subnet_core.specs.declared.fault.ScriptError.TheVariants.{NoMemory, Fault};
+
+use std::alloc::{AllocError, AllocFailed};
+use thiserror::Error;
+use topo_file::TopologyFault;
+
+/// What is wrong with a line of a script, in the order in which it is asked.
+#[derive(Clone, Copy, Debug, PartialEq, Eq, Error)]
+pub enum ScriptFault {
+    /// The line has a bad character, an unknown command, or too few or too many words.
+    #[error("the line is malformed")]
+    Malformed,
+    /// There is no such port of a channel adapter, or the word is no port.
+    #[error("there is no such adapter port")]
+    UnknownPort,
+    /// The port is the subnet manager's, which sends nothing of its own.
+    #[error("the port is the subnet manager's")]
+    ManagerPort,
+    /// The port has no cable.
+    #[error("the port has no cable")]
+    UncabledPort,
+    /// The payload is to be longer than a packet carries.
+    #[error("a payload has at most 256 bytes")]
+    PayloadTooLong,
+    /// A field is misspelt or out of its range.
+    #[error("a field is misspelt or out of its range")]
+    BadField,
+}
+
+impl ScriptFault {
+    /// The code that is printed for the fault.
+    pub fn code(self) -> &'static str
+        ensures { result.now ≡ code_of self }
+    {
+        match self {
+            ScriptFault::Malformed => "SF1",
+            ScriptFault::UnknownPort => "SF2",
+            ScriptFault::ManagerPort => "SF3",
+            ScriptFault::UncabledPort => "SF4",
+            ScriptFault::PayloadTooLong => "SF5",
+            ScriptFault::BadField => "SF6",
+        }
+    }
+}
+
+/// Why a line gave no command.
+#[derive(Clone, Copy, Debug, PartialEq, Eq)]
+pub(crate) enum ScriptError {
+    NoMemory,
+    Fault(ScriptFault),
+}
+
+impl From<AllocError> for ScriptError {
+    ghost from_gives = { λ _ e. e ≡ NoMemory };
+
+    fn from(_error: AllocError) -> ScriptError {
+        ScriptError::NoMemory
+    }
+}
+
+impl From<ScriptFault> for ScriptError {
+    ghost from_gives = { λ fault e. e ≡ Fault fault };
+
+    fn from(fault: ScriptFault) -> ScriptError {
+        ScriptError::Fault(fault)
+    }
+}
+
+/// Why a run did not complete. Of two faults the topology's is told first.
+#[derive(Clone, Copy, Debug, PartialEq, Eq, Error)]
+pub enum RunFault {
+    /// Memory was refused.
+    #[error("out of memory")]
+    NoMemory,
+    /// A partition file is given, and none is read yet.
+    #[error("partition files are not read yet")]
+    NotYet,
+    /// The first fault of the topology.
+    #[error("topology line {line}: {cause}")]
+    Topology {
+        /// The line, counted from 1; 0 where the fault is of the text as a whole.
+        line: usize,
+        /// What is wrong.
+        cause: TopologyFault,
+    },
+    /// The first fault of the script.
+    #[error("script line {line}: {cause}")]
+    Script {
+        /// The line, counted from 1.
+        line: usize,
+        /// What is wrong.
+        cause: ScriptFault,
+    },
+}
+
+impl From<AllocError> for RunFault {
+    ghost use Rattle.std.specs.Prelude.{◌≡◌};
+    ghost use Rattle.subnet_core.specs.declared.fault.RunFault.TheVariants as run;
+
+    ghost from_gives = { λ _ e. e ≡ run.NoMemory };
+
+    fn from(_error: AllocError) -> RunFault {
+        RunFault::NoMemory
+    }
+}
+
+impl<T: Drop> From<AllocFailed<T>> for RunFault {
+    ghost use Rattle.std.specs.Prelude.{◌≡◌};
+    ghost use Rattle.subnet_core.specs.declared.fault.RunFault.TheVariants as run;
+
+    ghost from_gives = { λ _ e. e ≡ run.NoMemory };
+
+    fn from(_error: AllocFailed<T>) -> RunFault {
+        RunFault::NoMemory
+    }
+}
+
+/// Why a step did not complete.
+#[derive(Clone, Copy, Debug, PartialEq, Eq, Error)]
+pub enum StepFault {
+    /// Memory was refused.
+    #[error("out of memory")]
+    NoMemory,
+    /// Memory was refused in an earlier step.
+    #[error("memory was refused in an earlier step")]
+    Broken,
+}
+
+impl From<StepFault> for RunFault {
+    ghost use Rattle.std.specs.Prelude.{◌≡◌};
+    ghost use Rattle.subnet_core.specs.declared.fault.RunFault.TheVariants as run;
+
+    ghost from_gives = { λ _ e. e ≡ run.NoMemory };
+
+    /// Either way memory was refused.
+    fn from(_fault: StepFault) -> RunFault {
+        RunFault::NoMemory
+    }
+}

@@ -1,0 +1,51 @@
+ghost use Rattle.std.specs.Prelude.{◌≡◌, IfOk};
+ghost use Rattle.subnet_core.specs.Text.{report_text};
+
+use crate::text;
+use std::alloc::{AllocError, Global};
+use std::marker::Model;
+use subnet_model::{Event, SubnetPort};
+
+/// What happened in a run: its events, in order, at ports that have names.
+#[derive(Debug, Drop)]
+pub struct Report {
+    alloc: Global,
+    ports: Vec<SubnetPort>,
+    events: Vec<Event>,
+}
+
+impl Model for Report {
+    ghost use Rattle.subnet_core.specs.Run.{Told};
+
+    ghost Value = { Told };
+
+    ghost view = { λ report. record { ports = report.ports.items; events = report.events.items } };
+}
+
+impl Report {
+    ghost use Rattle.subnet_core.specs.Run.{Told};
+
+    pub(crate) fn new(alloc: Global, ports: Vec<SubnetPort>, events: Vec<Event>) -> Report
+        ensures { result ≡ record { ports = ports.items; events = events.items } }
+    {
+        Report {
+            alloc,
+            ports,
+            events,
+        }
+    }
+
+    /// The events, in order.
+    pub fn events(&self) -> &[Event]
+        ensures { result.now ≡ self.now.events }
+    {
+        self.events.as_slice()
+    }
+
+    /// The report as it is printed: a line for each event, in ASCII.
+    pub fn text(&self) -> Result<Vec<u8>, AllocError>
+        ensures { IfOk result (λ text. text.items ≡ report_text self.now.ports self.now.events) }
+    {
+        text::report_text(self.alloc, &self.ports, &self.events)
+    }
+}
