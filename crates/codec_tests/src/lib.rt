@@ -1,0 +1,5 @@
+//! Byte vectors from outside, for the crates that read and write bytes.
+#![tactic(auto)]
+
+#[cfg(test)]
+mod headers;
