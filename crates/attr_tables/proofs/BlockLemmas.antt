@@ -3,13 +3,14 @@ use Rattle.std.proofs.Common.{◌≡◌, ℕ, zero, suc, ◌+◌, ◌*◌, ◌/�
 use Rattle.std.specs.Int.{bytes_high_first}
 use Rattle.std.specs.Int.Digits.{AllBelowBase}
 use Rattle.std.specs.List.{flat_map}
+use Rattle.std.proofs.lemmas.Grind.{same_number_lists}
 use Rattle.std.proofs.lemmas.Nat.{same_from_place, mod_below}
 use Rattle.std.proofs.Math.Nat.{mod-eq_of_lt, div-add-mod', lt_of_mul-lt-mul_left}
 use Rattle.byteorder.specs.Endian.{big_from}
 use Rattle.mad_layout.specs.Bits.{number, field}
 use Rattle.mad_layout.proofs.NumberLemmas.{number_of_big, number_bytes}
 use Rattle.mad_layout.proofs.AlignedLemmas.{field_aligned}
-use Rattle.attr_tables.specs.Blocks.{IsBlockCount, Tiles}
+use Rattle.attr_tables.specs.Blocks.{HoldsEntries, IsBlockCount, Tiles}
 
 pub byte_is_field : (xs : List ℕ) (k : ℕ) → AllBelowBase 256 xs → k < length xs → get_or xs k 0 ≡ field xs (8 * k) 8
 byte_is_field xs k below h =
@@ -52,3 +53,6 @@ blocks_tile size entries blocks index count h =
       stands = record { counted = turn; within = low };
       alone = λ b p s. same_from_place b p (index / size) (index % size) size s.within low (let q = s.counted in omega arith);
     }
+
+pub same_entries : (bytes : List ℕ) (len : ℕ) (xs ys : List ℕ) → length xs ≡ length ys → HoldsEntries bytes len xs → HoldsEntries bytes len ys → xs ≡ ys
+same_entries bytes len xs ys long h g = same_number_lists xs ys long (λ k below. h k below ∙ sym (g k (omega arith)))

@@ -7,3 +7,4 @@ pub mod Rate
 pub mod PortInfo
 pub mod SwitchInfo
 pub mod Blocks
+pub mod PowerUp

@@ -13,7 +13,7 @@ use mad_layout::{read_fields, write_fields};
 /// The state and the limits of a port, each field as its raw bits.
 ///
 /// Source: IBA volume 1, 14.2.5.6.
-#[derive(Clone, Copy, Debug, PartialEq, Eq)]
+#[derive(Clone, Copy, Debug, Default, PartialEq, Eq)]
 pub struct PortInfo {
     /// The key that a manager shows to change the port.
     pub m_key: u64,

@@ -7,7 +7,7 @@ use mad_layout::{read_fields, write_fields};
 /// What a switch can do and how its forwarding tables are used, each field as its raw bits.
 ///
 /// Source: IBA volume 1, chapter 14.
-#[derive(Clone, Copy, Debug, PartialEq, Eq)]
+#[derive(Clone, Copy, Debug, Default, PartialEq, Eq)]
 pub struct SwitchInfo {
     /// How many entries the linear forwarding table has.
     pub linear_fdb_cap: u16,
