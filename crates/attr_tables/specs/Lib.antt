@@ -5,6 +5,7 @@ pub mod PortPhysicalState
 pub mod Mtu
 pub mod Rate
 pub mod PortInfo
+pub mod SmpAttribute
 pub mod SwitchInfo
 pub mod Blocks
 pub mod PowerUp

@@ -1,6 +1,6 @@
 -- What a simulated node has at power-up. Another manager's values of a running node don't matter here:
 -- these are the capabilities that our nodes have, and all else is 0.
-use Rattle.std.specs.Prelude.{ℕ, true, false}
+use Rattle.std.specs.Prelude.{ℕ, true, false, ◌∷◌, replicate}
 use Rattle.attr_tables.specs.declared.link.Link.{Link}
 use Rattle.attr_tables.specs.declared.link.Link.TheVariants.{Cabled, Uncabled, Internal}
 use Rattle.attr_tables.specs.declared.node_type.NodeType.{NodeType}
@@ -8,6 +8,7 @@ use Rattle.attr_tables.specs.declared.node_type.NodeType.TheVariants.{ChannelAda
 use Rattle.attr_tables.specs.declared.node_info.NodeInfo.{NodeInfo}
 use Rattle.attr_tables.specs.declared.port_info.PortInfo.{PortInfo}
 use Rattle.attr_tables.specs.declared.switch_info.SwitchInfo.{SwitchInfo}
+use Rattle.attr_tables.specs.declared.word_block.WordBlock.{WordBlock}
 use Rattle.attr_tables.specs.NodeType.{node_type_code}
 
 -- a cabled port is Initialize (2), one without a cable Down (1), port 0 of a switch Active (4)
@@ -115,3 +116,7 @@ node_info_of node_type num_ports node_guid port_guid local_port_num =
       local_port_num = local_port_num;
       vendor_id = 0;
     }
+
+-- the first block of a key table: the full key of the default partition, and empty places
+abbrev pub key_block_at_power_up : WordBlock
+key_block_at_power_up = record { words = 65535 ∷ replicate 31 0 }

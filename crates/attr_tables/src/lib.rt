@@ -2,7 +2,7 @@
 //!
 //! A record is a struct of raw fields and one table of their places; contracts compare it with the list
 //! of places that stands in `specs/`, in the words of `mad_layout`. [`NodeType`], [`PortState`],
-//! [`PortPhysicalState`], [`Mtu`] and [`Rate`] name codes. [`PortBlock`] and [`WordBlock`] are the blocks
+//! [`PortPhysicalState`], [`Mtu`], [`Rate`] and [`SmpAttribute`] name codes. [`PortBlock`] and [`WordBlock`] are the blocks
 //! in which forwarding tables and key tables travel, and [`block_place`] says where an entry stands. What
 //! a simulated node has at power-up stands here too, since both kinds of node share it. The layouts are
 //! those of the InfiniBand Architecture Specification, volume 1, chapter 14.
@@ -21,6 +21,7 @@ mod port_physical_state;
 mod port_state;
 mod power_up;
 mod rate;
+mod smp_attribute;
 mod switch_info;
 mod word_block;
 
@@ -41,8 +42,10 @@ pub use crate::port_info::PortInfo;
 pub use crate::port_physical_state::PortPhysicalState;
 pub use crate::port_state::PortState;
 pub use crate::power_up::{
-    LINEAR_TABLE, MULTICAST_TABLE, node_info_of, port_info_at_power_up, switch_info_at_power_up,
+    LINEAR_TABLE, MULTICAST_TABLE, key_block_at_power_up, node_info_of, port_info_at_power_up,
+    switch_info_at_power_up,
 };
 pub use crate::rate::Rate;
+pub use crate::smp_attribute::SmpAttribute;
 pub use crate::switch_info::SwitchInfo;
 pub use crate::word_block::WordBlock;

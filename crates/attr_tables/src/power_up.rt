@@ -1,5 +1,7 @@
 ghost use Rattle.std.specs.Prelude.{◌≡◌};
-ghost use Rattle.attr_tables.specs.PowerUp.{node_info_of, port_info_at_power_up, switch_info_at_power_up};
+ghost use Rattle.attr_tables.specs.PowerUp.{key_block_at_power_up, node_info_of, port_info_at_power_up, switch_info_at_power_up};
+ghost use Rattle.attr_tables.specs.PortInfo.{port_info};
+ghost use Rattle.mad_layout.specs.Layout.{Fits};
 
 use crate::link::Link;
 use crate::mtu::Mtu;
@@ -9,6 +11,7 @@ use crate::port_info::PortInfo;
 use crate::port_physical_state::PortPhysicalState;
 use crate::port_state::PortState;
 use crate::switch_info::SwitchInfo;
+use crate::word_block::WordBlock;
 use pkey_rules::PARTITIONS;
 
 /// How many entries the linear forwarding table of a simulated switch has.
@@ -19,7 +22,8 @@ pub const MULTICAST_TABLE: usize = 1024;
 
 /// What a port of a simulated node has at power-up.
 pub fn port_info_at_power_up(node_type: NodeType, local_port_num: u8, link: Link) -> PortInfo
-    ensures { result ≡ port_info_at_power_up node_type local_port_num link }
+    ensures value { result ≡ port_info_at_power_up node_type local_port_num link }
+    ensures fits { Fits (port_info result) }
 {
     let (port_state, physical_state) = match link {
         Link::Cabled => (PortState::Initialize, PortPhysicalState::LinkUp),
@@ -44,7 +48,7 @@ pub fn port_info_at_power_up(node_type: NodeType, local_port_num: u8, link: Link
         vl_cap: 1,
         mtu_cap: Mtu::Bytes2048.code(),
         operational_vls: 1,
-        guid_cap: guid_cap,
+        guid_cap,
         ..PortInfo::default()
     }
 }
@@ -88,4 +92,14 @@ pub fn node_info_of(
         local_port_num,
         vendor_id: 0,
     }
+}
+
+/// The first block of each key table of a simulated node at power-up: the full key of the default
+/// partition, and empty places.
+pub fn key_block_at_power_up() -> WordBlock
+    ensures { result ≡ key_block_at_power_up }
+{
+    let mut words = [0; 32];
+    words[0] = 0xffff;
+    WordBlock { words }
 }

@@ -2,4 +2,6 @@
 #![tactic(auto)]
 
 #[cfg(test)]
+mod attributes;
+#[cfg(test)]
 mod headers;
