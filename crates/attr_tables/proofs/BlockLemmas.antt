@@ -1,5 +1,5 @@
 -- The entries of a block as fields of its bytes, and how blocks tile a table.
-use Rattle.std.proofs.Common.{◌≡◌, ℕ, zero, suc, ◌+◌, ◌*◌, ◌/◌, ◌%◌, ◌<◌, ◌≤◌, List, [], ◌∷◌, length, get_or, take, drop, refl, sym, ◌∙◌, ap, arith, drop-cons, length-drop}
+use Rattle.std.proofs.Common.{◌≡◌, ℕ, zero, suc, ◌+◌, ◌*◌, ◌/◌, ◌%◌, ◌<◌, ◌≤◌, List, [], ◌∷◌, length, get_or, take, drop, refl, sym, ◌∙◌, ap, arith, length-drop}
 use Rattle.std.specs.Int.{bytes_high_first}
 use Rattle.std.specs.Int.Digits.{AllBelowBase}
 use Rattle.std.specs.List.{flat_map}
@@ -11,12 +11,6 @@ use Rattle.mad_layout.specs.Bits.{number, field}
 use Rattle.mad_layout.proofs.NumberLemmas.{number_of_big, number_bytes}
 use Rattle.mad_layout.proofs.AlignedLemmas.{field_aligned}
 use Rattle.attr_tables.specs.Blocks.{HoldsEntries, IsBlockCount, Tiles}
-
-pub byte_is_field : (xs : List ℕ) (k : ℕ) → AllBelowBase 256 xs → k < length xs → get_or xs k 0 ≡ field xs (8 * k) 8
-byte_is_field xs k below h =
-    let cut : drop k xs ≡ get_or xs k 0 ∷ drop (suc k) xs = drop-cons xs k 0 h in
-    let one : number (get_or xs k 0 ∷ []) ≡ get_or xs k 0 = omega arith in
-    sym one ∙ ap (λ (ys : List ℕ). number (take 1 ys)) (sym cut) ∙ field_aligned xs k 1 (8 * k) 8 below (omega arith) refl refl
 
 pub word_is_field : (xs : List ℕ) (k : ℕ) → AllBelowBase 256 xs → 2 * k + 2 ≤ length xs → big_from 0 2 (drop (2 * k) xs) ≡ field xs (16 * k) 16
 word_is_field xs k below h =

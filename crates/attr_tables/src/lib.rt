@@ -2,10 +2,11 @@
 //!
 //! A record is a struct of raw fields and one table of their places; contracts compare it with the list
 //! of places that stands in `specs/`, in the words of `mad_layout`. [`NodeType`], [`PortState`],
-//! [`PortPhysicalState`], [`Mtu`], [`Rate`] and [`SmpAttribute`] name codes. [`PortBlock`] and [`WordBlock`] are the blocks
-//! in which forwarding tables and key tables travel, and [`block_place`] says where an entry stands. What
-//! a simulated node has at power-up stands here too, since both kinds of node share it. The layouts are
-//! those of the InfiniBand Architecture Specification, volume 1, chapter 14.
+//! [`PortPhysicalState`], [`Mtu`], [`Rate`] and [`SmpAttribute`] name codes. [`PortBlock`] and
+//! [`WordBlock`] are the blocks in which forwarding tables and key tables travel, and [`block_place`]
+//! says where an entry stands. What a simulated node has at power-up stands here too, since both kinds
+//! of node share it. The layouts are those of the InfiniBand Architecture Specification, volume 1,
+//! chapter 14.
 #![tactic(auto)]
 
 mod blocks;

@@ -1,8 +1,9 @@
 -- A field that is whole bytes.
-use Rattle.std.proofs.Common.{◌≡◌, ℕ, Bool, true, false, ◌+◌, ◌*◌, ◌-◌, ◌/◌, ◌^◌, ◌<◌, ◌≤◌, List, [], ◌++◌, length, take, drop, refl, sym, ◌∙◌, ap, subst, arith, length-drop, append-nil}
+use Rattle.std.proofs.Common.{suc, get_or, drop-cons, ◌∷◌, ◌≡◌, ℕ, Bool, true, false, ◌+◌, ◌*◌, ◌-◌, ◌/◌, ◌^◌, ◌<◌, ◌≤◌, List, [], ◌++◌, length, take, drop, refl, sym, ◌∙◌, ap, subst, arith, length-drop, append-nil}
 use Rattle.std.specs.Int.{bytes_high_first}
 use Rattle.std.specs.Int.Digits.{AllBelowBase}
-use Rattle.std.proofs.lemmas.List.{take_rest}
+use Rattle.std.proofs.lemmas.List.{take_rest, set_split}
+use Rattle.std.proofs.Math.ListN.{set}
 use Rattle.std.proofs.Math.Seq.{drop-length}
 use Rattle.std.proofs.Math.Nat.{div-one, div-eq_of_lt, mod-eq_of_lt}
 use Rattle.byteorder.specs.Endian.{big_from}
@@ -75,3 +76,17 @@ same_bit true true e = refl
 same_bit false false e = refl
 same_bit true false e = absurd (omega arith)
 same_bit false true e = absurd (omega arith)
+
+pub byte_is_field : (xs : List ℕ) (k : ℕ) → AllBelowBase 256 xs → k < length xs → get_or xs k 0 ≡ field xs (8 * k) 8
+byte_is_field xs k below h =
+    let cut : drop k xs ≡ get_or xs k 0 ∷ drop (suc k) xs = drop-cons xs k 0 h in
+    let one : number (get_or xs k 0 ∷ []) ≡ get_or xs k 0 = omega arith in
+    sym one ∙ ap (λ (ys : List ℕ). number (take 1 ys)) (sym cut) ∙ field_aligned xs k 1 (8 * k) 8 below (omega arith) refl refl
+
+pub byte_is_set : (xs : List ℕ) (k v : ℕ) → AllBelowBase 256 xs → k < length xs → v < 256 → set xs k v ≡ put_field xs (8 * k) 8 v
+byte_is_set xs k v below h small =
+    let cut : drop k xs ≡ get_or xs k 0 ∷ drop (suc k) xs = drop-cons xs k 0 h in
+    let one : number (v ∷ []) ≡ v = omega arith in
+    set_split xs k v h
+    ∙ ap (λ (ys : List ℕ). take k xs ++ (v ∷ drop 1 ys)) (sym cut)
+    ∙ put_aligned xs (v ∷ []) k 1 (8 * k) 8 v below (small, tt) refl (omega arith) refl refl one

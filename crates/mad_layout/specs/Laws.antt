@@ -1,5 +1,5 @@
 -- What holds of every field and every layout, in the words of Bits and Layout.
-use Rattle.std.specs.Prelude.{ℕ, ◌≡◌, ◌+◌, ◌*◌, ◌^◌, ◌<◌, ◌≤◌, ◌⊎◌, true, List, length, replicate, slice_range}
+use Rattle.std.specs.Prelude.{ℕ, ◌≡◌, ◌+◌, ◌*◌, ◌^◌, ◌<◌, ◌≤◌, ◌⊎◌, true, List, length, replicate, slice_range, slice_index, slice_set}
 use Rattle.std.specs.Int.Digits.{AllBelowBase}
 use Rattle.mad_layout.specs.Bits.{field, put_field}
 use Rattle.mad_layout.specs.Layout.{Place, Holds, Fits, put_all, is_layout, Spells, Sets}
@@ -18,6 +18,16 @@ PutLeavesOthers =
 abbrev pub PartsHaveFields : Type 0
 PartsHaveFields =
     (bytes : List ℕ) (first last off len : ℕ) → AllBelowBase 256 bytes → first ≤ last → last ≤ length bytes → off + len ≤ 8 * length (slice_range bytes first last) → field (slice_range bytes first last) off len ≡ field bytes (8 * first + off) len
+
+-- a byte is the field of its 8 bits
+abbrev pub BytesAreFields : Type 0
+BytesAreFields =
+    (bytes : List ℕ) (place : ℕ) → AllBelowBase 256 bytes → place < length bytes → slice_index bytes place ≡ field bytes (8 * place) 8
+
+-- to write a byte is to set that field
+abbrev pub BytesAreSet : Type 0
+BytesAreSet =
+    (bytes : List ℕ) (place value : ℕ) → AllBelowBase 256 bytes → place < length bytes → value < 256 → slice_set bytes place value ≡ put_field bytes (8 * place) 8 value
 
 -- a layout written over bytes is set there
 abbrev pub LayoutsSet : Type 0

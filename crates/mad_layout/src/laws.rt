@@ -1,5 +1,5 @@
 ghost use Rattle.std.specs.Prelude.{◌≡◌, ◌<◌};
-ghost use Rattle.mad_layout.specs.Laws.{PutReadsBack, PutLeavesOthers, PartsHaveFields, LayoutsSet, LayoutsSpell, WhatIsHeldFits};
+ghost use Rattle.mad_layout.specs.Laws.{PutReadsBack, PutLeavesOthers, PartsHaveFields, BytesAreFields, BytesAreSet, LayoutsSet, LayoutsSpell, WhatIsHeldFits};
 
 use crate::dr_smp::DrSmp;
 use crate::mad_header::{Header, Mad};
@@ -20,6 +20,16 @@ pub fn put_leaves_others()
 /// A field of a part of some bytes is a field of the whole.
 pub fn parts_have_fields()
     ensures { PartsHaveFields }
+{}
+
+/// A byte is the field of its 8 bits.
+pub fn bytes_are_fields()
+    ensures { BytesAreFields }
+{}
+
+/// To write a byte is to set that field.
+pub fn bytes_are_set()
+    ensures { BytesAreSet }
 {}
 
 /// A layout that is written over bytes is set there, and all other fields stay.

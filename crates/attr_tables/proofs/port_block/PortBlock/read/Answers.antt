@@ -1,4 +1,4 @@
-use Rattle.attr_tables.proofs.BlockLemmas.{byte_is_field}
+use Rattle.mad_layout.proofs.AlignedLemmas.{byte_is_field}
 use Rattle.attr_tables.proofs.port_block.PortBlock.read.Goals as goal
 
 pub returns-clause-entries : goal.returns-clause-entries
