@@ -1,5 +1,4 @@
--- What a simulated node has at power-up. Another manager's values of a running node don't matter here:
--- these are the capabilities that our nodes have, and all else is 0.
+-- What a simulated node has at power-up: the capabilities that our nodes have, and 0 for all else.
 use Rattle.std.specs.Prelude.{ℕ, true, false, ◌∷◌, replicate}
 use Rattle.attr_tables.specs.declared.link.Link.{Link}
 use Rattle.attr_tables.specs.declared.link.Link.TheVariants.{Cabled, Uncabled, Internal}
@@ -9,7 +8,9 @@ use Rattle.attr_tables.specs.declared.node_info.NodeInfo.{NodeInfo}
 use Rattle.attr_tables.specs.declared.port_info.PortInfo.{PortInfo}
 use Rattle.attr_tables.specs.declared.switch_info.SwitchInfo.{SwitchInfo}
 use Rattle.attr_tables.specs.declared.word_block.WordBlock.{WordBlock}
+use Rattle.attr_tables.specs.declared.power_up.TheConstants.{LINEAR_TABLE, MULTICAST_TABLE}
 use Rattle.attr_tables.specs.NodeType.{node_type_code}
+use Rattle.pkey_rules.specs.declared.key_table.TheConstants.{PARTITIONS}
 
 -- a cabled port is Initialize (2), one without a cable Down (1), port 0 of a switch Active (4)
 abbrev pub state_at_power_up : Link → ℕ
@@ -81,9 +82,9 @@ port_info_at_power_up node_type local_port_num link =
 abbrev pub switch_info_at_power_up : SwitchInfo
 switch_info_at_power_up =
     record {
-      linear_fdb_cap = 512;
+      linear_fdb_cap = LINEAR_TABLE;
       random_fdb_cap = 0;
-      multicast_fdb_cap = 1024;
+      multicast_fdb_cap = MULTICAST_TABLE;
       linear_fdb_top = 0;
       default_port = 0;
       default_multicast_primary_port = 0;
@@ -91,7 +92,7 @@ switch_info_at_power_up =
       life_time_value = 18;
       port_state_change = false;
       lids_per_port = 0;
-      partition_enforcement_cap = 32;
+      partition_enforcement_cap = PARTITIONS;
       inbound_enforcement_cap = true;
       outbound_enforcement_cap = true;
       filter_raw_inbound_cap = false;
@@ -110,7 +111,7 @@ node_info_of node_type num_ports node_guid port_guid local_port_num =
       system_image_guid = node_guid;
       node_guid = node_guid;
       port_guid = port_guid;
-      partition_cap = 32;
+      partition_cap = PARTITIONS;
       device_id = 0;
       revision = 0;
       local_port_num = local_port_num;
