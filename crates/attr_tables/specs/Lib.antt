@@ -1,0 +1,11 @@
+pub mod NodeType
+pub mod NodeInfo
+pub mod PortState
+pub mod PortPhysicalState
+pub mod Mtu
+pub mod Rate
+pub mod PortInfo
+pub mod SmpAttribute
+pub mod SwitchInfo
+pub mod Blocks
+pub mod PowerUp

@@ -1,0 +1,52 @@
+ghost use Rattle.std.specs.Prelude.{◌≡◌, ◌<◌};
+ghost use Rattle.attr_tables.specs.PortInfo.{port_info};
+ghost use Rattle.mad_layout.specs.Layout.{Fits};
+
+use crate::node_info::NodeInfo;
+use crate::port_block::PortBlock;
+use crate::port_info::PortInfo;
+use crate::switch_info::SwitchInfo;
+use crate::word_block::WordBlock;
+
+/// A NodeInfo that is written is read again.
+pub fn node_info_reads_back(info: &NodeInfo, bytes: &mut [u8; 64]) -> NodeInfo
+    requires { info.now.vendor_id < 16777216 }
+    ensures { result ≡ info.now }
+{
+    info.write(bytes);
+    NodeInfo::read(bytes)
+}
+
+/// A PortInfo that is written is read again.
+pub fn port_info_reads_back(info: &PortInfo, bytes: &mut [u8; 64]) -> PortInfo
+    requires { Fits (port_info info.now) }
+    ensures { result ≡ info.now }
+{
+    info.write(bytes);
+    PortInfo::read(bytes)
+}
+
+/// A SwitchInfo that is written is read again.
+pub fn switch_info_reads_back(info: &SwitchInfo, bytes: &mut [u8; 64]) -> SwitchInfo
+    requires { info.now.life_time_value < 32 }
+    ensures { result ≡ info.now }
+{
+    info.write(bytes);
+    SwitchInfo::read(bytes)
+}
+
+/// A block of ports that is written is read again.
+pub fn port_block_reads_back(block: &PortBlock, bytes: &mut [u8; 64]) -> PortBlock
+    ensures { result ≡ block.now }
+{
+    block.write(bytes);
+    PortBlock::read(bytes)
+}
+
+/// A block of keys or masks that is written is read again.
+pub fn word_block_reads_back(block: &WordBlock, bytes: &mut [u8; 64]) -> WordBlock
+    ensures { result ≡ block.now }
+{
+    block.write(bytes);
+    WordBlock::read(bytes)
+}

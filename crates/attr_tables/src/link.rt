@@ -1,0 +1,10 @@
+/// What a simulated port is linked to.
+#[derive(Clone, Copy, Debug, PartialEq, Eq)]
+pub enum Link {
+    /// A cable.
+    Cabled,
+    /// Nothing.
+    Uncabled,
+    /// The inside of its switch: it is port 0.
+    Internal,
+}

@@ -1,0 +1,197 @@
+ghost use Rattle.std.specs.Prelude.{◌+◌, ◌≤◌, length};
+
+use attr_tables::{
+    BlockPlace, Link, Mtu, NodeDescription, NodeInfo, NodeType, PortBlock, PortInfo,
+    PortPhysicalState, PortState, SwitchInfo, WordBlock, block_count, block_place,
+    key_block_at_power_up, node_info_of, port_info_at_power_up, switch_info_at_power_up,
+};
+
+/// An attribute of zero bytes but for these, from that byte on.
+fn attribute_with(first: usize, bytes: &[u8]) -> [u8; 64]
+    requires { first + length bytes.now ≤ 64 }
+{
+    let mut attribute = [0; 64];
+    attribute[first..first + bytes.len()].copy_from_slice(bytes);
+    attribute
+}
+
+#[test]
+fn a_cabled_adapter_port_at_power_up(rt: HostRuntime) {
+    let mut bytes = attribute_with(
+        28,
+        &[
+            0x01, // LocalPortNum
+            0x03, // LinkWidthEnabled
+            0x03, // LinkWidthSupported
+            0x02, // LinkWidthActive
+            0x12, // LinkSpeedSupported, PortState
+            0x50, // PortPhysicalState, LinkDownDefaultState
+            0x00, // M_KeyProtectBits, LMC
+            0x11, // LinkSpeedActive, LinkSpeedEnabled
+            0x40, // NeighborMTU, MasterSMSL
+            0x10, // VLCap, InitType
+            0x00, // VLHighLimit
+            0x00, // VLArbitrationHighCap
+            0x00, // VLArbitrationLowCap
+            0x04, // InitTypeReply, MTUCap
+            0x00, // VLStallCount, HOQLife
+            0x10, // OperationalVLs, the enforcement and filter bits
+        ],
+    );
+    // GUIDCap
+    bytes[50] = 0x01;
+    let info = port_info_at_power_up(NodeType::ChannelAdapter, 1, Link::Cabled);
+    let mut written = [0xff; 64];
+    info.write(&mut written);
+    assert_eq!(rt; written, bytes);
+    let read = PortInfo::read(&bytes);
+    assert_eq!(rt; read, info);
+    assert_eq!(rt; read.port_state(), Some(PortState::Initialize));
+    assert_eq!(rt; read.port_physical_state(), Some(PortPhysicalState::LinkUp));
+    assert_eq!(rt; read.neighbor_mtu(), Some(Mtu::Bytes2048));
+}
+
+#[test]
+fn a_switch_at_power_up(rt: HostRuntime) {
+    let bytes = attribute_with(
+        0,
+        &[
+            0x02, 0x00, // LinearFDBCap
+            0x00, 0x00, // RandomFDBCap
+            0x04, 0x00, // MulticastFDBCap
+            0x00, 0x00, // LinearFDBTop
+            0x00, // DefaultPort
+            0x00, // DefaultMulticastPrimaryPort
+            0x00, // DefaultMulticastNotPrimaryPort
+            0x90, // LifeTimeValue, PortStateChange
+            0x00, 0x00, // LIDsPerPort
+            0x00, 0x20, // PartitionEnforcementCap
+            0xc0, // InboundEnforcementCap, OutboundEnforcementCap
+        ],
+    );
+    let info = switch_info_at_power_up();
+    let mut written = [0xff; 64];
+    info.write(&mut written);
+    assert_eq!(rt; written, bytes);
+    assert_eq!(rt; SwitchInfo::read(&bytes), info);
+}
+
+#[test]
+fn nodes_say_what_they_are(rt: HostRuntime) {
+    let vectors = [
+        // a channel adapter of one port, named h0
+        (
+            [
+                0x01, // BaseVersion
+                0x01, // ClassVersion
+                0x01, // NodeType
+                0x01, // NumPorts
+                0, 0, 0, 0, 0, 0, 0x01, 0x00, // SystemImageGUID
+                0, 0, 0, 0, 0, 0, 0x01, 0x00, // NodeGUID
+                0, 0, 0, 0, 0, 0, 0x01, 0x01, // PortGUID
+                0x00, 0x20, // PartitionCap
+                0x00, 0x00, // DeviceID
+                0x00, 0x00, 0x00, 0x00, // Revision
+                0x01, // LocalPortNum
+                0x00, 0x00, 0x00, // VendorID
+            ],
+            node_info_of(NodeType::ChannelAdapter, 1, 0x100, 0x101, 1),
+            Some(NodeType::ChannelAdapter),
+            [0x68, 0x30],
+        ),
+        // a switch of four ports, named A
+        (
+            [
+                0x01, // BaseVersion
+                0x01, // ClassVersion
+                0x02, // NodeType
+                0x04, // NumPorts
+                0, 0, 0, 0, 0, 0, 0x00, 0x10, // SystemImageGUID
+                0, 0, 0, 0, 0, 0, 0x00, 0x10, // NodeGUID
+                0, 0, 0, 0, 0, 0, 0x00, 0x10, // PortGUID
+                0x00, 0x20, // PartitionCap
+                0x00, 0x00, // DeviceID
+                0x00, 0x00, 0x00, 0x00, // Revision
+                0x00, // LocalPortNum
+                0x00, 0x00, 0x00, // VendorID
+            ],
+            node_info_of(NodeType::Switch, 4, 0x10, 0x10, 0),
+            Some(NodeType::Switch),
+            [0x41, 0x00],
+        ),
+    ];
+    for (bytes, info, node_type, name) in vectors {
+        let attribute = attribute_with(0, &bytes);
+        let read = NodeInfo::read(&attribute);
+        assert_eq!(rt; read, info);
+        assert_eq!(rt; read.node_type(), node_type);
+        let mut written = [0xff; 64];
+        read.write(&mut written);
+        assert_eq!(rt; written, attribute);
+        let description = NodeDescription::of_text(&name);
+        description.write(&mut written);
+        assert_eq!(rt; written, attribute_with(0, &name));
+        assert_eq!(rt; NodeDescription::read(&written), description);
+    }
+}
+
+#[test]
+fn blocks_of_keys_and_masks_read_and_write(rt: HostRuntime) {
+    // the keys of an adapter port and of a switch port, the masks of two switches
+    let vectors = [
+        ([0x7f, 0xff, 0x80, 0x01], (0x7fff, 0x8001)),
+        ([0xff, 0xff, 0x80, 0x01], (0xffff, 0x8001)),
+        ([0x00, 0x0c, 0x00, 0x00], (0x000c, 0x0000)),
+        ([0x00, 0x0a, 0x00, 0x00], (0x000a, 0x0000)),
+    ];
+    for (bytes, (first, second)) in vectors {
+        let attribute = attribute_with(0, &bytes);
+        let mut words = [0; 32];
+        words[0] = first;
+        words[1] = second;
+        let block = WordBlock::read(&attribute);
+        assert_eq!(rt; block, WordBlock { words });
+        let mut written = [0xff; 64];
+        block.write(&mut written);
+        assert_eq!(rt; written, attribute);
+    }
+    let mut written = [0; 64];
+    key_block_at_power_up().write(&mut written);
+    assert_eq!(rt; written, attribute_with(0, &[0xff, 0xff]));
+}
+
+#[test]
+fn a_block_of_ports_reads_and_writes(rt: HostRuntime) {
+    let mut bytes = [0xff; 64];
+    // the ports to LIDs 1 to 6
+    bytes[1..7].copy_from_slice(&[0x01, 0x00, 0x03, 0x02, 0x03, 0x03]);
+    let block = PortBlock::read(&bytes);
+    assert_eq!(rt;
+        (
+            block.ports[0],
+            block.ports[1],
+            block.ports[2],
+            block.ports[3]
+        ),
+        (0xff, 1, 0, 3)
+    );
+    let mut written = [0; 64];
+    block.write(&mut written);
+    assert_eq!(rt; written, bytes);
+}
+
+#[test]
+fn tables_are_cut_into_blocks(rt: HostRuntime) {
+    assert_eq!(rt; block_count::<64>(512), 8);
+    assert_eq!(rt; block_count::<32>(1024), 32);
+    assert_eq!(rt; block_count::<32>(33), 2);
+    assert_eq!(rt;
+        block_place::<64>(511),
+        BlockPlace {
+            block: 7,
+            place: 63
+        }
+    );
+    // the mask of LID 0xc020
+    assert_eq!(rt; block_place::<32>(0x20), BlockPlace { block: 1, place: 0 });
+}

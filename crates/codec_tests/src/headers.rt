@@ -1,0 +1,255 @@
+ghost use Rattle.std.specs.Prelude.{◌+◌, ◌≤◌, length};
+
+use bitflags::Flags;
+use mad_layout::{DrSmp, Header, Mad, MadStatus, Method, RmppFlags, RmppHeader, RmppKind, SaMad};
+use std::test::Fail;
+
+/// A MAD of zero bytes but for these, from that byte on.
+fn mad_with(first: usize, bytes: &[u8]) -> Mad
+    requires { first + length bytes.now ≤ 256 }
+{
+    let mut mad = [0; 256];
+    mad[first..first + bytes.len()].copy_from_slice(bytes);
+    mad
+}
+
+#[test]
+fn mad_headers_read_and_write(rt: HostRuntime) {
+    let vectors = [
+        // an answer with a table of node records
+        (
+            [
+                0x01, // BaseVersion
+                0x03, // MgmtClass
+                0x02, // ClassVersion
+                0x92, // R, Method
+                0x00, 0x00, // Status
+                0x00, 0x00, // ClassSpecific
+                0x00, 0x00, 0x00, 0x00, 0x00, 0x00, 0x00, 0x04, // TransactionID
+                0x00, 0x11, // AttributeID
+                0x00, 0x00, // reserved
+                0x00, 0x00, 0x00, 0x00, // AttributeModifier
+            ],
+            Header {
+                base_version: 1,
+                mgmt_class: 0x03,
+                class_version: 2,
+                method: 0x92,
+                status: 0,
+                class_specific: 0,
+                transaction_id: 4,
+                attribute_id: 0x0011,
+                attribute_modifier: 0,
+            },
+            Some(Method::GetTableResp),
+            None,
+        ),
+        // a refusal for its version
+        (
+            [
+                0x01, // BaseVersion
+                0x03, // MgmtClass
+                0x02, // ClassVersion
+                0x81, // R, Method
+                0x00, 0x04, // Status
+                0x00, 0x00, // ClassSpecific
+                0x00, 0x00, 0x00, 0x00, 0x00, 0x00, 0x00, 0x05, // TransactionID
+                0x00, 0x00, // AttributeID
+                0x00, 0x00, // reserved
+                0x00, 0x00, 0x00, 0x00, // AttributeModifier
+            ],
+            Header {
+                base_version: 1,
+                mgmt_class: 0x03,
+                class_version: 2,
+                method: 0x81,
+                status: 0x0004,
+                class_specific: 0,
+                transaction_id: 5,
+                attribute_id: 0,
+                attribute_modifier: 0,
+            },
+            Some(Method::GetResp),
+            Some(MadStatus::BadVersion),
+        ),
+        // a refusal for its method, which has no name
+        (
+            [
+                0x01, // BaseVersion
+                0x03, // MgmtClass
+                0x02, // ClassVersion
+                0x93, // R, Method
+                0x00, 0x08, // Status
+                0x00, 0x00, // ClassSpecific
+                0x00, 0x00, 0x00, 0x00, 0x00, 0x00, 0x00, 0x06, // TransactionID
+                0x00, 0x00, // AttributeID
+                0x00, 0x00, // reserved
+                0x00, 0x00, 0x00, 0x00, // AttributeModifier
+            ],
+            Header {
+                base_version: 1,
+                mgmt_class: 0x03,
+                class_version: 2,
+                method: 0x93,
+                status: 0x0008,
+                class_specific: 0,
+                transaction_id: 6,
+                attribute_id: 0,
+                attribute_modifier: 0,
+            },
+            None,
+            Some(MadStatus::MethodNotSupported),
+        ),
+    ];
+    for (bytes, header, method, status) in vectors {
+        let mad = mad_with(0, &bytes);
+        let read = Header::read(&mad);
+        assert_eq!(rt; read, header);
+        assert_eq!(rt; read.method(), method);
+        assert_eq!(rt; read.status(), status);
+        assert!(rt; read.is_response());
+        let mut written = [0; 256];
+        read.write(&mut written);
+        assert_eq!(rt; written, mad);
+    }
+}
+
+#[test]
+fn rmpp_headers_read_and_write(rt: HostRuntime) {
+    let vectors = [
+        // the first of three segments of node records, the second and the last; the only segment of a
+        // table without records; aborts, for too small a window and for too big a segment number
+        (
+            [0x01, 0x01, 0x03, 0x00, 0, 0, 0, 1, 0x00, 0x00, 0x01, 0xfc],
+            (1, 0b011, 0, 1, 0x1fc),
+        ),
+        (
+            [0x01, 0x01, 0x01, 0x00, 0, 0, 0, 2, 0x00, 0x00, 0x00, 0x00],
+            (1, 0b001, 0, 2, 0),
+        ),
+        (
+            [0x01, 0x01, 0x05, 0x00, 0, 0, 0, 3, 0x00, 0x00, 0x00, 0x44],
+            (1, 0b101, 0, 3, 0x44),
+        ),
+        (
+            [0x01, 0x01, 0x07, 0x00, 0, 0, 0, 1, 0x00, 0x00, 0x00, 0x14],
+            (1, 0b111, 0, 1, 0x14),
+        ),
+        (
+            [0x01, 0x04, 0x01, 0x7a, 0, 0, 0, 0, 0x00, 0x00, 0x00, 0x00],
+            (4, 0b001, 122, 0, 0),
+        ),
+        (
+            [0x01, 0x04, 0x01, 0x7b, 0, 0, 0, 0, 0x00, 0x00, 0x00, 0x00],
+            (4, 0b001, 123, 0, 0),
+        ),
+    ];
+    // RMPPVersion, RMPPType, RRespTime and RMPPFlags, RMPPStatus, SegmentNumber (4), PayloadLength (4)
+    for (bytes, (kind, flags, status, segment_number, payload_length)) in vectors {
+        let mad = mad_with(24, &bytes);
+        let read = RmppHeader::read(&mad);
+        let header = RmppHeader {
+            version: 1,
+            kind,
+            response_time: 0,
+            flags,
+            status,
+            segment_number,
+            payload_length_or_new_window_last: payload_length,
+        };
+        assert_eq!(rt; read, header);
+        assert_eq!(rt; read.kind() == Some(RmppKind::Data), kind == 1);
+        assert_eq!(rt; read.kind() == Some(RmppKind::Abort), kind == 4);
+        assert!(rt; read.flags().contains(RmppFlags::ACTIVE));
+        assert_eq!(rt;
+            read.flags().contains(RmppFlags::FIRST),
+            segment_number == 1
+        );
+        assert_eq!(rt; read.flags().contains(RmppFlags::LAST), flags >= 4);
+        let mut written = [0; 256];
+        read.write(&mut written);
+        assert_eq!(rt; written, mad);
+    }
+}
+
+#[test]
+fn administration_fields_read_and_write(rt: HostRuntime) {
+    let vectors = [
+        // node records, then services: 112 and 176 bytes from one to the next
+        (
+            [
+                0, 0, 0, 0, 0, 0, 0, 0, 0x00, 0x0e, 0, 0, 0, 0, 0, 0, 0, 0, 0, 0,
+            ],
+            14,
+            0,
+        ),
+        (
+            [
+                0, 0, 0, 0, 0, 0, 0, 0, 0x00, 0x16, 0, 0, 0, 0, 0, 0, 0, 0, 0, 0,
+            ],
+            22,
+            0,
+        ),
+        // a multicast group that is joined by its MGID, PortGID, Q_Key and more
+        (
+            [
+                0, 0, 0, 0, 0, 0, 0, 0, 0x00, 0x00, 0, 0, 0, 0, 0, 0, 0x00, 0x01, 0x30, 0xc7,
+            ],
+            0,
+            0x130c7,
+        ),
+    ];
+    // SM_Key (8), AttributeOffset (2), reserved (2), ComponentMask (8)
+    for (bytes, attribute_offset, component_mask) in vectors {
+        let mad = mad_with(36, &bytes);
+        let read = SaMad::read(&mad);
+        let fields = SaMad {
+            sm_key: 0,
+            attribute_offset,
+            component_mask,
+            data: [0; 200],
+        };
+        assert_eq!(rt; read, fields);
+        let mut written = [0; 256];
+        read.write(&mut written);
+        assert_eq!(rt; written, mad);
+    }
+}
+
+#[test]
+fn directed_route_fields_stand_in_their_bytes(rt: HostRuntime) -> Result<(), Fail> {
+    // D and Status: an answer that an attribute's modifier or value is invalid
+    let mut mad = mad_with(4, &[0x80, 0x1c, 3, 2]);
+    assert_eq!(rt; Header::read(&mad).status, 0x801c);
+    // InitialPath 1, 3 and ReturnPath 1, 3, from entry 1 on
+    mad[129] = 1;
+    mad[130] = 3;
+    mad[193] = 1;
+    mad[194] = 3;
+    // the last byte of M_Key, DrSLID and DrDLID, the first and the last byte of the data
+    mad[31] = 7;
+    mad[32..36].copy_from_slice(&[0xff, 0xff, 0xff, 0xfe]);
+    mad[64] = 5;
+    mad[127] = 6;
+    let smp = DrSmp::read(&mad);
+    assert!(rt; smp.direction);
+    assert_eq!(rt; (smp.status, smp.hop_pointer, smp.hop_count), (0x1c, 3, 2));
+    assert_eq!(rt; (smp.m_key, smp.dr_slid, smp.dr_dlid), (7, 0xffff, 0xfffe));
+    assert_eq!(rt; (smp.data[0], smp.data[63]), (5, 6));
+    assert_eq!(rt;
+        (
+            smp.initial_path[1],
+            smp.initial_path[2],
+            smp.initial_path[3]
+        ),
+        (1, 3, 0)
+    );
+    assert_eq!(rt;
+        (smp.return_path[1], smp.return_path[2], smp.return_path[3]),
+        (1, 3, 0)
+    );
+    let mut written = [0; 256];
+    smp.write(&mut written);
+    assert_eq!(rt; written, mad);
+    Ok(())
+}

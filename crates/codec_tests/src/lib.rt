@@ -1,0 +1,7 @@
+//! Byte vectors from outside, for the crates that read and write bytes.
+#![tactic(auto)]
+
+#[cfg(test)]
+mod attributes;
+#[cfg(test)]
+mod headers;

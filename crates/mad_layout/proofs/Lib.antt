@@ -1,0 +1,4 @@
+pub mod NumberLemmas
+pub mod WindowLemmas
+pub mod AlignedLemmas
+pub mod LayoutLemmas

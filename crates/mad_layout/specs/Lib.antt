@@ -1,0 +1,10 @@
+pub mod Bits
+pub mod Layout
+pub mod MadHeader
+pub mod RmppHeader
+pub mod DrSmp
+pub mod SaMad
+pub mod RmppKind
+pub mod Method
+pub mod MadStatus
+pub mod Laws

@@ -1,0 +1,15 @@
+-- The RMPP header of a MAD (InfiniBand volume 1, chapter 13).
+use Rattle.std.specs.Prelude.{List, [], ◌∷◌}
+use Rattle.mad_layout.specs.declared.rmpp_header.RmppHeader.{RmppHeader}
+use Rattle.mad_layout.specs.Layout.{Place, at}
+
+abbrev pub rmpp_header : RmppHeader → List Place
+rmpp_header header =
+    at 192 8 header.version
+    ∷ at 200 8 header.kind
+    ∷ at 208 5 header.response_time
+    ∷ at 213 3 header.flags
+    ∷ at 216 8 header.status
+    ∷ at 224 32 header.segment_number
+    ∷ at 256 32 header.payload_length_or_new_window_last
+    ∷ []
