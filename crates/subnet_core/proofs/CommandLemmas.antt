@@ -14,7 +14,6 @@ pub record IsLeft (plan : Plan) (number : ℕ) (so_far : List Command) (left : L
   pub count : number + length left ≤ length script
   pub same : after_lines plan (number + 1) so_far left ≡ commands_of plan script
 
-
 one_line : (plan : Plan) (number : ℕ) (so_far : List Command) (line : List ℕ) (rest : List (List ℕ)) (read : Result (Option Command) ScriptFault)
     → command_of plan line ≡ read
     → after_lines plan number so_far (line ∷ rest) ≡ ((on_line number read >>= λ command. Ok (so_far ++ option_to_list command)) >>= λ next. after_lines plan (number + 1) next rest)
@@ -49,7 +48,7 @@ stops fault plan number so_far line left rest script first before judged =
     let kept : IsLeft plan number so_far (line ∷ rest) script = subst (λ (l : List (List ℕ)). IsLeft plan number so_far l script) first before in
     let step : after_lines plan (number + 1) so_far (line ∷ rest) ≡ ((on_line (number + 1) (command_of plan line) >>= λ command. Ok (so_far ++ option_to_list command)) >>= λ next. after_lines plan (number + 1 + 1) next rest) = one_line plan (number + 1) so_far line rest (command_of plan line) refl in
     subst (λ (given : Result (List Command) LineFault). RunFails fault (of_script given)) (sym step ∙ kept.same)
-      (fails_so fault (on_line (number + 1) (command_of plan line) >>= λ command. Ok (so_far ++ option_to_list command)) (λ next. after_lines plan (number + 1 + 1) next rest) judged)
+    (fails_so fault (on_line (number + 1) (command_of plan line) >>= λ command. Ok (so_far ++ option_to_list command)) (λ next. after_lines plan (number + 1 + 1) next rest) judged)
 
 pub ends : (plan : Plan) (number : ℕ) (so_far : List Command) (left : List (List ℕ)) (script : List ℕ) → left ≡ [] → IsLeft plan number so_far left script → of_script (commands_of plan script) ≡ Ok so_far
 unfolding after_lines

@@ -1,3 +1,4 @@
 pub mod CommandLemmas
+pub mod HeadlineLemmas
 pub mod PortLemmas
 pub mod TextLemmas

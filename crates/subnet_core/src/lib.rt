@@ -1,4 +1,10 @@
-//! Whole runs.
+//! Whole runs: a topology's text and a script's text in, a report out.
+//!
+//! [`run`] is the call that the product is named for. Its clause `exact` says that its answer is what
+//! the two texts stand for (`specs/Run.antt`), and its clause `private` that what a port receives
+//! depends only on the ports that share a partition with it (`specs/Headline.antt`). [`bring_up`],
+//! [`Subnet::parse`] and [`Subnet::step`] do the same piece by piece, and [`Report::text`] prints
+//! it. The fabric is the list of its end ports, for now; no caller can tell.
 #![tactic(auto)]
 
 mod end_ports;

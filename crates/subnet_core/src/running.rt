@@ -1,4 +1,4 @@
-ghost use Rattle.std.specs.Prelude.{◌≡◌, IfOk, OnOk};
+ghost use Rattle.std.specs.Prelude.{◌≡◌, IfOk, IsOkUnless, OnOk};
 ghost use Rattle.std.specs.Option.{option_copied};
 ghost use Rattle.subnet_model.specs.Report.{events_from, step};
 ghost use Rattle.subnet_core.specs.Headline.{KeepsPartitionsApart};
@@ -74,6 +74,7 @@ fn take_line(
 fn run_all(alloc: Global, subnet: &mut Subnet, commands: &[Command]) -> Result<Vec<Event>, RunFault>
     ensures events { IfOk result (λ events. events.items ≡ events_from (step subnet.old.ports) subnet.old.state commands.now) }
     ensures ports { OnOk result (subnet.new.ports ≡ subnet.old.ports) }
+    ensures memory { IsOkUnless result RunFault.NoMemory }
 {
     let mut events = Vec::new(alloc);
     for command in commands {

@@ -16,7 +16,11 @@ use topo_file::{PortRef, Topology};
 
 /// The command that a line gives, with its LF where it has one and with its comment; none for a line
 /// without words.
-pub(crate) fn command_of(alloc: Global, topology: &Topology, line: &[u8]) -> Result<Option<Command>, ScriptError>
+pub(crate) fn command_of(
+    alloc: Global,
+    topology: &Topology,
+    line: &[u8],
+) -> Result<Option<Command>, ScriptError>
     ensures { Gives result (command_of topology.now line.now) }
 {
     if has_bad_character(line) {
@@ -27,7 +31,11 @@ pub(crate) fn command_of(alloc: Global, topology: &Topology, line: &[u8]) -> Res
 }
 
 #[tactic(auto, unfolding(crate::specs::Script::command_in))]
-fn command_in(alloc: Global, topology: &Topology, words: &[&[u8]]) -> Result<Option<Command>, ScriptError>
+fn command_in(
+    alloc: Global,
+    topology: &Topology,
+    words: &[&[u8]],
+) -> Result<Option<Command>, ScriptError>
     ensures { Gives result (command_in topology.now (map (λ word. word.now) words.now)) }
 {
     let [first, rest @ ..] = words else {
@@ -83,8 +91,12 @@ fn sender_of(topology: &Topology, word: &[u8]) -> Result<u64, ScriptFault>
     ensures { result ≡ sender_of topology.now word.now }
 {
     let port = port_in(word).ok_or(ScriptFault::UnknownPort)?;
-    let place = topology.index_of(port.name).ok_or(ScriptFault::UnknownPort)?;
-    let at = topology.port_at(place, port.number).ok_or(ScriptFault::UnknownPort)?;
+    let place = topology
+        .index_of(port.name)
+        .ok_or(ScriptFault::UnknownPort)?;
+    let at = topology
+        .port_at(place, port.number)
+        .ok_or(ScriptFault::UnknownPort)?;
     sender_at(topology, at)
 }
 
@@ -119,7 +131,9 @@ fn queue_pair_field(word: &[u8]) -> Result<QueuePair, ScriptFault>
     ensures { result ≡ field_of (2 ^ 24) word.now }
 {
     match number_in(word) {
-        Some(number) if number < 1 << 24 => QueuePair::new(number as u32).ok_or(ScriptFault::BadField),
+        Some(number) if number < 1 << 24 => QueuePair::new(number as u32).ok_or(
+            ScriptFault::BadField,
+        ),
         _ => Err(ScriptFault::BadField),
     }
 }

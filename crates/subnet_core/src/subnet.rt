@@ -29,16 +29,20 @@ impl Model for Subnet {
     ghost Value = { Running };
 
     ghost view = { λ subnet. record {
-        plan = subnet.topology;
-        ports = subnet.ports.items;
-        state = subnet.state;
-        is_broken = subnet.is_broken;
+      plan = subnet.topology;
+      ports = subnet.ports.items;
+      state = subnet.state;
+      is_broken = subnet.is_broken;
     } };
 }
 
 /// Brings up the subnet of a topology: names its ports and gives them their keys. Partition files
 /// are not read yet.
-pub fn bring_up(alloc: Global, topology: &[u8], partitions: Option<&[u8]>) -> Result<Subnet, RunFault>
+pub fn bring_up(
+    alloc: Global,
+    topology: &[u8],
+    partitions: Option<&[u8]>,
+) -> Result<Subnet, RunFault>
     ensures { RunGives (λ subnet. subnet) result (subnet_of topology.now (option_copied partitions.entry)) }
 {
     if partitions.is_some() {
