@@ -6,3 +6,5 @@
 mod fixtures;
 #[cfg(test)]
 mod neighbours;
+#[cfg(test)]
+mod runs;
