@@ -7,9 +7,11 @@ use Rattle.subnet_model.specs.Isolation.{IsIsolated}
 use Rattle.subnet_core.specs.Ports.{ports_of}
 use Rattle.subnet_core.specs.Script.{commands_of}
 
--- Whatever fabric the topology describes and whatever commands the script gives: at each port the events are those that
--- the commands of the ports near it alone would bring it, and each packet that it receives comes from a port near it.
+-- Whatever fabric the topology describes and whatever commands the script gives: at each port the events
+-- are those that the commands of the ports near it alone would bring it, and each packet that it receives
+-- comes from a port near it.
 abbrev pub KeepsPartitionsApart : List ℕ → List ℕ → List Event → Type 0
 KeepsPartitionsApart topology script events =
-    (plan : Plan) (commands : List Command) → topology_of topology ≡ Ok plan → commands_of plan script ≡ Ok commands
+    (plan : Plan) (commands : List Command)
+    → topology_of topology ≡ Ok plan → commands_of plan script ≡ Ok commands
     → IsIsolated (ports_of plan) commands events

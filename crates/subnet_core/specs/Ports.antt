@@ -17,7 +17,11 @@ use Rattle.topo_file.specs.Topology.{Plan}
 
 -- port 0 of a switch, which has the GUID of the switch
 abbrev pub switch_seat : ℕ → Node → Seat
-switch_seat place node = record { place = place; number = 0; port = record { guid = node.guid; is_switch = true; is_sm = false } }
+switch_seat place node = record {
+  place = place;
+  number = 0;
+  port = record { guid = node.guid; is_switch = true; is_sm = false };
+}
 
 -- port p of an adapter of GUID g, which has the GUID g + p
 abbrev pub adapter_seat : PortRef → Node → PortRef → Seat
@@ -33,7 +37,8 @@ seat_if_cabled plan node at = if is_cabled plan.cables at then adapter_seat plan
 
 abbrev pub adapter_seats : Plan → ℕ → Node → ℕ → List Seat
 adapter_seats plan place node count =
-    flat_map (seat_if_cabled plan node) (map (λ number. record { node = place; port = number }) (range_with_len 1 count))
+    flat_map (seat_if_cabled plan node)
+    (map (λ number. record { node = place; port = number }) (range_with_len 1 count))
 
 abbrev pub seats_of_kind : NodeKind → Plan → ℕ → Node → List Seat
 seats_of_kind node.Switch plan place node = switch_seat place node ∷ []
@@ -72,7 +77,8 @@ seated nodes keys lid seat = record {
 -- the port at its place in a list in order of LID
 abbrev pub with_port : List SubnetPort → SubnetPort → List SubnetPort
 with_port [] port = port ∷ []
-with_port (first ∷ rest) port = if nat_le first.lid port.lid then first ∷ with_port rest port else port ∷ first ∷ rest
+with_port (first ∷ rest) port =
+    if nat_le first.lid port.lid then first ∷ with_port rest port else port ∷ first ∷ rest
 
 -- one more end port, with its LID and these keys
 abbrev pub with_seat : List Node → List ℕ → List EndPort → List SubnetPort → Seat → List SubnetPort

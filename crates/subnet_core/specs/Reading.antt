@@ -1,4 +1,5 @@
--- How what a reader returns stands to what the definition gives: memory may be refused, and nothing else differs.
+-- How what a reader returns stands to what the definition gives: memory may be refused, and nothing else
+-- differs.
 use Rattle.std.specs.Prelude.{◌≡◌, Result, Ok, Err}
 use Rattle.subnet_core.specs.declared.fault.ScriptError.{ScriptError}
 use Rattle.subnet_core.specs.declared.fault.ScriptError.TheVariants as line

@@ -13,7 +13,8 @@ use Rattle.subnet_core.specs.declared.fault.RunFault.TheVariants.{NoMemory, NotY
 use Rattle.subnet_core.specs.Ports.{ports_of}
 use Rattle.subnet_core.specs.Script.{LineFault as ScriptLine, command_of, commands_of, on_line, ◌>>=◌}
 
--- a subnet that runs: what it was brought up from, its ports, and what it remembers; after memory was refused it is broken
+-- a subnet that runs: what it was brought up from, its ports, and what it remembers; after memory was
+-- refused it is broken
 pub record Running : Type 0 where
   pub plan : Plan
   pub ports : List SubnetPort
@@ -51,7 +52,8 @@ parsed plan number line = of_script (on_line number (command_of plan line))
 
 -- the commands so far, and that of one more line
 abbrev pub with_line : Plan → List Command → ℕ → List ℕ → Result (List Command) RunFault
-with_line plan so_far number line = of_script (on_line number (command_of plan line) >>= λ command. Ok (so_far ++ option_to_list command))
+with_line plan so_far number line =
+    of_script (on_line number (command_of plan line) >>= λ command. Ok (so_far ++ option_to_list command))
 
 -- what is told of a run of these commands
 abbrev pub told : Plan → List Command → Told

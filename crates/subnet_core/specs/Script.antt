@@ -101,7 +101,8 @@ send_of plan _ = Err Malformed
 -- ---- a line: a command, or nothing
 unfoldable pub command_in : Plan → List (List ℕ) → Result (Option Command) ScriptFault
 command_in plan [] = Ok None
-command_in plan (first ∷ rest) = if bytes_eq first (codes "send") then (send_of plan rest >>= λ command. Ok (Some command)) else Err Malformed
+command_in plan (first ∷ rest) =
+    if bytes_eq first (codes "send") then (send_of plan rest >>= λ command. Ok (Some command)) else Err Malformed
 
 abbrev pub command_of : Plan → List ℕ → Result (Option Command) ScriptFault
 command_of plan line = if has_bad_character line then Err Malformed else command_in plan (words line)
@@ -114,7 +115,8 @@ on_line number (Err fault) = Err (record { line = number; cause = fault })
 unfoldable pub after_lines : Plan → ℕ → List Command → List (List ℕ) → Result (List Command) LineFault
 after_lines plan number so_far [] = Ok so_far
 after_lines plan number so_far (line ∷ rest) =
-    on_line number (command_of plan line) >>= λ command. after_lines plan (number + 1) (so_far ++ option_to_list command) rest
+    on_line number (command_of plan line) >>= λ command.
+    after_lines plan (number + 1) (so_far ++ option_to_list command) rest
 
 -- the commands of the whole script
 abbrev pub commands_of : Plan → List ℕ → Result (List Command) LineFault

@@ -45,7 +45,8 @@ fn push_seats(
     node: &Node,
 ) -> Result<(), AllocError>
     requires { HasGuids node.now }
-    ensures { OnOk result (all.new.items ≡ all.old.items ++ seats_of_kind node.now.kind topology.now place node.now) }
+    ensures { OnOk result (all.new.items
+        ≡ all.old.items ++ seats_of_kind node.now.kind topology.now place node.now) }
 {
     match node.kind {
         NodeKind::Switch => {
@@ -77,7 +78,8 @@ fn push_adapter_seats(
     node: &Node,
 ) -> Result<(), AllocError>
     requires { node.now.guid + node.now.ports < 2 ^ 64 }
-    ensures { OnOk result (all.new.items ≡ all.old.items ++ adapter_seats topology.now place node.now node.now.ports) }
+    ensures { OnOk result (all.new.items
+        ≡ all.old.items ++ adapter_seats topology.now place node.now node.now.ports) }
 {
     for index in 0..node.ports {
         let at = PortRef {

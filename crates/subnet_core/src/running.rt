@@ -21,9 +21,11 @@ pub fn run(
     script: &[u8],
 ) -> Result<Report, RunFault>
     // The answer is what the texts stand for, unless memory is refused.
-    ensures exact { RunGives (λ report. report) result (report_of topology.now (option_copied partitions.entry) script.now) }
+    ensures exact { RunGives (λ report. report) result
+        (report_of topology.now (option_copied partitions.entry) script.now) }
     // What a port receives depends only on the ports that share a partition with it.
-    ensures private { IfOk result (λ report. KeepsPartitionsApart topology.now script.now report.events) }
+    ensures private { IfOk result (λ report.
+        KeepsPartitionsApart topology.now script.now report.events) }
 {
     in_turn(alloc, topology, partitions, script)
 }
@@ -35,7 +37,8 @@ fn in_turn(
     partitions: Option<&[u8]>,
     script: &[u8],
 ) -> Result<Report, RunFault>
-    ensures { RunGives (λ report. report) result (report_of topology.now (option_copied partitions.entry) script.now) }
+    ensures { RunGives (λ report. report) result
+        (report_of topology.now (option_copied partitions.entry) script.now) }
 {
     let mut subnet = bring_up(alloc, topology, partitions)?;
     let commands = commands_of(alloc, &subnet, script)?;
@@ -45,7 +48,8 @@ fn in_turn(
 
 /// The commands of a script, or its first fault.
 fn commands_of(alloc: Global, subnet: &Subnet, script: &[u8]) -> Result<Vec<Command>, RunFault>
-    ensures { RunGives (λ commands. commands.items) result (of_script (commands_of subnet.now.plan script.now)) }
+    ensures { RunGives (λ commands. commands.items) result
+        (of_script (commands_of subnet.now.plan script.now)) }
 {
     let mut commands = Vec::new(alloc);
     let mut number = 0;
@@ -62,7 +66,8 @@ fn take_line(
     number: usize,
     line: &[u8],
 ) -> Result<(), RunFault>
-    ensures { RunGives (λ _. commands.new.items) result (with_line subnet.now.plan commands.old.items number line.now) }
+    ensures { RunGives (λ _. commands.new.items) result
+        (with_line subnet.now.plan commands.old.items number line.now) }
 {
     if let Some(command) = subnet.parse(number, line)? {
         commands.push(command)?;
@@ -72,7 +77,8 @@ fn take_line(
 
 /// The events of the commands, one command after the other.
 fn run_all(alloc: Global, subnet: &mut Subnet, commands: &[Command]) -> Result<Vec<Event>, RunFault>
-    ensures events { IfOk result (λ events. events.items ≡ events_from (step subnet.old.ports) subnet.old.state commands.now) }
+    ensures events { IfOk result (λ events.
+        events.items ≡ events_from (step subnet.old.ports) subnet.old.state commands.now) }
     ensures ports { OnOk result (subnet.new.ports ≡ subnet.old.ports) }
     ensures memory { IsOkUnless result RunFault.NoMemory }
 {

@@ -88,8 +88,10 @@ impl Subnet {
     /// Carries out one command, and tells its events in order. After memory was refused once, every
     /// later step answers `Broken`.
     pub fn step(&mut self, command: &Command) -> Result<Vec<Event>, StepFault>
-        ensures events { IfOk result (λ events. events.items ≡ (step self.old.ports self.old.state command.now).0) }
-        ensures next { OnOk result (self.new ≡ record self.old { state = (step self.old.ports self.old.state command.now).1 }) }
+        ensures events { IfOk result (λ events.
+            events.items ≡ (step self.old.ports self.old.state command.now).0) }
+        ensures next { OnOk result (self.new
+            ≡ record self.old { state = (step self.old.ports self.old.state command.now).1 }) }
         ensures broken { IsErrOf result StepFault.Broken ↔ (self.old.is_broken ≡ true) }
         ensures err { OnErr result (self.new ≡ record self.old { is_broken = true }) }
     {

@@ -9,19 +9,23 @@ use Rattle.subnet_model.specs.Report.{step, report}
 use Rattle.subnet_model.specs.Restriction.{actor, commands_of, events_at}
 use Rattle.subnet_model.specs.Source.{ComesFromNear}
 
--- A step keeps a port to itself: what is far from it neither reaches it nor changes its view of the state, and what is
--- near does the same to it in every state of that view.
-pub record Isolates {S V C E : Type 0} (step : S → C → List E × S) (view : S → V) (is_near : C → Bool) (at : List E → List E) : Type 0 where
+-- A step keeps a port to itself: a command of a port that is far from it brings it no event and does not
+-- change its view of the state, and a near one does the same to it in every state of that view.
+pub record Isolates {S V C E : Type 0} (step : S → C → List E × S) (view : S → V) (is_near : C → Bool)
+    (at : List E → List E) : Type 0 where
   pub far_events : (s : S) (c : C) → is_near c ≡ false → at (step s c).0 ≡ []
   pub far_state : (s : S) (c : C) → is_near c ≡ false → view (step s c).1 ≡ view s
-  pub near_events : (s t : S) (c : C) → is_near c ≡ true → view s ≡ view t → at (step s c).0 ≡ at (step t c).0
-  pub near_state : (s t : S) (c : C) → is_near c ≡ true → view s ≡ view t → view (step s c).1 ≡ view (step t c).1
+  pub near_events : (s t : S) (c : C) → is_near c ≡ true → view s ≡ view t
+      → at (step s c).0 ≡ at (step t c).0
+  pub near_state : (s t : S) (c : C) → is_near c ≡ true → view s ≡ view t
+      → view (step s c).1 ≡ view (step t c).1
   pub joined : (xs ys : List E) → at (xs ++ ys) ≡ at xs ++ at ys
   pub nothing : at [] ≡ []
 
 -- the step of a subnet keeps each port to itself
 abbrev pub StepIsolates : Type 0
-StepIsolates = (ports : List SubnetPort) (p : ℕ) → Isolates (step ports) (view ports p) (λ command. is_near ports p (actor command)) (events_at p)
+StepIsolates = (ports : List SubnetPort) (p : ℕ)
+    → Isolates (step ports) (view ports p) (λ command. is_near ports p (actor command)) (events_at p)
 
 -- the events at p are those that the commands of the ports near p alone would bring it
 abbrev pub DependsOnNear : List SubnetPort → ℕ → List Command → List Event → Type 0
@@ -30,8 +34,10 @@ DependsOnNear ports p commands events =
 
 -- so it is at every port, and what each receives comes from ports near it
 abbrev pub IsIsolated : List SubnetPort → List Command → List Event → Type 0
-IsIsolated ports commands events = (p : ℕ) → DependsOnNear ports p commands events × ComesFromNear ports p events
+IsIsolated ports commands events =
+    (p : ℕ) → DependsOnNear ports p commands events × ComesFromNear ports p events
 
 -- whatever the ports and the commands
 abbrev pub EveryRunIsIsolated : Type 0
-EveryRunIsIsolated = (ports : List SubnetPort) (commands : List Command) → IsIsolated ports commands (report ports commands)
+EveryRunIsIsolated =
+    (ports : List SubnetPort) (commands : List Command) → IsIsolated ports commands (report ports commands)

@@ -22,7 +22,7 @@ packet_of sender command = record {
   payload = command.payload;
 }
 
--- each port that the packet reaches receives it, and what is for the subnet administration gives no event of its own
+-- each port that the packet reaches receives it; what is for the subnet administration gives no event
 abbrev pub received : List SubnetPort → SubnetPort → SendCommand → List Event
 received ports sender command =
     map (λ port. record { port = port.guid; what = Received (packet_of sender command) })

@@ -27,5 +27,6 @@ same_lid a b = a.lid == b.lid
 
 -- where no two ports have one LID, the port of that LID is near
 abbrev pub NamesNearPort : Type 0
-NamesNearPort = (ports : List SubnetPort) (p lid : ℕ) → IsDistinct same_lid ports → is_lid_near ports p lid ≡ true
+NamesNearPort =
+    (ports : List SubnetPort) (p lid : ℕ) → IsDistinct same_lid ports → is_lid_near ports p lid ≡ true
     → All (λ port. port.lid ≡ lid → is_near ports p port.guid ≡ true) ports

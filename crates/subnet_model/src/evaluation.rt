@@ -64,7 +64,8 @@ fn sent(
     ports: &[SubnetPort],
     command: &SendCommand,
 ) -> Result<Vec<Event>, AllocError>
-    ensures { IfOk result (λ events. events.items ≡ sent_from (port_of ports.now command.now.port) ports.now command.now) }
+    ensures { IfOk result (λ events.
+        events.items ≡ sent_from (port_of ports.now command.now.port) ports.now command.now) }
 {
     let Some(sender) = port_of(ports, command.port) else {
         return Ok(Vec::new(alloc));
