@@ -3,3 +3,4 @@ pub mod LineLemmas
 pub mod LoopLemmas
 pub mod MarkLemmas
 pub mod WalkLemmas
+pub mod SoundLemmas

@@ -1,4 +1,5 @@
-ghost use Rattle.std.specs.Prelude.{◌≡◌};
+ghost use Rattle.std.specs.Prelude.{◌≡◌, true, IfSome};
+ghost use Rattle.topo_file.specs.Sound.{is_port};
 ghost use Rattle.topo_file.specs.Cable.{ends_at, is_cabled, is_same_port, may_join, port_at};
 
 use crate::node::{Node, is_switch_at, ports_at};
@@ -37,7 +38,8 @@ fn is_same_port(a: PortRef, b: PortRef) -> bool
 
 /// The port of this number at the node there, if there is one.
 pub(crate) fn port_at(nodes: &[Node], place: usize, number: u128) -> Option<PortRef>
-    ensures { result ≡ port_at nodes.now place number }
+    ensures value { result ≡ port_at nodes.now place number }
+    ensures is_port { IfSome result (λ port. is_port nodes.now port ≡ true) }
 {
     if number < 1 || number > u128::from(ports_at(nodes, place)) {
         return None;

@@ -1,4 +1,4 @@
-ghost use Rattle.std.specs.Prelude.{◌≡◌, ◌+◌, [], ◌∷◌, ◌++◌, None, IfOk, OnOk};
+ghost use Rattle.std.specs.Prelude.{◌≡◌, ◌+◌, [], ◌∷◌, ◌++◌, None, IfOk, OnOk, OnErr};
 ghost use Rattle.topo_file.specs.Node.{adapter_ports, is_one_too_many, is_switch, is_switch_at, is_switch_kind, lacks_guids, last_guid, most_ports, place_of, port_guids, ports_at, shares_guid, switch_count};
 ghost use Rattle.std.specs.List.{list_any};
 ghost use Rattle.topo_file.specs.NewNode.{seen};
@@ -186,7 +186,8 @@ impl NodeList {
     /// Adds a node at the end. Memory alone can be refused, and then the list stays as it was.
     pub(crate) fn push(&mut self, alloc: Global, node: &NewNode) -> Result<(), AllocError>
         requires { place_of node.now.name.now self.old ≡ None }
-        ensures { OnOk result (self.new ≡ self.old ++ seen node.now ∷ []) }
+        ensures ok { OnOk result (self.new ≡ self.old ++ seen node.now ∷ []) }
+        ensures err { OnErr result (self.new ≡ self.old) }
     {
         let key = Vec::from_slice(alloc, node.name)?;
         let name = Name::new(alloc, node.name)?;

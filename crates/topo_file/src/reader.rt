@@ -1,4 +1,4 @@
-ghost use Rattle.std.specs.Prelude.{◌≡◌, ◌≤◌, None, map, IfOk};
+ghost use Rattle.std.specs.Prelude.{◌≡◌, ◌≤◌, true, None, map, IfOk};
 ghost use Rattle.std.specs.Option.{ok_or};
 ghost use Rattle.text_words.specs.Lines.{lines};
 ghost use Rattle.text_words.specs.Words.{seen as port_seen};
@@ -6,6 +6,7 @@ ghost use Rattle.topo_file.specs.declared.fault.TopologyFault.TheVariants.{Unkno
 ghost use Rattle.topo_file.specs.Node.{place_of};
 ghost use Rattle.topo_file.specs.NewNode.{seen};
 ghost use Rattle.topo_file.specs.Cable.{port_at};
+ghost use Rattle.topo_file.specs.Sound.{ends_at_ports, fits, is_port};
 ghost use Rattle.topo_file.specs.Reading.{Gives, TextGives, seen_by};
 ghost use Rattle.topo_file.specs.Topology.{name_of, port_of, number_up_to, new_node, node_spelt, node_of, new_cable, cable_spelt, cable_of, new_manager, manager_spelt, manager_of, with_node, with_cable, with_manager, after_words, after_line, after_lines, whole, on_line, nothing, topology_of};
 
@@ -35,10 +36,13 @@ struct Draft {
 
 impl Model for Draft {
     ghost use Rattle.topo_file.specs.Topology.{Declarations};
+    ghost use Rattle.topo_file.specs.Sound.{IsSoundSoFar};
 
     ghost Value = { Declarations };
 
     ghost view = { λ draft. record { nodes = draft.nodes; cables = draft.cables.items; manager = draft.manager } };
+
+    ghost invariant = { λ draft. IsSoundSoFar (record { nodes = draft.nodes; cables = draft.cables.items; manager = draft.manager }) };
 }
 
 impl Draft {
@@ -57,6 +61,7 @@ impl Draft {
     fn node_of<'a>(&self, kind: NodeKind, words: &[&'a [u8]]) -> Result<NewNode<'a>, TopologyFault>
         ensures value { seen_by seen result ≡ node_of kind self.now.nodes (map (λ word. word.now) words.now) }
         ensures new { IfOk result (λ node. place_of node.name.now self.now.nodes ≡ None) }
+        ensures fits { IfOk result (λ node. fits (seen node) ≡ true) }
     {
         let [name, guid, ports] = words else {
             return Err(TopologyFault::Malformed);
@@ -74,6 +79,7 @@ impl Draft {
     ) -> Result<NewNode<'a>, TopologyFault>
         ensures value { seen_by seen result ≡ node_spelt kind self.now.nodes name.now guid.now ports.now }
         ensures new { IfOk result (λ node. place_of node.name.now self.now.nodes ≡ None) }
+        ensures fits { IfOk result (λ node. fits (seen node) ≡ true) }
     {
         let name = name_of(name)?;
         let guid = number_up_to(u64::MAX, guid)?;
@@ -91,6 +97,7 @@ impl Draft {
     fn new_node(&self, node: &NewNode) -> Result<(), TopologyFault>
         ensures value { seen_by (λ _. seen node.now) result ≡ new_node self.now.nodes (seen node.now) }
         ensures new { IfOk result (λ _. place_of node.now.name.now self.now.nodes ≡ None) }
+        ensures fits { IfOk result (λ _. fits (seen node.now) ≡ true) }
     {
         let nodes = self.nodes.as_slice();
         if self.nodes.place_of(node.name).is_some() {
@@ -108,7 +115,8 @@ impl Draft {
     /// The cable that a line declares, by the words after the first.
     #[tactic(auto, unfolding(crate::specs::Topology::cable_of))]
     fn cable_of(&self, words: &[&[u8]]) -> Result<Cable, TopologyFault>
-        ensures { result ≡ cable_of self.now.nodes self.now.cables (map (λ word. word.now) words.now) }
+        ensures value { result ≡ cable_of self.now.nodes self.now.cables (map (λ word. word.now) words.now) }
+        ensures ends { IfOk result (λ cable. ends_at_ports self.now.nodes cable ≡ true) }
     {
         let [one, other] = words else {
             return Err(TopologyFault::Malformed);
@@ -118,7 +126,8 @@ impl Draft {
 
     #[tactic(auto, unfolding(crate::specs::Topology::cable_spelt))]
     fn cable_spelt(&self, one: &[u8], other: &[u8]) -> Result<Cable, TopologyFault>
-        ensures { result ≡ cable_spelt self.now.nodes self.now.cables one.now other.now }
+        ensures value { result ≡ cable_spelt self.now.nodes self.now.cables one.now other.now }
+        ensures ends { IfOk result (λ cable. ends_at_ports self.now.nodes cable ≡ true) }
     {
         let one = port_of(one)?;
         let other = port_of(other)?;
@@ -130,7 +139,8 @@ impl Draft {
     }
 
     fn new_cable(&self, first: PortRef, second: PortRef) -> Result<Cable, TopologyFault>
-        ensures { result ≡ new_cable self.now.nodes self.now.cables first second }
+        ensures value { result ≡ new_cable self.now.nodes self.now.cables first second }
+        ensures same { IfOk result (λ cable. cable ≡ record { first = first; second = second }) }
     {
         if is_cabled(&self.cables, first) || is_cabled(&self.cables, second) {
             return Err(TopologyFault::PortTaken);
@@ -144,7 +154,8 @@ impl Draft {
     /// The port that a line places the subnet manager on, by the words after the first.
     #[tactic(auto, unfolding(crate::specs::Topology::manager_of))]
     fn manager_of(&self, number: usize, words: &[&[u8]]) -> Result<Manager, TopologyFault>
-        ensures { result ≡ manager_of self.now.nodes self.now.manager number (map (λ word. word.now) words.now) }
+        ensures value { result ≡ manager_of self.now.nodes self.now.manager number (map (λ word. word.now) words.now) }
+        ensures on_port { IfOk result (λ manager. is_port self.now.nodes manager.port ≡ true) }
     {
         let [word] = words else {
             return Err(TopologyFault::Malformed);
@@ -154,7 +165,8 @@ impl Draft {
 
     #[tactic(auto, unfolding(crate::specs::Topology::manager_spelt))]
     fn manager_spelt(&self, number: usize, word: &[u8]) -> Result<Manager, TopologyFault>
-        ensures { result ≡ manager_spelt self.now.nodes self.now.manager number word.now }
+        ensures value { result ≡ manager_spelt self.now.nodes self.now.manager number word.now }
+        ensures on_port { IfOk result (λ manager. is_port self.now.nodes manager.port ≡ true) }
     {
         let word = port_of(word)?;
         let node = self.node_named(word.name)?;
@@ -163,7 +175,8 @@ impl Draft {
     }
 
     fn new_manager(&self, number: usize, port: PortRef) -> Result<Manager, TopologyFault>
-        ensures { result ≡ new_manager self.now.nodes self.now.manager number port }
+        ensures value { result ≡ new_manager self.now.nodes self.now.manager number port }
+        ensures same { IfOk result (λ manager. manager.port ≡ port) }
     {
         if self.manager.is_some() || is_switch_at(self.nodes.as_slice(), port.node) {
             return Err(TopologyFault::WrongManager);
@@ -178,7 +191,8 @@ impl Draft {
     }
 
     fn port_at(&self, place: usize, number: u128) -> Result<PortRef, TopologyFault>
-        ensures { result ≡ ok_or (port_at self.now.nodes place number) NoSuchPort }
+        ensures value { result ≡ ok_or (port_at self.now.nodes place number) NoSuchPort }
+        ensures is_port { IfOk result (λ port. is_port self.now.nodes port ≡ true) }
     {
         port_at(self.nodes.as_slice(), place, number).ok_or(TopologyFault::NoSuchPort)
     }

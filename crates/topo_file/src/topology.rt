@@ -1,5 +1,6 @@
 ghost use Rattle.std.specs.Prelude.{◌≡◌};
 ghost use Rattle.topo_file.specs.Node.{place_of};
+ghost use Rattle.topo_file.specs.Sound.{IsSound};
 
 use crate::cable::{Cable, PortRef};
 use crate::node::{Node, NodeList};
@@ -15,16 +16,21 @@ pub struct Topology {
 
 impl Model for Topology {
     ghost use Rattle.topo_file.specs.Topology.{Plan};
+    ghost use Rattle.topo_file.specs.Sound.{IsSound};
 
     ghost Value = { Plan };
 
     ghost view = { λ topology. record { nodes = topology.nodes; cables = topology.cables.items; sm = topology.sm } };
+
+    ghost invariant = { λ topology. IsSound (record { nodes = topology.nodes; cables = topology.cables.items; sm = topology.sm }) };
 }
 
 impl Topology {
     /// The nodes, in the order of their lines.
     pub fn nodes(&self) -> &[Node]
-        ensures { result.now ≡ self.now.nodes }
+        ensures value { result.now ≡ self.now.nodes }
+        // GUIDs fit in 64 bits, cables end at ports that there are, and so does the manager's.
+        ensures sound { IsSound self.now }
     {
         self.nodes.as_slice()
     }

@@ -1,0 +1,44 @@
+use Rattle.std.proofs.Common.{◌≡◌, ℕ, zero, suc, ◌≤◌, Bool, true, false, ◌&&◌, nat_le, List, [], ◌∷◌, ◌++◌, Option, Some, None, refl, sym, ◌∙◌, arith}
+use Rattle.std.specs.List.{list_all}
+use Rattle.std.proofs.lemmas.Bool.{and_parts, and_from}
+use Rattle.std.proofs.lemmas.Bool.Decides.{nat_tests}
+use Rattle.std.proofs.lemmas.List.Folds.{list_all-append}
+use Rattle.topo_file.specs.declared.cable.Cable.{Cable}
+use Rattle.topo_file.specs.declared.cable.PortRef.{PortRef}
+use Rattle.topo_file.specs.declared.node.Node.{Node}
+use Rattle.topo_file.specs.declared.reader.Manager.{Manager}
+use Rattle.topo_file.specs.Node.{ports_at}
+use Rattle.topo_file.specs.Sound.{fits, is_port, ends_at_ports, manager_on_port, IsSoundSoFar}
+use Rattle.topo_file.specs.Topology.{Declarations}
+
+ports_grow : (nodes : List Node) (place : ℕ) (node : Node) → ports_at nodes place ≤ ports_at (nodes ++ node ∷ []) place
+ports_grow [] place node = omega arith
+ports_grow (first ∷ nodes) zero node = omega arith
+ports_grow (first ∷ nodes) (suc place) node = ports_grow nodes place node
+
+below_more : (number few many : ℕ) → few ≤ many → (nat_le 1 number && nat_le number few) ≡ true → (nat_le 1 number && nat_le number many) ≡ true
+below_more number few many more h = grind (arith, nat_tests)
+
+-- a port stays a port when a node is added
+is_port_still : (nodes : List Node) (node : Node) (port : PortRef) → is_port nodes port ≡ true → is_port (nodes ++ node ∷ []) port ≡ true
+is_port_still nodes node port h = below_more port.port (ports_at nodes port.node) (ports_at (nodes ++ node ∷ []) port.node) (ports_grow nodes port.node node) h
+
+ends_still : (nodes : List Node) (node : Node) (cables : List Cable) → list_all (λ cable. ends_at_ports nodes cable) cables ≡ true → list_all (λ cable. ends_at_ports (nodes ++ node ∷ []) cable) cables ≡ true
+ends_still nodes node [] h = refl
+ends_still nodes node (cable ∷ cables) h =
+    let parts = and_parts (ends_at_ports nodes cable) _ h in
+    let ends = and_parts (is_port nodes cable.first) (is_port nodes cable.second) parts.0 in
+    and_from (ends_at_ports (nodes ++ node ∷ []) cable) _
+    (and_from (is_port (nodes ++ node ∷ []) cable.first) _ (is_port_still nodes node cable.first ends.0) (is_port_still nodes node cable.second ends.1))
+    (ends_still nodes node cables parts.1)
+
+manager_still : (nodes : List Node) (node : Node) (manager : Option Manager) → manager_on_port nodes manager ≡ true → manager_on_port (nodes ++ node ∷ []) manager ≡ true
+manager_still nodes node None h = refl
+manager_still nodes node (Some manager) h = is_port_still nodes node manager.port h
+
+pub sound_still : (so_far : Declarations) (node : Node) → IsSoundSoFar so_far → fits node ≡ true → IsSoundSoFar (record so_far { nodes = so_far.nodes ++ node ∷ [] })
+sound_still so_far node sound right = record {
+  guids = list_all-append fits so_far.nodes (node ∷ []) ∙ and_from (list_all fits so_far.nodes) _ sound.guids (and_from (fits node) true right refl);
+  cables = ends_still so_far.nodes node so_far.cables sound.cables;
+  manager = manager_still so_far.nodes node so_far.manager sound.manager;
+}
