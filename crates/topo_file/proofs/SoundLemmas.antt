@@ -1,4 +1,4 @@
-use Rattle.std.proofs.Common.{◌≡◌, ℕ, zero, suc, ◌≤◌, Bool, true, false, ◌&&◌, nat_le, List, [], ◌∷◌, ◌++◌, Option, Some, None, refl, sym, ◌∙◌, arith}
+use Rattle.std.proofs.Common.{◌≡◌, ℕ, zero, suc, ◌≤◌, Bool, true, false, not, ◌&&◌, nat_le, List, [], ◌∷◌, ◌++◌, Option, Some, None, refl, sym, ◌∙◌, arith}
 use Rattle.std.specs.List.{list_all}
 use Rattle.std.proofs.lemmas.Bool.{and_parts, and_from}
 use Rattle.std.proofs.lemmas.Bool.Decides.{nat_tests}
@@ -7,8 +7,8 @@ use Rattle.topo_file.specs.declared.cable.Cable.{Cable}
 use Rattle.topo_file.specs.declared.cable.PortRef.{PortRef}
 use Rattle.topo_file.specs.declared.node.Node.{Node}
 use Rattle.topo_file.specs.declared.reader.Manager.{Manager}
-use Rattle.topo_file.specs.Node.{ports_at}
-use Rattle.topo_file.specs.Sound.{fits, is_port, ends_at_ports, manager_on_port, IsSoundSoFar}
+use Rattle.topo_file.specs.Node.{is_switch_at, ports_at}
+use Rattle.topo_file.specs.Sound.{fits, is_port, ends_at_ports, is_manager_port, on_adapter, IsSoundSoFar}
 use Rattle.topo_file.specs.Topology.{Declarations}
 
 ports_grow : (nodes : List Node) (place : ℕ) (node : Node) → ports_at nodes place ≤ ports_at (nodes ++ node ∷ []) place
@@ -32,9 +32,22 @@ ends_still nodes node (cable ∷ cables) h =
     (and_from (is_port (nodes ++ node ∷ []) cable.first) _ (is_port_still nodes node cable.first ends.0) (is_port_still nodes node cable.second ends.1))
     (ends_still nodes node cables parts.1)
 
-manager_still : (nodes : List Node) (node : Node) (manager : Option Manager) → manager_on_port nodes manager ≡ true → manager_on_port (nodes ++ node ∷ []) manager ≡ true
+kind_still : (nodes : List Node) (node : Node) (place number : ℕ) → (nat_le 1 number && nat_le number (ports_at nodes place)) ≡ true → is_switch_at (nodes ++ node ∷ []) place ≡ is_switch_at nodes place
+kind_still [] node place number h = absurd (let none = none_at number in cc)
+  where
+    none_at : (number : ℕ) → (nat_le 1 number && nat_le number 0) ≡ false
+    none_at number = grind (arith, nat_tests)
+kind_still (first ∷ nodes) node zero number h = refl
+kind_still (first ∷ nodes) node (suc place) number h = kind_still nodes node place number h
+
+manager_port_still : (nodes : List Node) (node : Node) (port : PortRef) → is_manager_port nodes port ≡ true → is_manager_port (nodes ++ node ∷ []) port ≡ true
+manager_port_still nodes node port h =
+    let parts = and_parts (not (is_switch_at nodes port.node)) (is_port nodes port) h in
+    and_from (not (is_switch_at (nodes ++ node ∷ []) port.node)) _ (rw (kind_still nodes node port.node port.port parts.1) parts.0) (is_port_still nodes node port parts.1)
+
+manager_still : (nodes : List Node) (node : Node) (manager : Option Manager) → on_adapter nodes manager ≡ true → on_adapter (nodes ++ node ∷ []) manager ≡ true
 manager_still nodes node None h = refl
-manager_still nodes node (Some manager) h = is_port_still nodes node manager.port h
+manager_still nodes node (Some manager) h = manager_port_still nodes node manager.port h
 
 pub sound_still : (so_far : Declarations) (node : Node) → IsSoundSoFar so_far → fits node ≡ true → IsSoundSoFar (record so_far { nodes = so_far.nodes ++ node ∷ [] })
 sound_still so_far node sound right = record {

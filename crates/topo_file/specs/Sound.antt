@@ -1,11 +1,13 @@
 -- What is so of every topology that was read, whatever its text.
-use Rattle.std.specs.Prelude.{◌≡◌, ℕ, Bool, true, ◌&&◌, nat_le, List, Option, Some, None}
+use Rattle.std.specs.Prelude.{◌≡◌, ℕ, Bool, true, not, ◌&&◌, nat_le, List, Option, Some, None}
 use Rattle.std.specs.List.{list_all}
 use Rattle.topo_file.specs.declared.cable.Cable.{Cable}
 use Rattle.topo_file.specs.declared.cable.PortRef.{PortRef}
 use Rattle.topo_file.specs.declared.node.Node.{Node}
 use Rattle.topo_file.specs.declared.reader.Manager.{Manager}
-use Rattle.topo_file.specs.Node.{last_guid, ports_at}
+use Rattle.topo_file.specs.Node.{is_switch_at, last_guid, ports_at}
+use Rattle.topo_file.specs.Cable.{is_cabled}
+use Rattle.topo_file.specs.Connectivity.{is_connected}
 use Rattle.topo_file.specs.Topology.{Plan, Declarations}
 
 -- the GUIDs of the node and its ports have 64 bits
@@ -16,6 +18,10 @@ fits node = nat_le (last_guid node) 18446744073709551615
 abbrev pub is_port : List Node → PortRef → Bool
 is_port nodes port = nat_le 1 port.port && nat_le port.port (ports_at nodes port.node)
 
+-- the subnet manager runs on a port of an adapter
+abbrev pub is_manager_port : List Node → PortRef → Bool
+is_manager_port nodes port = not (is_switch_at nodes port.node) && is_port nodes port
+
 -- the cable ends at ports
 abbrev pub ends_at_ports : List Node → Cable → Bool
 ends_at_ports nodes cable = is_port nodes cable.first && is_port nodes cable.second
@@ -23,15 +29,17 @@ ends_at_ports nodes cable = is_port nodes cable.first && is_port nodes cable.sec
 pub record IsSound (plan : Plan) : Type 0 where
   pub guids : list_all fits plan.nodes ≡ true
   pub cables : list_all (λ cable. ends_at_ports plan.nodes cable) plan.cables ≡ true
-  pub sm : is_port plan.nodes plan.sm ≡ true
+  pub connected : is_connected plan.nodes plan.cables ≡ true
+  pub manager_port : is_manager_port plan.nodes plan.sm ≡ true
+  pub manager_cabled : is_cabled plan.cables plan.sm ≡ true
 
--- a manager's port, where there is one, is a port
-abbrev pub manager_on_port : List Node → Option Manager → Bool
-manager_on_port nodes None = true
-manager_on_port nodes (Some manager) = is_port nodes manager.port
+-- a manager's port, where there is one, is a port of an adapter
+abbrev pub on_adapter : List Node → Option Manager → Bool
+on_adapter nodes None = true
+on_adapter nodes (Some manager) = is_manager_port nodes manager.port
 
 -- the same of the lines so far
 pub record IsSoundSoFar (so_far : Declarations) : Type 0 where
   pub guids : list_all fits so_far.nodes ≡ true
   pub cables : list_all (λ cable. ends_at_ports so_far.nodes cable) so_far.cables ≡ true
-  pub manager : manager_on_port so_far.nodes so_far.manager ≡ true
+  pub manager : on_adapter so_far.nodes so_far.manager ≡ true

@@ -1,12 +1,12 @@
-ghost use Rattle.std.specs.Prelude.{◌≡◌, ◌≤◌, true, None, map, IfOk};
+ghost use Rattle.std.specs.Prelude.{◌≡◌, ◌≤◌, true, false, None, map, IfOk};
 ghost use Rattle.std.specs.Option.{ok_or};
 ghost use Rattle.text_words.specs.Lines.{lines};
 ghost use Rattle.text_words.specs.Words.{seen as port_seen};
 ghost use Rattle.topo_file.specs.declared.fault.TopologyFault.TheVariants.{UnknownNode, NoSuchPort};
-ghost use Rattle.topo_file.specs.Node.{place_of};
+ghost use Rattle.topo_file.specs.Node.{is_switch_at, place_of};
 ghost use Rattle.topo_file.specs.NewNode.{seen};
 ghost use Rattle.topo_file.specs.Cable.{port_at};
-ghost use Rattle.topo_file.specs.Sound.{ends_at_ports, fits, is_port};
+ghost use Rattle.topo_file.specs.Sound.{ends_at_ports, fits, is_manager_port, is_port};
 ghost use Rattle.topo_file.specs.Reading.{Gives, TextGives, seen_by};
 ghost use Rattle.topo_file.specs.Topology.{name_of, port_of, number_up_to, new_node, node_spelt, node_of, new_cable, cable_spelt, cable_of, new_manager, manager_spelt, manager_of, with_node, with_cable, with_manager, after_words, after_line, after_lines, whole, on_line, nothing, topology_of};
 
@@ -155,7 +155,7 @@ impl Draft {
     #[tactic(auto, unfolding(crate::specs::Topology::manager_of))]
     fn manager_of(&self, number: usize, words: &[&[u8]]) -> Result<Manager, TopologyFault>
         ensures value { result ≡ manager_of self.now.nodes self.now.manager number (map (λ word. word.now) words.now) }
-        ensures on_port { IfOk result (λ manager. is_port self.now.nodes manager.port ≡ true) }
+        ensures on_adapter { IfOk result (λ manager. is_manager_port self.now.nodes manager.port ≡ true) }
     {
         let [word] = words else {
             return Err(TopologyFault::Malformed);
@@ -166,7 +166,7 @@ impl Draft {
     #[tactic(auto, unfolding(crate::specs::Topology::manager_spelt))]
     fn manager_spelt(&self, number: usize, word: &[u8]) -> Result<Manager, TopologyFault>
         ensures value { result ≡ manager_spelt self.now.nodes self.now.manager number word.now }
-        ensures on_port { IfOk result (λ manager. is_port self.now.nodes manager.port ≡ true) }
+        ensures on_adapter { IfOk result (λ manager. is_manager_port self.now.nodes manager.port ≡ true) }
     {
         let word = port_of(word)?;
         let node = self.node_named(word.name)?;
@@ -177,6 +177,7 @@ impl Draft {
     fn new_manager(&self, number: usize, port: PortRef) -> Result<Manager, TopologyFault>
         ensures value { result ≡ new_manager self.now.nodes self.now.manager number port }
         ensures same { IfOk result (λ manager. manager.port ≡ port) }
+        ensures on_adapter { IfOk result (λ _. is_switch_at self.now.nodes port.node ≡ false) }
     {
         if self.manager.is_some() || is_switch_at(self.nodes.as_slice(), port.node) {
             return Err(TopologyFault::WrongManager);

@@ -29,7 +29,8 @@ impl Topology {
     /// The nodes, in the order of their lines.
     pub fn nodes(&self) -> &[Node]
         ensures value { result.now ≡ self.now.nodes }
-        // GUIDs fit in 64 bits, cables end at ports that there are, and so does the manager's.
+        // GUIDs fit in 64 bits, cables end at ports and join all switches, and the manager runs on
+        // an adapter's port that has a cable.
         ensures sound { IsSound self.now }
     {
         self.nodes.as_slice()
