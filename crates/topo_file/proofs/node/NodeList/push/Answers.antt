@@ -1,4 +1,4 @@
-use Rattle.std.proofs.Common.{◌≡◌, None, ap, ◌∙◌, sym}
+use Rattle.std.proofs.Common.{◌≡◌, None, ◌∙◌, sym}
 use Rattle.topo_file.specs.Node.{place_of}
 use Rattle.topo_file.proofs.NodeLemmas.{keys_and_names_grow}
 use Rattle.topo_file.proofs.node.NodeList.push.Goals as goal
