@@ -4,3 +4,5 @@ pub mod LineLemmas
 pub mod LoopLemmas
 pub mod MarkLemmas
 pub mod WalkLemmas
+pub mod CableLemmas
+pub mod SoundLemmas

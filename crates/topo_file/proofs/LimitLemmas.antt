@@ -1,11 +1,11 @@
-use Rattle.std.proofs.Common.{◌≡◌, ℕ, ◌+◌, ◌<◌, ◌≤◌, false, List, [], ◌∷◌, ◌++◌, ◌∙◌, sym, ap, refl, arith}
+use Rattle.std.proofs.Common.{◌≡◌, ℕ, ◌+◌, false, List, [], ◌∷◌, ◌++◌, ◌∙◌, ap, refl, arith}
 use Rattle.std.proofs.lemmas.Bool.{leb-false, ltb-false}
 use Rattle.std.proofs.lemmas.Grind.{common_steps}
 use Rattle.std.proofs.lemmas.List.Sums.{sum_by-append}
 use Rattle.topo_file.specs.declared.node.Node.{Node}
 use Rattle.topo_file.specs.declared.node.NodeKind.{NodeKind}
 use Rattle.topo_file.specs.declared.node.NodeKind.TheVariants.{Switch, Adapter}
-use Rattle.topo_file.specs.Node.{IsWithinLimits, adapter_ports, is_one_too_many, is_switch, is_switch_kind, port_guids, switch_count}
+use Rattle.topo_file.specs.Node.{IsWithinLimits, adapter_ports, is_one_too_many, port_guids, switch_count}
 
 abbrev switch_count_of : NodeKind → ℕ
 switch_count_of Switch = 1

@@ -1,9 +1,9 @@
-use Rattle.std.proofs.Common.{◌≡◌, ◌≢◌, ℕ, List, [], ◌∷◌, length, Option, Result, Err, refl, arith}
+use Rattle.std.proofs.Common.{◌≡◌, ◌≢◌, ℕ, List, [], ◌∷◌, length, Option, Err, refl}
 use Rattle.topo_file.specs.declared.cable.Cable.{Cable}
 use Rattle.topo_file.specs.declared.fault.TopologyFault.TheVariants.{Malformed}
 use Rattle.topo_file.specs.declared.node.Node.{Node}
 use Rattle.topo_file.specs.declared.node.NodeKind.{NodeKind}
-use Rattle.topo_file.specs.declared.reader.Manager.{Manager}
+use Rattle.topo_file.specs.declared.draft.Manager.{Manager}
 use Rattle.topo_file.specs.Topology.{node_of, cable_of, manager_of}
 
 -- lines with another number of words than theirs

@@ -1,4 +1,4 @@
-use Rattle.std.proofs.Common.{◌≡◌, ℕ, ◌+◌, ◌≤◌, List, [], ◌∷◌, length, Result, Ok, Err, refl, sym, ap, subst, ◌∙◌, arith}
+use Rattle.std.proofs.Common.{◌≡◌, ℕ, ◌+◌, ◌≤◌, List, [], ◌∷◌, length, Result, Ok, refl, sym, ap, subst, ◌∙◌, arith}
 use Rattle.text_words.specs.Lines.{lines}
 use Rattle.topo_file.specs.declared.fault.TopoFault.{TopoFault}
 use Rattle.topo_file.specs.declared.fault.TopoFault.TheVariants as text

@@ -1,5 +1,5 @@
 -- Walks over cables, and the law: the test is true exactly where walks join every two switches.
-use Rattle.std.proofs.Common.{◌≡◌, ℕ, zero, suc, ◌+◌, Bool, true, false, cond, not, eqb, ◌==◌, ◌&&◌, ◌||◌, nat_lt, List, [], ◌∷◌, ◌++◌, length, slice_get, position, Option, Some, None, refl, sym, ap, subst, ◌∙◌, inl, inr, ◌⊎◌, arith, zero-add}
+use Rattle.std.proofs.Common.{◌≡◌, ℕ, zero, suc, ◌+◌, Bool, true, false, ◌==◌, ◌&&◌, ◌||◌, nat_lt, List, [], ◌∷◌, ◌++◌, length, slice_get, position, Option, Some, None, refl, sym, subst, ◌∙◌, inl, inr, arith, zero-add}
 use Rattle.std.specs.List.{list_any, position_or_len}
 use Rattle.std.specs.Option.{option_map_or}
 use Rattle.std.proofs.lemmas.Bool.{and_parts, and_from, or_cases, or_left, or_right, eqb-true, eq-eqb}
@@ -9,7 +9,7 @@ use Rattle.topo_file.specs.declared.node.Node.{Node}
 use Rattle.topo_file.specs.Node.{is_switch, is_switch_at, switch_count}
 use Rattle.topo_file.specs.Connectivity.{is_marked, leads_to, after_rounds, reaches_all, is_connected, joins, is_walk, Joined, AllJoined}
 use Rattle.topo_file.proofs.NodeLemmas.{one_more, not_there}
-use Rattle.topo_file.proofs.MarkLemmas.{mark-spread, mark-only, only_marks, marked_switch, stays, rests, all_marked, from_marked}
+use Rattle.topo_file.proofs.MarkLemmas.{mark-spread, mark-only, only_marks, stays, rests, all_marked, from_marked}
 
 -- what passes a test passes a weaker one
 weaker : {X : Type 0} (strong weak : X → Bool) → ((x : X) → strong x ≡ true → weak x ≡ true) → (xs : List X) → list_any strong xs ≡ true → list_any weak xs ≡ true

@@ -3,6 +3,7 @@ pub mod NewNode
 pub mod Cable
 pub mod Connectivity
 pub mod Topology
+pub mod Sound
 pub mod Reading
 pub use Rattle.text_words.specs.Lines
 pub use Rattle.text_words.specs.Number

@@ -1,5 +1,5 @@
 -- What a topology text describes, or the first line that is at fault.
-use Rattle.std.specs.Prelude.{ℕ, ◌+◌, Bool, not, ◌&&◌, ◌||◌, nat_le, nat_lt, List, [], ◌∷◌, ◌++◌, codes, Option, Some, None, is_some, Result, Ok, Err, if◌then◌else◌}
+use Rattle.std.specs.Prelude.{ℕ, ◌+◌, not, ◌&&◌, ◌||◌, nat_le, List, [], ◌∷◌, ◌++◌, codes, Option, Some, None, is_some, Result, Ok, Err, if◌then◌else◌}
 use Rattle.std.specs.Option.{ok_or}
 use Rattle.std.specs.Str.{bytes_eq}
 use Rattle.text_words.specs.Lines.{lines, has_bad_character, words}
@@ -12,7 +12,7 @@ use Rattle.topo_file.specs.declared.fault.TopologyFault.TheVariants.{Malformed, 
 use Rattle.topo_file.specs.declared.node.Node.{Node}
 use Rattle.topo_file.specs.declared.node.NodeKind.{NodeKind}
 use Rattle.topo_file.specs.declared.node.NodeKind.TheVariants.{Switch, Adapter}
-use Rattle.topo_file.specs.declared.reader.Manager.{Manager}
+use Rattle.topo_file.specs.declared.draft.Manager.{Manager}
 use Rattle.topo_file.specs.Node.{place_of, is_switch_at, lacks_guids, is_one_too_many, most_ports}
 use Rattle.topo_file.specs.Cable.{port_at, is_cabled, may_join}
 use Rattle.topo_file.specs.Connectivity.{is_connected}

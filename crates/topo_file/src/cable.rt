@@ -1,7 +1,11 @@
-ghost use Rattle.std.specs.Prelude.{◌≡◌};
-ghost use Rattle.topo_file.specs.Cable.{ends_at, is_cabled, is_same_port, may_join, port_at};
+ghost use Rattle.std.specs.Prelude.{◌≡◌, ◌++◌, [], ◌∷◌, true, IfSome, OnErr, OnOk};
+ghost use Rattle.topo_file.specs.Sound.{is_port};
+ghost use Rattle.topo_file.specs.Cable.{is_cabled, may_join, port_at};
 
 use crate::node::{Node, is_switch_at, ports_at};
+use indexmap::IndexSet;
+use std::alloc::{AllocError, Global};
+use std::marker::Model;
 
 /// A port of a node.
 #[derive(Clone, Copy, Debug, PartialEq, Eq, Hash)]
@@ -21,23 +25,70 @@ pub struct Cable {
     pub second: PortRef,
 }
 
-impl Cable {
-    fn ends_at(&self, port: PortRef) -> bool
-        ensures { result ≡ ends_at port self.now }
-    {
-        is_same_port(self.first, port) || is_same_port(self.second, port)
-    }
+/// Cables in the order in which they were added; the ports that they end at are looked up in constant
+/// time.
+#[derive(Debug, Drop)]
+pub(crate) struct CableList {
+    // The ports at which the cables end.
+    ends: IndexSet<PortRef>,
+    cables: Vec<Cable>,
 }
 
-fn is_same_port(a: PortRef, b: PortRef) -> bool
-    ensures { result ≡ is_same_port a b }
-{
-    a.node == b.node && a.port == b.port
+impl Model for CableList {
+    ghost use Rattle.std.specs.Prelude.{◌≡◌, List};
+    ghost use Rattle.std.specs.List.{list_any};
+    ghost use Rattle.topo_file.specs.declared.cable.Cable.{Cable};
+    ghost use Rattle.topo_file.specs.declared.cable.PortRef.{PortRef};
+    ghost use Rattle.topo_file.specs.Cable.{is_cabled, is_same_port};
+
+    ghost Value = { List Cable };
+
+    ghost view = { λ list. list.cables.items };
+
+    ghost invariant = { λ list. (port : PortRef) → list_any (is_same_port port) list.ends.keys ≡ is_cabled list.cables.items port };
+}
+
+impl CableList {
+    pub(crate) fn new(alloc: Global) -> CableList
+        ensures { result ≡ [] }
+    {
+        CableList {
+            ends: IndexSet::new(alloc),
+            cables: Vec::new(alloc),
+        }
+    }
+
+    pub(crate) fn as_slice(&self) -> &[Cable]
+        ensures { result.now ≡ self.now }
+    {
+        self.cables.as_slice()
+    }
+
+    /// Whether some cable ends at the port.
+    pub(crate) fn is_cabled(&self, port: PortRef) -> bool
+        ensures { result ≡ is_cabled self.now port }
+    {
+        self.ends.contains(&port)
+    }
+
+    /// Adds a cable at the end. Memory alone can be refused, and then the list stays as it was.
+    pub(crate) fn push(&mut self, cable: Cable) -> Result<(), AllocError>
+        ensures ok { OnOk result (self.new ≡ self.old ++ cable ∷ []) }
+        ensures err { OnErr result (self.new ≡ self.old) }
+    {
+        self.cables.reserve(1)?;
+        self.ends.reserve(2)?;
+        self.ends.insert(cable.first)?;
+        self.ends.insert(cable.second)?;
+        self.cables.push(cable)?;
+        Ok(())
+    }
 }
 
 /// The port of this number at the node there, if there is one.
 pub(crate) fn port_at(nodes: &[Node], place: usize, number: u128) -> Option<PortRef>
-    ensures { result ≡ port_at nodes.now place number }
+    ensures value { result ≡ port_at nodes.now place number }
+    ensures is_port { IfSome result (λ port. is_port nodes.now port ≡ true) }
 {
     if number < 1 || number > u128::from(ports_at(nodes, place)) {
         return None;
@@ -46,13 +97,6 @@ pub(crate) fn port_at(nodes: &[Node], place: usize, number: u128) -> Option<Port
         node: place,
         port: number as u8,
     })
-}
-
-/// Whether some cable ends at the port.
-pub(crate) fn is_cabled(cables: &[Cable], port: PortRef) -> bool
-    ensures { result ≡ is_cabled cables.now port }
-{
-    cables.iter().any(|cable| cable.ends_at(port))
 }
 
 /// Whether a cable may join the nodes there: two different switches, or a switch and an adapter.

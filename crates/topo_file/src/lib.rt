@@ -7,6 +7,7 @@
 
 mod cable;
 mod connectivity;
+mod draft;
 mod fault;
 mod node;
 mod reader;

@@ -1,5 +1,5 @@
-ghost use Rattle.std.specs.Prelude.{◌≡◌, ◌≤◌, ◌+◌, length, [], ◌∷◌, ◌++◌, None, All, false, IfOk, OnOk};
-ghost use Rattle.topo_file.specs.Node.{HasGuids, IsWithinLimits, adapter_ports, is_one_too_many, is_switch, is_switch_at, is_switch_kind, lacks_guids, last_guid, most_ports, place_of, port_guids, ports_at, shares_guid, switch_count};
+ghost use Rattle.std.specs.Prelude.{◌≡◌, ◌≤◌, ◌+◌, length, [], ◌∷◌, ◌++◌, None, IfOk, OnOk, OnErr};
+ghost use Rattle.topo_file.specs.Node.{adapter_ports, is_one_too_many, is_switch, is_switch_at, is_switch_kind, lacks_guids, last_guid, most_ports, place_of, port_guids, ports_at, shares_guid, switch_count};
 ghost use Rattle.std.specs.List.{list_any};
 ghost use Rattle.topo_file.specs.NewNode.{seen};
 ghost use Rattle.text_words.specs.declared.word.TheConstants.{NAME_LENGTH};
@@ -165,11 +165,7 @@ impl Model for NodeList {
 
     ghost view = { λ list. list.nodes.items };
 
-    ghost use Rattle.std.specs.Prelude.{All};
-    ghost use Rattle.topo_file.specs.Node.{HasGuids, IsWithinLimits};
-
-    ghost invariant = { λ list. (map (λ key. key.items) list.names.keys ≡ map (λ node. node.name) list.nodes.items)
-        × (All HasGuids list.nodes.items × IsWithinLimits list.nodes.items) };
+    ghost invariant = { λ list. map (λ key. key.items) list.names.keys ≡ map (λ node. node.name) list.nodes.items };
 }
 
 impl NodeList {
@@ -183,9 +179,7 @@ impl NodeList {
     }
 
     pub(crate) fn as_slice(&self) -> &[Node]
-        ensures value { result.now ≡ self.now }
-        ensures guids { All HasGuids result.now }
-        ensures limits { IsWithinLimits result.now }
+        ensures { result.now ≡ self.now }
     {
         self.nodes.as_slice()
     }
@@ -201,9 +195,8 @@ impl NodeList {
     pub(crate) fn push(&mut self, alloc: Global, node: &NewNode) -> Result<(), AllocError>
         requires new { place_of node.now.name.now self.old ≡ None }
         requires short { length node.now.name.now ≤ NAME_LENGTH }
-        requires guids { HasGuids (seen node.now) }
-        requires limits { is_one_too_many self.old node.now.kind node.now.ports ≡ false }
-        ensures { OnOk result (self.new ≡ self.old ++ seen node.now ∷ []) }
+        ensures ok { OnOk result (self.new ≡ self.old ++ seen node.now ∷ []) }
+        ensures err { OnErr result (self.new ≡ self.old) }
     {
         let key = Vec::from_slice(alloc, node.name)?;
         let name = Name::new(alloc, node.name)?;

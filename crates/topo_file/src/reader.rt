@@ -1,58 +1,23 @@
-ghost use Rattle.std.specs.Prelude.{◌≡◌, ◌≤◌, None, length, false, map, IfOk, OnOk};
-ghost use Rattle.std.specs.Option.{ok_or};
+ghost use Rattle.std.specs.Prelude.{◌≡◌, ◌≤◌, true, false, None, length, map, IfOk};
 ghost use Rattle.text_words.specs.Lines.{lines};
 ghost use Rattle.text_words.specs.declared.word.TheConstants.{NAME_LENGTH};
 ghost use Rattle.text_words.specs.Words.{seen as port_seen};
-ghost use Rattle.topo_file.specs.declared.fault.TopologyFault.TheVariants.{UnknownNode, NoSuchPort};
 ghost use Rattle.topo_file.specs.Node.{HasGuids, is_one_too_many, place_of};
 ghost use Rattle.topo_file.specs.NewNode.{seen};
-ghost use Rattle.topo_file.specs.Cable.{port_at};
+ghost use Rattle.topo_file.specs.Sound.{ends_at_ports, is_manager_port};
 ghost use Rattle.topo_file.specs.Reading.{Gives, TextGives, seen_by};
-ghost use Rattle.topo_file.specs.Topology.{name_of, port_of, number_up_to, new_node, node_spelt, node_of, new_cable, cable_spelt, cable_of, new_manager, manager_spelt, manager_of, with_node, with_cable, with_manager, after_words, after_line, after_lines, whole, on_line, nothing, topology_of};
+ghost use Rattle.topo_file.specs.Topology.{name_of, port_of, number_up_to, node_spelt, node_of, cable_spelt, cable_of, manager_spelt, manager_of, with_node, with_cable, with_manager, after_words, after_line, after_lines, whole, on_line, nothing, topology_of};
 
-use crate::cable::{Cable, PortRef, is_cabled, may_join, port_at};
+use crate::cable::Cable;
 use crate::connectivity::is_connected;
+use crate::draft::{Draft, Manager};
 use crate::fault::{LineError, TopoFault, TopologyFault};
-use crate::node::{NewNode, NodeKind, NodeList, is_one_too_many, is_switch_at, lacks_guids};
+use crate::node::{NewNode, NodeKind};
 use crate::topology::Topology;
 use std::alloc::Global;
-use std::marker::Model;
 use text_words::{Lines, PortWord, has_bad_character, is_name, number_in, port_in, words};
 
-/// The subnet manager's port, and the line that places it there.
-#[derive(Clone, Copy, Debug, PartialEq, Eq)]
-pub(crate) struct Manager {
-    pub(crate) port: PortRef,
-    pub(crate) line: usize,
-}
-
-/// What the lines so far declare.
-#[derive(Debug, Drop)]
-struct Draft {
-    nodes: NodeList,
-    cables: Vec<Cable>,
-    manager: Option<Manager>,
-}
-
-impl Model for Draft {
-    ghost use Rattle.topo_file.specs.Topology.{Declarations};
-
-    ghost Value = { Declarations };
-
-    ghost view = { λ draft. record { nodes = draft.nodes; cables = draft.cables.items; manager = draft.manager } };
-}
-
 impl Draft {
-    fn new(alloc: Global) -> Draft
-        ensures { result ≡ nothing }
-    {
-        Draft {
-            nodes: NodeList::new(alloc),
-            cables: Vec::new(alloc),
-            manager: None,
-        }
-    }
-
     /// The node that a line declares, by the words after the first.
     #[tactic(auto, unfolding(crate::specs::Topology::node_of))]
     fn node_of<'a>(&self, kind: NodeKind, words: &[&'a [u8]]) -> Result<NewNode<'a>, TopologyFault>
@@ -60,7 +25,7 @@ impl Draft {
         ensures new { IfOk result (λ node. place_of node.name.now self.now.nodes ≡ None) }
         ensures short { IfOk result (λ node. length node.name.now ≤ NAME_LENGTH) }
         ensures guids { IfOk result (λ node. HasGuids (seen node)) }
-        ensures limits { IfOk result (λ node. is_one_too_many self.now.nodes node.kind node.ports ≡ false) }
+        ensures room { IfOk result (λ node. is_one_too_many self.now.nodes node.kind node.ports ≡ false) }
     {
         let [name, guid, ports] = words else {
             return Err(TopologyFault::Malformed);
@@ -80,7 +45,7 @@ impl Draft {
         ensures new { IfOk result (λ node. place_of node.name.now self.now.nodes ≡ None) }
         ensures short { IfOk result (λ node. length node.name.now ≤ NAME_LENGTH) }
         ensures guids { IfOk result (λ node. HasGuids (seen node)) }
-        ensures limits { IfOk result (λ node. is_one_too_many self.now.nodes node.kind node.ports ≡ false) }
+        ensures room { IfOk result (λ node. is_one_too_many self.now.nodes node.kind node.ports ≡ false) }
     {
         let name = name_of(name)?;
         let guid = number_up_to(u64::MAX, guid)?;
@@ -95,29 +60,11 @@ impl Draft {
         Ok(node)
     }
 
-    fn new_node(&self, node: &NewNode) -> Result<(), TopologyFault>
-        ensures value { seen_by (λ _. seen node.now) result ≡ new_node self.now.nodes (seen node.now) }
-        ensures new { IfOk result (λ _. place_of node.now.name.now self.now.nodes ≡ None) }
-        ensures guids { OnOk result (HasGuids (seen node.now)) }
-        ensures limits { OnOk result (is_one_too_many self.now.nodes node.now.kind node.now.ports ≡ false) }
-    {
-        let nodes = self.nodes.as_slice();
-        if self.nodes.place_of(node.name).is_some() {
-            return Err(TopologyFault::DuplicateName);
-        }
-        if lacks_guids(nodes, node) {
-            return Err(TopologyFault::DuplicateGuid);
-        }
-        if is_one_too_many(nodes, node.kind, node.ports) {
-            return Err(TopologyFault::OverLimit);
-        }
-        Ok(())
-    }
-
     /// The cable that a line declares, by the words after the first.
     #[tactic(auto, unfolding(crate::specs::Topology::cable_of))]
     fn cable_of(&self, words: &[&[u8]]) -> Result<Cable, TopologyFault>
-        ensures { result ≡ cable_of self.now.nodes self.now.cables (map (λ word. word.now) words.now) }
+        ensures value { result ≡ cable_of self.now.nodes self.now.cables (map (λ word. word.now) words.now) }
+        ensures ends { IfOk result (λ cable. ends_at_ports self.now.nodes cable ≡ true) }
     {
         let [one, other] = words else {
             return Err(TopologyFault::Malformed);
@@ -127,7 +74,8 @@ impl Draft {
 
     #[tactic(auto, unfolding(crate::specs::Topology::cable_spelt))]
     fn cable_spelt(&self, one: &[u8], other: &[u8]) -> Result<Cable, TopologyFault>
-        ensures { result ≡ cable_spelt self.now.nodes self.now.cables one.now other.now }
+        ensures value { result ≡ cable_spelt self.now.nodes self.now.cables one.now other.now }
+        ensures ends { IfOk result (λ cable. ends_at_ports self.now.nodes cable ≡ true) }
     {
         let one = port_of(one)?;
         let other = port_of(other)?;
@@ -138,22 +86,11 @@ impl Draft {
         self.new_cable(first, second)
     }
 
-    fn new_cable(&self, first: PortRef, second: PortRef) -> Result<Cable, TopologyFault>
-        ensures { result ≡ new_cable self.now.nodes self.now.cables first second }
-    {
-        if is_cabled(&self.cables, first) || is_cabled(&self.cables, second) {
-            return Err(TopologyFault::PortTaken);
-        }
-        if !may_join(self.nodes.as_slice(), first.node, second.node) {
-            return Err(TopologyFault::WrongCableEnds);
-        }
-        Ok(Cable { first, second })
-    }
-
     /// The port that a line places the subnet manager on, by the words after the first.
     #[tactic(auto, unfolding(crate::specs::Topology::manager_of))]
     fn manager_of(&self, number: usize, words: &[&[u8]]) -> Result<Manager, TopologyFault>
-        ensures { result ≡ manager_of self.now.nodes self.now.manager number (map (λ word. word.now) words.now) }
+        ensures value { result ≡ manager_of self.now.nodes self.now.manager number (map (λ word. word.now) words.now) }
+        ensures on_adapter { IfOk result (λ manager. is_manager_port self.now.nodes manager.port ≡ true) }
     {
         let [word] = words else {
             return Err(TopologyFault::Malformed);
@@ -163,33 +100,13 @@ impl Draft {
 
     #[tactic(auto, unfolding(crate::specs::Topology::manager_spelt))]
     fn manager_spelt(&self, number: usize, word: &[u8]) -> Result<Manager, TopologyFault>
-        ensures { result ≡ manager_spelt self.now.nodes self.now.manager number word.now }
+        ensures value { result ≡ manager_spelt self.now.nodes self.now.manager number word.now }
+        ensures on_adapter { IfOk result (λ manager. is_manager_port self.now.nodes manager.port ≡ true) }
     {
         let word = port_of(word)?;
         let node = self.node_named(word.name)?;
         let port = self.port_at(node, word.number)?;
         self.new_manager(number, port)
-    }
-
-    fn new_manager(&self, number: usize, port: PortRef) -> Result<Manager, TopologyFault>
-        ensures { result ≡ new_manager self.now.nodes self.now.manager number port }
-    {
-        if self.manager.is_some() || is_switch_at(self.nodes.as_slice(), port.node) {
-            return Err(TopologyFault::WrongManager);
-        }
-        Ok(Manager { port, line: number })
-    }
-
-    fn node_named(&self, name: &[u8]) -> Result<usize, TopologyFault>
-        ensures { result ≡ ok_or (place_of name.now self.now.nodes) UnknownNode }
-    {
-        self.nodes.place_of(name).ok_or(TopologyFault::UnknownNode)
-    }
-
-    fn port_at(&self, place: usize, number: u128) -> Result<PortRef, TopologyFault>
-        ensures { result ≡ ok_or (port_at self.now.nodes place number) NoSuchPort }
-    {
-        port_at(self.nodes.as_slice(), place, number).ok_or(TopologyFault::NoSuchPort)
     }
 
     fn take_node(&mut self, alloc: Global, kind: NodeKind, words: &[&[u8]]) -> Result<(), LineError>
@@ -273,13 +190,13 @@ impl Draft {
                 cause: TopologyFault::WrongManager,
             });
         };
-        if !is_cabled(&self.cables, manager.port) {
+        if !self.cables.is_cabled(manager.port) {
             return Err(TopoFault::At {
                 line: manager.line,
                 cause: TopologyFault::ManagerUncabled,
             });
         }
-        if !is_connected(alloc, self.nodes.as_slice(), &self.cables)? {
+        if !is_connected(alloc, self.nodes.as_slice(), self.cables.as_slice())? {
             return Err(TopoFault::At {
                 line: 0,
                 cause: TopologyFault::Disconnected,

@@ -1,8 +1,11 @@
-ghost use Rattle.std.specs.Prelude.{◌≡◌, ◌+◌, ◌≤◌, false, All, IfSome};
+ghost use Rattle.std.specs.Prelude.{◌≡◌, ◌+◌, ◌≤◌, true, false, All, IfSome};
+ghost use Rattle.std.specs.List.{list_all};
 ghost use Rattle.topo_file.specs.Cable.{is_cabled, port_at};
+ghost use Rattle.topo_file.specs.Connectivity.{is_connected};
 ghost use Rattle.topo_file.specs.Node.{HasGuids, IsWithinLimits, guid_at, is_switch_at, place_of, ports_at};
+ghost use Rattle.topo_file.specs.Sound.{ends_at_ports, is_manager_port};
 
-use crate::cable::{Cable, PortRef, is_cabled, port_at};
+use crate::cable::{Cable, CableList, PortRef, port_at};
 use crate::node::{Node, NodeList, is_switch_at};
 use std::marker::Model;
 
@@ -10,16 +13,19 @@ use std::marker::Model;
 #[derive(Debug, Drop)]
 pub struct Topology {
     pub(crate) nodes: NodeList,
-    pub(crate) cables: Vec<Cable>,
+    pub(crate) cables: CableList,
     pub(crate) sm: PortRef,
 }
 
 impl Model for Topology {
     ghost use Rattle.topo_file.specs.Topology.{Plan};
+    ghost use Rattle.topo_file.specs.Sound.{IsSound};
 
     ghost Value = { Plan };
 
-    ghost view = { λ topology. record { nodes = topology.nodes; cables = topology.cables.items; sm = topology.sm } };
+    ghost view = { λ topology. record { nodes = topology.nodes; cables = topology.cables; sm = topology.sm } };
+
+    ghost invariant = { λ topology. IsSound (record { nodes = topology.nodes; cables = topology.cables; sm = topology.sm }) };
 }
 
 impl Topology {
@@ -34,14 +40,18 @@ impl Topology {
 
     /// The cables, in the order of their lines.
     pub fn cables(&self) -> &[Cable]
-        ensures { result.now ≡ self.now.cables }
+        ensures value { result.now ≡ self.now.cables }
+        ensures ends { list_all (λ cable. ends_at_ports self.now.nodes cable) result.now ≡ true }
+        ensures connected { is_connected self.now.nodes result.now ≡ true }
     {
         self.cables.as_slice()
     }
 
     /// The port that the subnet manager runs on, which is an adapter's and has a cable.
     pub fn sm(&self) -> PortRef
-        ensures { result ≡ self.now.sm }
+        ensures value { result ≡ self.now.sm }
+        ensures port { is_manager_port self.now.nodes result ≡ true }
+        ensures cabled { is_cabled self.now.cables result ≡ true }
     {
         self.sm
     }
@@ -73,11 +83,11 @@ impl Topology {
         }
     }
 
-    /// Whether the port has a cable, which is looked for among all cables.
+    /// Whether the port has a cable, looked up in constant time.
     pub fn is_cabled(&self, port: PortRef) -> bool
         ensures { result ≡ is_cabled self.now.cables port }
     {
-        is_cabled(&self.cables, port)
+        self.cables.is_cabled(port)
     }
 
     /// Where the node of this name stands among the nodes, looked up in constant time.

@@ -1,4 +1,3 @@
-use Rattle.std.proofs.Common.{refl, arith}
 use Rattle.std.proofs.lemmas.Result.{err_from_is_err_and}
 use Rattle.topo_file.proofs.LoopLemmas.{goes_on, stops, ends}
 use Rattle.topo_file.proofs.reader.after_lines.Goals as goal

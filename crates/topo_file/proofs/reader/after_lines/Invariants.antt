@@ -1,7 +1,4 @@
 use Rattle.topo_file.proofs.reader.after_lines.Given as goal
-use Rattle.std.proofs.Common.{◌≡◌, ◌+◌, ◌≤◌, length}
-use Rattle.text_words.specs.Lines.{lines}
-use Rattle.topo_file.specs.Topology.{after_lines, nothing}
 use Rattle.topo_file.proofs.LoopLemmas.{IsLeft}
 
 abbrev pub invariant-loop-line : goal.invariant-loop-line
