@@ -97,7 +97,7 @@ reached_is_near ports p sender command found held h =
     (found_in (λ other. other.guid == command.port) (λ other. (other.guid == command.port) && shares port.keys other.keys) ports sender found
     (and_from (sender.guid == command.port) (shares port.keys sender.keys) (found_passes (λ other. other.guid == command.port) ports sender found)
     (shares_from_holder command.p_key sender.keys port.keys held
-    (and_parts (port.lid == command.dlid) (accepts command.p_key port.keys) (and_parts _ _ parts.1).1).1))))
+    (and_parts _ (accepts command.p_key port.keys) (and_parts (port.lid == command.dlid) _ parts.1).1).1))))
     ports h)
 
 held_unless_refused : (sender : SubnetPort) (command : SendCommand) → refusal_of sender command ≡ None → holds command.p_key sender.keys ≡ true

@@ -33,7 +33,7 @@ is_adapter Switch = false
 
 -- a packet reaches the adapter port of its destination LID, if that port holds a key that matches the packet's
 abbrev pub reaches : SendCommand → SubnetPort → Bool
-reaches command port = is_adapter port.kind && ((port.lid == command.dlid) && accepts command.p_key port.keys)
+reaches command port = (port.lid == command.dlid) && (is_adapter port.kind && accepts command.p_key port.keys)
 
 -- what comes to the subnet manager's port at queue pair 1 is for the subnet administration
 abbrev pub is_for_sa : SendCommand → SubnetPort → Bool

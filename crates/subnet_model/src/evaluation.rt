@@ -1,4 +1,4 @@
-ghost use Rattle.std.specs.Prelude.{◌≡◌, [], ◌∷◌, Some, None, IfOk, OnOk, MatchResult};
+ghost use Rattle.std.specs.Prelude.{◌≡◌, [], ◌∷◌, ◌++◌, Some, None, IfOk, OnOk, MatchResult};
 ghost use Rattle.std.specs.Option.{option_copied};
 ghost use Rattle.subnet_model.specs.declared.event.Outcome.TheVariants.{Received, Refused};
 ghost use Rattle.subnet_model.specs.Delivery.{port_of, refusal_of, is_reserved, reaches, is_for_sa};
@@ -129,11 +129,28 @@ fn received(
     requires { key ≡ command.now.p_key }
     ensures { IfOk result (λ events. events.items ≡ received ports.now sender.now command.now) }
 {
-    ports
-        .iter()
-        .filter(|port| reaches(command, key, *port) && !is_for_sa(command, *port))
-        .map(|port| arrival(port, sender, key, command))
-        .collect(alloc)
+    let mut events = Vec::new(alloc);
+    for port in ports {
+        push_if_reached(&mut events, port, sender, key, command)?;
+    }
+    Ok(events)
+}
+
+fn push_if_reached(
+    events: &mut Vec<Event>,
+    port: &SubnetPort,
+    sender: &SubnetPort,
+    key: PKey,
+    command: &SendCommand,
+) -> Result<(), AllocError>
+    requires { key ≡ command.now.p_key }
+    ensures { OnOk result (events.new.items
+        ≡ events.old.items ++ received (port.now ∷ []) sender.now command.now) }
+{
+    if reaches(command, key, port) && !is_for_sa(command, port) {
+        events.push(arrival(port, sender, key, command))?;
+    }
+    Ok(())
 }
 
 fn arrival(port: &SubnetPort, sender: &SubnetPort, key: PKey, command: &SendCommand) -> Event
@@ -156,7 +173,7 @@ fn reaches(command: &SendCommand, key: PKey, port: &SubnetPort) -> bool
     requires { key ≡ command.now.p_key }
     ensures { result ≡ reaches command.now port.now }
 {
-    port.kind == PortKind::ChannelAdapter && port.lid == command.dlid && port.keys.accepts(key)
+    port.lid == command.dlid && port.kind == PortKind::ChannelAdapter && port.keys.accepts(key)
 }
 
 /// Whether the packet is for the subnet administration, where it reaches this port.
