@@ -65,7 +65,7 @@ ending_for file None = refused
 ending_for file (Some names) = ending_with (texts_of file names)
 
 -- what a call with these words ends in, where each name opens to the bytes that `file` says
-unfoldable pub ending_of : (List ℕ → Option (List ℕ)) → List (List ℕ) → Ending
+abbrev pub ending_of : (List ℕ → Option (List ℕ)) → List (List ℕ) → Ending
 ending_of file words = ending_for file (asked_of words)
 
 -- the exit status, and how the two outputs grow; of a text of clap's nothing is said

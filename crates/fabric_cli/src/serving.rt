@@ -4,7 +4,8 @@ ghost use Rattle.std.specs.Prelude.{ℕ, ◌≡◌, ◌≢◌, Result, Some, Ok,
 ghost use Rattle.std.specs.Io.KnownBytes.{Appends};
 ghost use Rattle.fabric_cli.specs.Faults.{line_of, status_of, IsOfFiles};
 ghost use Rattle.fabric_cli.specs.Files.{OpensAll, OpensInOrder};
-ghost use Rattle.fabric_cli.specs.Serving.{ending_of, texts_in, texts_of, Ends, IsTold, Reports};
+ghost use Rattle.fabric_cli.specs.Serving.{bytes_if_named, ending_of, ending_with, texts_in, texts_of, Ends, IsTold, Reports};
+ghost use Rattle.std.specs.Option.{option_to_list};
 ghost use Rattle.fabric_cli.specs.Words.{asked_of, names, opened_for};
 ghost use Rattle.fabric_cli.specs.Writing.{AppendsPart};
 
@@ -81,21 +82,59 @@ fn report<'a, F: Files>(
     words: &'a [String],
     files: &mut F,
 ) -> Result<Vec<u8>, Stop<'a>>
-    ensures order { OpensInOrder (F.told files.old) (F.told files.new) (opened_for (asked_of (map string_bytes words.entry.now))) }
-    ensures all { IsTold result → OpensAll (F.told files.old) (F.told files.new) (opened_for (asked_of (map string_bytes words.entry.now))) }
-    ensures exact { IfSome (F.told files.old) (λ folder.
-        Reports (λ text. text.items) (ending_of folder.file (map string_bytes words.entry.now)) result) }
+    ensures order { OpensInOrder (F.told files.old) (F.told files.new)
+        (opened_for (asked_of (map string_bytes words.entry.now))) }
+    ensures all { IsTold result → OpensAll (F.told files.old) (F.told files.new)
+        (opened_for (asked_of (map string_bytes words.entry.now))) }
+    ensures exact { IfSome (F.told files.old) (λ folder. Reports (λ text. text.items)
+        (ending_of folder.file (map string_bytes words.entry.now)) result) }
 {
-    let asked = read_words(alloc, words)?;
-    let texts = read_texts(alloc, &asked, files)?;
-    let partitions = texts.partitions.as_ref().map(|bytes| bytes.as_slice());
-    let report = run(
-        alloc,
-        texts.topology.as_slice(),
-        partitions,
-        texts.script.as_slice(),
-    )?;
-    Ok(report.text()?)
+    match read_words(alloc, words) {
+        Ok(asked) => report_of_files(alloc, &asked, files),
+        Err(stop) => Err(stop),
+    }
+}
+
+/// The report of the run of these files, each read before any is judged.
+fn report_of_files<'a, F: Files>(
+    alloc: Global,
+    asked: &Asked<'a>,
+    files: &mut F,
+) -> Result<Vec<u8>, Stop<'a>>
+    ensures order { OpensInOrder (F.told files.old) (F.told files.new) (opened_for (Some (names asked.now))) }
+    ensures all { IsTold result → OpensAll (F.told files.old) (F.told files.new) (opened_for (Some (names asked.now))) }
+    ensures exact { IfSome (F.told files.old) (λ folder. Reports (λ text. text.items)
+        (ending_with (texts_of folder.file (names asked.now))) result) }
+{
+    match read_texts(alloc, asked, files) {
+        Ok(texts) => report_of_texts(alloc, &texts),
+        Err(stop) => Err(stop),
+    }
+}
+
+/// The report of the run of these texts.
+fn report_of_texts<'a>(alloc: Global, texts: &Texts) -> Result<Vec<u8>, Stop<'a>>
+    ensures exact { Reports (λ text. text.items) (ending_with (Ok (texts_in texts.now))) result }
+{
+    let topology = texts.topology.as_slice();
+    let script = texts.script.as_slice();
+    match run(alloc, topology, slice_of(&texts.partitions), script) {
+        Ok(report) => match report.text() {
+            Ok(text) => Ok(text),
+            Err(_) => Err(Stop::NoMemory),
+        },
+        Err(fault) => Err(Stop::Run(fault)),
+    }
+}
+
+/// The bytes, if there are any to read.
+fn slice_of(bytes: &Option<Vec<u8>>) -> Option<&[u8]>
+    ensures { option_copied result ≡ option_map (λ items. items.items) bytes.now }
+{
+    match bytes {
+        Some(bytes) => Some(bytes.as_slice()),
+        None => None,
+    }
 }
 
 /// The bytes of all files that are asked for, each read in its turn.
@@ -111,14 +150,28 @@ fn read_texts<'a, F: Files>(
     ensures fault { IfErr result IsOfFiles }
 {
     let topology = read_file(alloc, files, asked.topology)?;
-    let partitions = match asked.partitions {
-        Some(name) => Some(read_file(alloc, files, name)?),
-        None => None,
-    };
+    let partitions = read_if_named(alloc, files, asked.partitions)?;
     let script = read_file(alloc, files, asked.script)?;
     Ok(Texts {
         topology,
         partitions,
         script,
     })
+}
+
+/// The bytes of a file, if there is one to read.
+fn read_if_named<'a, F: Files>(
+    alloc: Global,
+    files: &mut F,
+    name: Option<&'a str>,
+) -> Result<Option<Vec<u8>>, Stop<'a>>
+    ensures opened { OpensAll (F.told files.old) (F.told files.new) (option_to_list (option_map (λ word. word.now) name.entry)) }
+    ensures bytes { IfOk result (λ bytes. IfSome (F.told files.old) (λ folder.
+        bytes_if_named folder.file (option_map (λ word. word.now) name.entry) ≡ Ok (option_map (λ items. items.items) bytes))) }
+    ensures fault { IfErr result IsOfFiles }
+{
+    match name {
+        Some(name) => Ok(Some(read_file(alloc, files, name)?)),
+        None => Ok(None),
+    }
 }

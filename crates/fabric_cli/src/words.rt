@@ -3,7 +3,7 @@
 ghost use Rattle.std.specs.Prelude.{◌≡◌, false, Some, map, string_bytes, option_map, IfOk, IfErr};
 ghost use Rattle.clap.specs.Words.{app_of, rule_of, subcommand_rows_of};
 ghost use Rattle.fabric_cli.specs.Faults.{IsOfWords, IsRefusalOf};
-ghost use Rattle.fabric_cli.specs.Words.{asked_in, asked_of, fabric_command, file_in, names, wanted};
+ghost use Rattle.fabric_cli.specs.Words.{asked_by, asked_in, asked_of, fabric_command, file_in, names, wanted};
 
 use crate::faults::Stop;
 use clap::error::ErrorKind;
@@ -119,14 +119,29 @@ fn names_in<'a>(matches: &ArgMatches<'a>) -> Option<Asked<'a>>
     ensures { option_map names result ≡ asked_in (subcommand_rows_of matches.now) }
 {
     let (_, run) = matches.subcommand()?;
-    let topology = run.get_str("TOPO")?;
-    let partitions = run.get_str("PARTS")?;
-    let script = run.get_str("SCRIPT")?;
-    Some(Asked {
-        topology,
-        partitions: file_in(partitions),
-        script,
-    })
+    let topology = run.get_str("TOPO");
+    let partitions = run.get_str("PARTS");
+    let script = run.get_str("SCRIPT");
+    asked_by(topology, partitions, script)
+}
+
+/// What is asked for by three words, or nothing where one is missing.
+fn asked_by<'a>(
+    topology: Option<&'a str>,
+    partitions: Option<&'a str>,
+    script: Option<&'a str>,
+) -> Option<Asked<'a>>
+    ensures { option_map names result ≡ asked_by (option_map (λ word. word.now) topology.entry)
+        (option_map (λ word. word.now) partitions.entry) (option_map (λ word. word.now) script.entry) }
+{
+    match (topology, partitions, script) {
+        (Some(topology), Some(partitions), Some(script)) => Some(Asked {
+            topology,
+            partitions: file_in(partitions),
+            script,
+        }),
+        _ => None,
+    }
 }
 
 /// The name of a file, or none for `-`.
