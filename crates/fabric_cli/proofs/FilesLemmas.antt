@@ -10,10 +10,6 @@ opens_more (Some folder) before after names more opened next =
     let then : OpensAll (Some (with_opened folder names)) after more = rw opened at next in
     then ∙ ap (λ (all : List (List ℕ)). Some (record folder { opened = all })) (append_assoc folder.opened names more)
 
-pub opens_none : (told : Option Folder) → OpensAll told told []
-opens_none None = tt
-opens_none (Some folder) = sym (ap (λ (all : List (List ℕ)). Some (record folder { opened = all })) (append-nil folder.opened))
-
 -- the names that were opened are the first of those to open
 pub opens_first : (before after : Option Folder) (names more : List (List ℕ)) → OpensAll before after names → OpensInOrder before after (names ++ more)
 opens_first None after names more opened = tt

@@ -27,10 +27,6 @@ pub in_found : (given : Option (Text × List Row)) (found : Found) → Some (row
 in_found given found e = in_rows given (rows_of found) e
     ∙ rw (← first_value-rows found (codes "TOPO"), ← first_value-rows found (codes "PARTS"), ← first_value-rows found (codes "SCRIPT")) refl
 
-pub none_found : (given : Option (Text × List Row)) → None ≡ option_map (λ run. run.1) given → asked_in given ≡ None
-none_found None e = refl
-none_found (Some run) e = cc
-
 fabric_is_simple : is_simple fabric_command ≡ true
 unfolding clap_on_literals
 fabric_is_simple = refl

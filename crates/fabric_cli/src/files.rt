@@ -3,9 +3,8 @@
 ghost use Rattle.fabric_cli.specs.Files.{Folder, Opens};
 ghost use Rattle.std.specs.Prelude.{List, ℕ, Option, None};
 
-use std::fs;
 use std::io::Read;
-use std::rt;
+use std::{fs, rt};
 
 /// A place that opens names to readers.
 ///
@@ -23,6 +22,7 @@ pub trait Files {
 }
 
 /// The machine's files. Nothing is told of them.
+#[derive(Drop)]
 pub struct MachineFiles<'a, R: rt::Files> {
     rt: &'a R,
 }

@@ -1,10 +1,10 @@
 //! The program's work, over any files and any two writers.
 
-ghost use Rattle.std.specs.Prelude.{ℕ, ◌≡◌, ◌≢◌, Result, Some, Ok, map, option_map, vec_items, string_bytes, IfOk, IfErr, OnOk, IfSome};
+ghost use Rattle.std.specs.Prelude.{ℕ, ◌≡◌, ◌≢◌, Result, Some, Ok, map, option_copied, option_map, vec_items, string_bytes, IfOk, IfErr, OnOk, IfSome};
 ghost use Rattle.std.specs.Io.KnownBytes.{Appends};
 ghost use Rattle.fabric_cli.specs.Faults.{line_of, status_of, IsOfFiles};
 ghost use Rattle.fabric_cli.specs.Files.{OpensAll, OpensInOrder};
-ghost use Rattle.fabric_cli.specs.Serving.{bytes_if_named, ending_of, ending_with, texts_in, texts_of, Ends, IsTold, Reports};
+ghost use Rattle.fabric_cli.specs.Serving.{bytes_if_named, ending_of, ending_with, texts_in, report_in, texts_of, Ends, IsTold, Reports};
 ghost use Rattle.std.specs.Option.{option_to_list};
 ghost use Rattle.fabric_cli.specs.Words.{asked_of, names, opened_for};
 ghost use Rattle.fabric_cli.specs.Writing.{AppendsPart};
@@ -42,7 +42,10 @@ pub fn serve<F: Files, O: Write, E: Write>(
     ensures all { result ≢ 3 → OpensAll (F.told files.old) (F.told files.new) (opened_for (asked_of (map string_bytes words.now))) }
     ensures exact { result ≢ 3 → IfSome (F.told files.old) (λ folder.
         Ends (ending_of folder.file (map string_bytes words.now)) result
-            (O.contents out.old) (O.contents out.new) (E.contents err.old) (E.contents err.new)) }
+        (O.contents out.old) (O.contents out.new) (E.contents err.old) (E.contents err.new)) }
+    ensures short { IfSome (F.told files.old) (λ folder.
+        AppendsPart (O.contents out.old) (O.contents out.new)
+        (report_in (ending_of folder.file (map string_bytes words.now)))) }
 {
     match report(alloc, words, files) {
         Ok(text) => {

@@ -24,7 +24,8 @@ pub struct Asked<'a> {
 
 const ABOUT: &str = "An InfiniBand subnet manager over a simulated fabric";
 
-const ABOUT_RUN: &str = "Runs a script in the subnet of a topology, and prints what its ports receive";
+const ABOUT_RUN: &str =
+    "Runs a script in the subnet of a topology, and prints what its ports receive";
 
 const STATUSES: &str = "Exit statuses:
   0  complete
