@@ -1,3 +1,4 @@
+pub mod Fault
 pub mod Node
 pub mod NewNode
 pub mod Cable

@@ -1,6 +1,7 @@
 //! Why a topology text is refused.
 
 ghost use Rattle.std.specs.Prelude.{◌≡◌};
+ghost use Rattle.topo_file.specs.Fault.{code_of};
 ghost use Rattle.topo_file.specs.declared.fault.LineError.TheVariants.{NoMemory, Fault};
 
 use std::alloc::{AllocError, AllocFailed};
@@ -47,7 +48,9 @@ pub enum TopologyFault {
 
 impl TopologyFault {
     /// The code that is printed for the fault.
-    pub fn code(self) -> &'static str {
+    pub fn code(self) -> &'static str
+        ensures { result.now ≡ code_of self }
+    {
         match self {
             TopologyFault::Malformed => "TF1",
             TopologyFault::DuplicateName => "TF2",

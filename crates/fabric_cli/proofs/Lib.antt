@@ -1,0 +1,3 @@
+pub mod FilesLemmas
+pub mod KnownBytesLemmas
+pub mod WordsLemmas

@@ -1,0 +1,73 @@
+-- Why a call does not complete: the line that tells it, and the exit status.
+use Rattle.std.specs.Prelude.{ℕ, ◌≡◌, ◌≢◌, List, [], ◌∷◌, ◌++◌, codes, decimal, Option, None, string_bytes}
+use Rattle.clap.specs.Words.{kind_of}
+use Rattle.clap.specs.declared.error.Error.{Error}
+use Rattle.clap.specs.declared.error.kind.ErrorKind.TheVariants.{OutOfMemory}
+use Rattle.topo_file.specs.Fault.{code_of as topology_code}
+use Rattle.subnet_core.specs.Fault.{code_of as script_code}
+use Rattle.subnet_core.specs.declared.fault.RunFault.{RunFault}
+use Rattle.subnet_core.specs.declared.fault.RunFault.TheVariants as run
+use Rattle.fabric_cli.specs.declared.faults.Stop.{Stop}
+use Rattle.fabric_cli.specs.declared.faults.Stop.TheVariants.{Words, NoMemory, Unread, Unwritten, Run}
+
+-- `fault CODE topology line L` and LF
+abbrev pub topology_line : List ℕ → ℕ → List ℕ
+topology_line code number = codes "fault " ++ (code ++ (codes " topology line " ++ (decimal number ++ codes "\n")))
+
+abbrev pub script_line : List ℕ → ℕ → List ℕ
+script_line code number = codes "fault " ++ (code ++ (codes " script line " ++ (decimal number ++ codes "\n")))
+
+abbrev pub memory_line : List ℕ
+memory_line = codes "fault memory\n"
+
+abbrev pub unread_line : List ℕ → List ℕ
+unread_line name = codes "fault read " ++ (name ++ codes "\n")
+
+abbrev pub run_line : RunFault → List ℕ
+run_line run.NoMemory = memory_line
+run_line run.NotYet = codes "fault notyet\n"
+run_line (run.Topology line cause) = topology_line (topology_code cause) line
+run_line (run.Script line cause) = script_line (script_code cause) line
+
+abbrev pub run_status : RunFault → ℕ
+run_status run.NoMemory = 3
+run_status _ = 1
+
+-- what standard error is told: one line, or where the words are refused, clap's text
+abbrev pub line_of : Stop → List ℕ
+line_of (Words text) = string_bytes text
+line_of NoMemory = memory_line
+line_of (Unread name) = unread_line name.now
+line_of Unwritten = codes "fault write\n"
+line_of (Run fault) = run_line fault
+
+abbrev pub status_of : Stop → ℕ
+status_of (Words text) = 2
+status_of NoMemory = 3
+status_of (Unread name) = 3
+status_of Unwritten = 3
+status_of (Run fault) = run_status fault
+
+-- reading a file of this name ends only in these
+abbrev pub IsOfReading : List ℕ → Stop → Type 0
+IsOfReading name NoMemory = Unit {0}
+IsOfReading name (Unread unread) = unread.now ≡ name
+IsOfReading name _ = ⊥
+
+-- the words are refused with a text, unless memory was refused
+abbrev pub IsRefusalOf : Error → Stop → Type 0
+IsRefusalOf error (Words text) = kind_of error ≢ OutOfMemory
+IsRefusalOf error NoMemory = Unit {0}
+IsRefusalOf error _ = ⊥
+
+-- words that ask for nothing are refused, and no others
+abbrev pub IsOfWords : {X : Type 0} → Option X → Stop → Type 0
+IsOfWords asked (Words text) = asked ≡ None
+IsOfWords asked NoMemory = Unit {0}
+IsOfWords asked _ = ⊥
+
+-- reading files ends only in these
+abbrev pub IsOfFiles : Stop → Type 0
+IsOfFiles NoMemory = Unit {0}
+IsOfFiles (Unread name) = Unit {0}
+IsOfFiles _ = ⊥

@@ -1,0 +1,5 @@
+pub mod Files
+pub mod Words
+pub mod Faults
+pub mod Writing
+pub mod Serving

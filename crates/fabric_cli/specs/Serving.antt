@@ -1,0 +1,105 @@
+-- What a call answers, from its words and the bytes of its files alone.
+use Rattle.std.specs.Prelude.{ℕ, ◌≡◌, List, [], ◌∷◌, Option, Some, None, option_map, Result, Ok, Err}
+use Rattle.std.specs.Io.KnownBytes.{Appends, Keeps}
+use Rattle.subnet_core.specs.declared.fault.RunFault.{RunFault}
+use Rattle.subnet_core.specs.declared.fault.RunFault.TheVariants as run
+use Rattle.subnet_core.specs.Run.{Told, report_of}
+use Rattle.subnet_core.specs.Script.{◌>>=◌}
+use Rattle.subnet_core.specs.Text.{report_text}
+use Rattle.fabric_cli.specs.declared.faults.Stop.{Stop}
+use Rattle.fabric_cli.specs.declared.serving.Texts.{Texts}
+use Rattle.fabric_cli.specs.declared.faults.Stop.TheVariants.{Words, NoMemory, Unread, Unwritten, Run}
+use Rattle.fabric_cli.specs.Faults.{run_line, run_status, unread_line}
+use Rattle.fabric_cli.specs.Words.{Names, asked_of}
+
+-- how a call ends: clap's text, a fault's status and line, or a whole report
+pub data Ending : Type 0 where
+  refused : Ending
+  faulted : ℕ → List ℕ → Ending
+  complete : List ℕ → Ending
+
+-- the bytes of a run's files, as lists
+pub record Bytes : Type 0 where
+  pub topology : List ℕ
+  pub partitions : Option (List ℕ)
+  pub script : List ℕ
+
+abbrev pub texts_in : Texts → Bytes
+texts_in texts = record {
+  topology = texts.topology.items;
+  partitions = option_map (λ bytes. bytes.items) texts.partitions;
+  script = texts.script.items;
+}
+
+-- a name that opens to nothing is not read
+abbrev pub opened_bytes : List ℕ → Option (List ℕ) → Result (List ℕ) Ending
+opened_bytes name None = Err (faulted 3 (unread_line name))
+opened_bytes name (Some bytes) = Ok bytes
+
+abbrev pub bytes_of : (List ℕ → Option (List ℕ)) → List ℕ → Result (List ℕ) Ending
+bytes_of file name = opened_bytes name (file name)
+
+abbrev pub bytes_if_named : (List ℕ → Option (List ℕ)) → Option (List ℕ) → Result (Option (List ℕ)) Ending
+bytes_if_named file None = Ok None
+bytes_if_named file (Some name) = bytes_of file name >>= λ bytes. Ok (Some bytes)
+
+-- all files are read before any of them is judged
+abbrev pub texts_of : (List ℕ → Option (List ℕ)) → Names → Result Bytes Ending
+texts_of file names = do
+  topology ← bytes_of file names.topology
+  partitions ← bytes_if_named file names.partitions
+  script ← bytes_of file names.script
+  Ok (record { topology = topology; partitions = partitions; script = script })
+
+-- a fault is told by its line alone, and a report comes whole
+abbrev pub ending_by : Result Told RunFault → Ending
+ending_by (Ok told) = complete (report_text told.ports told.events)
+ending_by (Err fault) = faulted (run_status fault) (run_line fault)
+
+abbrev pub ending_with : Result Bytes Ending → Ending
+ending_with (Ok texts) = ending_by (report_of texts.topology texts.partitions texts.script)
+ending_with (Err ending) = ending
+
+abbrev pub ending_for : (List ℕ → Option (List ℕ)) → Option Names → Ending
+ending_for file None = refused
+ending_for file (Some names) = ending_with (texts_of file names)
+
+-- what a call with these words ends in, where each name opens to the bytes that `file` says
+abbrev pub ending_of : (List ℕ → Option (List ℕ)) → List (List ℕ) → Ending
+ending_of file words = ending_for file (asked_of words)
+
+-- the exit status, and how the two outputs grow; of a text of clap's nothing is said
+abbrev pub Ends : Ending → ℕ → Option (List ℕ) → Option (List ℕ) → Option (List ℕ) → Option (List ℕ) → Type 0
+Ends refused status out out' err err' = (status ≡ 2) × Keeps out out'
+Ends (faulted fault line) status out out' err err' = (status ≡ fault) × Keeps out out' × Appends err err' line
+Ends (complete report) status out out' err err' = (status ≡ 0) × Appends out out' report × Keeps err err'
+
+-- what goes to the output where all of it goes out
+abbrev pub report_in : Ending → List ℕ
+report_in refused = []
+report_in (faulted fault line) = []
+report_in (complete report) = report
+
+-- why the report is not made, unless the machine refuses
+abbrev pub RunStops : Ending → RunFault → Type 0
+RunStops ending run.NoMemory = Unit {0}
+RunStops ending fault = ending ≡ faulted (run_status fault) (run_line fault)
+
+abbrev pub Stops : Ending → Stop → Type 0
+Stops ending (Words text) = ending ≡ refused
+Stops ending NoMemory = Unit {0}
+Stops ending (Unread name) = Unit {0}
+Stops ending Unwritten = ⊥
+Stops ending (Run fault) = RunStops ending fault
+
+-- files are read to their end before anything is told of them
+abbrev pub IsTold : {X : Type 0} → Result X Stop → Type 0
+IsTold (Ok report) = Unit {0}
+IsTold (Err (Words text)) = Unit {0}
+IsTold (Err (Run fault)) = Unit {0}
+IsTold _ = ⊥
+
+-- a report comes as it is, and a stop by its line
+abbrev pub Reports : {X : Type 0} → (X → List ℕ) → Ending → Result X Stop → Type 0
+Reports view ending (Ok report) = ending ≡ complete (view report)
+Reports view ending (Err stop) = Stops ending stop

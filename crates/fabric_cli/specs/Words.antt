@@ -1,0 +1,61 @@
+-- What the words of a call ask for, as clap reads them.
+use Rattle.std.specs.Prelude.{ℕ, Bool, List, [], ◌∷◌, ◌++◌, codes, Option, Some, None, option_map, if◌then◌else◌, true}
+use Rattle.std.specs.Option.{option_to_list}
+use Rattle.std.specs.Str.{bytes_eq}
+use Rattle.clap.specs.Words.{App, Row, Rule, Text, Kinds, fault_of, first_of, new_app, new_rule, subcommand_of, with_rule, with_subcommand}
+use Rattle.fabric_cli.specs.declared.words.Asked.{Asked}
+use Rattle.clap.specs.declared.builder.ArgAction.TheVariants.{Set}
+
+-- an argument that has to be given
+abbrev pub wanted : Text → Rule
+wanted name = record (new_rule name) { action = Some Set; required = true }
+
+abbrev pub run_command : App
+run_command = with_rule (with_rule (with_rule (new_app (codes "run")) (wanted (codes "TOPO"))) (wanted (codes "PARTS"))) (wanted (codes "SCRIPT"))
+
+-- the program's words: one of its subcommands, with that one's arguments
+abbrev pub fabric_top : App
+fabric_top = let app = new_app (codes "fabric") in record app { top = record app.top { has_version = true; subcommand_required = true } }
+
+abbrev pub fabric_command : App
+fabric_command = with_subcommand fabric_top run_command.top
+
+-- the names of the files of a run, as texts
+pub record Names : Type 0 where
+  pub topology : Text
+  pub partitions : Option Text
+  pub script : Text
+
+abbrev pub names : Asked → Names
+names asked = record {
+  topology = asked.topology.now;
+  partitions = option_map (λ name. name.now) asked.partitions;
+  script = asked.script.now;
+}
+
+-- `-` stands for no file
+abbrev pub file_in : Text → Option Text
+file_in word = if bytes_eq word (codes "-") then None else Some word
+
+abbrev pub asked_by : Option Text → Option Text → Option Text → Option Names
+asked_by (Some topology) (Some partitions) (Some script) =
+    Some (record { topology = topology; partitions = file_in partitions; script = script })
+asked_by _ _ _ = None
+
+abbrev pub asked_in : Option (Text × List Row) → Option Names
+asked_in None = None
+asked_in (Some run) = asked_by (first_of (codes "TOPO") run.1) (first_of (codes "PARTS") run.1) (first_of (codes "SCRIPT") run.1)
+
+abbrev pub unless_refused : Kinds → Option Names → Option Names
+unless_refused [] asked = asked
+unless_refused (kind ∷ kinds) asked = None
+
+-- what the words ask for, the first of them the program's own name; nothing where clap refuses
+-- them, or where help or the version is asked for
+unfoldable pub asked_of : List Text → Option Names
+asked_of words = unless_refused (fault_of fabric_command words) (asked_in (subcommand_of fabric_command words))
+
+-- the names that are opened, in order
+abbrev pub opened_for : Option Names → List Text
+opened_for None = []
+opened_for (Some asked) = asked.topology ∷ (option_to_list asked.partitions ++ asked.script ∷ [])

@@ -1,0 +1,108 @@
+//! Why a call does not complete, and how that is told.
+
+ghost use Rattle.std.specs.Prelude.{◌≡◌, IfOk, string_bytes};
+ghost use Rattle.fabric_cli.specs.Faults.{line_of, run_line, run_status, status_of};
+ghost use Rattle.fabric_cli.specs.declared.faults.Stop.TheVariants.{NoMemory, Run};
+
+use std::alloc::{AllocError, AllocFailed, Global};
+use subnet_core::RunFault;
+
+/// The exit status of a run that completes.
+pub const COMPLETE: u8 = 0;
+/// The exit status of a fault in a file.
+pub const FAULT: u8 = 1;
+/// The exit status where the words are refused.
+pub const USAGE: u8 = 2;
+/// The exit status where the machine refuses: memory, a file, or the output.
+pub const REFUSED: u8 = 3;
+
+/// Why a call does not complete.
+#[derive(Drop)]
+pub enum Stop<'a> {
+    /// The words are refused, or help or the version is asked for: the text that tells it.
+    Words(String),
+    /// Memory was refused.
+    NoMemory,
+    /// The file of this name is not read.
+    Unread(&'a str),
+    /// The output does not go out whole.
+    Unwritten,
+    /// The run faults.
+    Run(RunFault),
+}
+
+impl<'a> Stop<'a> {
+    /// The exit status.
+    pub fn status(&self) -> u8
+        ensures { result ≡ status_of self.now }
+    {
+        match self {
+            Stop::Words(_) => USAGE,
+            Stop::NoMemory | Stop::Unread(_) | Stop::Unwritten => REFUSED,
+            Stop::Run(fault) => run_status(*fault),
+        }
+    }
+
+    /// What standard error is told.
+    pub fn line(&self, alloc: Global) -> Result<String, AllocError>
+        ensures { IfOk result (λ text. string_bytes text ≡ line_of self.now) }
+    {
+        match self {
+            Stop::Words(text) => text.clone(),
+            Stop::NoMemory => String::from_str(alloc, "fault memory\n"),
+            Stop::Unread(name) => format!(in alloc; "fault read {name}\n"),
+            Stop::Unwritten => String::from_str(alloc, "fault write\n"),
+            Stop::Run(fault) => run_line(alloc, *fault),
+        }
+    }
+}
+
+fn run_status(fault: RunFault) -> u8
+    ensures { result ≡ run_status fault }
+{
+    match fault {
+        RunFault::NoMemory => REFUSED,
+        RunFault::NotYet | RunFault::Topology { .. } | RunFault::Script { .. } => FAULT,
+    }
+}
+
+fn run_line(alloc: Global, fault: RunFault) -> Result<String, AllocError>
+    ensures { IfOk result (λ text. string_bytes text ≡ run_line fault) }
+{
+    match fault {
+        RunFault::NoMemory => String::from_str(alloc, "fault memory\n"),
+        RunFault::NotYet => String::from_str(alloc, "fault notyet\n"),
+        RunFault::Topology { line, cause } => {
+            let code = cause.code();
+            format!(in alloc; "fault {code} topology line {line}\n")
+        }
+        RunFault::Script { line, cause } => {
+            let code = cause.code();
+            format!(in alloc; "fault {code} script line {line}\n")
+        }
+    }
+}
+
+impl<'a> From<AllocError> for Stop<'a> {
+    ghost from_gives = { λ _ stop. stop ≡ NoMemory };
+
+    fn from(_error: AllocError) -> Stop<'a> {
+        Stop::NoMemory
+    }
+}
+
+impl<'a, T: Drop> From<AllocFailed<T>> for Stop<'a> {
+    ghost from_gives = { λ _ stop. stop ≡ NoMemory };
+
+    fn from(_error: AllocFailed<T>) -> Stop<'a> {
+        Stop::NoMemory
+    }
+}
+
+impl<'a> From<RunFault> for Stop<'a> {
+    ghost from_gives = { λ fault stop. stop ≡ Run fault };
+
+    fn from(fault: RunFault) -> Stop<'a> {
+        Stop::Run(fault)
+    }
+}

@@ -1,0 +1,55 @@
+//! Files read to their end, in pieces.
+
+ghost use Rattle.std.specs.Prelude.{ℕ, ◌≡◌, List, [], ◌∷◌, Option, Some, IfOk, IfErr, IfSome};
+ghost use Rattle.fabric_cli.specs.Files.{OpensAll};
+ghost use Rattle.fabric_cli.specs.Faults.{IsOfReading};
+
+use crate::faults::Stop;
+use crate::files::Files;
+use std::alloc::{AllocError, Global};
+use std::io::{ErrorKind, Read};
+
+/// How often a file is read before it counts as endless.
+const READS: u32 = 1_048_576;
+
+/// How many bytes one read takes at most.
+const PIECE: usize = 256;
+
+/// All the bytes that a reader has left, or `None` where a read fails, or no end comes within
+/// `READS` reads. An interrupted read counts, and is tried again.
+fn read_to_end<R: Read>(alloc: Global, reader: &mut R) -> Result<Option<Vec<u8>>, AllocError>
+    ensures { IfOk result (λ whole. IfSome whole (λ bytes. IfSome (R.remaining reader.old)
+        (λ left. left ≡ bytes.items))) }
+{
+    let mut bytes = Vec::new(alloc);
+    for _turn in 0..READS {
+        let mut piece = [0u8; PIECE];
+        match reader.read(&mut piece) {
+            Ok(0) => return Ok(Some(bytes)),
+            Ok(count) => bytes.extend_from_slice(&piece[..count])?,
+            Err(error) if error.kind() == ErrorKind::Interrupted => {}
+            Err(_) => return Ok(None),
+        }
+    }
+    Ok(None)
+}
+
+/// The bytes of a named file, which is opened once.
+pub fn read_file<'a, F: Files>(
+    alloc: Global,
+    files: &mut F,
+    name: &'a str,
+) -> Result<Vec<u8>, Stop<'a>>
+    ensures opened { OpensAll (F.told files.old) (F.told files.new) (name.entry.now ∷ []) }
+    ensures bytes { IfOk result (λ bytes. IfSome (F.told files.old)
+        (λ folder. folder.file name.entry.now ≡ Some bytes.items)) }
+    ensures fault { IfErr result (IsOfReading name.entry.now) }
+{
+    let Some(mut input) = files.open(name) else {
+        return Err(Stop::Unread(name));
+    };
+    match read_to_end(alloc, &mut input)? {
+        Some(bytes) => Ok(bytes),
+        None => Err(Stop::Unread(name)),
+    }
+}

@@ -1,0 +1,180 @@
+//! The program's work, over any files and any two writers.
+
+ghost use Rattle.std.specs.Prelude.{ℕ, ◌≡◌, ◌≢◌, Result, Some, Ok, map, option_copied, option_map, vec_items, string_bytes, IfOk, IfErr, OnOk, IfSome};
+ghost use Rattle.std.specs.Io.KnownBytes.{Appends};
+ghost use Rattle.fabric_cli.specs.Faults.{line_of, status_of, IsOfFiles};
+ghost use Rattle.fabric_cli.specs.Files.{OpensAll, OpensInOrder};
+ghost use Rattle.fabric_cli.specs.Serving.{bytes_if_named, ending_of, ending_with, texts_in, report_in, texts_of, Ends, IsTold, Reports};
+ghost use Rattle.std.specs.Option.{option_to_list};
+ghost use Rattle.fabric_cli.specs.Words.{asked_of, names, opened_for};
+ghost use Rattle.fabric_cli.specs.Writing.{AppendsPart};
+
+use crate::faults::{COMPLETE, REFUSED, Stop};
+use crate::files::Files;
+use crate::reading::read_file;
+use crate::words::{Asked, read_words};
+use crate::writing::write_whole;
+use std::alloc::Global;
+use std::io::Write;
+use subnet_core::run;
+
+/// The bytes of a run's files.
+#[derive(Drop)]
+struct Texts {
+    topology: Vec<u8>,
+    partitions: Option<Vec<u8>>,
+    script: Vec<u8>,
+}
+
+/// Does what the words ask for, the first of them the program's own name, and answers the exit
+/// status: 0 where the whole report went to `out`; 1 where a file has a fault, 2 where the words are
+/// refused, and 3 where memory, a file or a writer refuses, which `err` is told.
+///
+/// The files are opened and read in the order of the words, each to its end, before any is judged.
+pub fn serve<F: Files, O: Write, E: Write>(
+    alloc: Global,
+    words: &[String],
+    files: &mut F,
+    out: &mut O,
+    err: &mut E,
+) -> u8
+    ensures order { OpensInOrder (F.told files.old) (F.told files.new) (opened_for (asked_of (map string_bytes words.now))) }
+    ensures all { result ≢ 3 → OpensAll (F.told files.old) (F.told files.new) (opened_for (asked_of (map string_bytes words.now))) }
+    ensures exact { result ≢ 3 → IfSome (F.told files.old) (λ folder.
+        Ends (ending_of folder.file (map string_bytes words.now)) result
+        (O.contents out.old) (O.contents out.new) (E.contents err.old) (E.contents err.new)) }
+    ensures short { IfSome (F.told files.old) (λ folder.
+        AppendsPart (O.contents out.old) (O.contents out.new)
+        (report_in (ending_of folder.file (map string_bytes words.now)))) }
+{
+    match report(alloc, words, files) {
+        Ok(text) => {
+            if write_whole(out, text.as_slice()) {
+                COMPLETE
+            } else {
+                told_stop(alloc, &Stop::Unwritten, err)
+            }
+        }
+        Err(stop) => told_stop(alloc, &stop, err),
+    }
+}
+
+/// Tells why a call does not complete, and answers the exit status. Where memory is refused, that is
+/// told, and where the whole line does not go out, the status is that of output not written.
+pub fn told_stop<E: Write>(alloc: Global, stop: &Stop<'_>, err: &mut E) -> u8
+    ensures { result ≢ 3 → (result ≡ status_of stop.now) × Appends (E.contents err.old) (E.contents err.new) (line_of stop.now) }
+{
+    match stop.line(alloc) {
+        Ok(line) => {
+            if write_whole(err, line.as_bytes()) {
+                stop.status()
+            } else {
+                REFUSED
+            }
+        }
+        Err(_) => {
+            let _ = write_whole(err, b"fault memory\n");
+            REFUSED
+        }
+    }
+}
+
+/// The report of the run that the words ask for, as it is printed.
+fn report<'a, F: Files>(
+    alloc: Global,
+    words: &'a [String],
+    files: &mut F,
+) -> Result<Vec<u8>, Stop<'a>>
+    ensures order { OpensInOrder (F.told files.old) (F.told files.new)
+        (opened_for (asked_of (map string_bytes words.entry.now))) }
+    ensures all { IsTold result → OpensAll (F.told files.old) (F.told files.new)
+        (opened_for (asked_of (map string_bytes words.entry.now))) }
+    ensures exact { IfSome (F.told files.old) (λ folder. Reports (λ text. text.items)
+        (ending_of folder.file (map string_bytes words.entry.now)) result) }
+{
+    match read_words(alloc, words) {
+        Ok(asked) => report_of_files(alloc, &asked, files),
+        Err(stop) => Err(stop),
+    }
+}
+
+/// The report of the run of these files, each read before any is judged.
+fn report_of_files<'a, F: Files>(
+    alloc: Global,
+    asked: &Asked<'a>,
+    files: &mut F,
+) -> Result<Vec<u8>, Stop<'a>>
+    ensures order { OpensInOrder (F.told files.old) (F.told files.new) (opened_for (Some (names asked.now))) }
+    ensures all { IsTold result → OpensAll (F.told files.old) (F.told files.new) (opened_for (Some (names asked.now))) }
+    ensures exact { IfSome (F.told files.old) (λ folder. Reports (λ text. text.items)
+        (ending_with (texts_of folder.file (names asked.now))) result) }
+{
+    match read_texts(alloc, asked, files) {
+        Ok(texts) => report_of_texts(alloc, &texts),
+        Err(stop) => Err(stop),
+    }
+}
+
+/// The report of the run of these texts.
+fn report_of_texts<'a>(alloc: Global, texts: &Texts) -> Result<Vec<u8>, Stop<'a>>
+    ensures exact { Reports (λ text. text.items) (ending_with (Ok (texts_in texts.now))) result }
+{
+    let topology = texts.topology.as_slice();
+    let script = texts.script.as_slice();
+    match run(alloc, topology, slice_of(&texts.partitions), script) {
+        Ok(report) => match report.text() {
+            Ok(text) => Ok(text),
+            Err(_) => Err(Stop::NoMemory),
+        },
+        Err(fault) => Err(Stop::Run(fault)),
+    }
+}
+
+/// The bytes, if there are any to read.
+fn slice_of(bytes: &Option<Vec<u8>>) -> Option<&[u8]>
+    ensures { option_copied result ≡ option_map (λ items. items.items) bytes.now }
+{
+    match bytes {
+        Some(bytes) => Some(bytes.as_slice()),
+        None => None,
+    }
+}
+
+/// The bytes of all files that are asked for, each read in its turn.
+fn read_texts<'a, F: Files>(
+    alloc: Global,
+    asked: &Asked<'a>,
+    files: &mut F,
+) -> Result<Texts, Stop<'a>>
+    ensures order { OpensInOrder (F.told files.old) (F.told files.new) (opened_for (Some (names asked.now))) }
+    ensures all { OnOk result (OpensAll (F.told files.old) (F.told files.new) (opened_for (Some (names asked.now)))) }
+    ensures texts { IfOk result (λ texts. IfSome (F.told files.old) (λ folder.
+        texts_of folder.file (names asked.now) ≡ Ok (texts_in texts))) }
+    ensures fault { IfErr result IsOfFiles }
+{
+    let topology = read_file(alloc, files, asked.topology)?;
+    let partitions = read_if_named(alloc, files, asked.partitions)?;
+    let script = read_file(alloc, files, asked.script)?;
+    Ok(Texts {
+        topology,
+        partitions,
+        script,
+    })
+}
+
+/// The bytes of a file, if there is one to read.
+fn read_if_named<'a, F: Files>(
+    alloc: Global,
+    files: &mut F,
+    name: Option<&'a str>,
+) -> Result<Option<Vec<u8>>, Stop<'a>>
+    ensures opened { OpensAll (F.told files.old) (F.told files.new) (option_to_list (option_map (λ word. word.now) name.entry)) }
+    ensures bytes { IfOk result (λ bytes. IfSome (F.told files.old) (λ folder.
+        bytes_if_named folder.file (option_map (λ word. word.now) name.entry) ≡ Ok (option_map (λ items. items.items) bytes))) }
+    ensures fault { IfErr result IsOfFiles }
+{
+    match name {
+        Some(name) => Ok(Some(read_file(alloc, files, name)?)),
+        None => Ok(None),
+    }
+}
