@@ -1,5 +1,5 @@
 -- Names opened one after the other.
-use Rattle.std.proofs.Common.{◌≡◌, ℕ, List, [], ◌∷◌, ◌++◌, length, take, Option, Some, None, append_assoc, append-nil, ap, refl, sym, ◌∙◌}
+use Rattle.std.proofs.Common.{ℕ, List, [], ◌++◌, length, Option, Some, None, append_assoc, append-nil, ap, sym, ◌∙◌}
 use Rattle.std.proofs.Math.Seq.{take-append_seam}
 use Rattle.fabric_cli.specs.Files.{Folder, OpensAll, OpensInOrder, with_opened}
 

@@ -1,7 +1,7 @@
-use Rattle.std.proofs.Common.{rules, ap, ap₂, refl, codes, true, ◌≡◌, ◌∙◌}
+use Rattle.std.proofs.Common.{ap, ap₂, refl, codes, true, ◌≡◌, ◌∙◌}
 use Rattle.std.proofs.lemmas.Result.{IfOk-weaker}
 use Rattle.clap.specs.Words.{App, app_of, new_app, rule_of, with_rule, with_subcommand}
-use Rattle.fabric_cli.specs.Words.{fabric_command, fabric_top, run_command, wanted}
+use Rattle.fabric_cli.specs.Words.{fabric_top, run_command, wanted}
 use Rattle.fabric_cli.proofs.words.fabric_command.Goals as goal
 
 abbrev with_settings : App → App

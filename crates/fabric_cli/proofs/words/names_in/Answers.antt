@@ -1,4 +1,4 @@
-use Rattle.std.proofs.Common.{◌∙◌, sym, refl}
+use Rattle.std.proofs.Common.{◌∙◌, sym}
 use Rattle.clap.specs.Words.{found_of}
 use Rattle.fabric_cli.proofs.WordsLemmas.{in_found}
 use Rattle.fabric_cli.proofs.words.names_in.Goals as goal
