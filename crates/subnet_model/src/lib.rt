@@ -4,7 +4,7 @@
 //! (`specs/Near.antt`), whom a packet reaches (`specs/Delivery.antt`), what a list of commands brings
 //! about (`specs/Report.antt`), and the sentence itself, that what a port receives depends only on
 //! the ports near it (`specs/Isolation.antt`). There is no cable, table or hop in them: a subnet is a
-//! list of ports with their LIDs and keys (IBA volume 1, chapters 10 and 14). Beside them stands the
+//! list of ports with their LIDs and keys (IBA volume 1, chapter 14). Beside them stands the
 //! plain, slow program over such a list: [`report`], whose contract is the definition and the
 //! sentence, for every list of ports and every list of commands.
 #![tactic(auto)]
