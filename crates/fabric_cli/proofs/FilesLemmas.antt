@@ -1,23 +1,98 @@
 -- Names opened one after the other.
-use Rattle.std.proofs.Common.{ℕ, List, [], ◌++◌, length, Option, Some, None, append_assoc, append-nil, ap, sym, ◌∙◌}
+use Rattle.std.proofs.Common.{ℕ, ◌≡◌, inl, inr, true, is_some, IfSome, option_map, Ok, List, [], ◌∷◌, ◌++◌, length, Option, Some, None, append_assoc, append-nil, ap, refl, sym, ◌∙◌}
 use Rattle.std.proofs.Math.Seq.{take-append_seam}
-use Rattle.fabric_cli.specs.Files.{Folder, OpensAll, OpensInOrder, with_opened}
+use Rattle.std.proofs.lemmas.List.Folds.{list_all-append}
+use Rattle.std.specs.Borrow.{Bor}
+use Rattle.std.specs.Option.{option_to_list}
+use Rattle.subnet_core.specs.Script.{◌>>=◌}
+use Rattle.fabric_cli.specs.declared.faults.Stop.{Stop}
+use Rattle.fabric_cli.specs.declared.faults.Stop.TheVariants.{Words, NoMemory, Unread, Unwritten, Run}
+use Rattle.fabric_cli.specs.Faults.{NamesUnread}
+use Rattle.fabric_cli.specs.Files.{Contents, OpensAll, OpensInOrder, StopsAt, all_open}
+use Rattle.fabric_cli.specs.Serving.{bytes_if_named, opened_bytes}
 
-pub opens_more : (first before after : Option Folder) (names more : List (List ℕ)) → OpensAll first before names → OpensAll before after more
+then_more : (old : Option (List (List ℕ))) (names more : List (List ℕ))
+    → option_map (λ opened. opened ++ more) (option_map (λ opened. opened ++ names) old) ≡ option_map (λ opened. opened ++ (names ++ more)) old
+then_more None names more = refl
+then_more (Some opened) names more = ap (λ (all : List (List ℕ)). Some all) (append_assoc opened names more)
+
+pub opens_more : (first before after : Option (List (List ℕ))) (names more : List (List ℕ)) → OpensAll first before names → OpensAll before after more
     → OpensAll first after (names ++ more)
-opens_more None before after names more opened next = tt
-opens_more (Some folder) before after names more opened next =
-    let then : OpensAll (Some (with_opened folder names)) after more = rw opened at next in
-    then ∙ ap (λ (all : List (List ℕ)). Some (record folder { opened = all })) (append_assoc folder.opened names more)
+opens_more first before after names more opened (inl lost) = inl lost
+opens_more first before after names more (inl lost) (inr next) = inl (next ∙ ap (option_map (λ opened. opened ++ more)) lost)
+opens_more first before after names more (inr opened) (inr next) =
+    inr (next ∙ ap (option_map (λ all. all ++ more)) opened ∙ then_more first names more)
 
 -- the names that were opened are the first of those to open
-pub opens_first : (before after : Option Folder) (names more : List (List ℕ)) → OpensAll before after names → OpensInOrder before after (names ++ more)
-opens_first None after names more opened = tt
-opens_first (Some folder) after names more opened =
-    (length names, opened ∙ ap (λ (some : List (List ℕ)). Some (with_opened folder some)) (sym (take-append_seam names more)))
+pub opens_first : (before after : Option (List (List ℕ))) (names more : List (List ℕ)) → OpensAll before after names → OpensInOrder before after (names ++ more)
+opens_first before after names more opened = (length names, rw (take-append_seam names more) opened)
 
-pub opens_whole : (before after : Option Folder) (names : List (List ℕ)) → OpensAll before after names → OpensInOrder before after names
-opens_whole None after names opened = tt
-opens_whole (Some folder) after names opened =
-    let all : OpensInOrder (Some folder) after (names ++ []) = opens_first (Some folder) after names [] opened in
+pub opens_whole : (before after : Option (List (List ℕ))) (names : List (List ℕ)) → OpensAll before after names → OpensInOrder before after names
+opens_whole before after names opened =
+    let all : OpensInOrder before after (names ++ []) = opens_first before after names [] opened in
     rw append-nil at all
+
+-- reading stopped at the one name
+pub stops_here : (told : Option Contents) (old new : Option (List (List ℕ))) (name : Bor (List ℕ)) → OpensAll old new (name.now ∷ [])
+    → NamesUnread told old new (name.now ∷ []) (Unread name)
+stops_here None old new name opened = tt
+stops_here (Some file) old new name opened = record { before = []; after = []; cut = refl; opened = opened; open_before = refl }
+
+-- where reading stopped among some names, it stopped among more
+pub unread_first : (told : Option Contents) (old new : Option (List (List ℕ))) (names more : List (List ℕ)) (stop : Stop)
+    → NamesUnread told old new names stop → NamesUnread told old new (names ++ more) stop
+unread_first None old new names more stop unread = tt
+unread_first (Some file) old new names more (Unread name) unread = record {
+  before = unread.before;
+  after = unread.after ++ more;
+  cut = ap (λ (all : List (List ℕ)). all ++ more) unread.cut ∙ append_assoc unread.before (name.now ∷ unread.after) more;
+  opened = unread.opened;
+  open_before = unread.open_before;
+}
+unread_first (Some file) old new names more (Words text) unread = tt
+unread_first (Some file) old new names more NoMemory unread = tt
+unread_first (Some file) old new names more Unwritten unread = tt
+unread_first (Some file) old new names more (Run fault) unread = tt
+
+-- where some names opened to bytes, reading stopped after them
+stops_after : (file : Contents) (first before after : Option (List (List ℕ))) (names more : List (List ℕ)) (name : List ℕ) → OpensAll first before names
+    → all_open file names ≡ true → StopsAt file before after more name → StopsAt file first after (names ++ more) name
+stops_after file first before after names more name opened read then = record {
+  before = names ++ then.before;
+  after = then.after;
+  cut = ap (λ (all : List (List ℕ)). names ++ all) then.cut ∙ sym (append_assoc names then.before (name ∷ then.after));
+  opened = let all = opens_more first before after names (then.before ++ name ∷ []) opened then.opened in rw (append_assoc names then.before (name ∷ [])) all;
+  open_before = list_all-append (λ (n : List ℕ). is_some (file n)) names then.before ∙ rw (read, then.open_before) refl;
+}
+
+pub unread_after : (told now : Option Contents) (first before after : Option (List (List ℕ))) (names more : List (List ℕ)) (stop : Stop) → now ≡ told
+    → OpensAll first before names → IfSome told (λ file. all_open file names ≡ true)
+    → NamesUnread now before after more stop → NamesUnread told first after (names ++ more) stop
+unread_after None now first before after names more stop same opened read unread = tt
+unread_after (Some file) now first before after names more (Unread name) same opened read unread =
+    stops_after file first before after names more name.now opened read (rw same at unread)
+unread_after (Some file) now first before after names more (Words text) same opened read unread = tt
+unread_after (Some file) now first before after names more NoMemory same opened read unread = tt
+unread_after (Some file) now first before after names more Unwritten same opened read unread = tt
+unread_after (Some file) now first before after names more (Run fault) same opened read unread = tt
+
+-- a name with bytes behind it opens to them
+pub one_open : (told : Option Contents) (name bytes : List ℕ) → IfSome told (λ file. file name ≡ Some bytes)
+    → IfSome told (λ file. all_open file (name ∷ []) ≡ true)
+one_open None name bytes is = tt
+one_open (Some file) name bytes is = rw is refl
+
+gives_bytes : (name : List ℕ) (found : Option (List ℕ)) (bytes : Option (List ℕ)) → (opened_bytes name found >>= λ some. Ok (Some some)) ≡ Ok bytes
+    → is_some found ≡ true
+gives_bytes name None bytes is = cc
+gives_bytes name (Some some) bytes is = refl
+
+named_opens : (file : Contents) (name : Option (List ℕ)) (bytes : Option (List ℕ)) → bytes_if_named file name ≡ Ok bytes
+    → all_open file (option_to_list name) ≡ true
+named_opens file None bytes is = refl
+named_opens file (Some name) bytes is = rw (gives_bytes name (file name) bytes is) refl
+
+pub named_open : (told : Option Contents) (name : Option (List ℕ)) (bytes : Option (List ℕ)) → IfSome told (λ file. bytes_if_named file name ≡ Ok bytes)
+    → IfSome told (λ file. all_open file (option_to_list name) ≡ true)
+named_open None name bytes is = tt
+named_open (Some file) name bytes is = named_opens file name bytes is

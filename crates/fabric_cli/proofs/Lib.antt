@@ -1,3 +1,4 @@
 pub mod FilesLemmas
 pub mod KnownBytesLemmas
 pub mod WordsLemmas
+pub mod ServingLemmas

@@ -1,5 +1,5 @@
 -- Why a call does not complete: the line that tells it, and the exit status.
-use Rattle.std.specs.Prelude.{ℕ, ◌≡◌, ◌≢◌, List, ◌++◌, codes, decimal, Option, None, string_bytes}
+use Rattle.std.specs.Prelude.{ℕ, ◌≡◌, ◌≢◌, List, ◌++◌, codes, decimal, Option, Some, None, string_bytes}
 use Rattle.clap.specs.Words.{kind_of}
 use Rattle.clap.specs.declared.error.Error.{Error}
 use Rattle.clap.specs.declared.error.kind.ErrorKind.TheVariants.{OutOfMemory}
@@ -7,6 +7,7 @@ use Rattle.topo_file.specs.Fault.{code_of as topology_code}
 use Rattle.subnet_core.specs.Fault.{code_of as script_code}
 use Rattle.subnet_core.specs.declared.fault.RunFault.{RunFault}
 use Rattle.subnet_core.specs.declared.fault.RunFault.TheVariants as run
+use Rattle.fabric_cli.specs.Files.{Contents, StopsAt}
 use Rattle.fabric_cli.specs.declared.faults.Stop.{Stop}
 use Rattle.fabric_cli.specs.declared.faults.Stop.TheVariants.{Words, NoMemory, Unread, Unwritten, Run}
 
@@ -23,6 +24,9 @@ memory_line = codes "fault memory\n"
 abbrev pub unread_line : List ℕ → List ℕ
 unread_line name = codes "fault read " ++ (name ++ codes "\n")
 
+abbrev pub unwritten_line : List ℕ
+unwritten_line = codes "fault write\n"
+
 abbrev pub run_line : RunFault → List ℕ
 run_line run.NoMemory = memory_line
 run_line run.NotYet = codes "fault notyet\n"
@@ -38,7 +42,7 @@ abbrev pub line_of : Stop → List ℕ
 line_of (Words text) = string_bytes text
 line_of NoMemory = memory_line
 line_of (Unread name) = unread_line name.now
-line_of Unwritten = codes "fault write\n"
+line_of Unwritten = unwritten_line
 line_of (Run fault) = run_line fault
 
 abbrev pub status_of : Stop → ℕ
@@ -71,3 +75,15 @@ abbrev pub IsOfFiles : Stop → Type 0
 IsOfFiles NoMemory = Unit {0}
 IsOfFiles (Unread name) = Unit {0}
 IsOfFiles _ = ⊥
+
+-- a run of texts that were read ends only in these
+abbrev pub IsOfRun : Stop → Type 0
+IsOfRun NoMemory = Unit {0}
+IsOfRun (Run fault) = Unit {0}
+IsOfRun _ = ⊥
+
+-- a stop for a file that is not read names the file at which reading stopped
+abbrev pub NamesUnread : Option Contents → Option (List (List ℕ)) → Option (List (List ℕ)) → List (List ℕ) → Stop → Type 0
+NamesUnread None old new names stop = Unit {0}
+NamesUnread (Some file) old new names (Unread name) = StopsAt file old new names name.now
+NamesUnread (Some file) old new names _ = Unit {0}

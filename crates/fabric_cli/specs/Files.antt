@@ -1,28 +1,31 @@
 -- Files that tell what they hold: the bytes behind each name, and the names opened so far.
-use Rattle.std.specs.Prelude.{ℕ, ◌≡◌, List, [], ◌∷◌, ◌++◌, take, Option, Some, None, option_map}
+use Rattle.std.specs.Prelude.{ℕ, ◌≡◌, ◌⊎◌, Bool, true, List, [], ◌∷◌, ◌++◌, take, Option, Some, None, is_some, IfSome, option_map}
+use Rattle.std.specs.List.{list_all}
 
--- the bytes that a name opens to, or that it opens to nothing; and the names opened so far
-pub record Folder : Type 0 where
-  pub file : List ℕ → Option (List ℕ)
-  pub opened : List (List ℕ)
+-- the bytes that each name opens to, or that it opens to nothing
+abbrev pub Contents : Type 0
+Contents = List ℕ → Option (List ℕ)
 
-abbrev pub with_opened : Folder → List (List ℕ) → Folder
-with_opened folder names = record folder { opened = folder.opened ++ names }
-
--- these names were opened, one after the other, and no other
-abbrev pub OpensAll : Option Folder → Option Folder → List (List ℕ) → Type 0
-OpensAll None new names = Unit {0}
-OpensAll (Some folder) new names = new ≡ Some (with_opened folder names)
+-- where the names opened are told still, these were opened last, one after the other, and no other
+abbrev pub OpensAll : Option (List (List ℕ)) → Option (List (List ℕ)) → List (List ℕ) → Type 0
+OpensAll old new names = (new ≡ None) ⊎ (new ≡ option_map (λ opened. opened ++ names) old)
 
 -- of these names the first few were opened, one after the other, and no other
-abbrev pub OpensInOrder : Option Folder → Option Folder → List (List ℕ) → Type 0
-OpensInOrder None new names = Unit {0}
-OpensInOrder (Some folder) new names = (k : ℕ) × (new ≡ Some (with_opened folder (take k names)))
+abbrev pub OpensInOrder : Option (List (List ℕ)) → Option (List (List ℕ)) → List (List ℕ) → Type 0
+OpensInOrder old new names = (k : ℕ) × OpensAll old new (take k names)
 
--- a name was opened, and where it opens to bytes, those are what is left to read
-abbrev pub Gives : {I : Type 0} → (I → Option (List ℕ)) → List ℕ → Option Folder → Option I → Type 0
-Gives remaining name None input = Unit {0}
-Gives remaining name (Some folder) input = option_map remaining input ≡ option_map Some (folder.file name)
+-- where the files tell what they hold, a name opens to its bytes
+abbrev pub Opens : {I : Type 0} → (I → Option (List ℕ)) → Option Contents → List ℕ → Option I → Type 0
+Opens remaining told name input = IfSome told (λ file. option_map remaining input ≡ option_map Some (file name))
 
-abbrev pub Opens : {I : Type 0} → (I → Option (List ℕ)) → List ℕ → Option Folder → Option Folder → Option I → Type 0
-Opens remaining name old new input = OpensAll old new (name ∷ []) × Gives remaining name old input
+-- each of these names opens to bytes
+abbrev pub all_open : Contents → List (List ℕ) → Bool
+all_open file names = list_all (λ name. is_some (file name)) names
+
+-- of these names this one was opened last, and those before it open to bytes: reading stopped here
+pub record StopsAt (file : Contents) (old new : Option (List (List ℕ))) (names : List (List ℕ)) (name : List ℕ) : Type 0 where
+  pub before : List (List ℕ)
+  pub after : List (List ℕ)
+  pub cut : names ≡ before ++ name ∷ after
+  pub opened : OpensAll old new (before ++ name ∷ [])
+  pub open_before : all_open file before ≡ true

@@ -1,5 +1,5 @@
 -- What a call answers, from its words and the bytes of its files alone.
-use Rattle.std.specs.Prelude.{ℕ, ◌≡◌, List, [], Option, Some, None, option_map, Result, Ok, Err}
+use Rattle.std.specs.Prelude.{ℕ, ◌≡◌, ◌⊎◌, List, [], Option, Some, None, option_map, Result, Ok, Err}
 use Rattle.std.specs.Io.KnownBytes.{Appends, Keeps}
 use Rattle.subnet_core.specs.declared.fault.RunFault.{RunFault}
 use Rattle.subnet_core.specs.declared.fault.RunFault.TheVariants as run
@@ -9,8 +9,10 @@ use Rattle.subnet_core.specs.Text.{report_text}
 use Rattle.fabric_cli.specs.declared.faults.Stop.{Stop}
 use Rattle.fabric_cli.specs.declared.serving.Texts.{Texts}
 use Rattle.fabric_cli.specs.declared.faults.Stop.TheVariants.{Words, NoMemory, Unread, Unwritten, Run}
-use Rattle.fabric_cli.specs.Faults.{run_line, run_status, unread_line}
+use Rattle.fabric_cli.specs.Faults.{memory_line, run_line, run_status, unread_line, unwritten_line}
+use Rattle.fabric_cli.specs.Files.{Contents, StopsAt}
 use Rattle.fabric_cli.specs.Words.{Names, asked_of}
+use Rattle.fabric_cli.specs.Writing.{AppendsPart}
 
 -- how a call ends: clap's text, a fault's status and line, or a whole report
 pub data Ending : Type 0 where
@@ -36,15 +38,15 @@ abbrev pub opened_bytes : List ℕ → Option (List ℕ) → Result (List ℕ) E
 opened_bytes name None = Err (faulted 3 (unread_line name))
 opened_bytes name (Some bytes) = Ok bytes
 
-abbrev pub bytes_of : (List ℕ → Option (List ℕ)) → List ℕ → Result (List ℕ) Ending
+abbrev pub bytes_of : Contents → List ℕ → Result (List ℕ) Ending
 bytes_of file name = opened_bytes name (file name)
 
-abbrev pub bytes_if_named : (List ℕ → Option (List ℕ)) → Option (List ℕ) → Result (Option (List ℕ)) Ending
+abbrev pub bytes_if_named : Contents → Option (List ℕ) → Result (Option (List ℕ)) Ending
 bytes_if_named file None = Ok None
 bytes_if_named file (Some name) = bytes_of file name >>= λ bytes. Ok (Some bytes)
 
 -- all files are read before any of them is judged
-abbrev pub texts_of : (List ℕ → Option (List ℕ)) → Names → Result Bytes Ending
+abbrev pub texts_of : Contents → Names → Result Bytes Ending
 texts_of file names = do
   topology ← bytes_of file names.topology
   partitions ← bytes_if_named file names.partitions
@@ -60,12 +62,12 @@ abbrev pub ending_with : Result Bytes Ending → Ending
 ending_with (Ok texts) = ending_by (report_of texts.topology texts.partitions texts.script)
 ending_with (Err ending) = ending
 
-abbrev pub ending_for : (List ℕ → Option (List ℕ)) → Option Names → Ending
+abbrev pub ending_for : Contents → Option Names → Ending
 ending_for file None = refused
 ending_for file (Some names) = ending_with (texts_of file names)
 
 -- what a call with these words ends in, where each name opens to the bytes that `file` says
-abbrev pub ending_of : (List ℕ → Option (List ℕ)) → List (List ℕ) → Ending
+abbrev pub ending_of : Contents → List (List ℕ) → Ending
 ending_of file words = ending_for file (asked_of words)
 
 -- the exit status, and how the two outputs grow; of a text of clap's nothing is said
@@ -79,6 +81,23 @@ abbrev pub report_in : Ending → List ℕ
 report_in refused = []
 report_in (faulted fault line) = []
 report_in (complete report) = report
+
+-- the line that tells how a call ends where it could not end so: a report did not go out, or the
+-- line of a fault did not; of a text of clap's nothing is said
+abbrev pub IsLineOf : Ending → List ℕ → Type 0
+IsLineOf refused line = Unit {0}
+IsLineOf (faulted status fault) line = line ≡ fault
+IsLineOf (complete report) line = line ≡ unwritten_line
+
+-- the line of a file at which reading stopped
+abbrev pub IsUnreadLine : Contents → Option (List (List ℕ)) → Option (List (List ℕ)) → List (List ℕ) → List ℕ → Type 0
+IsUnreadLine file old new names line = (name : List ℕ) × StopsAt file old new names name × (line ≡ unread_line name)
+
+-- status 3: standard error is told that memory, a file or the output was refused
+pub record IsRefused (file : Contents) (old new : Option (List (List ℕ))) (names : List (List ℕ)) (ending : Ending) (err err' : Option (List ℕ)) : Type 0 where
+  pub line : List ℕ
+  pub is : (line ≡ memory_line) ⊎ (IsUnreadLine file old new names line ⊎ IsLineOf ending line)
+  pub part : AppendsPart err err' line
 
 -- why the report is not made, unless the machine refuses
 abbrev pub RunStops : Ending → RunFault → Type 0

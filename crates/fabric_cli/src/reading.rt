@@ -2,7 +2,7 @@
 
 ghost use Rattle.std.specs.Prelude.{ℕ, ◌≡◌, List, [], ◌∷◌, Option, Some, IfOk, IfErr, IfSome};
 ghost use Rattle.fabric_cli.specs.Files.{OpensAll};
-ghost use Rattle.fabric_cli.specs.Faults.{IsOfReading};
+ghost use Rattle.fabric_cli.specs.Faults.{IsOfFiles, NamesUnread};
 
 use crate::faults::Stop;
 use crate::files::Files;
@@ -40,10 +40,12 @@ pub fn read_file<'a, F: Files>(
     files: &mut F,
     name: &'a str,
 ) -> Result<Vec<u8>, Stop<'a>>
-    ensures opened { OpensAll (F.told files.old) (F.told files.new) (name.entry.now ∷ []) }
+    ensures opened { OpensAll (F.opened files.old) (F.opened files.new) (name.entry.now ∷ []) }
+    ensures same { F.told files.new ≡ F.told files.old }
     ensures bytes { IfOk result (λ bytes. IfSome (F.told files.old)
-        (λ folder. folder.file name.entry.now ≡ Some bytes.items)) }
-    ensures fault { IfErr result (IsOfReading name.entry.now) }
+        (λ file. file name.entry.now ≡ Some bytes.items)) }
+    ensures fault { IfErr result IsOfFiles }
+    ensures unread { IfErr result (NamesUnread (F.told files.old) (F.opened files.old) (F.opened files.new) (name.entry.now ∷ [])) }
 {
     let Some(mut input) = files.open(name) else {
         return Err(Stop::Unread(name));

@@ -1,10 +1,10 @@
 //! The program's work, over any files and any two writers.
 
-ghost use Rattle.std.specs.Prelude.{ℕ, ◌≡◌, ◌≢◌, Result, Some, Ok, map, option_copied, option_map, vec_items, string_bytes, IfOk, IfErr, OnOk, IfSome};
+ghost use Rattle.std.specs.Prelude.{ℕ, ◌≡◌, ◌≢◌, ◌⊎◌, Result, Some, Ok, map, option_copied, option_map, vec_items, string_bytes, IfOk, IfErr, OnOk, IfSome};
 ghost use Rattle.std.specs.Io.KnownBytes.{Appends};
-ghost use Rattle.fabric_cli.specs.Faults.{line_of, status_of, IsOfFiles};
+ghost use Rattle.fabric_cli.specs.Faults.{line_of, memory_line, status_of, IsOfFiles, IsOfRun, NamesUnread};
 ghost use Rattle.fabric_cli.specs.Files.{OpensAll, OpensInOrder};
-ghost use Rattle.fabric_cli.specs.Serving.{bytes_if_named, ending_of, ending_with, texts_in, report_in, texts_of, Ends, IsTold, Reports};
+ghost use Rattle.fabric_cli.specs.Serving.{bytes_if_named, ending_of, ending_with, texts_in, report_in, texts_of, Ends, IsRefused, IsTold, Reports};
 ghost use Rattle.std.specs.Option.{option_to_list};
 ghost use Rattle.fabric_cli.specs.Words.{asked_of, names, opened_for};
 ghost use Rattle.fabric_cli.specs.Writing.{AppendsPart};
@@ -38,14 +38,17 @@ pub fn serve<F: Files, O: Write, E: Write>(
     out: &mut O,
     err: &mut E,
 ) -> u8
-    ensures order { OpensInOrder (F.told files.old) (F.told files.new) (opened_for (asked_of (map string_bytes words.now))) }
-    ensures all { result ≢ 3 → OpensAll (F.told files.old) (F.told files.new) (opened_for (asked_of (map string_bytes words.now))) }
-    ensures exact { result ≢ 3 → IfSome (F.told files.old) (λ folder.
-        Ends (ending_of folder.file (map string_bytes words.now)) result
+    ensures order { OpensInOrder (F.opened files.old) (F.opened files.new) (opened_for (asked_of (map string_bytes words.now))) }
+    ensures all { result ≢ 3 → OpensAll (F.opened files.old) (F.opened files.new) (opened_for (asked_of (map string_bytes words.now))) }
+    ensures exact { result ≢ 3 → IfSome (F.told files.old) (λ file.
+        Ends (ending_of file (map string_bytes words.now)) result
         (O.contents out.old) (O.contents out.new) (E.contents err.old) (E.contents err.new)) }
-    ensures short { IfSome (F.told files.old) (λ folder.
+    ensures refused { result ≡ 3 → IfSome (F.told files.old) (λ file.
+        IsRefused file (F.opened files.old) (F.opened files.new) (opened_for (asked_of (map string_bytes words.now)))
+        (ending_of file (map string_bytes words.now)) (E.contents err.old) (E.contents err.new)) }
+    ensures short { IfSome (F.told files.old) (λ file.
         AppendsPart (O.contents out.old) (O.contents out.new)
-        (report_in (ending_of folder.file (map string_bytes words.now)))) }
+        (report_in (ending_of file (map string_bytes words.now)))) }
 {
     match report(alloc, words, files) {
         Ok(text) => {
@@ -62,7 +65,8 @@ pub fn serve<F: Files, O: Write, E: Write>(
 /// Tells why a call does not complete, and answers the exit status. Where memory is refused, that is
 /// told, and where the whole line does not go out, the status is that of output not written.
 pub fn told_stop<E: Write>(alloc: Global, stop: &Stop<'_>, err: &mut E) -> u8
-    ensures { result ≢ 3 → (result ≡ status_of stop.now) × Appends (E.contents err.old) (E.contents err.new) (line_of stop.now) }
+    ensures whole { result ≢ 3 → (result ≡ status_of stop.now) × Appends (E.contents err.old) (E.contents err.new) (line_of stop.now) }
+    ensures part { AppendsPart (E.contents err.old) (E.contents err.new) (line_of stop.now) ⊎ AppendsPart (E.contents err.old) (E.contents err.new) memory_line }
 {
     match stop.line(alloc) {
         Ok(line) => {
@@ -85,12 +89,14 @@ fn report<'a, F: Files>(
     words: &'a [String],
     files: &mut F,
 ) -> Result<Vec<u8>, Stop<'a>>
-    ensures order { OpensInOrder (F.told files.old) (F.told files.new)
+    ensures order { OpensInOrder (F.opened files.old) (F.opened files.new)
         (opened_for (asked_of (map string_bytes words.entry.now))) }
-    ensures all { IsTold result → OpensAll (F.told files.old) (F.told files.new)
+    ensures all { IsTold result → OpensAll (F.opened files.old) (F.opened files.new)
         (opened_for (asked_of (map string_bytes words.entry.now))) }
-    ensures exact { IfSome (F.told files.old) (λ folder. Reports (λ text. text.items)
-        (ending_of folder.file (map string_bytes words.entry.now)) result) }
+    ensures exact { IfSome (F.told files.old) (λ file. Reports (λ text. text.items)
+        (ending_of file (map string_bytes words.entry.now)) result) }
+    ensures unread { IfErr result (NamesUnread (F.told files.old) (F.opened files.old) (F.opened files.new)
+        (opened_for (asked_of (map string_bytes words.entry.now)))) }
 {
     match read_words(alloc, words) {
         Ok(asked) => report_of_files(alloc, &asked, files),
@@ -104,10 +110,11 @@ fn report_of_files<'a, F: Files>(
     asked: &Asked<'a>,
     files: &mut F,
 ) -> Result<Vec<u8>, Stop<'a>>
-    ensures order { OpensInOrder (F.told files.old) (F.told files.new) (opened_for (Some (names asked.now))) }
-    ensures all { IsTold result → OpensAll (F.told files.old) (F.told files.new) (opened_for (Some (names asked.now))) }
-    ensures exact { IfSome (F.told files.old) (λ folder. Reports (λ text. text.items)
-        (ending_with (texts_of folder.file (names asked.now))) result) }
+    ensures order { OpensInOrder (F.opened files.old) (F.opened files.new) (opened_for (Some (names asked.now))) }
+    ensures all { IsTold result → OpensAll (F.opened files.old) (F.opened files.new) (opened_for (Some (names asked.now))) }
+    ensures exact { IfSome (F.told files.old) (λ file. Reports (λ text. text.items)
+        (ending_with (texts_of file (names asked.now))) result) }
+    ensures unread { IfErr result (NamesUnread (F.told files.old) (F.opened files.old) (F.opened files.new) (opened_for (Some (names asked.now)))) }
 {
     match read_texts(alloc, asked, files) {
         Ok(texts) => report_of_texts(alloc, &texts),
@@ -118,6 +125,7 @@ fn report_of_files<'a, F: Files>(
 /// The report of the run of these texts.
 fn report_of_texts<'a>(alloc: Global, texts: &Texts) -> Result<Vec<u8>, Stop<'a>>
     ensures exact { Reports (λ text. text.items) (ending_with (Ok (texts_in texts.now))) result }
+    ensures fault { IfErr result IsOfRun }
 {
     let topology = texts.topology.as_slice();
     let script = texts.script.as_slice();
@@ -146,11 +154,12 @@ fn read_texts<'a, F: Files>(
     asked: &Asked<'a>,
     files: &mut F,
 ) -> Result<Texts, Stop<'a>>
-    ensures order { OpensInOrder (F.told files.old) (F.told files.new) (opened_for (Some (names asked.now))) }
-    ensures all { OnOk result (OpensAll (F.told files.old) (F.told files.new) (opened_for (Some (names asked.now)))) }
-    ensures texts { IfOk result (λ texts. IfSome (F.told files.old) (λ folder.
-        texts_of folder.file (names asked.now) ≡ Ok (texts_in texts))) }
+    ensures order { OpensInOrder (F.opened files.old) (F.opened files.new) (opened_for (Some (names asked.now))) }
+    ensures all { OnOk result (OpensAll (F.opened files.old) (F.opened files.new) (opened_for (Some (names asked.now)))) }
+    ensures texts { IfOk result (λ texts. IfSome (F.told files.old) (λ file.
+        texts_of file (names asked.now) ≡ Ok (texts_in texts))) }
     ensures fault { IfErr result IsOfFiles }
+    ensures unread { IfErr result (NamesUnread (F.told files.old) (F.opened files.old) (F.opened files.new) (opened_for (Some (names asked.now)))) }
 {
     let topology = read_file(alloc, files, asked.topology)?;
     let partitions = read_if_named(alloc, files, asked.partitions)?;
@@ -168,10 +177,12 @@ fn read_if_named<'a, F: Files>(
     files: &mut F,
     name: Option<&'a str>,
 ) -> Result<Option<Vec<u8>>, Stop<'a>>
-    ensures opened { OpensAll (F.told files.old) (F.told files.new) (option_to_list (option_map (λ word. word.now) name.entry)) }
-    ensures bytes { IfOk result (λ bytes. IfSome (F.told files.old) (λ folder.
-        bytes_if_named folder.file (option_map (λ word. word.now) name.entry) ≡ Ok (option_map (λ items. items.items) bytes))) }
+    ensures opened { OpensAll (F.opened files.old) (F.opened files.new) (option_to_list (option_map (λ word. word.now) name.entry)) }
+    ensures same { F.told files.new ≡ F.told files.old }
+    ensures bytes { IfOk result (λ bytes. IfSome (F.told files.old) (λ file.
+        bytes_if_named file (option_map (λ word. word.now) name.entry) ≡ Ok (option_map (λ items. items.items) bytes))) }
     ensures fault { IfErr result IsOfFiles }
+    ensures unread { IfErr result (NamesUnread (F.told files.old) (F.opened files.old) (F.opened files.new) (option_to_list (option_map (λ word. word.now) name.entry))) }
 {
     match name {
         Some(name) => Ok(Some(read_file(alloc, files, name)?)),

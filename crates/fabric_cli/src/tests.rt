@@ -1,37 +1,13 @@
 //! The program over memory: statuses, fault lines, files and outputs that fail.
 
+mod fixtures;
 mod memory;
 
 use crate::serving::serve;
-use crate::tests::memory::{Refusal, Shelf, Sink, Source};
+use crate::tests::fixtures::{BAD_SCRIPTS, BAD_TOPOLOGIES, REPORT, RUNS, SENDS, TWO_SWITCHES};
+use crate::tests::memory::{Manner, Refusal, Shelf, Sink, Source};
 use std::alloc::{AllocError, Global};
 use std::test::Fail;
-
-const TWO_SWITCHES: &str = "switch A 0x10 4
-switch B 0x20 4
-adapter h0 0x100 1
-adapter h1 0x110 1
-adapter h2 0x120 1
-adapter h3 0x130 1
-adapter h4 0x140 1
-cable A/1 h0/1
-cable A/2 h1/1
-cable A/3 B/3
-cable B/1 h2/1
-cable B/2 h3/1
-sm h0/1
-";
-
-const SENDS: &str = "send h1/1 5 0xffff 7 2:beef
-send h1/1 4 0xffff 7 2:beef
-send h1/1 2 0xffff 7 2:beef
-send h1/1 7 0xffff 7 2:beef
-send h1/1 0xc000 0xffff 7 2:beef
-";
-
-const REPORT: &str = "h2/1 recv 0x0004 0x0005 0xffff 0x000007 2:beef
-h1/1 recv 0x0004 0x0004 0xffff 0x000007 2:beef
-";
 
 /// What a call answers.
 #[derive(Drop)]
@@ -39,9 +15,10 @@ struct Answer {
     status: u8,
     out: Vec<u8>,
     err: Vec<u8>,
-    opened: Vec<String>,
+    opened: Option<Vec<String>>,
 }
 
+/// What the program answers to these words, over these files.
 fn told<'a>(
     alloc: Global,
     words: &[&str],
@@ -53,19 +30,27 @@ fn told<'a>(
         given.push(String::from_str(alloc, word)?)?;
     }
     let mut shelf = Shelf {
-        files,
-        opened: Vec::new(alloc),
         alloc,
+        files,
+        names: Some(Vec::new(alloc)),
     };
     let mut err = Vec::new(alloc);
     let status = serve(alloc, given.as_slice(), &mut shelf, out, &mut err);
-    let Shelf { opened, .. } = shelf;
+    let Shelf { names, .. } = shelf;
     Ok(Answer {
         status,
         out: out.bytes.clone()?,
         err,
-        opened,
+        opened: names,
     })
+}
+
+fn read_so(manner: Manner, bytes: &[u8]) -> Source<'_> {
+    Source { bytes, manner }
+}
+
+fn plain(bytes: &[u8]) -> Source<'_> {
+    read_so(Manner::Plain, bytes)
 }
 
 fn sink(alloc: Global, writes: usize, refusal: Refusal, flushes: bool) -> Sink {
@@ -82,199 +67,81 @@ const RUN: [&str; 5] = ["fabric", "run", "net.topo", "-", "sends"];
 /// What a run of a topology and a script answers.
 fn told_of(alloc: Global, topology: &str, script: &str) -> Result<Answer, AllocError> {
     let files = [
-        ("net.topo", Source::Bytes(topology.as_bytes())),
-        ("sends", Source::Bytes(script.as_bytes())),
+        ("net.topo", plain(topology.as_bytes())),
+        ("sends", plain(script.as_bytes())),
     ];
     let mut out = sink(alloc, 1000, Refusal::Broken, true);
     told(alloc, &RUN, &files, &mut out)
 }
 
 #[test]
-fn runs_and_faults_in_a_file(rt: HostRuntime) -> Result<(), Fail> {
-    let net = TWO_SWITCHES;
-    let rows: [(&str, &str, u8, &str, &str); 25] = [
-        (net, SENDS, 0, REPORT, ""),
-        (net, "", 0, "", ""),
-        (net, "# nothing\n\n", 0, "", ""),
-        ("swich A 0x10 4\n", "", 1, "", "fault TF1 topology line 1\n"),
-        (
-            "switch A 0x10 4\nswitch A 0x20 4\n",
-            "",
-            1,
-            "",
-            "fault TF2 topology line 2\n",
-        ),
-        (
-            "switch A 0x10 4\nswitch B 0x10 4\n",
-            "",
-            1,
-            "",
-            "fault TF3 topology line 2\n",
-        ),
-        (
-            "switch A 0x10 4\ncable A/1 B/1\n",
-            "",
-            1,
-            "",
-            "fault TF4 topology line 2\n",
-        ),
-        (
-            "switch A 0x10 4\nswitch B 0x20 4\ncable A/5 B/1\n",
-            "",
-            1,
-            "",
-            "fault TF5 topology line 3\n",
-        ),
-        (
-            "switch A 0x10 4\nswitch B 0x20 4\ncable A/1 B/1\ncable A/1 B/2\n",
-            "",
-            1,
-            "",
-            "fault TF6 topology line 4\n",
-        ),
-        (
-            "switch A 0x10 4\ncable A/1 A/2\n",
-            "",
-            1,
-            "",
-            "fault TF7 topology line 2\n",
-        ),
-        (
-            "switch A 0x10 4\n",
-            "",
-            1,
-            "",
-            "fault TF8 topology line 0\n",
-        ),
-        (
-            "switch A 0x10 4\nswitch B 0x20 4\nadapter h 0x30 1\ncable A/1 h/1\nsm h/1\n",
-            "",
-            1,
-            "",
-            "fault TF9 topology line 0\n",
-        ),
-        (
-            "switch A 0x10 4\nadapter h 0x30 1\nsm h/1\n",
-            "",
-            1,
-            "",
-            "fault TF11 topology line 3\n",
-        ),
-        (
-            "swich A 0x10 4\n",
-            "sent\n",
-            1,
-            "",
-            "fault TF1 topology line 1\n",
-        ),
-        (
-            net,
-            "sent h1/1 5 0xffff 7 0:\n",
-            1,
-            "",
-            "fault SF1 script line 1\n",
-        ),
-        (
-            net,
-            "send h9/1 5 0x8001 7 0:\n",
-            1,
-            "",
-            "fault SF2 script line 1\n",
-        ),
-        (
-            net,
-            "send h0/1 5 0xffff 7 0:\n",
-            1,
-            "",
-            "fault SF3 script line 1\n",
-        ),
-        (
-            net,
-            "send h4/1 5 0xffff 7 0:\n",
-            1,
-            "",
-            "fault SF4 script line 1\n",
-        ),
-        (
-            net,
-            "send h1/1 5 0xffff 7 257:\n",
-            1,
-            "",
-            "fault SF5 script line 1\n",
-        ),
-        (
-            net,
-            "send h1/1 5 0x8001 7 1:0102\n",
-            1,
-            "",
-            "fault SF6 script line 1\n",
-        ),
-        (
-            net,
-            "send h1/1 5 0xffff 7 2:beef\n\nsend h1/1 5 0x10000 7 0:\n",
-            1,
-            "",
-            "fault SF6 script line 3\n",
-        ),
-        (
-            net,
-            "send h2/1 4 0x8001 7 1:01\n",
-            0,
-            "h2/1 refused AR1\n",
-            "",
-        ),
-        (
-            net,
-            "send h2/1 4 0xffff 0 1:01\n",
-            0,
-            "h2/1 refused AR2\n",
-            "",
-        ),
-        (
-            net,
-            "send h2/1 0xffff 0xffff 7 1:01\n",
-            0,
-            "h2/1 refused AR3\n",
-            "",
-        ),
-        (
-            net,
-            "send h1/1 5 0xffff 7 2:be",
-            0,
-            "h2/1 recv 0x0004 0x0005 0xffff 0x000007 2:be\n",
-            "",
-        ),
-    ];
-    for (topology, script, status, out, err) in rows {
-        let told = told_of(rt.alloc(), topology, script)?;
-        assert_eq!(rt; told.status, status, "at {script} in {topology}");
-        assert_eq!(rt;
-            told.out.as_slice(),
-            out.as_bytes(),
-            "at {script} in {topology}"
-        );
-        assert_eq!(rt;
-            told.err.as_slice(),
-            err.as_bytes(),
-            "at {script} in {topology}"
-        );
+fn a_run_gives_its_report_and_nothing_else(rt: HostRuntime) -> Result<(), Fail> {
+    for (script, report) in RUNS {
+        let told = told_of(rt.alloc(), TWO_SWITCHES, script)?;
+        assert_eq!(rt; told.status, 0, "at {script}");
+        assert_eq!(rt; told.out.as_slice(), report.as_bytes(), "at {script}");
+        assert_eq!(rt; told.err.len(), 0, "at {script}");
     }
     Ok(())
 }
 
 #[test]
+fn a_fault_in_a_file_is_one_line_and_no_output(rt: HostRuntime) -> Result<(), Fail> {
+    let alloc = rt.alloc();
+    let mut many = String::from_str(alloc, "")?;
+    for number in 1..66u8 {
+        many.push_str(format!(in alloc; "switch S{number} {number} 4\n")?.as_str())?;
+    }
+    let large = [(many.as_str(), "TF10", 65)];
+    // A bad topology is told although the script is bad too.
+    for (topology, code, line) in BAD_TOPOLOGIES.into_iter().chain(large) {
+        let told = told_of(alloc, topology, "sent\n")?;
+        let wanted = format!(in alloc; "fault {code} topology line {line}\n")?;
+        assert_eq!(rt; told.status, 1, "at {topology}");
+        assert_eq!(rt; told.out.len(), 0, "at {topology}");
+        assert_eq!(rt; told.err.as_slice(), wanted.as_bytes(), "at {topology}");
+    }
+    for (script, code, line) in BAD_SCRIPTS {
+        let told = told_of(alloc, TWO_SWITCHES, script)?;
+        let wanted = format!(in alloc; "fault {code} script line {line}\n")?;
+        assert_eq!(rt; told.status, 1, "at {script}");
+        assert_eq!(rt; told.out.len(), 0, "at {script}");
+        assert_eq!(rt; told.err.as_slice(), wanted.as_bytes(), "at {script}");
+    }
+    Ok(())
+}
+
+/// With ample memory the report; where memory is refused, status 3 and the beginning of a line that
+/// tells it. tools/refused-memory refuses each allocation of this test in turn.
+#[test]
+fn a_run_is_reported_or_its_want_of_memory_is_told(rt: HostRuntime) -> Result<(), Fail> {
+    let Ok(told) = told_of(rt.alloc(), TWO_SWITCHES, SENDS) else {
+        return Ok(());
+    };
+    if told.status == 0 {
+        assert_eq!(rt; told.out.as_slice(), REPORT.as_bytes());
+        assert_eq!(rt; told.err.len(), 0);
+        return Ok(());
+    }
+    assert_eq!(rt; told.status, 3);
+    assert!(rt; REPORT.as_bytes().starts_with(told.out.as_slice()));
+    let memory = b"fault memory\n".starts_with(told.err.as_slice());
+    let write = b"fault write\n".starts_with(told.err.as_slice());
+    assert!(rt; memory || write, "{:?}", told.err.as_slice());
+    Ok(())
+}
+
+#[test]
 fn files_that_are_not_read(rt: HostRuntime) -> Result<(), Fail> {
-    let net = Source::Bytes(TWO_SWITCHES.as_bytes());
-    let sends = Source::Bytes(SENDS.as_bytes());
-    let bad = Source::Bytes(b"swich");
+    let comment = vec![in rt.alloc(); b'#'; 1_048_576]?;
     let files = [
-        ("net", net),
-        ("sends", sends),
-        ("bad", bad),
-        ("slow", Source::Interrupted(SENDS.as_bytes())),
-        ("failing", Source::Failing),
-        ("long", Source::Dripping(1_048_575)),
-        ("endless", Source::Dripping(1_048_576)),
+        ("net", plain(TWO_SWITCHES.as_bytes())),
+        ("sends", plain(SENDS.as_bytes())),
+        ("bad", plain(b"swich")),
+        ("slow", read_so(Manner::Interrupted, SENDS.as_bytes())),
+        ("failing", read_so(Manner::Failing, SENDS.as_bytes())),
+        ("long", read_so(Manner::Dripping, &comment[1..])),
+        ("endless", read_so(Manner::Dripping, &comment)),
     ];
     let rows: [([&str; 3], u8, &str, &str, usize); 12] = [
         (["net", "-", "sends"], 0, REPORT, "", 2),
@@ -304,7 +171,11 @@ fn files_that_are_not_read(rt: HostRuntime) -> Result<(), Fail> {
         assert_eq!(rt; told.status, status, "at {names:?}");
         assert_eq!(rt; told.out.as_slice(), out.as_bytes(), "at {names:?}");
         assert_eq!(rt; told.err.as_slice(), err.as_bytes(), "at {names:?}");
-        assert_eq!(rt; told.opened.len(), opened, "at {names:?}");
+        assert_eq!(rt;
+            told.opened.ok_or("the names")?.len(),
+            opened,
+            "at {names:?}"
+        );
     }
     Ok(())
 }
@@ -312,8 +183,8 @@ fn files_that_are_not_read(rt: HostRuntime) -> Result<(), Fail> {
 #[test]
 fn output_that_is_not_written(rt: HostRuntime) -> Result<(), Fail> {
     let files = [
-        ("net.topo", Source::Bytes(TWO_SWITCHES.as_bytes())),
-        ("sends", Source::Bytes(SENDS.as_bytes())),
+        ("net.topo", plain(TWO_SWITCHES.as_bytes())),
+        ("sends", plain(SENDS.as_bytes())),
     ];
     let last = REPORT.len().div_ceil(8) - 1;
     let rows = [
@@ -378,12 +249,12 @@ fn words_that_are_refused(rt: HostRuntime) -> Result<(), Fail> {
         (&["fabric", "--version"], "fabric 0.1.0"),
     ];
     for (words, part) in rows {
-        let files = [("a", Source::Failing), ("b", Source::Failing)];
+        let files = [("a", plain(b"")), ("b", plain(b""))];
         let mut sink = sink(rt.alloc(), 1000, Refusal::Broken, true);
         let told = told(rt.alloc(), words, &files, &mut sink)?;
         assert_eq!(rt; told.status, 2, "at {words:?}");
         assert_eq!(rt; told.out.len(), 0, "at {words:?}");
-        assert_eq!(rt; told.opened.len(), 0, "at {words:?}");
+        assert_eq!(rt; told.opened.ok_or("the names")?.len(), 0, "at {words:?}");
         let text = std::str::from_utf8(told.err.as_slice()).ok().ok_or("text")?;
         assert!(rt; text.contains(part), "at {words:?}: {text}");
     }

@@ -1,74 +1,93 @@
-//! Files and writers in memory, some of which fail.
+//! Files and writers in memory, some of which fail. All of them tell what they hold.
 
-ghost use Rattle.std.specs.Prelude.{None};
+ghost use Rattle.std.specs.Prelude.{◌≡◌, [], ◌∷◌, Some, find, map, option_map, string_bytes};
+ghost use Rattle.std.specs.Str.{bytes_eq};
+ghost use Rattle.fabric_cli.specs.Files.{OpensAll};
 
 use crate::files::Files;
 use std::alloc::Global;
 use std::io;
 use std::io::{ErrorKind, Read, Write};
 
+/// How a file is read.
+#[derive(Clone, Copy)]
+pub enum Manner {
+    /// As far as there is room.
+    Plain,
+    /// The same, after one read that is interrupted.
+    Interrupted,
+    /// One byte a read.
+    Dripping,
+    /// Never: every read fails.
+    Failing,
+}
+
 /// What a name opens to.
 #[derive(Clone, Copy)]
-pub enum Source<'a> {
-    /// These bytes.
-    Bytes(&'a [u8]),
-    /// These bytes, after one interrupted read.
-    Interrupted(&'a [u8]),
-    /// One byte, and then a read that fails.
-    Failing,
-    /// So many `#`, one a read, and then the end.
-    Dripping(u32),
+pub struct Source<'a> {
+    pub bytes: &'a [u8],
+    pub manner: Manner,
 }
 
 impl Read for Source<'_> {
+    ghost remaining = { λ source. Some source.bytes.now };
+
     fn read(&mut self, buf: &mut [u8]) -> io::Result<usize> {
-        match *self {
-            Source::Bytes(mut bytes) => {
-                let count = bytes.read(buf)?;
-                *self = Source::Bytes(bytes);
-                Ok(count)
-            }
-            Source::Interrupted(bytes) => {
-                *self = Source::Bytes(bytes);
+        match self.manner {
+            Manner::Plain => self.bytes.read(buf),
+            Manner::Interrupted => {
+                self.manner = Manner::Plain;
                 Err(io::Error::from(ErrorKind::Interrupted))
             }
-            Source::Failing => Err(io::Error::from(ErrorKind::Other)),
-            Source::Dripping(0) => Ok(0),
-            Source::Dripping(left) => {
-                if buf.is_empty() {
-                    return Ok(0);
-                }
-                buf[0] = b'#';
-                *self = Source::Dripping(left - 1);
-                Ok(1)
+            Manner::Dripping => {
+                let room = buf.len().min(1);
+                self.bytes.read(&mut buf[..room])
             }
+            Manner::Failing => Err(io::Error::from(ErrorKind::Other)),
         }
     }
 }
 
-/// Named sources, and the names opened so far.
+/// Named sources, and the names opened so far, as long as they could be kept.
 #[derive(Drop)]
 pub struct Shelf<'a> {
     pub alloc: Global,
     pub files: &'a [(&'a str, Source<'a>)],
-    pub opened: Vec<String>,
+    pub names: Option<Vec<String>>,
 }
 
 impl<'a> Files for Shelf<'a> {
     type Input = Source<'a>;
 
-    ghost told = { λ _. None };
+    ghost told = { λ shelf. Some (λ name. option_map (λ known. known.1.bytes.now) (find (λ known. bytes_eq known.0.now name) shelf.files.now)) };
+
+    ghost opened = { λ shelf. option_map (λ names. map string_bytes names.items) shelf.names };
 
     fn open(&mut self, name: &str) -> Option<Source<'a>> {
-        let noted = String::from_str(self.alloc, name).ok()?;
-        self.opened.push(noted).ok()?;
-        for (known, source) in self.files {
-            if *known == name {
-                return Some(*source);
-            }
-        }
-        None
+        self.names = noted(self.alloc, self.names.take(), name);
+        source_of(self.files, name)
     }
+}
+
+/// What the first file of that name is.
+fn source_of<'a>(files: &[(&str, Source<'a>)], name: &str) -> Option<Source<'a>>
+    ensures { option_map (λ source. source.bytes.now) result
+        ≡ option_map (λ known. known.1.bytes.now) (find (λ known. bytes_eq known.0.now name.now) files.now) }
+{
+    files
+        .iter()
+        .find(|known| known.0 == name)
+        .map(|known| known.1)
+}
+
+/// The names with one more, where all of them could be kept.
+fn noted(alloc: Global, names: Option<Vec<String>>, name: &str) -> Option<Vec<String>>
+    ensures { OpensAll (option_map (λ all. map string_bytes all.items) names)
+        (option_map (λ all. map string_bytes all.items) result) (name.now ∷ []) }
+{
+    let mut names = names?;
+    names.push(String::from_str(alloc, name).ok()?).ok()?;
+    Some(names)
 }
 
 /// How a writer refuses.
@@ -90,6 +109,8 @@ pub struct Sink {
 }
 
 impl Write for Sink {
+    ghost contents = { λ sink. Some sink.bytes.items };
+
     fn write(&mut self, buf: &[u8]) -> io::Result<usize> {
         if self.writes == 0 {
             return match self.refusal {

@@ -1,4 +1,5 @@
-use Rattle.fabric_cli.proofs.FilesLemmas.{opens_first, opens_more, opens_whole}
+use Rattle.std.proofs.lemmas.Result.{err_from_is_err_and}
+use Rattle.fabric_cli.proofs.FilesLemmas.{named_open, one_open, opens_first, opens_more, opens_whole, unread_after, unread_first}
 use Rattle.fabric_cli.proofs.serving.read_texts.Goals as goal
 
 pub returns-in_err-partitions-clause-order : goal.returns-in_err-partitions-clause-order
@@ -12,3 +13,20 @@ returns-in_err-script-clause-order g c =
 pub returns-clause-order : goal.returns-clause-order
 returns-clause-order g c =
     opens_whole _ _ _ (opens_more _ _ _ _ _ (opens_more _ _ _ _ _ c.read_file.ensures.opened c.read_if_named.ensures.opened) c.read_file-2.ensures.opened)
+
+pub returns-in_err-script-clause-unread : goal.returns-in_err-script-clause-unread
+returns-in_err-script-clause-unread g c =
+    let p = err_from_is_err_and c.from_residual-in_err-script.result c.from_residual-in_err-script.ensures.1 in
+    rw (p.1, p.2) (unread_after _ _ _ _ _ _ _ _ c.read_file.ensures.same c.read_file.ensures.opened (one_open _ _ _ c.in_ok-topology.ensures.bytes)
+    (unread_after _ _ _ _ _ _ _ _ c.read_if_named.ensures.same c.read_if_named.ensures.opened (named_open _ _ _ c.in_ok-partitions.ensures.bytes) c.in_err-script.ensures.unread))
+
+pub returns-in_err-topology-clause-unread : goal.returns-in_err-topology-clause-unread
+returns-in_err-topology-clause-unread g c =
+    let p = err_from_is_err_and c.from_residual.result c.from_residual.ensures.1 in
+    rw (p.1, p.2) (unread_first _ _ _ _ _ _ c.in_err-topology.ensures.unread)
+
+pub returns-in_err-partitions-clause-unread : goal.returns-in_err-partitions-clause-unread
+returns-in_err-partitions-clause-unread g c =
+    let p = err_from_is_err_and c.from_residual-in_err-partitions.result c.from_residual-in_err-partitions.ensures.1 in
+    rw (p.1, p.2) (unread_after _ _ _ _ _ _ _ _ c.read_file.ensures.same c.read_file.ensures.opened (one_open _ _ _ c.in_ok-topology.ensures.bytes)
+    (unread_first _ _ _ _ _ _ c.in_err-partitions.ensures.unread))

@@ -1,0 +1,84 @@
+//! Texts of topologies and scripts, and what the program answers for them.
+
+/// Two switches, the manager on h0/1, and h4 without a cable.
+pub const TWO_SWITCHES: &str = "switch A 0x10 4
+switch B 0x20 4
+adapter h0 0x100 1
+adapter h1 0x110 1
+adapter h2 0x120 1
+adapter h3 0x130 1
+adapter h4 0x140 1
+cable A/1 h0/1
+cable A/2 h1/1
+cable A/3 B/3
+cable B/1 h2/1
+cable B/2 h3/1
+sm h0/1
+";
+
+/// To another adapter, to the sender itself, to a switch, to no port and to a multicast LID.
+pub const SENDS: &str = "send h1/1 5 0xffff 7 2:beef
+send h1/1 4 0xffff 7 2:beef
+send h1/1 2 0xffff 7 2:beef
+send h1/1 7 0xffff 7 2:beef
+send h1/1 0xc000 0xffff 7 2:beef
+";
+
+pub const REPORT: &str = "h2/1 recv 0x0004 0x0005 0xffff 0x000007 2:beef
+h1/1 recv 0x0004 0x0004 0xffff 0x000007 2:beef
+";
+
+/// Scripts over the two switches, each with its report.
+pub const RUNS: [(&str, &str); 7] = [
+    (SENDS, REPORT),
+    ("", ""),
+    ("# nothing\n\n", ""),
+    ("send h2/1 4 0x8001 7 1:01\n", "h2/1 refused AR1\n"),
+    ("send h2/1 4 0xffff 0 1:01\n", "h2/1 refused AR2\n"),
+    ("send h2/1 0xffff 0xffff 7 1:01\n", "h2/1 refused AR3\n"),
+    (
+        "send h1/1 5 0xffff 7 2:be",
+        "h2/1 recv 0x0004 0x0005 0xffff 0x000007 2:be\n",
+    ),
+];
+
+/// Topologies with a fault, each with its code and its line.
+pub const BAD_TOPOLOGIES: [(&str, &str, usize); 10] = [
+    ("swich A 0x10 4\n", "TF1", 1),
+    ("switch A 0x10 4\nswitch A 0x20 4\n", "TF2", 2),
+    ("switch A 0x10 4\nswitch B 0x10 4\n", "TF3", 2),
+    ("switch A 0x10 4\ncable A/1 B/1\n", "TF4", 2),
+    (
+        "switch A 0x10 4\nswitch B 0x20 4\ncable A/5 B/1\n",
+        "TF5",
+        3,
+    ),
+    (
+        "switch A 0x10 4\nswitch B 0x20 4\ncable A/1 B/1\ncable A/1 B/2\n",
+        "TF6",
+        4,
+    ),
+    ("switch A 0x10 4\ncable A/1 A/2\n", "TF7", 2),
+    ("switch A 0x10 4\n", "TF8", 0),
+    (
+        "switch A 0x10 4\nswitch B 0x20 4\nadapter h 0x30 1\ncable A/1 h/1\nsm h/1\n",
+        "TF9",
+        0,
+    ),
+    ("switch A 0x10 4\nadapter h 0x30 1\nsm h/1\n", "TF11", 3),
+];
+
+/// Scripts over the two switches with a fault, each with its code and its line.
+pub const BAD_SCRIPTS: [(&str, &str, usize); 7] = [
+    ("sent h1/1 5 0xffff 7 0:\n", "SF1", 1),
+    ("send h9/1 5 0x8001 7 0:\n", "SF2", 1),
+    ("send h0/1 5 0xffff 7 0:\n", "SF3", 1),
+    ("send h4/1 5 0xffff 7 0:\n", "SF4", 1),
+    ("send h1/1 5 0xffff 7 257:\n", "SF5", 1),
+    ("send h1/1 5 0x8001 7 1:0102\n", "SF6", 1),
+    (
+        "send h1/1 5 0xffff 7 2:beef\n\nsend h1/1 5 0x10000 7 0:\n",
+        "SF6",
+        3,
+    ),
+];
