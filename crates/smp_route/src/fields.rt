@@ -1,0 +1,65 @@
+//! The bytes of an SMP that hops read and write.
+
+ghost use Rattle.std.specs.Prelude.{◌≡◌, ◌+◌, ◌<◌, ℕ, slice_set};
+ghost use Rattle.smp_route.specs.Places.{pointer, count, initial_port, return_port, with_pointer, with_return_port};
+ghost use Rattle.smp_route.specs.Laws.{PlacesAreFields};
+
+use mad_layout::{Mad, bytes_are_fields};
+
+/// How many hops a path has at most.
+pub const MAX_HOPS: u8 = 63;
+
+const POINTER: usize = 6;
+
+const COUNT: usize = 7;
+
+const INITIAL_PATH: usize = 128;
+
+const RETURN_PATH: usize = 192;
+
+pub fn pointer_of(smp: &Mad) -> u8
+    ensures { result ≡ pointer smp.now }
+{
+    smp[POINTER]
+}
+
+pub fn count_of(smp: &Mad) -> u8
+    ensures { result ≡ count smp.now }
+{
+    smp[COUNT]
+}
+
+pub fn initial_port_of(smp: &Mad, hop: u8) -> u8
+    requires { hop < 64 }
+    ensures { result ≡ initial_port smp.now hop }
+{
+    smp[INITIAL_PATH + hop as usize]
+}
+
+pub fn return_port_of(smp: &Mad, hop: u8) -> u8
+    requires { hop < 64 }
+    ensures { result ≡ return_port smp.now hop }
+{
+    smp[RETURN_PATH + hop as usize]
+}
+
+pub fn set_pointer(smp: &mut Mad, pointer: u8)
+    ensures { smp.new ≡ with_pointer pointer smp.old }
+{
+    smp[POINTER] = pointer;
+}
+
+pub fn set_return_port(smp: &mut Mad, hop: u8, port: u8)
+    requires { hop < 64 }
+    ensures { smp.new ≡ with_return_port hop port smp.old }
+{
+    smp[RETURN_PATH + hop as usize] = port;
+}
+
+/// The bytes that hops read and write are the fields of a directed-route SMP. Its contract is that law;
+/// it does nothing.
+pub fn fields_are_the_standards()
+    ensures { PlacesAreFields }
+{
+    bytes_are_fields();
+}

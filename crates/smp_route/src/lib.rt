@@ -1,0 +1,17 @@
+//! The hops of directed-route SMPs: what one node does with an SMP that passes it.
+//!
+//! [`outward`] takes an SMP on its way from the subnet manager, [`back`] its answer on the way back. Each
+//! knows only the kind of node and the port by which the SMP came in, and moves the hop pointer by one.
+//! Their contracts are the equations of `specs/Hops.antt`, to the byte: the hop rules of the InfiniBand
+//! Architecture Specification, volume 1, chapter 14, over the fields of 14.2.1.2.
+#![tactic(auto)]
+
+mod fields;
+mod hop;
+mod outgoing;
+mod returning;
+
+pub use crate::fields::{MAX_HOPS, fields_are_the_standards};
+pub use crate::hop::Hop;
+pub use crate::outgoing::outward;
+pub use crate::returning::back;
