@@ -1,4 +1,4 @@
-ghost use Rattle.std.specs.Prelude.{◌≡◌, ◌≤◌, ◌↔◌, false, true, [], ◌∷◌, ◌++◌, length, ◌==◌, find, is_some, IfSome, IsErrOf, OnOk, OnErr};
+ghost use Rattle.std.specs.Prelude.{◌≡◌, ◌≤◌, ◌<◌, ◌↔◌, false, true, [], ◌∷◌, ◌++◌, length, ◌==◌, find, is_some, IfSome, IsErrOf, OnOk, OnErr};
 ghost use Rattle.pkey_rules.specs.PKey.{base_of};
 ghost use Rattle.pkey_rules.specs.KeyTable.{accepts, holds, find_base, has_base, shares, SomeSharedBase};
 
@@ -69,6 +69,17 @@ impl<const CAP: usize> KeyTable<CAP> {
         }
         self.keys.push(key);
         Ok(())
+    }
+
+    /// Adds the key of a partition of which the table has none, where there is room: it looks at no
+    /// key that is there, so a table of keys that are known to differ is made in linear time.
+    #[tactic(auto, using(crate::proofs::KeyTableLemmas::distinct_push))]
+    pub fn push_distinct(&mut self, key: PKey)
+        requires free { has_base (base_of key) self.old ≡ false }
+        requires room { length self.old < CAP }
+        ensures { self.new ≡ self.old ++ key ∷ [] }
+    {
+        self.keys.push(key);
     }
 
     /// Whether the table takes no further key.

@@ -7,6 +7,12 @@
 #[cfg(test)]
 mod fixtures;
 #[cfg(test)]
+mod partition_faults;
+#[cfg(test)]
+mod partition_members;
+#[cfg(test)]
+mod partitions;
+#[cfg(test)]
 mod topology_faults;
 #[cfg(test)]
 mod topology_texts;

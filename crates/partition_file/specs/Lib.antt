@@ -1,0 +1,16 @@
+pub mod Fault
+pub mod Pieces
+pub mod Numbers
+pub mod Flags
+pub mod Ports
+pub mod Counting
+pub mod Cases
+pub mod Definitions
+pub mod Partitions
+pub mod Sound
+pub mod Reading
+pub mod Law
+pub mod Generated
+pub mod Members
+pub use Rattle.text_words.specs.Lines
+pub use Rattle.text_words.specs.Number

@@ -1,0 +1,71 @@
+-- What is so of definitions and partitions, whatever the text they come from.
+use Rattle.std.specs.Prelude.{ℕ, ◌≡◌, ◌≤◌, Bool, true, ◌&&◌, nat_eq, nat_le, List, [], ◌∷◌, ◌++◌, length, map, fold, count_by, is_none, slice_get, Option, Some, None}
+use Rattle.std.specs.List.{list_all, IsDistinct}
+use Rattle.pkey_rules.specs.declared.key_table.TheConstants.{PARTITIONS}
+use Rattle.partition_file.specs.declared.definition.Definition.{Definition}
+use Rattle.partition_file.specs.declared.flag.Flag.TheVariants.{Rate, Mtu, ServiceLevel, Scope}
+use Rattle.partition_file.specs.declared.flag.Flags.{Flags}
+use Rattle.partition_file.specs.declared.partition.Group.{Group}
+use Rattle.partition_file.specs.declared.partition.Partition.{Partition}
+use Rattle.partition_file.specs.Flags.{greatest}
+use Rattle.partition_file.specs.Counting.{default_base, keys_of, named, partition_count, with_base}
+use Rattle.partition_file.specs.Cases.{is_in_list}
+use Rattle.partition_file.specs.Definitions.{Scanned}
+
+-- a base has 15 bits, and 0 names no partition
+abbrev pub is_base : ℕ → Bool
+is_base base = nat_le 1 base && nat_le base 32767
+
+abbrev pub is_sound_key : Option ℕ → Bool
+is_sound_key (Some base) = is_base base
+is_sound_key None = true
+
+-- a value, if there is one, is not above this one
+abbrev pub is_within : ℕ → Option ℕ → Bool
+is_within top (Some n) = nat_le n top
+is_within top None = true
+
+-- what flags say fits the fields of their records
+abbrev pub are_within : Flags → Bool
+are_within flags = is_within (greatest Rate) flags.rate && (is_within (greatest Mtu) flags.mtu && (is_within (greatest ServiceLevel) flags.service_level && is_within (greatest Scope) flags.scope))
+
+-- the definitions name bases, their flags' values are in range, and they make no more partitions than there may be
+pub record AreSound (definitions : List Definition) : Type 0 where
+  pub valid : list_all is_sound_key (keys_of definitions) ≡ true
+  pub flags : list_all (λ definition. are_within definition.flags) definitions ≡ true
+  pub room : partition_count (keys_of definitions) ≤ PARTITIONS
+
+-- what is counted of them is kept beside them
+pub record AreCounted (definitions : List Definition) (seen : List ℕ) (others : ℕ) : Type 0 where
+  pub sound : AreSound definitions
+  pub distinct : seen ≡ fold with_base (default_base ∷ []) (named (keys_of definitions))
+  pub rest : others ≡ count_by is_none (keys_of definitions)
+
+-- so it is in the middle of a text, and a definition whose list has begun is counted too
+pub record IsSoundSoFar (s : Scanned) : Type 0 where
+  pub valid : is_sound_key s.current.key ≡ true
+  pub flags : are_within s.current.flags ≡ true
+  pub room : is_in_list s.at ≡ true → partition_count (keys_of s.done ++ s.current.key ∷ []) ≤ PARTITIONS
+
+abbrev pub all_bases : List Partition → List ℕ
+all_bases partitions = map (λ partition. partition.base) partitions
+
+-- the default base is there and has number 0; no base is there twice, and there are no more than there may be
+pub record AreSoundBases (bases : List ℕ) : Type 0 where
+  pub room : length bases ≤ PARTITIONS
+  pub distinct : IsDistinct nat_eq bases
+  pub valid : list_all is_base bases ≡ true
+  pub first : slice_get bases 0 ≡ Some default_base
+
+-- a group's parameters fit the fields of its records
+abbrev pub fits : Group → Bool
+fits group = nat_le group.rate (greatest Rate) && (nat_le group.mtu (greatest Mtu) && (nat_le group.service_level (greatest ServiceLevel) && nat_le group.scope (greatest Scope)))
+
+abbrev pub has_fit_group : Option Group → Bool
+has_fit_group (Some group) = fits group
+has_fit_group None = true
+
+-- partitions have sound bases and groups, and their number is their place
+pub record IsSound (partitions : List Partition) : Type 0 where
+  pub bases : AreSoundBases (all_bases partitions)
+  pub groups : list_all (λ partition. has_fit_group partition.group) partitions ≡ true

@@ -1,0 +1,194 @@
+ghost use Rattle.std.specs.Prelude.{◌≡◌, ◌≤◌, ◌++◌, ◌∷◌, [], true, OnOk, OnErr, IfOk};
+ghost use Rattle.pkey_rules.specs.declared.key_table.TheConstants.{PARTITIONS};
+ghost use Rattle.partition_file.specs.Counting.{further, has_base, keys_of, one_if_none, partition_count, with_base, with_key};
+ghost use Rattle.partition_file.specs.Definitions.{blank};
+ghost use Rattle.partition_file.specs.Sound.{AreSound, are_within, is_sound_key};
+
+use crate::flag::Flags;
+use crate::item::ItemList;
+use std::alloc::{AllocError, Global};
+use std::marker::Model;
+
+/// The base of the default partition, in which every port starts.
+pub(crate) const DEFAULT_BASE: u16 = 0x7fff;
+
+/// The name of a partition, which may be empty.
+#[derive(Debug, Drop)]
+pub struct Name {
+    bytes: Vec<u8>,
+}
+
+impl Model for Name {
+    ghost use Rattle.std.specs.Prelude.{ℕ, List};
+
+    ghost Value = { List ℕ };
+
+    ghost view = { λ name. name.bytes.items };
+}
+
+impl Name {
+    pub(crate) fn empty(alloc: Global) -> Name
+        ensures { result ≡ [] }
+    {
+        Name {
+            bytes: Vec::new(alloc),
+        }
+    }
+
+    pub(crate) fn from_vec(bytes: Vec<u8>) -> Name
+        ensures { result ≡ bytes.items }
+    {
+        Name { bytes }
+    }
+
+    pub(crate) fn from_slice(alloc: Global, bytes: &[u8]) -> Result<Name, AllocError>
+        ensures { IfOk result (λ name. name ≡ bytes.now) }
+    {
+        let bytes = Vec::from_slice(alloc, bytes)?;
+        Ok(Name { bytes })
+    }
+
+    /// The name as it is written, with one blank for each run of white space.
+    pub fn as_bytes(&self) -> &[u8]
+        ensures { result.now ≡ self.now }
+    {
+        self.bytes.as_slice()
+    }
+}
+
+/// What a definition says.
+#[derive(Debug, Drop)]
+pub(crate) struct Definition {
+    pub(crate) name: Name,
+    /// The base that it names.
+    pub(crate) key: Option<u16>,
+    pub(crate) flags: Flags,
+    pub(crate) items: ItemList,
+}
+
+impl Definition {
+    pub(crate) fn blank(alloc: Global) -> Definition
+        ensures { result ≡ blank }
+    {
+        Definition {
+            name: Name::empty(alloc),
+            key: None,
+            flags: Flags::new(),
+            items: ItemList::new(alloc),
+        }
+    }
+}
+
+/// Definitions in the order of the text, with what their limit is asked of kept beside them.
+#[derive(Debug, Drop)]
+pub(crate) struct DefinitionList {
+    definitions: Vec<Definition>,
+    // The default base and those that the definitions name, each once.
+    bases: Vec<u16>,
+    // How many of them name none.
+    unnamed: usize,
+}
+
+impl Model for DefinitionList {
+    ghost use Rattle.std.specs.Prelude.{List};
+    ghost use Rattle.partition_file.specs.declared.definition.Definition.{Definition};
+    ghost use Rattle.partition_file.specs.Sound.{AreCounted};
+
+    ghost Value = { List Definition };
+
+    ghost view = { λ list. list.definitions.items };
+
+    ghost invariant = { λ list. AreCounted list.definitions.items list.bases.items list.unnamed };
+}
+
+impl DefinitionList {
+    pub(crate) fn new(alloc: Global) -> Result<DefinitionList, AllocError>
+        ensures { IfOk result (λ list. list ≡ []) }
+    {
+        let mut bases = Vec::new(alloc);
+        bases.push(DEFAULT_BASE)?;
+        Ok(DefinitionList {
+            definitions: Vec::new(alloc),
+            bases,
+            unnamed: 0,
+        })
+    }
+
+    pub(crate) fn as_slice(&self) -> &[Definition]
+        ensures value { result.now ≡ self.now }
+        ensures sound { AreSound result.now }
+    {
+        self.definitions.as_slice()
+    }
+
+    /// How many partitions there are with one more definition, which names this base.
+    pub(crate) fn count_with(&self, key: Option<u16>) -> usize
+        ensures { result ≡ partition_count (keys_of self.now ++ key ∷ []) }
+    {
+        self.bases.len() + self.unnamed + further(&self.bases, key)
+    }
+
+    /// Adds a definition at the end. Memory alone can be refused, and then the list stays as it was.
+    pub(crate) fn push(&mut self, definition: Definition) -> Result<(), AllocError>
+        requires valid { is_sound_key definition.key ≡ true }
+        requires flags { are_within definition.flags ≡ true }
+        requires room { partition_count (keys_of self.old ++ definition.key ∷ []) ≤ PARTITIONS }
+        ensures ok { OnOk result (self.new ≡ self.old ++ definition ∷ []) }
+        ensures err { OnErr result (self.new ≡ self.old) }
+    {
+        self.definitions.reserve(1)?;
+        add_key(&mut self.bases, definition.key)?;
+        self.unnamed += one_if_none(definition.key);
+        self.definitions.push(definition)?;
+        Ok(())
+    }
+}
+
+/// How many partitions one more definition makes beside those of these bases, if it names this one.
+fn further(seen: &[u16], key: Option<u16>) -> usize
+    ensures value { result ≡ further seen.now key }
+    ensures within { result ≤ 1 }
+{
+    match key {
+        Some(base) if has_base(base, seen) => 0,
+        _ => 1,
+    }
+}
+
+fn one_if_none(key: Option<u16>) -> usize
+    ensures value { result ≡ one_if_none key }
+    ensures within { result ≤ 1 }
+{
+    match key {
+        Some(_) => 0,
+        None => 1,
+    }
+}
+
+fn add_key(seen: &mut Vec<u16>, key: Option<u16>) -> Result<(), AllocError>
+    ensures ok { OnOk result (seen.new.items ≡ with_key seen.old.items key) }
+    ensures err { OnErr result (seen.new.items ≡ seen.old.items) }
+{
+    match key {
+        Some(base) => add_base(seen, base),
+        None => Ok(()),
+    }
+}
+
+/// Adds a base that is not there yet.
+pub(crate) fn add_base(seen: &mut Vec<u16>, base: u16) -> Result<(), AllocError>
+    ensures ok { OnOk result (seen.new.items ≡ with_base seen.old.items base) }
+    ensures err { OnErr result (seen.new.items ≡ seen.old.items) }
+{
+    if has_base(base, seen) {
+        return Ok(());
+    }
+    seen.push(base)?;
+    Ok(())
+}
+
+pub(crate) fn has_base(base: u16, seen: &[u16]) -> bool
+    ensures { result ≡ has_base base seen.now }
+{
+    seen.iter().any(|other| *other == base)
+}

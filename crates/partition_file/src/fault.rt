@@ -1,0 +1,97 @@
+//! Why a partition file is refused.
+
+ghost use Rattle.std.specs.Prelude.{◌≡◌};
+ghost use Rattle.partition_file.specs.Fault.{code_of};
+
+use std::alloc::{AllocError, AllocFailed};
+use thiserror::Error;
+
+/// What is wrong at a place of the text.
+#[derive(Clone, Copy, Debug, PartialEq, Eq, Error)]
+pub enum PartitionFault {
+    /// A byte that is neither printable ASCII nor white space, a second `=` in a piece, a `:` in a
+    /// list, or a name that begins with a digit.
+    #[error("a character may not stand here")]
+    BadCharacter,
+    /// A number that is misspelt or too great, or a list word that names no ports.
+    #[error("the word is no number of its kind, nor a word of a list")]
+    BadNumber,
+    /// Base 0, which names no partition, or the name `Default` without a PKey.
+    #[error("base 0 and the name Default are reserved")]
+    ReservedKey,
+    /// There is no such flag.
+    #[error("there is no such flag")]
+    UnknownFlag,
+    /// The membership `both`.
+    #[error("no port is both a full and a limited member")]
+    BothMembership,
+    /// The list word `mgid`.
+    #[error("a list has no multicast groups")]
+    MgidItem,
+    /// The list that begins here makes one partition too many.
+    #[error("the definition makes one partition too many")]
+    TooManyPartitions,
+    /// The definition has no list, or the text ends inside it.
+    #[error("the definition is unfinished")]
+    Unfinished,
+    /// The flag is given twice or without its value, takes no value, or not this one.
+    #[error("the flag does not take this value, or is given twice")]
+    BadFlagValue,
+}
+
+impl PartitionFault {
+    /// The code that is printed for the fault.
+    pub fn code(self) -> &'static str
+        ensures { result.now ≡ code_of self }
+    {
+        match self {
+            PartitionFault::BadCharacter => "PF1",
+            PartitionFault::BadNumber => "PF2",
+            PartitionFault::ReservedKey => "PF3",
+            PartitionFault::UnknownFlag => "PF4",
+            PartitionFault::BothMembership => "PF5",
+            PartitionFault::MgidItem => "PF6",
+            PartitionFault::TooManyPartitions => "PF7",
+            PartitionFault::Unfinished => "PF8",
+            PartitionFault::BadFlagValue => "PF9",
+        }
+    }
+}
+
+/// Why a partition file was not read.
+#[derive(Clone, Copy, Debug, PartialEq, Eq, Error)]
+pub enum PartFault {
+    /// Memory was refused.
+    #[error("out of memory")]
+    NoMemory,
+    /// The first fault of the text.
+    #[error("line {line}: {cause}")]
+    At {
+        /// The line of the fault's place, counted from 1.
+        line: usize,
+        /// What is wrong there.
+        cause: PartitionFault,
+    },
+}
+
+impl From<AllocError> for PartFault {
+    ghost use Rattle.std.specs.Prelude.{◌≡◌};
+    ghost use Rattle.partition_file.specs.declared.fault.PartFault.TheVariants.{NoMemory};
+
+    ghost from_gives = { λ _ e. e ≡ NoMemory };
+
+    fn from(_error: AllocError) -> PartFault {
+        PartFault::NoMemory
+    }
+}
+
+impl<T: Drop> From<AllocFailed<T>> for PartFault {
+    ghost use Rattle.std.specs.Prelude.{◌≡◌};
+    ghost use Rattle.partition_file.specs.declared.fault.PartFault.TheVariants.{NoMemory};
+
+    ghost from_gives = { λ _ e. e ≡ NoMemory };
+
+    fn from(_error: AllocFailed<T>) -> PartFault {
+        PartFault::NoMemory
+    }
+}

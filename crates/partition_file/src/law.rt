@@ -1,0 +1,31 @@
+ghost use Rattle.partition_file.specs.Generated.{GeneratedBasesAreFree};
+ghost use Rattle.partition_file.specs.Law.{CleanThroughout, CommentsByBeginning, EndRefuses, InsideRefuses, OnlySoRefused};
+
+/// Which fault a partition text is refused for, as a law over the definitions that [`read`] meets.
+/// The function does nothing; its clauses are the theorem.
+///
+/// A beginning of a text is clean where no byte of it has a fault. A text is refused exactly where
+/// a byte that follows a clean beginning has a fault, or all of it is clean and ends inside a
+/// definition; it is refused for that fault, the first in turn if the byte has several, with the
+/// line of that byte or of the end.
+///
+/// [`read`]: crate::read
+pub fn first_fault()
+    // The fault of a byte after a clean beginning is told, whatever follows.
+    ensures inside { InsideRefuses }
+    // So is the fault of the end.
+    ensures end { EndRefuses }
+    // No text is refused otherwise.
+    ensures only { OnlySoRefused }
+    // What a clean beginning is.
+    ensures clean { CleanThroughout }
+    // Comments don't matter to any of this.
+    ensures comments { CommentsByBeginning }
+{}
+
+/// The law of the bases of definitions that name none: each is one that no definition of the file
+/// names and none got before, and is the least such. With no more partitions than there may be,
+/// there always is one. The function does nothing; its clause is the theorem.
+pub fn generated_bases()
+    ensures { GeneratedBasesAreFree }
+{}

@@ -1,0 +1,138 @@
+//! Who is a member of which partition, and how.
+
+ghost use Rattle.std.specs.Prelude.{◌≡◌, ◌≤◌, ◌<◌, ◌++◌, true, false, Some, IfOk, length, map, option_to_list};
+ghost use Rattle.pkey_rules.specs.declared.key_table.TheConstants.{PARTITIONS};
+ghost use Rattle.pkey_rules.specs.KeyTable.{has_base};
+ghost use Rattle.partition_file.specs.Members.{heading_of, is_full_member, is_member, key_in, key_of, keys_in, lists, members_of};
+ghost use Rattle.partition_file.specs.Sound.{IsSound, is_base};
+
+use crate::item::{Item, Ports};
+use crate::partition::{Partition, Partitions};
+use crate::port_keys::{Heading, Members};
+use pkey_rules::{EndPort, KeyTable, PARTITIONS, PKey};
+use std::alloc::{AllocError, Global};
+
+/// The top bit of a P_Key: its holder is a full member.
+const FULL_MEMBER: u16 = 0x8000;
+
+fn lists(port: &EndPort, item: &Item) -> bool
+    ensures { result ≡ lists port.now item.now }
+{
+    match item.ports {
+        Ports::All => true,
+        Ports::ChannelAdapters => !port.is_switch,
+        Ports::Switches => port.is_switch,
+        Ports::Routers => false,
+        Ports::Manager => port.is_sm,
+        Ports::Guid(guid) => port.guid == guid,
+    }
+}
+
+fn is_member(port: &EndPort, partition: &Partition) -> bool
+    ensures { result ≡ is_member port.now partition.now }
+{
+    partition
+        .items
+        .as_slice()
+        .iter()
+        .any(|item| lists(port, item))
+}
+
+fn is_full_member(port: &EndPort, partition: &Partition) -> bool
+    ensures { result ≡ is_full_member port.now partition.now }
+{
+    partition
+        .items
+        .as_slice()
+        .iter()
+        .any(|item| item.full && lists(port, item))
+}
+
+fn key_of(base: u16, full: bool) -> Option<PKey>
+    requires low { 1 ≤ base }
+    requires high { base ≤ 32767 }
+    ensures { result ≡ Some (key_of base full) }
+{
+    let bits = if full { base + FULL_MEMBER } else { base };
+    PKey::new(bits).ok()
+}
+
+/// The key that an end port holds in a partition, if it is a member.
+fn key_in(port: &EndPort, partition: &Partition) -> Option<PKey>
+    requires { is_base partition.now.base ≡ true }
+    ensures { result ≡ key_in port.now partition.now }
+{
+    if !is_member(port, partition) {
+        return None;
+    }
+    key_of(partition.base, is_full_member(port, partition))
+}
+
+/// Adds the key that an end port holds in a partition, if it is a member.
+fn add_key(keys: &mut KeyTable<PARTITIONS>, port: &EndPort, partition: &Partition)
+    requires base { is_base partition.now.base ≡ true }
+    requires free { has_base partition.now.base keys.old ≡ false }
+    requires room { length keys.old < PARTITIONS }
+    ensures { keys.new ≡ keys.old ++ option_to_list (key_in port.now partition.now) }
+{
+    if let Some(key) = key_in(port, partition) {
+        keys.push_distinct(key);
+    }
+}
+
+/// The keys of an end port, in order of the partitions' numbers.
+fn keys_in(partitions: &[Partition], port: &EndPort) -> KeyTable<PARTITIONS>
+    requires { IsSound partitions.now }
+    ensures { result ≡ keys_in partitions.now port.now }
+{
+    let mut keys = KeyTable::new();
+    for partition in partitions {
+        add_key(&mut keys, port, partition);
+    }
+    keys
+}
+
+fn all_keys(
+    alloc: Global,
+    partitions: &[Partition],
+    ports: &[EndPort],
+) -> Result<Vec<KeyTable<PARTITIONS>>, AllocError>
+    requires { IsSound partitions.now }
+    ensures { IfOk result (λ keys. keys.items ≡ map (keys_in partitions.now) ports.now) }
+{
+    let mut keys = Vec::new(alloc);
+    for port in ports {
+        keys.push(keys_in(partitions, port))?;
+    }
+    Ok(keys)
+}
+
+fn all_headings(alloc: Global, partitions: &[Partition]) -> Result<Vec<Heading>, AllocError>
+    ensures { IfOk result (λ headings. headings.items ≡ map heading_of partitions.now) }
+{
+    let mut headings = Vec::new(alloc);
+    for partition in partitions {
+        let heading = Heading::of(alloc, partition)?;
+        headings.push(heading)?;
+    }
+    Ok(headings)
+}
+
+/// The partitions, and the keys that each of these end ports holds.
+///
+/// A port is a member where some item lists it, and a full one where some item lists it as full. Any
+/// list of ports is answered, also one without a subnet manager, with several, or with equal GUIDs.
+/// For each port the items of all partitions are gone through, at most twice; a key that is added is
+/// first looked for among those that the port has, at most 31.
+pub fn members(
+    alloc: Global,
+    partitions: &Partitions,
+    ports: &[EndPort],
+) -> Result<Members, AllocError>
+    ensures { IfOk result (λ all. all ≡ members_of partitions.now ports.now) }
+{
+    let partitions = partitions.as_slice();
+    let headings = all_headings(alloc, partitions)?;
+    let keys = all_keys(alloc, partitions, ports)?;
+    Ok(Members { headings, keys })
+}
