@@ -9,3 +9,7 @@ pub mod SmpAttribute
 pub mod SwitchInfo
 pub mod Blocks
 pub mod PowerUp
+pub mod Request
+pub mod PortSetting
+pub mod Agent
+pub mod AgentLaws

@@ -1,6 +1,6 @@
 -- NodeInfo (InfiniBand volume 1, 14.2.5.3): the places of its fields in the 64 bytes of the attribute.
-use Rattle.std.specs.Prelude.{List, [], ◌∷◌}
-use Rattle.mad_layout.specs.Layout.{Place, at}
+use Rattle.std.specs.Prelude.{ℕ, List, [], ◌∷◌, replicate}
+use Rattle.mad_layout.specs.Layout.{Place, at, put_all}
 use Rattle.attr_tables.specs.declared.node_info.NodeInfo.{NodeInfo}
 
 abbrev pub node_info : NodeInfo → List Place
@@ -18,3 +18,7 @@ node_info info =
     ∷ at 288 8 info.local_port_num
     ∷ at 296 24 info.vendor_id
     ∷ []
+
+-- the 64 bytes of the attribute: its fields, and 0 elsewhere
+unfoldable pub node_info_bytes : NodeInfo → List ℕ
+node_info_bytes info = put_all (replicate 64 0) (node_info info)

@@ -1,7 +1,7 @@
 -- PortInfo (InfiniBand volume 1, 14.2.5.6): the places of its fields in the 64 bytes of the attribute.
-use Rattle.std.specs.Prelude.{List, [], ◌∷◌}
+use Rattle.std.specs.Prelude.{ℕ, List, [], ◌∷◌, replicate}
 use Rattle.mad_layout.specs.Bits.{bit_of}
-use Rattle.mad_layout.specs.Layout.{Place, at}
+use Rattle.mad_layout.specs.Layout.{Place, at, put_all}
 use Rattle.attr_tables.specs.declared.port_info.PortInfo.{PortInfo}
 
 abbrev pub port_info : PortInfo → List Place
@@ -52,3 +52,7 @@ port_info info =
     ∷ at 432 16 info.max_credit_hint
     ∷ at 456 24 info.link_round_trip_latency
     ∷ []
+
+-- the 64 bytes of the attribute: its fields, and 0 elsewhere
+unfoldable pub port_info_bytes : PortInfo → List ℕ
+port_info_bytes info = put_all (replicate 64 0) (port_info info)

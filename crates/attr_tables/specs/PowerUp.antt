@@ -1,5 +1,5 @@
 -- What a simulated node has at power-up: the capabilities that our nodes have, and 0 for all else.
-use Rattle.std.specs.Prelude.{ℕ, true, false, ◌∷◌, replicate}
+use Rattle.std.specs.Prelude.{ℕ, ◌-◌, Bool, true, false, List, ◌∷◌, replicate}
 use Rattle.attr_tables.specs.declared.link.Link.{Link}
 use Rattle.attr_tables.specs.declared.link.Link.TheVariants.{Cabled, Uncabled, Internal}
 use Rattle.attr_tables.specs.declared.node_type.NodeType.{NodeType}
@@ -23,6 +23,11 @@ abbrev pub physical_state_at_power_up : Link → ℕ
 physical_state_at_power_up Cabled = 5
 physical_state_at_power_up Uncabled = 2
 physical_state_at_power_up Internal = 5
+
+abbrev pub is_uncabled : Link → Bool
+is_uncabled Cabled = false
+is_uncabled Uncabled = true
+is_uncabled Internal = false
 
 -- a port of a channel adapter has room for one GUID
 abbrev pub guid_cap_of : NodeType → ℕ
@@ -121,3 +126,7 @@ node_info_of node_type num_ports node_guid port_guid local_port_num =
 -- the first block of a key table: the full key of the default partition, and empty places
 abbrev pub key_block_at_power_up : WordBlock
 key_block_at_power_up = record { words = 65535 ∷ replicate 31 0 }
+
+-- a key table: the same, for as many keys as a port holds
+abbrev pub keys_at_power_up : List ℕ
+keys_at_power_up = 65535 ∷ replicate (PARTITIONS - 1) 0

@@ -1,7 +1,7 @@
 -- SwitchInfo (InfiniBand volume 1, chapter 14): the places of its fields in the 64 bytes of the attribute.
-use Rattle.std.specs.Prelude.{List, [], ◌∷◌}
+use Rattle.std.specs.Prelude.{ℕ, List, [], ◌∷◌, replicate}
 use Rattle.mad_layout.specs.Bits.{bit_of}
-use Rattle.mad_layout.specs.Layout.{Place, at}
+use Rattle.mad_layout.specs.Layout.{Place, at, put_all}
 use Rattle.attr_tables.specs.declared.switch_info.SwitchInfo.{SwitchInfo}
 
 abbrev pub switch_info : SwitchInfo → List Place
@@ -23,3 +23,7 @@ switch_info info =
     ∷ at 131 1 (bit_of info.filter_raw_outbound_cap)
     ∷ at 132 1 (bit_of info.enhanced_port0)
     ∷ []
+
+-- the 64 bytes of the attribute: its fields, and 0 elsewhere
+unfoldable pub switch_info_bytes : SwitchInfo → List ℕ
+switch_info_bytes info = put_all (replicate 64 0) (switch_info info)

@@ -1,4 +1,5 @@
 ghost use Rattle.std.specs.Prelude.{◌≡◌, ◌<◌};
+ghost use Rattle.attr_tables.specs.AgentLaws.{RepliesCarry, SpellsAttributes, UnseenPasses};
 ghost use Rattle.attr_tables.specs.PortInfo.{port_info};
 ghost use Rattle.mad_layout.specs.Layout.{Fits};
 
@@ -50,3 +51,19 @@ pub fn word_block_reads_back(block: &WordBlock, bytes: &mut [u8; 64]) -> WordBlo
     block.write(bytes);
     WordBlock::read(bytes)
 }
+
+/// What records and blocks spell fills an attribute. Like the laws below it does nothing: its contract is
+/// the law.
+pub fn attributes_are_spelled()
+    ensures { SpellsAttributes }
+{}
+
+/// A reply carries the attribute or the refusal that answers, and all of the request beside.
+pub fn replies_carry()
+    ensures { RepliesCarry }
+{}
+
+/// What an agent neither reads nor writes, as the path, asks nothing of it and comes back in the reply.
+pub fn unseen_passes()
+    ensures { UnseenPasses }
+{}

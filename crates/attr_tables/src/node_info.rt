@@ -1,6 +1,6 @@
 ghost use Rattle.std.specs.Prelude.{◌≡◌, ◌<◌, Some, IfSome, replicate};
 ghost use Rattle.mad_layout.specs.Layout.{Holds, Fits, put_all, Spells};
-ghost use Rattle.attr_tables.specs.NodeInfo.{node_info};
+ghost use Rattle.attr_tables.specs.NodeInfo.{node_info, node_info_bytes};
 ghost use Rattle.attr_tables.specs.NodeType.{node_type_code};
 
 use crate::node_type::NodeType;
@@ -69,9 +69,20 @@ impl NodeInfo {
     /// Writes the attribute; every bit outside its fields is 0.
     pub fn write(&self, bytes: &mut [u8; 64])
         requires { self.now.vendor_id < 16777216 }
-        ensures { Spells bytes.new (node_info self.now) }
+        ensures spells { Spells bytes.new (node_info self.now) }
+        ensures bytes { bytes.new ≡ node_info_bytes self.now }
     {
         self.put_over_zeros(bytes);
+    }
+
+    /// The attribute's bytes.
+    pub fn to_bytes(&self) -> [u8; 64]
+        requires { self.now.vendor_id < 16777216 }
+        ensures { result ≡ node_info_bytes self.now }
+    {
+        let mut bytes = [0; 64];
+        self.write(&mut bytes);
+        bytes
     }
 
     /// The kind of node, if it is one of those.

@@ -1,7 +1,7 @@
 ghost use Rattle.std.specs.Prelude.{◌≡◌, Some, IfSome, replicate};
 ghost use Rattle.mad_layout.specs.Layout.{Holds, Fits, put_all, Spells};
 ghost use Rattle.attr_tables.specs.Mtu.{mtu_code};
-ghost use Rattle.attr_tables.specs.PortInfo.{port_info};
+ghost use Rattle.attr_tables.specs.PortInfo.{port_info, port_info_bytes};
 ghost use Rattle.attr_tables.specs.PortPhysicalState.{port_physical_state_code};
 ghost use Rattle.attr_tables.specs.PortState.{port_state_code};
 
@@ -172,9 +172,20 @@ impl PortInfo {
     /// Writes the attribute; every bit outside its fields is 0.
     pub fn write(&self, bytes: &mut [u8; 64])
         requires { Fits (port_info self.now) }
-        ensures { Spells bytes.new (port_info self.now) }
+        ensures spells { Spells bytes.new (port_info self.now) }
+        ensures bytes { bytes.new ≡ port_info_bytes self.now }
     {
         self.put_over_zeros(bytes);
+    }
+
+    /// The attribute's bytes.
+    pub fn to_bytes(&self) -> [u8; 64]
+        requires { Fits (port_info self.now) }
+        ensures { result ≡ port_info_bytes self.now }
+    {
+        let mut bytes = [0; 64];
+        self.write(&mut bytes);
+        bytes
     }
 
     /// The state of the link, if it is one of those.

@@ -1,6 +1,7 @@
 ghost use Rattle.std.specs.Prelude.{◌≡◌};
-ghost use Rattle.attr_tables.specs.PowerUp.{key_block_at_power_up, node_info_of, port_info_at_power_up, switch_info_at_power_up};
+ghost use Rattle.attr_tables.specs.PowerUp.{is_uncabled, key_block_at_power_up, keys_at_power_up, node_info_of, port_info_at_power_up, switch_info_at_power_up};
 ghost use Rattle.attr_tables.specs.PortInfo.{port_info};
+ghost use Rattle.attr_tables.specs.PortSetting.{is_down};
 ghost use Rattle.mad_layout.specs.Layout.{Fits};
 
 use crate::link::Link;
@@ -24,6 +25,7 @@ pub const MULTICAST_TABLE: usize = 1024;
 pub fn port_info_at_power_up(node_type: NodeType, local_port_num: u8, link: Link) -> PortInfo
     ensures value { result ≡ port_info_at_power_up node_type local_port_num link }
     ensures fits { Fits (port_info result) }
+    ensures down { is_down result ≡ is_uncabled link }
 {
     let (port_state, physical_state) = match link {
         Link::Cabled => (PortState::Initialize, PortPhysicalState::LinkUp),
@@ -102,4 +104,14 @@ pub fn key_block_at_power_up() -> WordBlock
     let mut words = [0; 32];
     words[0] = 0xffff;
     WordBlock { words }
+}
+
+/// The key table of each port of a simulated node at power-up: the full key of the default partition,
+/// and empty places.
+pub fn keys_at_power_up() -> [u16; PARTITIONS]
+    ensures { result ≡ keys_at_power_up }
+{
+    let mut keys = [0; PARTITIONS];
+    keys[0] = 0xffff;
+    keys
 }

@@ -1,5 +1,5 @@
 ghost use Rattle.std.specs.Prelude.{◌≡◌, Some, IfSome};
-ghost use Rattle.attr_tables.specs.SmpAttribute.{smp_attribute_code};
+ghost use Rattle.attr_tables.specs.SmpAttribute.{smp_attribute_code, smp_attribute_of};
 
 /// An attribute that an SMP carries, the AttributeID of its header.
 ///
@@ -27,6 +27,7 @@ impl SmpAttribute {
     pub fn from_code(code: u16) -> Option<SmpAttribute>
         ensures known { IfSome result (λ one. smp_attribute_code one ≡ code) }
         ensures every { (one : SmpAttribute) → smp_attribute_code one ≡ code → result ≡ Some one }
+        ensures value { result ≡ smp_attribute_of code }
     {
         match code {
             0x0010 => Some(SmpAttribute::NodeDescription),

@@ -1,6 +1,6 @@
 ghost use Rattle.std.specs.Prelude.{◌≡◌, ◌<◌, replicate};
 ghost use Rattle.mad_layout.specs.Layout.{Holds, Fits, put_all, Spells};
-ghost use Rattle.attr_tables.specs.SwitchInfo.{switch_info};
+ghost use Rattle.attr_tables.specs.SwitchInfo.{switch_info, switch_info_bytes};
 
 use mad_layout::{read_fields, write_fields};
 
@@ -79,9 +79,20 @@ impl SwitchInfo {
     /// Writes the attribute; every bit outside its fields is 0.
     pub fn write(&self, bytes: &mut [u8; 64])
         requires { self.now.life_time_value < 32 }
-        ensures { Spells bytes.new (switch_info self.now) }
+        ensures spells { Spells bytes.new (switch_info self.now) }
+        ensures bytes { bytes.new ≡ switch_info_bytes self.now }
     {
         self.put_over_zeros(bytes);
+    }
+
+    /// The attribute's bytes.
+    pub fn to_bytes(&self) -> [u8; 64]
+        requires { self.now.life_time_value < 32 }
+        ensures { result ≡ switch_info_bytes self.now }
+    {
+        let mut bytes = [0; 64];
+        self.write(&mut bytes);
+        bytes
     }
 
     fn put_over_zeros(&self, bytes: &mut [u8; 64])

@@ -1,5 +1,5 @@
 ghost use Rattle.std.specs.Prelude.{◌≡◌, ◌<◌, ℕ, slice_index};
-ghost use Rattle.attr_tables.specs.Blocks.{HoldsEntries};
+ghost use Rattle.attr_tables.specs.Blocks.{HoldsEntries, word_bytes};
 
 use byteorder::{BigEndian, ByteOrder};
 use mad_layout::known_bytes;
@@ -26,7 +26,8 @@ impl WordBlock {
 
     /// Writes the attribute.
     pub fn write(&self, bytes: &mut [u8; 64])
-        ensures { HoldsEntries bytes.new 16 self.now.words }
+        ensures entries { HoldsEntries bytes.new 16 self.now.words }
+        ensures bytes { bytes.new ≡ word_bytes self.now.words }
     {
         known_words(&self.words);
         BigEndian::write_u16_into(&self.words, bytes);

@@ -44,4 +44,4 @@ same_switch_info a b bytes h g =
 
 pub returns : goal.returns
 returns c =
-    same_switch_info c.read.result c.args.info.now c.write.new.bytes c.read.ensures.fields c.write.ensures.fields
+    same_switch_info c.read.result c.args.info.now c.write.new.bytes c.read.ensures.fields c.write.ensures.spells.fields

@@ -1,11 +1,15 @@
 use Rattle.std.proofs.Common.{ℕ, List, sym, subst, refl}
 use Rattle.mad_layout.specs.Layout.{Spells}
 use Rattle.mad_layout.proofs.LayoutLemmas.{spells_put_all}
-use Rattle.attr_tables.specs.SwitchInfo.{switch_info}
+use Rattle.attr_tables.specs.SwitchInfo.{switch_info, switch_info_bytes}
 use Rattle.attr_tables.proofs.switch_info.SwitchInfo.write.Goals as goal
 
-pub returns : goal.returns
-returns c =
+pub returns-clause-spells : goal.returns-clause-spells
+returns-clause-spells c =
     let places = switch_info c.args.self.now in
     let P : List ℕ → Type 0 = λ bytes. Spells bytes places in
     subst P (sym c.put_over_zeros.ensures.fields) (spells_put_all places 64 refl c.put_over_zeros.ensures.fits)
+
+pub returns-clause-bytes : goal.returns-clause-bytes
+unfolding switch_info_bytes
+returns-clause-bytes c = c.put_over_zeros.ensures.fields

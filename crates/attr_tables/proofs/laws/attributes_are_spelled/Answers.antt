@@ -1,0 +1,5 @@
+use Rattle.attr_tables.proofs.CarryLemmas.{attributes}
+use Rattle.attr_tables.proofs.laws.attributes_are_spelled.Goals as goal
+
+pub returns : goal.returns
+returns c = attributes

@@ -1,0 +1,30 @@
+-- What one port of a channel adapter holds.
+use Rattle.std.specs.Prelude.{ℕ, List}
+use Rattle.attr_tables.specs.declared.link.Link.{Link}
+use Rattle.attr_tables.specs.declared.node_type.NodeType.TheVariants.{ChannelAdapter}
+use Rattle.attr_tables.specs.declared.port_info.PortInfo.{PortInfo}
+use Rattle.attr_tables.specs.PowerUp.{keys_at_power_up, port_info_at_power_up}
+
+pub record AdapterState : Type 0 where
+  pub node_guid : ℕ
+  -- how many ports the adapter has, and which of them this is
+  pub num_ports : ℕ
+  pub number : ℕ
+  pub port_guid : ℕ
+  -- NodeDescription's 64 bytes
+  pub description : List ℕ
+  pub info : PortInfo
+  -- the words of the key table as they were written
+  pub keys : List ℕ
+
+abbrev pub at_power_up : (node_guid num_ports number port_guid : ℕ) → List ℕ → Link → AdapterState
+at_power_up node_guid num_ports number port_guid description link =
+    record {
+      node_guid = node_guid;
+      num_ports = num_ports;
+      number = number;
+      port_guid = port_guid;
+      description = description;
+      info = port_info_at_power_up ChannelAdapter number link;
+      keys = keys_at_power_up;
+    }

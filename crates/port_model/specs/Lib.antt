@@ -1,0 +1,3 @@
+pub mod AdapterState
+pub mod Agent
+pub mod Laws

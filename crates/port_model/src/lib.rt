@@ -1,0 +1,15 @@
+//! A port of a channel adapter of the simulated fabric, and its agent of subnet management.
+//!
+//! [`AdapterPort::agent`] answers an SMP: its clauses say, by the definitions of `specs/Agent.antt`,
+//! whether there is a reply, each bit of it, and what the port holds from then on. A wire needs to know
+//! nothing else. What all agents share stands in `attr_tables`. The attributes are those of the
+//! InfiniBand Architecture Specification, volume 1, chapter 14; what a port holds at power-up is ours.
+#![tactic(auto)]
+
+mod adapter_port;
+mod laws;
+
+pub use crate::adapter_port::AdapterPort;
+pub use crate::laws::{
+    smps_are_read_alike, smps_change_what_they_name, smps_settle, unseen_comes_back,
+};

@@ -1,0 +1,3 @@
+pub mod PortLemmas
+pub mod AgentLemmas
+pub mod ChangeLemmas

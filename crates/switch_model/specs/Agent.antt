@@ -1,0 +1,125 @@
+-- How a switch answers SMPs (InfiniBand volume 1, chapter 14): it has every attribute, and all can be set
+-- but NodeInfo and NodeDescription. The rest is what all agents share.
+use Rattle.std.specs.Prelude.{ℕ, ◌/◌, ◌%◌, ◌^◌, ◌==◌, Bool, ◌&&◌, nat_lt, if◌then◌else◌, List, slice_get, slice_set, length, Option, Result, Ok, Err}
+use Rattle.std.specs.Option.{ok_or}
+use Rattle.mad_layout.specs.declared.status.MadStatus.{MadStatus}
+use Rattle.mad_layout.specs.declared.status.MadStatus.TheVariants.{AttributeNotSupported, InvalidField}
+use Rattle.attr_tables.specs.declared.node_type.NodeType.TheVariants.{Switch}
+use Rattle.attr_tables.specs.declared.smp_attribute.SmpAttribute.{SmpAttribute}
+use Rattle.attr_tables.specs.declared.smp_attribute.SmpAttribute.TheVariants.{NodeDescription, NodeInfo, SwitchInfo, PortInfo, PKeyTable, LinearForwardingTable, MulticastForwardingTable}
+use Rattle.attr_tables.specs.Agent.{◌>>=◌, after, reply_of, shown_at, whole, word_block, word_block_set}
+use Rattle.attr_tables.specs.Blocks.{block_of, has_block, with_block}
+use Rattle.attr_tables.specs.NodeInfo.{node_info_bytes}
+use Rattle.attr_tables.specs.PortInfo.{port_info_bytes}
+use Rattle.attr_tables.specs.PortSetting.{port_setting, port_info_after}
+use Rattle.attr_tables.specs.PowerUp.{node_info_of}
+use Rattle.attr_tables.specs.Request.{asked, asked_ports, modifier_of}
+use Rattle.attr_tables.specs.SwitchInfo.{switch_info_bytes}
+use Rattle.attr_tables.specs.declared.switch_info.SwitchInfo.{SwitchInfo as Info}
+use Rattle.switch_model.specs.declared.switch_port.SwitchPort.{SwitchPort}
+use Rattle.switch_model.specs.SwitchState.{SwitchState, num_ports}
+
+-- the part of that number, if there is one: a port, or a position of the multicast forwarding table
+abbrev pub part_at : {X : Type 0} → ℕ → List X → Result X MadStatus
+part_at number parts = ok_or (slice_get parts number) InvalidField
+
+-- the modifier of a key table: the port in its high half, the block in its low half
+abbrev pub key_port : ℕ → ℕ
+key_port modifier = modifier / 2 ^ 16
+
+abbrev pub key_block : ℕ → ℕ
+key_block modifier = modifier % 2 ^ 16
+
+-- the modifier of a multicast forwarding table: the position in its first 4 bits, the block in its last 9
+abbrev pub mask_position : ℕ → ℕ
+mask_position modifier = modifier / 2 ^ 28
+
+abbrev pub mask_block : ℕ → ℕ
+mask_block modifier = modifier % 2 ^ 9
+
+-- the bits between the two are 0
+abbrev pub is_mask_modifier : ℕ → Bool
+is_mask_modifier modifier = modifier / 2 ^ 9 % 2 ^ 19 == 0
+
+-- the masks of the position that it names
+abbrev pub masks_at : ℕ → List (List ℕ) → Result (List ℕ) MadStatus
+masks_at modifier masks =
+    if is_mask_modifier modifier then part_at (mask_position modifier) masks else Err InvalidField
+
+-- ---- what is given for a Get that came in at this port
+abbrev pub port_info_get : ℕ → ℕ → List SwitchPort → Result (List ℕ) MadStatus
+port_info_get in_port number ports = do
+  port ← part_at number ports
+  Ok (port_info_bytes (shown_at in_port port.info))
+
+abbrev pub keys_get : ℕ → List SwitchPort → Result (List ℕ) MadStatus
+keys_get modifier ports = do
+  port ← part_at (key_port modifier) ports
+  word_block (key_block modifier) port.keys
+
+abbrev pub linear_get : ℕ → List ℕ → Result (List ℕ) MadStatus
+linear_get block linear = if has_block 64 block linear then Ok (block_of 64 block linear) else Err InvalidField
+
+abbrev pub masks_get : ℕ → List (List ℕ) → Result (List ℕ) MadStatus
+masks_get modifier masks = do
+  words ← masks_at modifier masks
+  word_block (mask_block modifier) words
+
+unfoldable pub get : ℕ → SwitchState → SmpAttribute → ℕ → Result (List ℕ) MadStatus
+get in_port held NodeDescription modifier = whole modifier held.description
+get in_port held NodeInfo modifier =
+    whole modifier (node_info_bytes (node_info_of Switch (num_ports held) held.node_guid held.node_guid in_port))
+get in_port held SwitchInfo modifier = whole modifier (switch_info_bytes held.info)
+get in_port held PortInfo modifier = port_info_get in_port modifier held.ports
+get in_port held PKeyTable modifier = keys_get modifier held.ports
+get in_port held LinearForwardingTable modifier = linear_get modifier held.linear
+get in_port held MulticastForwardingTable modifier = masks_get modifier held.masks
+
+-- ---- what is held after a Set
+-- only ports from 1 on can enforce partitions
+abbrev pub port_info_set : List ℕ → List SwitchPort → Result (List SwitchPort) MadStatus
+port_info_set smp ports = do
+  port ← part_at (modifier_of smp) ports
+  info ← port_info_after (nat_lt 0 (modifier_of smp)) port.info (port_setting smp)
+  Ok (slice_set ports (modifier_of smp) (record port { info = info }))
+
+abbrev pub keys_set : List ℕ → List SwitchPort → Result (List SwitchPort) MadStatus
+keys_set smp ports = do
+  port ← part_at (key_port (modifier_of smp)) ports
+  keys ← word_block_set (key_block (modifier_of smp)) smp port.keys
+  Ok (slice_set ports (key_port (modifier_of smp)) (record port { keys = keys }))
+
+-- LinearFDBTop, which is one of the LIDs that the table has
+abbrev pub linear_top_set : List ℕ → ℕ → Info → Result Info MadStatus
+linear_top_set smp lids info =
+    if (modifier_of smp == 0) && nat_lt (asked smp 48 16) lids then Ok (record info { linear_fdb_top = asked smp 48 16 }) else Err InvalidField
+
+abbrev pub linear_set : List ℕ → List ℕ → Result (List ℕ) MadStatus
+linear_set smp linear =
+    if has_block 64 (modifier_of smp) linear then Ok (with_block 64 (modifier_of smp) (asked_ports smp) linear) else Err InvalidField
+
+abbrev pub masks_set : List ℕ → List (List ℕ) → Result (List (List ℕ)) MadStatus
+masks_set smp masks = do
+  words ← masks_at (modifier_of smp) masks
+  next ← word_block_set (mask_block (modifier_of smp)) smp words
+  Ok (slice_set masks (mask_position (modifier_of smp)) next)
+
+unfoldable pub set : SwitchState → SmpAttribute → List ℕ → Result SwitchState MadStatus
+set held SwitchInfo smp =
+    linear_top_set smp (length held.linear) held.info >>= λ info. Ok (record held { info = info })
+set held PortInfo smp = port_info_set smp held.ports >>= λ ports. Ok (record held { ports = ports })
+set held PKeyTable smp = keys_set smp held.ports >>= λ ports. Ok (record held { ports = ports })
+set held LinearForwardingTable smp =
+    linear_set smp held.linear >>= λ linear. Ok (record held { linear = linear })
+set held MulticastForwardingTable smp =
+    masks_set smp held.masks >>= λ masks. Ok (record held { masks = masks })
+set held NodeDescription smp = Err AttributeNotSupported
+set held NodeInfo smp = Err AttributeNotSupported
+
+-- the reply to an SMP that came in at this port, if it is a request
+unfoldable pub agent_reply : SwitchState → ℕ → List ℕ → Option (List ℕ)
+agent_reply held in_port smp = reply_of (get in_port) set held smp
+
+-- what the switch holds after an SMP, by whatever port it came in
+unfoldable pub agent_after : SwitchState → List ℕ → SwitchState
+agent_after held smp = after set held smp

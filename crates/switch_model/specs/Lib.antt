@@ -1,0 +1,3 @@
+pub mod SwitchState
+pub mod Agent
+pub mod Laws

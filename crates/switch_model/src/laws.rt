@@ -1,0 +1,28 @@
+ghost use Rattle.switch_model.specs.Laws.{PortsHaveTheirLinks, SmpsAreReadAlike, SmpsChangeWhatTheyName, SmpsSettle, UnseenComesBack};
+
+/// An SMP changes at most what it names, and each port is Down afterwards exactly where it was Down. Like
+/// the laws below it does nothing: its contract is the law.
+pub fn smps_change_what_they_name()
+    ensures { SmpsChangeWhatTheyName }
+{}
+
+/// What asks no agent, a Get, and what is refused change nothing; what a Set is answered with is what
+/// every Get that follows is answered with.
+pub fn smps_settle()
+    ensures { SmpsSettle }
+{}
+
+/// Each port of a new switch has what its link gives it.
+pub fn ports_have_their_links()
+    ensures { PortsHaveTheirLinks }
+{}
+
+/// Of an SMP nothing counts but what it asks: its class, versions, method, attribute, modifier and data.
+pub fn smps_are_read_alike()
+    ensures { SmpsAreReadAlike }
+{}
+
+/// What an agent does not see of an SMP, as the path, comes back in its reply.
+pub fn unseen_comes_back()
+    ensures { UnseenComesBack }
+{}

@@ -1,0 +1,21 @@
+//! A switch of the simulated fabric, and its agent of subnet management.
+//!
+//! [`Switch::agent`] answers an SMP: its clauses say, by the definitions of `specs/Agent.antt`, whether
+//! there is a reply, each bit of it, and what the switch holds from then on. A wire needs to know nothing
+//! else. What all agents share stands in `attr_tables`. The attributes are those of the InfiniBand
+//! Architecture Specification, volume 1, chapter 14; what a switch holds at power-up is ours.
+#![tactic(auto)]
+
+mod laws;
+mod linear_table;
+mod multicast_table;
+mod port_list;
+mod switch;
+mod switch_port;
+
+pub use crate::laws::{
+    ports_have_their_links, smps_are_read_alike, smps_change_what_they_name, smps_settle,
+    unseen_comes_back,
+};
+pub use crate::switch::{PORTS, Switch};
+pub use crate::switch_port::SwitchPort;

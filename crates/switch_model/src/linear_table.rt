@@ -1,0 +1,50 @@
+ghost use Rattle.std.specs.Prelude.{◌≡◌};
+ghost use Rattle.attr_tables.specs.Agent.{Leaves};
+ghost use Rattle.switch_model.specs.Agent.{linear_get, linear_set, linear_top_set};
+
+use attr_tables::{PORTS_PER_BLOCK, SwitchInfo, asked_linear_fdb_top, asked_ports, modifier_of};
+use mad_layout::{Mad, MadStatus};
+
+/// The block of that number of a linear forwarding table.
+#[tactic(auto, unfolding(attr_tables::specs::Blocks::block_of))]
+pub fn linear_get(block: usize, linear: &[u8]) -> Result<[u8; 64], MadStatus>
+    ensures { result ≡ linear_get block linear.now }
+{
+    if block >= linear.len() / PORTS_PER_BLOCK {
+        return Err(MadStatus::InvalidField);
+    }
+    let mut ports = [0; PORTS_PER_BLOCK];
+    let first = PORTS_PER_BLOCK * block;
+    ports.copy_from_slice(&linear[first..first + PORTS_PER_BLOCK]);
+    Ok(ports)
+}
+
+/// Sets the block of a linear forwarding table that the SMP names.
+#[tactic(auto, unfolding(attr_tables::specs::Blocks::with_block))]
+pub fn linear_set(smp: &Mad, linear: &mut [u8]) -> Result<(), MadStatus>
+    ensures { Leaves result linear.old linear.new (linear_set smp.now linear.old) }
+{
+    let block = modifier_of(smp) as usize;
+    if block >= linear.len() / PORTS_PER_BLOCK {
+        return Err(MadStatus::InvalidField);
+    }
+    let first = PORTS_PER_BLOCK * block;
+    linear[first..first + PORTS_PER_BLOCK].copy_from_slice(&asked_ports(smp).ports);
+    Ok(())
+}
+
+/// Sets LinearFDBTop of a switch whose table has so many LIDs.
+pub fn linear_top_set(smp: &Mad, lids: usize, info: &mut SwitchInfo) -> Result<(), MadStatus>
+    ensures set { Leaves result info.old info.new (linear_top_set smp.now lids info.old) }
+    ensures life_time_value { info.new.life_time_value ≡ info.old.life_time_value }
+{
+    if modifier_of(smp) != 0 {
+        return Err(MadStatus::InvalidField);
+    }
+    let top = asked_linear_fdb_top(smp);
+    if usize::from(top) >= lids {
+        return Err(MadStatus::InvalidField);
+    }
+    info.linear_fdb_top = top;
+    Ok(())
+}

@@ -1,0 +1,57 @@
+ghost use Rattle.std.specs.Prelude.{◌≡◌};
+ghost use Rattle.attr_tables.specs.Agent.{Leaves};
+ghost use Rattle.switch_model.specs.Agent.{is_mask_modifier, mask_block, mask_position, masks_get, masks_set};
+
+use attr_tables::{modifier_of, set_word_block, word_block_at};
+use mad_layout::{Mad, MadStatus};
+
+/// How many positions a multicast forwarding table has: each has a mask of 16 ports.
+pub const POSITIONS: usize = 3;
+
+/// The block of masks that the modifier names.
+pub fn masks_get<const MFT: usize>(
+    modifier: u32,
+    masks: &[[u16; MFT]; POSITIONS],
+) -> Result<[u8; 64], MadStatus>
+    ensures { result ≡ masks_get modifier masks.now }
+{
+    let position = mask_position(modifier);
+    if !is_mask_modifier(modifier) || position >= POSITIONS {
+        return Err(MadStatus::InvalidField);
+    }
+    word_block_at(&masks[position], mask_block(modifier))
+}
+
+/// Sets the block of masks that the SMP names.
+pub fn masks_set<const MFT: usize>(
+    smp: &Mad,
+    masks: &mut [[u16; MFT]; POSITIONS],
+) -> Result<(), MadStatus>
+    ensures { Leaves result masks.old masks.new (masks_set smp.now masks.old) }
+{
+    let modifier = modifier_of(smp);
+    let position = mask_position(modifier);
+    if !is_mask_modifier(modifier) || position >= POSITIONS {
+        return Err(MadStatus::InvalidField);
+    }
+    set_word_block(&mut masks[position], mask_block(modifier), smp)
+}
+
+/// Whether the bits between position and block are 0.
+fn is_mask_modifier(modifier: u32) -> bool
+    ensures { result ≡ is_mask_modifier modifier }
+{
+    (modifier >> 9) % (1 << 19) == 0
+}
+
+fn mask_position(modifier: u32) -> usize
+    ensures { result ≡ mask_position modifier }
+{
+    (modifier >> 28) as usize
+}
+
+fn mask_block(modifier: u32) -> usize
+    ensures { result ≡ mask_block modifier }
+{
+    (modifier % (1 << 9)) as usize
+}

@@ -1,0 +1,156 @@
+ghost use Rattle.std.specs.Prelude.{◌≡◌, ◌≢◌, ◌≤◌, true, ◌<◌, ◌-◌, ◌+◌, ◌*◌, ◌++◌, length, replicate, is_some, unwrap_or, IfOk};
+ghost use Rattle.mad_layout.specs.Bits.{field};
+ghost use Rattle.attr_tables.specs.Agent.{Leaves, answer, held_after};
+ghost use Rattle.attr_tables.specs.AgentLaws.{IsAttribute};
+ghost use Rattle.attr_tables.specs.Request.{KeepsRest};
+ghost use Rattle.switch_model.specs.Agent.{agent_after, agent_reply, get, set};
+ghost use Rattle.switch_model.specs.SwitchState.{at_power_up};
+ghost use Rattle.switch_model.specs.declared.switch.TheConstants.{PORTS};
+
+use crate::linear_table::{linear_get, linear_set, linear_top_set};
+use crate::multicast_table::{POSITIONS, masks_get, masks_set};
+use crate::port_list::{keys_get, keys_set, port_info_get, port_info_set, ports_at_power_up};
+use crate::switch_port::SwitchPort;
+use arrayvec::ArrayVec;
+use attr_tables::{
+    Link, NodeDescription, NodeType, SmpAttribute, SwitchInfo, attribute_asked, is_request, is_set,
+    modifier_of, node_info_of, put_reply, switch_info_at_power_up, whole,
+};
+use mad_layout::{Mad, MadStatus};
+use std::marker::Model;
+
+/// How many ports a switch has at most, its port 0 not counted.
+pub const PORTS: usize = 36;
+
+/// The same with port 0.
+pub(crate) const PORTS_WITH_0: usize = PORTS + 1;
+
+/// A switch whose linear forwarding table has `LFT` entries and whose multicast forwarding table has
+/// `MFT`: what it is, and what a subnet manager reads and sets of it.
+#[derive(Debug, Drop)]
+pub struct Switch<const LFT: usize, const MFT: usize> {
+    node_guid: u64,
+    description: NodeDescription,
+    info: SwitchInfo,
+    ports: ArrayVec<SwitchPort, PORTS_WITH_0>,
+    linear: [u8; LFT],
+    masks: [[u16; MFT]; POSITIONS],
+}
+
+impl<const LFT: usize, const MFT: usize> Model for Switch<LFT, MFT> {
+    ghost use Rattle.std.specs.Prelude.{◌<◌, length};
+    ghost use Rattle.switch_model.specs.SwitchState.{AllFit, SwitchState};
+
+    ghost Value = { SwitchState };
+
+    ghost view = { λ switch. record {
+      node_guid = switch.node_guid;
+      description = switch.description.node_string;
+      info = switch.info;
+      ports = switch.ports.items;
+      linear = switch.linear;
+      masks = switch.masks;
+    } };
+
+    ghost invariant = { λ switch. (switch.info.life_time_value < 32) × (0 < length switch.ports.items) × AllFit switch.ports.items };
+}
+
+impl<const LFT: usize, const MFT: usize> Switch<LFT, MFT> {
+    /// A switch at power-up, of that GUID and name, with a port for each of these links beside port 0.
+    pub fn new(node_guid: u64, name: &[u8], links: &[Link]) -> Self
+        requires lids { LFT < 65536 }
+        requires multicast_lids { MFT < 65536 }
+        requires name { length name.now ≤ 64 }
+        requires ports { length links.now ≤ PORTS }
+        ensures { result ≡ at_power_up node_guid (name.now ++ replicate (64 - length name.now) 0) links.now LFT MFT }
+    {
+        Switch {
+            node_guid,
+            description: NodeDescription::of_text(name),
+            info: SwitchInfo {
+                linear_fdb_cap: LFT as u16,
+                multicast_fdb_cap: MFT as u16,
+                ..switch_info_at_power_up()
+            },
+            ports: ports_at_power_up(links),
+            linear: [0xff; LFT],
+            masks: [[0; MFT]; POSITIONS],
+        }
+    }
+
+    /// Answers an SMP that came in at that port, in its place, or gives no reply and leaves it, where it
+    /// asks no agent of subnet management. Port 0 is where the SMP comes from the switch itself.
+    #[tactic(auto, unfolding(crate::specs::Agent::agent_reply, crate::specs::Agent::agent_after))]
+    pub fn agent(&mut self, in_port: u8, smp: &mut Mad) -> bool
+        ensures replied { result ≡ is_some (agent_reply self.old in_port smp.old) }
+        ensures reply { smp.new ≡ unwrap_or (agent_reply self.old in_port smp.old) smp.old }
+        ensures held { self.new ≡ agent_after self.old smp.old }
+        ensures kept { KeepsRest smp.old smp.new }
+        ensures refused { result ≡ true → field smp.new 33 15 ≢ 0 → self.new ≡ self.old }
+        ensures spelled { result ≡ true → IfOk (answer (get in_port) set self.old smp.old) IsAttribute }
+    {
+        if !is_request(smp) {
+            return false;
+        }
+        let answer = self.answer(in_port, smp);
+        put_reply(smp, &answer);
+        true
+    }
+
+    fn answer(&mut self, in_port: u8, smp: &Mad) -> Result<[u8; 64], MadStatus>
+        ensures answer { result ≡ answer (get in_port) set self.old smp.now }
+        ensures held { self.new ≡ held_after set self.old smp.now }
+    {
+        let attribute = attribute_asked(smp)?;
+        if is_set(smp) {
+            self.set(attribute, smp)?;
+        }
+        self.get(in_port, attribute, modifier_of(smp))
+    }
+
+    #[tactic(auto, unfolding(crate::specs::Agent::get))]
+    fn get(
+        &self,
+        in_port: u8,
+        attribute: SmpAttribute,
+        modifier: u32,
+    ) -> Result<[u8; 64], MadStatus>
+        ensures { result ≡ get in_port self.now attribute modifier }
+    {
+        match attribute {
+            SmpAttribute::NodeDescription => whole(modifier, self.description.node_string),
+            SmpAttribute::NodeInfo => self.node_info(in_port, modifier),
+            SmpAttribute::SwitchInfo => whole(modifier, self.info.to_bytes()),
+            SmpAttribute::PortInfo => port_info_get(in_port, modifier as usize, &self.ports),
+            SmpAttribute::PKeyTable => keys_get(modifier, &self.ports),
+            SmpAttribute::LinearForwardingTable => linear_get(modifier as usize, &self.linear),
+            SmpAttribute::MulticastForwardingTable => masks_get(modifier, &self.masks),
+        }
+    }
+
+    #[tactic(auto, unfolding(crate::specs::Agent::get))]
+    fn node_info(&self, in_port: u8, modifier: u32) -> Result<[u8; 64], MadStatus>
+        ensures { result ≡ get in_port self.now SmpAttribute.NodeInfo modifier }
+    {
+        let num_ports = (self.ports.len() - 1) as u8;
+        let guid = self.node_guid;
+        let info = node_info_of(NodeType::Switch, num_ports, guid, guid, in_port);
+        whole(modifier, info.to_bytes())
+    }
+
+    #[tactic(auto, unfolding(crate::specs::Agent::set))]
+    fn set(&mut self, attribute: SmpAttribute, smp: &Mad) -> Result<(), MadStatus>
+        ensures { Leaves result self.old self.new (set self.old attribute smp.now) }
+    {
+        match attribute {
+            SmpAttribute::SwitchInfo => linear_top_set(smp, LFT, &mut self.info),
+            SmpAttribute::PortInfo => port_info_set(smp, &mut self.ports),
+            SmpAttribute::PKeyTable => keys_set(smp, &mut self.ports),
+            SmpAttribute::LinearForwardingTable => linear_set(smp, &mut self.linear),
+            SmpAttribute::MulticastForwardingTable => masks_set(smp, &mut self.masks),
+            SmpAttribute::NodeDescription | SmpAttribute::NodeInfo => {
+                Err(MadStatus::AttributeNotSupported)
+            }
+        }
+    }
+}
