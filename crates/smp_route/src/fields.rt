@@ -17,18 +17,21 @@ const INITIAL_PATH: usize = 128;
 
 const RETURN_PATH: usize = 192;
 
+/// How far along its path the SMP is.
 pub fn pointer_of(smp: &Mad) -> u8
     ensures { result ≡ pointer smp.now }
 {
     smp[POINTER]
 }
 
+/// How many hops its path has.
 pub fn count_of(smp: &Mad) -> u8
     ensures { result ≡ count smp.now }
 {
     smp[COUNT]
 }
 
+/// The port by which that hop leaves; hops count from 1.
 pub fn initial_port_of(smp: &Mad, hop: u8) -> u8
     requires { hop < 64 }
     ensures { result ≡ initial_port smp.now hop }
@@ -36,6 +39,7 @@ pub fn initial_port_of(smp: &Mad, hop: u8) -> u8
     smp[INITIAL_PATH + hop as usize]
 }
 
+/// The port by which that hop came in.
 pub fn return_port_of(smp: &Mad, hop: u8) -> u8
     requires { hop < 64 }
     ensures { result ≡ return_port smp.now hop }
@@ -43,12 +47,14 @@ pub fn return_port_of(smp: &Mad, hop: u8) -> u8
     smp[RETURN_PATH + hop as usize]
 }
 
+/// Moves the SMP along its path.
 pub fn set_pointer(smp: &mut Mad, pointer: u8)
     ensures { smp.new ≡ with_pointer pointer smp.old }
 {
     smp[POINTER] = pointer;
 }
 
+/// Notes the port by which that hop came in.
 pub fn set_return_port(smp: &mut Mad, hop: u8, port: u8)
     requires { hop < 64 }
     ensures { smp.new ≡ with_return_port hop port smp.old }

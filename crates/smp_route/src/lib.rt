@@ -11,7 +11,10 @@ mod hop;
 mod outgoing;
 mod returning;
 
-pub use crate::fields::{MAX_HOPS, fields_are_the_standards};
+pub use crate::fields::{
+    MAX_HOPS, count_of, fields_are_the_standards, initial_port_of, pointer_of, return_port_of,
+    set_pointer, set_return_port,
+};
 pub use crate::hop::Hop;
 pub use crate::outgoing::outward;
 pub use crate::returning::back;

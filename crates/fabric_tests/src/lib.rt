@@ -1,0 +1,10 @@
+//! Tests of the simulated fabric, through its public calls alone.
+//!
+//! They say what no clause says: that the definitions mean what users were told, by byte vectors and
+//! worked requests.
+#![tactic(auto)]
+
+#[cfg(test)]
+mod agents;
+#[cfg(test)]
+mod wires;

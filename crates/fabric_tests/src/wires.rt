@@ -1,0 +1,209 @@
+//! Hops and wires on the two-switch fabric: A and B with ports 3 joined, h0 and h1 on A, h2 and h3 on B.
+
+ghost use Rattle.std.specs.Prelude.{◌≤◌, ◌<◌, ◌*◌, length};
+
+use attr_tables::{LINEAR_TABLE, Link, MULTICAST_TABLE, NodeType, SmpAttribute, SwitchInfo};
+use fabric_wire::{
+    AdapterPorts, CountingWire, Node, PlainWire, SilencedWire, SmpWire, get_request, read_attribute,
+};
+use mad_layout::{DrSmp, Header};
+use port_model::AdapterPort;
+use smp_route::{Hop, back, outward, pointer_of, return_port_of};
+use std::alloc::{AllocFailed, Global};
+use std::test::Fail;
+use switch_model::Switch;
+use topo_file::{Cable, PortRef};
+
+fn port(node: usize, port: u8) -> PortRef {
+    PortRef { node, port }
+}
+
+fn switch(guid: u64, name: &[u8]) -> Node
+    requires { length name.now ≤ 64 }
+{
+    let links = [Link::Cabled, Link::Cabled, Link::Cabled, Link::Uncabled];
+    let switch: Switch<LINEAR_TABLE, MULTICAST_TABLE> = Switch::new(guid, name, &links);
+    Node::Switch(switch)
+}
+
+fn adapter(alloc: Global, guid: u64, name: &[u8]) -> Result<Node, AllocFailed<AdapterPort>>
+    requires guid { guid < 256 * 256 }
+    requires name { length name.now ≤ 64 }
+{
+    let mut ports = Vec::new(alloc);
+    ports.push(AdapterPort::new(guid, 1, 1, guid + 1, name, Link::Cabled))?;
+    Ok(Node::Adapter(AdapterPorts::new(ports)))
+}
+
+/// The wire of the two-switch fabric, with the subnet manager on h0.
+fn two_switches(alloc: Global) -> Result<PlainWire, Fail> {
+    let mut nodes = Vec::new(alloc);
+    nodes.push(switch(0x10, b"A")).ok().ok_or("memory")?;
+    nodes.push(switch(0x20, b"B")).ok().ok_or("memory")?;
+    for (guid, name) in [
+        (0x100, b"h0"),
+        (0x110, b"h1"),
+        (0x120, b"h2"),
+        (0x130, b"h3"),
+    ] {
+        let node = adapter(alloc, guid, name).ok().ok_or("memory")?;
+        nodes.push(node).ok().ok_or("memory")?;
+    }
+    let ends = [
+        (port(0, 1), port(2, 1)),
+        (port(0, 2), port(3, 1)),
+        (port(0, 3), port(1, 3)),
+        (port(1, 1), port(4, 1)),
+        (port(1, 2), port(5, 1)),
+    ];
+    let mut cables = Vec::new(alloc);
+    for (first, second) in ends {
+        cables.push(Cable { first, second }).ok().ok_or("memory")?;
+    }
+    Ok(PlainWire::new(nodes, cables, port(2, 1)))
+}
+
+/// Whether these bytes stand at that place.
+fn has_at(bytes: &[u8], place: usize, part: &[u8]) -> bool {
+    bytes.iter().skip(place).zip(part).all(|(a, b)| a == b)
+}
+
+#[test]
+fn an_smp_goes_its_path_and_its_answer_comes_back(rt: HostRuntime) -> Result<(), Fail> {
+    let mut smp = get_request(SmpAttribute::NodeInfo, 0, &[1, 3]);
+    assert_eq!(rt;
+        outward(NodeType::ChannelAdapter, 0, &mut smp),
+        Hop::Forward(1),
+        "at h0"
+    );
+    assert_eq!(rt; pointer_of(&smp), 1);
+    assert_eq!(rt;
+        outward(NodeType::Switch, 1, &mut smp),
+        Hop::Forward(3),
+        "at A"
+    );
+    assert_eq!(rt; pointer_of(&smp), 2);
+    assert_eq!(rt;
+        outward(NodeType::Switch, 3, &mut smp),
+        Hop::ToAgent,
+        "at B"
+    );
+    assert_eq!(rt; pointer_of(&smp), 3);
+    assert_eq!(rt; (return_port_of(&smp, 1), return_port_of(&smp, 2)), (1, 3));
+    assert_eq!(rt;
+        back(NodeType::Switch, 0, &mut smp),
+        Hop::Forward(3),
+        "from B's agent"
+    );
+    assert_eq!(rt; pointer_of(&smp), 2);
+    assert_eq!(rt;
+        back(NodeType::Switch, 3, &mut smp),
+        Hop::Forward(1),
+        "at A"
+    );
+    assert_eq!(rt; pointer_of(&smp), 1);
+    assert_eq!(rt;
+        back(NodeType::ChannelAdapter, 1, &mut smp),
+        Hop::ToManager,
+        "at h0"
+    );
+    assert_eq!(rt; pointer_of(&smp), 0);
+    Ok(())
+}
+
+#[test]
+fn without_a_hop_an_smp_asks_the_managers_own_node(rt: HostRuntime) -> Result<(), Fail> {
+    let mut smp = get_request(SmpAttribute::NodeInfo, 0, &[]);
+    assert_eq!(rt;
+        outward(NodeType::ChannelAdapter, 0, &mut smp),
+        Hop::ToAgent
+    );
+    assert_eq!(rt; pointer_of(&smp), 1);
+    assert_eq!(rt; back(NodeType::ChannelAdapter, 0, &mut smp), Hop::ToManager);
+    assert_eq!(rt; pointer_of(&smp), 0);
+    Ok(())
+}
+
+/// The first bytes of PortInfo from byte 28 on, and of SwitchInfo, at power-up.
+const PORT_INFO: [u8; 16] = [
+    1, 3, 3, 2, 0x12, 0x50, 0, 0x11, 0x40, 0x10, 0, 0, 0, 4, 0, 0x10,
+];
+
+const SWITCH_INFO: [u8; 17] = [2, 0, 0, 0, 4, 0, 0, 0, 0, 0, 0, 0x90, 0, 0, 0, 0x20, 0xc0];
+
+#[test]
+fn attributes_are_read_over_the_plain_wire(rt: HostRuntime) -> Result<(), Fail> {
+    let mut wire = two_switches(rt.alloc())?;
+    let own = read_attribute(&mut wire, SmpAttribute::PortInfo, 0, &[]).ok_or("PortInfo of h0")?;
+    assert!(rt; has_at(&own, 0, &[0; 28]));
+    assert!(rt; has_at(&own, 28, &PORT_INFO));
+    let a = read_attribute(&mut wire, SmpAttribute::SwitchInfo, 0, &[1]).ok_or("SwitchInfo of A")?;
+    assert!(rt; has_at(&a, 0, &SWITCH_INFO));
+    assert_eq!(rt; SwitchInfo::read(&a).linear_fdb_cap, 512);
+    let far = read_attribute(&mut wire, SmpAttribute::NodeDescription, 0, &[1, 3, 2]).ok_or("h3")?;
+    assert!(rt; has_at(&far, 0, b"h3\0"));
+    Ok(())
+}
+
+#[test]
+fn where_no_walk_leads_nothing_is_read(rt: HostRuntime) -> Result<(), Fail> {
+    let mut wire = two_switches(rt.alloc())?;
+    // h1 hands nothing on; port 4 of A has no cable; A has no port 5; an adapter has no SwitchInfo.
+    assert_eq!(rt;
+        read_attribute(&mut wire, SmpAttribute::NodeInfo, 0, &[1, 2, 1]),
+        None
+    );
+    assert_eq!(rt;
+        read_attribute(&mut wire, SmpAttribute::NodeInfo, 0, &[1, 4]),
+        None
+    );
+    assert_eq!(rt;
+        read_attribute(&mut wire, SmpAttribute::NodeInfo, 0, &[1, 5]),
+        None
+    );
+    assert_eq!(rt;
+        read_attribute(&mut wire, SmpAttribute::SwitchInfo, 0, &[1, 2]),
+        None
+    );
+    Ok(())
+}
+
+#[test]
+fn an_answer_has_its_direction_its_ports_and_no_hop_left(rt: HostRuntime) -> Result<(), Fail> {
+    let mut wire = two_switches(rt.alloc())?;
+    let request = get_request(SmpAttribute::NodeInfo, 0, &[1, 3]);
+    let answer = wire.exchange(&request).ok_or("an answer")?;
+    let smp = DrSmp::read(&answer);
+    assert!(rt; has_at(&answer, 4, &[0x80, 0, 0, 2]));
+    assert!(rt; has_at(&smp.return_path, 0, &[0, 1, 3, 0]));
+    assert_eq!(rt; Header::read(&answer).method, 0x81);
+    assert!(rt; has_at(&smp.data, 12, &[0, 0, 0, 0, 0, 0, 0, 0x20]));
+    // What has come back is not sent again, and no SMP begins in the middle of its path.
+    assert_eq!(rt; wire.exchange(&answer), None);
+    let mut begun = request;
+    begun[6] = 1;
+    assert_eq!(rt; wire.exchange(&begun), None);
+    Ok(())
+}
+
+#[test]
+fn wires_round_a_wire_count_and_fall_silent(rt: HostRuntime) -> Result<(), Fail> {
+    let mut counting = CountingWire {
+        wire: two_switches(rt.alloc())?,
+        count: 0,
+    };
+    for _ in 0..3u8 {
+        assert!(rt; read_attribute(&mut counting, SmpAttribute::NodeInfo, 0, &[1]).is_some());
+    }
+    assert_eq!(rt; counting.count, 3);
+    let mut silenced = SilencedWire {
+        wire: counting,
+        left: 2,
+    };
+    for answered in [true, true, false, false] {
+        let read = read_attribute(&mut silenced, SmpAttribute::NodeInfo, 0, &[1]);
+        assert_eq!(rt; read.is_some(), answered);
+    }
+    assert_eq!(rt; silenced.wire.count, 5);
+    Ok(())
+}

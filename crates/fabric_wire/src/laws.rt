@@ -1,0 +1,28 @@
+//! What holds of every exchange, in the words of `specs/Good.antt`. Each function's contract is its law; it
+//! does nothing.
+
+ghost use Rattle.fabric_wire.specs.Good.{ExchangesKeepGood, ExchangesKeepLinks, ExchangesKeepCables, IsGood, ShowsLinks, SwitchesJoined};
+ghost use Rattle.fabric_wire.specs.Get.{GetsTell};
+ghost use Rattle.fabric_wire.specs.TwoSwitches.{two_switches};
+
+/// A good fabric stays good, a port is Down exactly where it has no cable, and switches stay joined,
+/// whatever SMP is sent.
+pub fn exchanges_keep_the_fabric()
+    ensures good { ExchangesKeepGood }
+    ensures links { ExchangesKeepLinks }
+    ensures cables { ExchangesKeepCables }
+{}
+
+/// The two-switch fabric of our examples is good, its links show, and its switches are joined: so what
+/// is proved under these premises is not proved of nothing.
+pub fn the_two_switch_fabric_is_good()
+    ensures good { IsGood two_switches }
+    ensures links { ShowsLinks two_switches }
+    ensures joined { SwitchesJoined two_switches }
+{}
+
+/// A Get along a path leaves a good fabric as it was, and learns what the agent at the end of the path
+/// gives.
+pub fn gets_tell()
+    ensures { GetsTell }
+{}
