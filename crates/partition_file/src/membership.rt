@@ -122,8 +122,8 @@ fn all_headings(alloc: Global, partitions: &[Partition]) -> Result<Vec<Heading>,
 ///
 /// A port is a member where some item lists it, and a full one where some item lists it as full. Any
 /// list of ports is answered, also one without a subnet manager, with several, or with equal GUIDs.
-/// For each port the items of all partitions are gone through, at most twice; a key that is added is
-/// first looked for among those that the port has, at most 31.
+/// For each port the items of all partitions are gone through, at most twice: time is linear in the
+/// ports times the items.
 pub fn members(
     alloc: Global,
     partitions: &Partitions,
