@@ -5,4 +5,5 @@ pub mod LoopLemmas
 pub mod MarkLemmas
 pub mod WalkLemmas
 pub mod CableLemmas
+pub mod AcceptedLemmas
 pub mod SoundLemmas

@@ -1,12 +1,12 @@
 -- What is so of every topology that was read, whatever its text.
-use Rattle.std.specs.Prelude.{◌≡◌, Bool, true, not, ◌&&◌, nat_le, List, Option, Some, None, All}
-use Rattle.std.specs.List.{list_all}
+use Rattle.std.specs.Prelude.{◌≡◌, Bool, true, not, ◌&&◌, nat_le, List, [], ◌∷◌, Option, Some, None, All}
+use Rattle.std.specs.List.{list_all, list_any}
 use Rattle.topo_file.specs.declared.cable.Cable.{Cable}
 use Rattle.topo_file.specs.declared.cable.PortRef.{PortRef}
 use Rattle.topo_file.specs.declared.node.Node.{Node}
 use Rattle.topo_file.specs.declared.draft.Manager.{Manager}
-use Rattle.topo_file.specs.Node.{HasGuids, IsWithinLimits, is_switch_at, ports_at}
-use Rattle.topo_file.specs.Cable.{is_cabled}
+use Rattle.topo_file.specs.Node.{HasGuids, IsWithinLimits, is_switch_at, most_ports, ports_at, shares_guid}
+use Rattle.topo_file.specs.Cable.{is_cabled, may_join}
 use Rattle.topo_file.specs.Connectivity.{is_connected}
 use Rattle.topo_file.specs.Topology.{Plan, Declarations}
 
@@ -27,11 +27,33 @@ abbrev pub on_adapter : List Node → Option Manager → Bool
 on_adapter nodes None = true
 on_adapter nodes (Some manager) = is_manager_port nodes manager.port
 
+-- a GUID is not 0, and a switch has 1 to 36 ports, an adapter 1 to 8
+abbrev pub is_sized : Node → Bool
+is_sized node = nat_le 1 node.guid && (nat_le 1 node.ports && nat_le node.ports (most_ports node.kind))
+
+-- no two nodes have a GUID in common
+abbrev pub have_own_guids : List Node → Bool
+have_own_guids [] = true
+have_own_guids (node ∷ nodes) = not (list_any (λ other. shares_guid node other) nodes) && have_own_guids nodes
+
+-- the cable joins two different switches, or a switch and an adapter
+abbrev pub joins_right : List Node → Cable → Bool
+joins_right nodes cable = may_join nodes cable.first.node cable.second.node
+
+-- no port has two cables
+abbrev pub have_own_ports : List Cable → Bool
+have_own_ports [] = true
+have_own_ports (cable ∷ cables) = not (is_cabled cables cable.first) && (not (is_cabled cables cable.second) && have_own_ports cables)
+
 -- what each line keeps, of the nodes and cables so far
 pub record AreSound (nodes : List Node) (cables : List Cable) : Type 0 where
   pub guids : All HasGuids nodes
+  pub own_guids : have_own_guids nodes ≡ true
+  pub sizes : list_all is_sized nodes ≡ true
   pub limits : IsWithinLimits nodes
   pub ends : list_all (λ cable. ends_at_ports nodes cable) cables ≡ true
+  pub joins : list_all (joins_right nodes) cables ≡ true
+  pub own_ports : have_own_ports cables ≡ true
 
 pub record IsSoundSoFar (so_far : Declarations) : Type 0 where
   pub lines : AreSound so_far.nodes so_far.cables

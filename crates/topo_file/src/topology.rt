@@ -3,7 +3,7 @@ ghost use Rattle.std.specs.List.{list_all};
 ghost use Rattle.topo_file.specs.Cable.{is_cabled, port_at};
 ghost use Rattle.topo_file.specs.Connectivity.{is_connected};
 ghost use Rattle.topo_file.specs.Node.{HasGuids, IsWithinLimits, guid_at, is_switch_at, place_of, ports_at};
-ghost use Rattle.topo_file.specs.Sound.{ends_at_ports, is_manager_port};
+ghost use Rattle.topo_file.specs.Sound.{ends_at_ports, have_own_guids, have_own_ports, is_manager_port, is_sized, joins_right};
 
 use crate::cable::{Cable, CableList, PortRef, port_at};
 use crate::node::{Node, NodeList, is_switch_at};
@@ -33,6 +33,8 @@ impl Topology {
     pub fn nodes(&self) -> &[Node]
         ensures value { result.now ≡ self.now.nodes }
         ensures guids { All HasGuids result.now }
+        ensures own_guids { have_own_guids result.now ≡ true }
+        ensures sizes { list_all is_sized result.now ≡ true }
         ensures limits { IsWithinLimits result.now }
     {
         self.nodes.as_slice()
@@ -42,6 +44,8 @@ impl Topology {
     pub fn cables(&self) -> &[Cable]
         ensures value { result.now ≡ self.now.cables }
         ensures ends { list_all (λ cable. ends_at_ports self.now.nodes cable) result.now ≡ true }
+        ensures joins { list_all (joins_right self.now.nodes) result.now ≡ true }
+        ensures own_ports { have_own_ports result.now ≡ true }
         ensures connected { is_connected self.now.nodes result.now ≡ true }
     {
         self.cables.as_slice()
