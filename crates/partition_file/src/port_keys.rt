@@ -77,4 +77,13 @@ impl Members {
     {
         self.keys.as_slice()
     }
+
+    /// The partitions and the keys, each to keep.
+    pub fn into_parts(self) -> (Vec<Heading>, Vec<KeyTable<PARTITIONS>>)
+        ensures headings { result.0.items ≡ self.headings }
+        ensures keys { result.1.items ≡ self.keys }
+    {
+        let Members { headings, keys } = self;
+        (headings, keys)
+    }
 }

@@ -1,10 +1,9 @@
 use Rattle.std.proofs.Common.{◌≡◌, ℕ, ◌+◌, ◌≤◌, List, [], ◌∷◌, ◌++◌, length, Option, Result, Ok, Err, refl, sym, ap, subst, ◌∙◌, arith}
 use Rattle.std.specs.Option.{option_to_list}
-use Rattle.text_words.specs.Lines.{lines}
 use Rattle.topo_file.specs.Topology.{Plan}
 use Rattle.subnet_model.specs.declared.command.Command.{Command}
 use Rattle.subnet_core.specs.declared.fault.RunFault.{RunFault}
-use Rattle.subnet_core.specs.declared.fault.RunFault.TheVariants.{NoMemory, NotYet, Topology, Script}
+use Rattle.subnet_core.specs.declared.fault.RunFault.TheVariants.{NoMemory, Topology, Partitions, Script}
 use Rattle.subnet_core.specs.declared.fault.ScriptFault.{ScriptFault}
 use Rattle.subnet_core.specs.Run.{RunFails, of_script, with_line}
 use Rattle.subnet_core.specs.Script.{LineFault, after_lines, command_of, commands_of, on_line, ◌>>=◌}
@@ -35,10 +34,10 @@ goes_on plan number so_far next line left rest script first before judged =
 
 fails_so : (fault : RunFault) (given : Result (List Command) LineFault) (f : List Command → Result (List Command) LineFault) → RunFails fault (of_script given) → RunFails fault (of_script (given >>= f))
 fails_so NoMemory given f h = tt
-fails_so NotYet (Ok commands) f h = absurd (cc)
-fails_so NotYet (Err e) f h = absurd (cc)
 fails_so (Topology line cause) (Ok commands) f h = absurd (cc)
 fails_so (Topology line cause) (Err e) f h = absurd (cc)
+fails_so (Partitions line cause) (Ok commands) f h = absurd (cc)
+fails_so (Partitions line cause) (Err e) f h = absurd (cc)
 fails_so (Script line cause) (Ok commands) f h = absurd (cc)
 fails_so (Script line cause) (Err e) f h = h
 

@@ -1,5 +1,11 @@
-use Rattle.std.proofs.Common.{◌≡◌, ℕ, ◌+◌, ◌<◌, ◌≤◌, Bool, true, false, List, [], ◌∷◌, ◌++◌, length, take, drop, get_or, insert, map, nat_le, refl, inl, inr, ◌∙◌, sym, ap, append-nil, length-append, lit≤, suc, arith}
-use Rattle.std.specs.List.{prefix_len, flat_map, enumerate_from, range_with_len}
+use Rattle.std.proofs.Common.{◌≡◌, ℕ, ◌+◌, ◌<◌, ◌≤◌, List, [], ◌∷◌, ◌++◌, length, take, get_or, insert, map, fold, nat_le, Option, Some, None, refl, inl, inr, ◌∙◌, ap, append-nil, length-append, lit≤, suc, arith, Iter, Global, Bor}
+use Rattle.std.specs.Iterator.{AlwaysYields}
+use Rattle.std.specs.List.{prefix_len, flat_map, enumerate_from, range_with_len, zip}
+use Rattle.std.specs.Vec.Iter.{into_iter_steps}
+use Rattle.std.specs.declared.iter.Zip.{Zip}
+use Rattle.std.specs.declared.vec.IntoIter.{IntoIter}
+use Rattle.std.proofs.iter.Yields.{fronts}
+use Rattle.std.proofs.lemmas.Iterator.{zips}
 use Rattle.std.proofs.lemmas.Bool.{cases_Bool}
 use Rattle.std.proofs.lemmas.Grind.{common_steps}
 use Rattle.std.proofs.lemmas.List.{take_more}
@@ -10,11 +16,14 @@ use Rattle.topo_file.specs.declared.cable.PortRef.{PortRef}
 use Rattle.topo_file.specs.declared.node.Node.{Node}
 use Rattle.topo_file.specs.declared.node.NodeKind.{NodeKind}
 use Rattle.topo_file.specs.declared.node.NodeKind.TheVariants.{Switch, Adapter}
-use Rattle.topo_file.specs.Node.{adapter_ports, is_switch, port_guids, switch_count}
+use Rattle.topo_file.specs.Node.{adapter_ports, port_guids, switch_count}
 use Rattle.topo_file.specs.Cable.{is_cabled}
 use Rattle.topo_file.specs.Topology.{Plan}
 use Rattle.subnet_core.specs.declared.end_ports.Seat.{Seat}
-use Rattle.subnet_core.specs.Ports.{adapter_seats, seat_if_cabled, seats, seats_at, seats_of_kind, with_port}
+use Rattle.partition_file.specs.declared.partition.Partition.{Partition}
+use Rattle.partition_file.specs.Members.{keys_in}
+use Rattle.pkey_rules.specs.declared.end_port.EndPort.{EndPort}
+use Rattle.subnet_core.specs.Ports.{adapter_seats, end_ports, keyed, seat_if_cabled, seats, seats_at, seats_of_kind, with_port, with_seat}
 
 -- behind the ports of lesser LIDs is the port's place
 pub insert_in_order : (ports : List SubnetPort) (port : SubnetPort) → insert ports (prefix_len (λ other. nat_le other.lid port.lid) ports) port ≡ with_port ports port
@@ -86,3 +95,38 @@ few_from plan m (node ∷ nodes) =
 -- a subnet within the limits has few end ports
 pub few_seats : (plan : Plan) → switch_count plan.nodes ≤ 64 → adapter_ports plan.nodes ≤ 256 → length (seats plan) ≤ 320
 few_seats plan switches ports = omega (arith, few_from plan 0 plan.nodes)
+
+-- ---- seats beside their keys
+-- the keys that were made for a list of end ports are those of the seats
+pub zip_is_keyed : (partitions : List Partition) (some : List Seat) → zip some (map (keys_in partitions) (end_ports some)) ≡ keyed partitions some
+zip_is_keyed partitions [] = refl
+zip_is_keyed partitions (seat ∷ some) = ap (λ (rest : List (Seat × List ℕ)). (seat, keys_in partitions seat.port) ∷ rest) (zip_is_keyed partitions some)
+
+abbrev pub seats_and_keys : Zip (Iter Seat) (IntoIter (List ℕ) Global) → Option (Bor Seat × List ℕ) → Zip (Iter Seat) (IntoIter (List ℕ) Global) → Type 0
+seats_and_keys = zips fronts into_iter_steps
+
+-- what the loop over them keeps: with what is left to come, the ports are all of them
+pub record IsLeft {S A : Type 0} (steps : S → Option A → S → Type 0) (view : A → Seat × List ℕ) (nodes : List Node) (all : List EndPort) (ports : List SubnetPort) (source : S) (whole : List SubnetPort) : Type 0 where
+  pub left : List (Seat × List ℕ)
+  pub yields : AlwaysYields steps view source left
+  pub same : fold (with_seat nodes all) ports left ≡ whole
+
+goes_on : {S A : Type 0} (steps : S → Option A → S → Type 0) (view : A → Seat × List ℕ) (nodes : List Node) (all : List EndPort) (ports : List SubnetPort) (s t : S) (whole : List SubnetPort) (x : A) (left : List (Seat × List ℕ))
+    → AlwaysYields steps view s left → fold (with_seat nodes all) ports left ≡ whole → steps s (Some x) t → IsLeft steps view nodes all (with_seat nodes all ports (view x)) t whole
+goes_on steps view nodes all ports s t whole x [] yields same step = absurd (yields x t step)
+goes_on steps view nodes all ports s t whole x (one ∷ left) yields same step =
+    let next = yields.1 x t step in
+    record { left = left; yields = next.1; same = ap (λ (o : Seat × List ℕ). fold (with_seat nodes all) (with_seat nodes all ports o) left) next.0 ∙ same }
+
+pub one_taken : {S A : Type 0} (steps : S → Option A → S → Type 0) (view : A → Seat × List ℕ) (nodes : List Node) (all : List EndPort) (ports : List SubnetPort) (s t : S) (whole : List SubnetPort) (x : A)
+    → IsLeft steps view nodes all ports s whole → steps s (Some x) t → IsLeft steps view nodes all (with_seat nodes all ports (view x)) t whole
+one_taken steps view nodes all ports s t whole x before step = goes_on steps view nodes all ports s t whole x before.left before.yields before.same step
+
+stops : {S A : Type 0} (steps : S → Option A → S → Type 0) (view : A → Seat × List ℕ) (nodes : List Node) (all : List EndPort) (ports : List SubnetPort) (s t : S) (whole : List SubnetPort) (left : List (Seat × List ℕ))
+    → AlwaysYields steps view s left → fold (with_seat nodes all) ports left ≡ whole → steps s None t → ports ≡ whole
+stops steps view nodes all ports s t whole [] yields same step = same
+stops steps view nodes all ports s t whole (one ∷ left) yields same step = absurd (yields.0 t step)
+
+pub all_taken : {S A : Type 0} (steps : S → Option A → S → Type 0) (view : A → Seat × List ℕ) (nodes : List Node) (all : List EndPort) (ports : List SubnetPort) (s t : S) (whole : List SubnetPort)
+    → IsLeft steps view nodes all ports s whole → steps s None t → ports ≡ whole
+all_taken steps view nodes all ports s t whole before step = stops steps view nodes all ports s t whole before.left before.yields before.same step

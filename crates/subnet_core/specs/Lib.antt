@@ -4,4 +4,5 @@ pub mod Reading
 pub mod Script
 pub mod Run
 pub mod Text
+pub mod Listing
 pub mod Headline

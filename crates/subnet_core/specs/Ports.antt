@@ -1,7 +1,9 @@
--- The end ports of a subnet, as a topology has them.
-use Rattle.std.specs.Prelude.{ℕ, ◌+◌, Bool, true, false, List, [], ◌∷◌, ◌++◌, map, fold, slice_get, nat_le, if◌then◌else◌}
+-- The end ports of a subnet, as a topology has them, with the keys that its partitions give them.
+use Rattle.std.specs.Prelude.{ℕ, ◌+◌, Bool, true, false, List, [], ◌∷◌, map, fold, slice_get, nat_le, if◌then◌else◌}
 use Rattle.std.specs.List.{flat_map, enumerate_from, range_with_len}
 use Rattle.std.specs.Option.{option_map_or}
+use Rattle.partition_file.specs.declared.partition.Partition.{Partition}
+use Rattle.partition_file.specs.Members.{keys_in}
 use Rattle.pkey_rules.specs.declared.end_port.EndPort.{EndPort}
 use Rattle.subnet_model.specs.EndPorts.{lid_of}
 use Rattle.subnet_model.specs.declared.subnet_port.SubnetPort.{SubnetPort}
@@ -80,18 +82,18 @@ with_port [] port = port ∷ []
 with_port (first ∷ rest) port =
     if nat_le first.lid port.lid then first ∷ with_port rest port else port ∷ first ∷ rest
 
--- one more end port, with its LID and these keys
-abbrev pub with_seat : List Node → List ℕ → List EndPort → List SubnetPort → Seat → List SubnetPort
-with_seat nodes keys all ports seat = with_port ports (seated nodes keys (lid_of all seat.port) seat)
+-- each end port beside the keys that the partitions give it
+abbrev pub keyed : List Partition → List Seat → List (Seat × List ℕ)
+keyed partitions some = map (λ seat. (seat, keys_in partitions seat.port)) some
+
+-- one more end port, with its LID and its keys
+abbrev pub with_seat : List Node → List EndPort → List SubnetPort → Seat × List ℕ → List SubnetPort
+with_seat nodes all ports one = with_port ports (seated nodes one.1 (lid_of all one.0.port) one.0)
 
 -- all of them, in order of LID
-abbrev pub in_order : List Node → List ℕ → List EndPort → List Seat → List SubnetPort
-in_order nodes keys all some = fold (with_seat nodes keys all) [] some
+abbrev pub in_order : List Node → List EndPort → List (Seat × List ℕ) → List SubnetPort
+in_order nodes all some = fold (with_seat nodes all) [] some
 
--- without a partition file every port is a full member of the default partition
-abbrev pub default_keys : List ℕ
-default_keys = 0xffff ∷ []
-
--- the end ports of a topology
-abbrev pub ports_of : Plan → List SubnetPort
-ports_of plan = in_order plan.nodes default_keys (end_ports (seats plan)) (seats plan)
+-- the end ports of a topology under these partitions
+abbrev pub ports_of : List Partition → Plan → List SubnetPort
+ports_of partitions plan = in_order plan.nodes (end_ports (seats plan)) (keyed partitions (seats plan))

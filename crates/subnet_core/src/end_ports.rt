@@ -1,10 +1,12 @@
 ghost use Rattle.std.specs.Prelude.{◌≡◌, ◌+◌, ◌^◌, ◌<◌, ◌≤◌, [], ◌∷◌, ◌++◌, length, map, nat_le, All, IfOk, OnOk};
-ghost use Rattle.std.specs.List.{prefix_len};
+ghost use Rattle.std.specs.List.{prefix_len, zip};
+ghost use Rattle.partition_file.specs.Members.{heading_of};
 ghost use Rattle.topo_file.specs.Node.{HasGuids};
-ghost use Rattle.subnet_core.specs.Ports.{switch_seat, adapter_seat, seat_if_cabled, adapter_seats, seats_of_kind, seats, end_ports, kind_of, name_at, seated, with_port, with_seat, in_order, default_keys, ports_of};
+ghost use Rattle.subnet_core.specs.Ports.{switch_seat, adapter_seat, seat_if_cabled, adapter_seats, seats_of_kind, seats, end_ports, kind_of, name_at, seated, with_port, with_seat, in_order, ports_of};
 ghost use Rattle.subnet_model.specs.EndPorts.{lid_of};
 
-use pkey_rules::{EndPort, KeyTable, PARTITIONS, PKey};
+use partition_file::{Heading, Partitions, members};
+use pkey_rules::{EndPort, KeyTable, PARTITIONS};
 use std::alloc::{AllocError, Global};
 use subnet_model::{NodeName, PortKind, SubnetPort, lid_of};
 use topo_file::{Node, NodeKind, PortRef, Topology};
@@ -17,14 +19,33 @@ pub(crate) struct Seat {
     port: EndPort,
 }
 
-/// The end ports of a topology, in order of their LIDs, each with the keys that it has without a
-/// partition file.
-pub fn ports_of(alloc: Global, topology: &Topology) -> Result<Vec<SubnetPort>, AllocError>
-    ensures { IfOk result (λ ports. ports.items ≡ ports_of topology.now) }
+/// The end ports of a topology, in order of their LIDs, each with the keys that the partitions give
+/// it.
+pub fn ports_of(
+    alloc: Global,
+    topology: &Topology,
+    partitions: &Partitions,
+) -> Result<Vec<SubnetPort>, AllocError>
+    ensures { IfOk result (λ ports. ports.items ≡ ports_of partitions.now topology.now) }
+{
+    let (_, ports) = partitions_and_ports(alloc, topology, partitions)?;
+    Ok(ports)
+}
+
+/// The partitions without their lists, and the end ports as [`ports_of`] gives them.
+pub(crate) fn partitions_and_ports(
+    alloc: Global,
+    topology: &Topology,
+    partitions: &Partitions,
+) -> Result<(Vec<Heading>, Vec<SubnetPort>), AllocError>
+    ensures headings { IfOk result (λ both. both.0.items ≡ map heading_of partitions.now) }
+    ensures ports { IfOk result (λ both. both.1.items ≡ ports_of partitions.now topology.now) }
 {
     let seats = seats(alloc, topology)?;
     let all = end_ports(alloc, &seats)?;
-    in_order(alloc, topology.nodes(), &all, &seats)
+    let (headings, keys) = members(alloc, partitions, &all)?.into_parts();
+    let ports = in_order(alloc, topology.nodes(), &all, &seats, keys)?;
+    Ok((headings, ports))
 }
 
 fn seats(alloc: Global, topology: &Topology) -> Result<Vec<Seat>, AllocError>
@@ -132,13 +153,14 @@ fn in_order(
     nodes: &[Node],
     all: &[EndPort],
     seats: &[Seat],
+    keys: Vec<KeyTable<PARTITIONS>>,
 ) -> Result<Vec<SubnetPort>, AllocError>
     requires { length all.now ≤ 320 }
-    ensures { IfOk result (λ ports. ports.items ≡ in_order nodes.now default_keys all.now seats.now) }
+    ensures { IfOk result (λ ports. ports.items ≡ in_order nodes.now all.now (zip seats.now keys.items)) }
 {
     let mut ports = Vec::new(alloc);
-    for seat in seats {
-        let port = seated(nodes, lid_of(all, &seat.port), seat);
+    for (seat, held) in seats.iter().zip(keys) {
+        let port = seated(nodes, lid_of(all, &seat.port), seat, held);
         insert_port(&mut ports, port)?;
     }
     Ok(ports)
@@ -161,8 +183,8 @@ fn place_for(ports: &[SubnetPort], lid: u16) -> usize
     ports.iter().take_while(|other| other.lid <= lid).count()
 }
 
-fn seated(nodes: &[Node], lid: u16, seat: &Seat) -> SubnetPort
-    ensures { result ≡ seated nodes.now default_keys lid seat.now }
+fn seated(nodes: &[Node], lid: u16, seat: &Seat, keys: KeyTable<PARTITIONS>) -> SubnetPort
+    ensures { result ≡ seated nodes.now keys lid seat.now }
 {
     SubnetPort {
         lid,
@@ -170,7 +192,7 @@ fn seated(nodes: &[Node], lid: u16, seat: &Seat) -> SubnetPort
         node: name_at(nodes, seat.place),
         number: seat.number,
         kind: kind_of(seat.port.is_switch),
-        keys: default_keys(),
+        keys,
     }
 }
 
@@ -191,13 +213,4 @@ fn name_at(nodes: &[Node], place: usize) -> NodeName
         Some(node) => NodeName::new(node.name.as_bytes()),
         None => NodeName::new(&[]),
     }
-}
-
-/// The keys of a port where there is no partition file: full in the default partition.
-fn default_keys() -> KeyTable<PARTITIONS>
-    ensures { result ≡ default_keys }
-{
-    let mut keys = KeyTable::new();
-    let _ = keys.push(PKey::default());
-    keys
 }

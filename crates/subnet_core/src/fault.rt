@@ -4,6 +4,7 @@ ghost use Rattle.std.specs.Prelude.{◌≡◌};
 ghost use Rattle.subnet_core.specs.Fault.{code_of};
 ghost use Rattle.subnet_core.specs.declared.fault.ScriptError.TheVariants.{NoMemory, Fault};
 
+use partition_file::PartitionFault;
 use std::alloc::{AllocError, AllocFailed};
 use thiserror::Error;
 use topo_file::TopologyFault;
@@ -70,15 +71,12 @@ impl From<ScriptFault> for ScriptError {
     }
 }
 
-/// Why a run did not complete. Of two faults the topology's is told first.
+/// Why a run did not complete. Of several faults the first in this order is told.
 #[derive(Clone, Copy, Debug, PartialEq, Eq, Error)]
 pub enum RunFault {
     /// Memory was refused.
     #[error("out of memory")]
     NoMemory,
-    /// A partition file is given, and none is read yet.
-    #[error("partition files are not read yet")]
-    NotYet,
     /// The first fault of the topology.
     #[error("topology line {line}: {cause}")]
     Topology {
@@ -86,6 +84,14 @@ pub enum RunFault {
         line: usize,
         /// What is wrong.
         cause: TopologyFault,
+    },
+    /// The first fault of the partition file.
+    #[error("partitions line {line}: {cause}")]
+    Partitions {
+        /// The line of the fault's place, counted from 1.
+        line: usize,
+        /// What is wrong there.
+        cause: PartitionFault,
     },
     /// The first fault of the script.
     #[error("script line {line}: {cause}")]

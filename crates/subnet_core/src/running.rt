@@ -12,8 +12,8 @@ use std::alloc::Global;
 use subnet_model::{Command, Event};
 use text_words::Lines;
 
-/// Runs a script on the subnet of a topology. All of the script is read before anything of it is
-/// carried out; a fault leaves no report.
+/// Runs a script on the subnet of a topology under a partition file, or without one. All three texts
+/// are read before anything of the script is carried out; a fault leaves no report.
 pub fn run(
     alloc: Global,
     topology: &[u8],
@@ -25,7 +25,7 @@ pub fn run(
         (report_of topology.now (option_copied partitions.entry) script.now) }
     // What a port receives depends only on the ports that share a partition with it.
     ensures private { IfOk result (λ report.
-        KeepsPartitionsApart topology.now script.now report.events) }
+        KeepsPartitionsApart topology.now (option_copied partitions.entry) script.now report.events) }
 {
     in_turn(alloc, topology, partitions, script)
 }

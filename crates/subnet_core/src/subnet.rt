@@ -2,22 +2,25 @@ ghost use Rattle.std.specs.Prelude.{◌≡◌, true, ◌↔◌, IsErrOf, IfOk, O
 ghost use Rattle.std.specs.Option.{option_copied};
 ghost use Rattle.topo_file.specs.Topology.{topology_of};
 ghost use Rattle.subnet_model.specs.Report.{step};
-ghost use Rattle.subnet_core.specs.Run.{RunGives, of_topology, parsed, subnet_of};
+ghost use Rattle.subnet_core.specs.Listing.{listing_text};
+ghost use Rattle.subnet_core.specs.Run.{RunGives, of_topology, parsed, partitions_for, subnet_of};
 
-use crate::end_ports::ports_of;
+use crate::end_ports::partitions_and_ports;
 use crate::fault::{RunFault, ScriptError, StepFault};
 use crate::report::Report;
-use crate::script;
-use std::alloc::Global;
+use crate::{listing, script};
+use partition_file::{Heading, PartFault, Partitions, no_file};
+use std::alloc::{AllocError, Global};
 use std::marker::Model;
 use subnet_model::{Command, Event, State, SubnetPort, step};
-use topo_file::{TopoFault, Topology, read};
+use topo_file::{TopoFault, Topology};
 
 /// A subnet that was brought up and takes commands one by one.
 #[derive(Debug, Drop)]
 pub struct Subnet {
     alloc: Global,
     topology: Topology,
+    headings: Vec<Heading>,
     ports: Vec<SubnetPort>,
     state: State,
     is_broken: bool,
@@ -30,14 +33,16 @@ impl Model for Subnet {
 
     ghost view = { λ subnet. record {
       plan = subnet.topology;
+      headings = subnet.headings.items;
       ports = subnet.ports.items;
       state = subnet.state;
       is_broken = subnet.is_broken;
     } };
 }
 
-/// Brings up the subnet of a topology: names its ports and gives them their keys. Partition files
-/// are not read yet.
+/// Brings up the subnet of a topology under a partition file: names its ports by LIDs and gives them
+/// their keys. Without a file every end port is a full member of the default partition.
+#[tactic(auto, unfolding(crate::specs::Run::subnet_of))]
 pub fn bring_up(
     alloc: Global,
     topology: &[u8],
@@ -45,14 +50,13 @@ pub fn bring_up(
 ) -> Result<Subnet, RunFault>
     ensures { RunGives (λ subnet. subnet) result (subnet_of topology.now (option_copied partitions.entry)) }
 {
-    if partitions.is_some() {
-        return Err(RunFault::NotYet);
-    }
     let topology = topology_of(alloc, topology)?;
-    let ports = ports_of(alloc, &topology)?;
+    let partitions = partitions_for(alloc, partitions)?;
+    let (headings, ports) = partitions_and_ports(alloc, &topology, &partitions)?;
     Ok(Subnet {
         alloc,
         topology,
+        headings,
         ports,
         state: State::new(),
         is_broken: false,
@@ -62,14 +66,36 @@ pub fn bring_up(
 fn topology_of(alloc: Global, text: &[u8]) -> Result<Topology, RunFault>
     ensures { RunGives (λ topology. topology) result (of_topology (topology_of text.now)) }
 {
-    match read(alloc, text) {
+    match topo_file::read(alloc, text) {
         Ok(topology) => Ok(topology),
         Err(TopoFault::NoMemory) => Err(RunFault::NoMemory),
         Err(TopoFault::At { line, cause }) => Err(RunFault::Topology { line, cause }),
     }
 }
 
+fn partitions_for(alloc: Global, text: Option<&[u8]>) -> Result<Partitions, RunFault>
+    ensures { RunGives (λ partitions. partitions) result (partitions_for (option_copied text.entry)) }
+{
+    let Some(text) = text else {
+        return Ok(no_file(alloc)?);
+    };
+    match partition_file::read(alloc, text) {
+        Ok(partitions) => Ok(partitions),
+        Err(PartFault::NoMemory) => Err(RunFault::NoMemory),
+        Err(PartFault::At { line, cause }) => Err(RunFault::Partitions { line, cause }),
+    }
+}
+
 impl Subnet {
+    /// Who is in the subnet, as it is printed: a line for each end port by LID, then for each partition
+    /// its line, and a line for each of its members by LID, with the key that it holds; in ASCII but
+    /// for names of partitions.
+    pub fn listing(&self) -> Result<Vec<u8>, AllocError>
+        ensures { IfOk result (λ text. text.items ≡ listing_text self.now.headings self.now.ports) }
+    {
+        listing::listing_text(self.alloc, &self.headings, &self.ports)
+    }
+
     /// The command that a line gives; none for a line without words. The line may have its LF and
     /// its comment; `number` is told with a fault, and nothing changes.
     pub fn parse(&self, number: usize, line: &[u8]) -> Result<Option<Command>, RunFault>

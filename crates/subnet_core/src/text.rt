@@ -88,7 +88,7 @@ fn push_packet(text: &mut Vec<u8>, alloc: Global, packet: &Packet) -> Result<(),
 }
 
 /// `0x` and two digits a byte.
-fn push_hex(text: &mut Vec<u8>, alloc: Global, bytes: &[u8]) -> Result<(), AllocError>
+pub(crate) fn push_hex(text: &mut Vec<u8>, alloc: Global, bytes: &[u8]) -> Result<(), AllocError>
     ensures { OnOk result (text.new.items ≡ text.old.items ++ hex_text bytes.now) }
 {
     text.extend_from_slice(b"0x")?;
@@ -110,7 +110,8 @@ fn push_digits(text: &mut Vec<u8>, alloc: Global, bytes: &[u8]) -> Result<(), Al
     text.extend_from_slice(digits.as_bytes())
 }
 
-fn push_decimal(text: &mut Vec<u8>, number: usize) -> Result<(), AllocError>
+/// A number in decimal digits.
+pub(crate) fn push_decimal(text: &mut Vec<u8>, number: usize) -> Result<(), AllocError>
     ensures { OnOk result (text.new.items ≡ text.old.items ++ decimal number) }
 {
     let mut buffer = Buffer::new();

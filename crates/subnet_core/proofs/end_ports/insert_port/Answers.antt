@@ -1,4 +1,3 @@
-use Rattle.std.proofs.Common.{◌∙◌}
 use Rattle.subnet_core.proofs.PortLemmas.{insert_in_order}
 use Rattle.subnet_core.proofs.end_ports.insert_port.Goals as goal
 

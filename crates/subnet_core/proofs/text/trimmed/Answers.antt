@@ -1,4 +1,4 @@
-use Rattle.std.proofs.Common.{◌≡◌, ◌<◌, ◌≤◌, ◌-◌, [], length, take, get_or, sym, ◌∙◌, ap, arith}
+use Rattle.std.proofs.Common.{◌≡◌, ◌<◌, ◌≤◌, length, take, sym, ◌∙◌, ap, arith}
 use Rattle.subnet_core.specs.Text.{trimmed}
 use Rattle.subnet_core.proofs.text.trimmed.Goals as goal
 use Rattle.subnet_core.proofs.text.trimmed.Goals.{then-loop-end-test+else-bytes-end-eq0, else-loop-end-test}

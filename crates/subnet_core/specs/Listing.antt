@@ -1,0 +1,46 @@
+-- What is listed of a subnet: its end ports, and the members of each partition with their keys.
+use Rattle.std.specs.Prelude.{ℕ, List, [], ◌∷◌, ◌++◌, codes, decimal}
+use Rattle.std.specs.List.{flat_map, enumerate_from}
+use Rattle.std.specs.Option.{option_map_or}
+use Rattle.std.specs.Int.{w16, w64, to_be_bytes}
+use Rattle.pkey_rules.specs.KeyTable.{find_base}
+use Rattle.partition_file.specs.declared.port_keys.Heading.{Heading}
+use Rattle.subnet_model.specs.declared.subnet_port.SubnetPort.{SubnetPort}
+use Rattle.subnet_core.specs.Text.{hex_text, port_text}
+
+-- `port LID GUID PORT`
+abbrev pub port_line : SubnetPort → List ℕ
+port_line port =
+    codes "port " ++ hex_text (to_be_bytes w16 port.lid)
+    ++ codes " " ++ hex_text (to_be_bytes w64 port.guid)
+    ++ codes " " ++ port_text port ++ 10 ∷ []
+
+-- an empty name is shown as `-`
+abbrev pub shown_name : List ℕ → List ℕ
+shown_name [] = codes "-"
+shown_name (first ∷ rest) = first ∷ rest
+
+-- `partition NUMBER BASE NAME`
+abbrev pub heading_line : ℕ → Heading → List ℕ
+heading_line number heading =
+    codes "partition " ++ decimal number
+    ++ codes " " ++ hex_text (to_be_bytes w16 heading.base)
+    ++ codes " " ++ shown_name heading.name ++ 10 ∷ []
+
+-- `member KEY PORT`
+abbrev pub member_line : SubnetPort → ℕ → List ℕ
+member_line port key = codes "member " ++ hex_text (to_be_bytes w16 key) ++ codes " " ++ port_text port ++ 10 ∷ []
+
+-- the line of a port that holds a key of this base
+abbrev pub member_text : ℕ → SubnetPort → List ℕ
+member_text base port = option_map_or (member_line port) (find_base base port.keys) []
+
+-- a partition, and then its members in the order of the ports
+abbrev pub partition_text : List SubnetPort → ℕ × Heading → List ℕ
+partition_text ports placed =
+    heading_line placed.0 placed.1 ++ flat_map (member_text placed.1.base) ports
+
+-- all end ports, then all partitions; the place of a partition is its number
+abbrev pub listing_text : List Heading → List SubnetPort → List ℕ
+listing_text headings ports =
+    flat_map port_line ports ++ flat_map (partition_text ports) (enumerate_from 0 headings)

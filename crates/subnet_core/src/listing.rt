@@ -1,0 +1,145 @@
+//! What is listed of a subnet, line by line.
+
+ghost use Rattle.std.specs.Prelude.{◌≡◌, ◌++◌, [], ◌∷◌, OnOk, IfOk};
+ghost use Rattle.std.specs.List.{flat_map, enumerate_from};
+ghost use Rattle.subnet_core.specs.Listing.{heading_line, listing_text, member_line, member_text, partition_text, port_line, shown_name};
+
+use crate::text::{push_decimal, push_hex, push_port};
+use partition_file::Heading;
+use pkey_rules::PKey;
+use std::alloc::{AllocError, Global};
+use subnet_model::SubnetPort;
+
+/// The lines of these partitions and ports.
+pub(crate) fn listing_text(
+    alloc: Global,
+    headings: &[Heading],
+    ports: &[SubnetPort],
+) -> Result<Vec<u8>, AllocError>
+    ensures { IfOk result (λ text. text.items ≡ listing_text headings.now ports.now) }
+{
+    let mut text = Vec::new(alloc);
+    push_ports(&mut text, alloc, ports)?;
+    push_partitions(&mut text, alloc, headings, ports)?;
+    Ok(text)
+}
+
+fn push_ports(text: &mut Vec<u8>, alloc: Global, ports: &[SubnetPort]) -> Result<(), AllocError>
+    ensures { OnOk result (text.new.items ≡ text.old.items ++ flat_map port_line ports.now) }
+{
+    for port in ports {
+        push_port_line(text, alloc, port)?;
+    }
+    Ok(())
+}
+
+fn push_port_line(text: &mut Vec<u8>, alloc: Global, port: &SubnetPort) -> Result<(), AllocError>
+    ensures { OnOk result (text.new.items ≡ text.old.items ++ port_line port.now) }
+{
+    text.extend_from_slice(b"port ")?;
+    push_hex(text, alloc, &port.lid.to_be_bytes())?;
+    text.extend_from_slice(b" ")?;
+    push_hex(text, alloc, &port.guid.to_be_bytes())?;
+    text.extend_from_slice(b" ")?;
+    push_port(text, port)?;
+    text.push(b'\n')?;
+    Ok(())
+}
+
+fn push_partitions(
+    text: &mut Vec<u8>,
+    alloc: Global,
+    headings: &[Heading],
+    ports: &[SubnetPort],
+) -> Result<(), AllocError>
+    ensures { OnOk result (text.new.items
+        ≡ text.old.items ++ flat_map (partition_text ports.now) (enumerate_from 0 headings.now)) }
+{
+    for (number, heading) in headings.iter().enumerate() {
+        push_partition(text, alloc, number, heading, ports)?;
+    }
+    Ok(())
+}
+
+fn push_partition(
+    text: &mut Vec<u8>,
+    alloc: Global,
+    number: usize,
+    heading: &Heading,
+    ports: &[SubnetPort],
+) -> Result<(), AllocError>
+    ensures { OnOk result (text.new.items
+        ≡ text.old.items ++ partition_text ports.now (number, heading.now)) }
+{
+    push_heading_line(text, alloc, number, heading)?;
+    push_members(text, alloc, heading.base, ports)
+}
+
+fn push_heading_line(
+    text: &mut Vec<u8>,
+    alloc: Global,
+    number: usize,
+    heading: &Heading,
+) -> Result<(), AllocError>
+    ensures { OnOk result (text.new.items ≡ text.old.items ++ heading_line number heading.now) }
+{
+    text.extend_from_slice(b"partition ")?;
+    push_decimal(text, number)?;
+    text.extend_from_slice(b" ")?;
+    push_hex(text, alloc, &heading.base.to_be_bytes())?;
+    text.extend_from_slice(b" ")?;
+    text.extend_from_slice(shown_name(heading.name.as_bytes()))?;
+    text.push(b'\n')?;
+    Ok(())
+}
+
+/// A name, or `-` for an empty one.
+fn shown_name(name: &[u8]) -> &[u8]
+    ensures { result.now ≡ shown_name name.now }
+{
+    if name.is_empty() { b"-" } else { name }
+}
+
+fn push_members(
+    text: &mut Vec<u8>,
+    alloc: Global,
+    base: u16,
+    ports: &[SubnetPort],
+) -> Result<(), AllocError>
+    ensures { OnOk result (text.new.items ≡ text.old.items ++ flat_map (member_text base) ports.now) }
+{
+    for port in ports {
+        push_member(text, alloc, base, port)?;
+    }
+    Ok(())
+}
+
+fn push_member(
+    text: &mut Vec<u8>,
+    alloc: Global,
+    base: u16,
+    port: &SubnetPort,
+) -> Result<(), AllocError>
+    ensures { OnOk result (text.new.items ≡ text.old.items ++ member_text base port.now) }
+{
+    match port.keys.find_base(base) {
+        Some(key) => push_member_line(text, alloc, port, key),
+        None => Ok(()),
+    }
+}
+
+fn push_member_line(
+    text: &mut Vec<u8>,
+    alloc: Global,
+    port: &SubnetPort,
+    key: PKey,
+) -> Result<(), AllocError>
+    ensures { OnOk result (text.new.items ≡ text.old.items ++ member_line port.now key) }
+{
+    text.extend_from_slice(b"member ")?;
+    push_hex(text, alloc, &key.bits().to_be_bytes())?;
+    text.extend_from_slice(b" ")?;
+    push_port(text, port)?;
+    text.push(b'\n')?;
+    Ok(())
+}
