@@ -13,23 +13,23 @@ of_memory : (file : Contents) (old new : Option (List (List ℕ))) (names : List
     → AppendsPart err err' memory_line → IsRefused file old new names ending err err'
 of_memory file old new names ending err err' part = record { line = memory_line; is = inl refl; part = part }
 
-of_report : (file : Contents) (old new : Option (List (List ℕ))) (names : List (List ℕ)) (ending : Ending) (report : List ℕ) (err err' : Option (List ℕ))
-    → ending ≡ complete report → AppendsPart err err' unwritten_line ⊎ AppendsPart err err' memory_line → IsRefused file old new names ending err err'
-of_report file old new names ending report err err' is (inl part) = record { line = unwritten_line; is = rw is (inr (inr refl)); part = part }
-of_report file old new names ending report err err' is (inr part) = of_memory file old new names ending err err' part
+of_output : (file : Contents) (old new : Option (List (List ℕ))) (names : List (List ℕ)) (ending : Ending) (output : List ℕ) (err err' : Option (List ℕ))
+    → ending ≡ complete output → AppendsPart err err' unwritten_line ⊎ AppendsPart err err' memory_line → IsRefused file old new names ending err err'
+of_output file old new names ending output err err' is (inl part) = record { line = unwritten_line; is = rw is (inr (inr refl)); part = part }
+of_output file old new names ending output err err' is (inr part) = of_memory file old new names ending err err' part
 
--- a report that does not go out
-pub unwritten_is_refused : (told : Option Contents) (old new : Option (List (List ℕ))) (names : List (List ℕ)) (ending : Contents → Ending) (report : List ℕ) (err err' : Option (List ℕ))
-    → IfSome told (λ file. ending file ≡ complete report) → AppendsPart err err' unwritten_line ⊎ AppendsPart err err' memory_line
+-- an output that does not go out
+pub unwritten_is_refused : (told : Option Contents) (old new : Option (List (List ℕ))) (names : List (List ℕ)) (ending : Contents → Ending) (output : List ℕ) (err err' : Option (List ℕ))
+    → IfSome told (λ file. ending file ≡ complete output) → AppendsPart err err' unwritten_line ⊎ AppendsPart err err' memory_line
     → IfSome told (λ file. IsRefused file old new names (ending file) err err')
-unwritten_is_refused None old new names ending report err err' is part = tt
-unwritten_is_refused (Some file) old new names ending report err err' is part = of_report file old new names (ending file) report err err' is part
+unwritten_is_refused None old new names ending output err err' is part = tt
+unwritten_is_refused (Some file) old new names ending output err err' is part = of_output file old new names (ending file) output err err' is part
 
 of_run : (file : Contents) (old new : Option (List (List ℕ))) (names : List (List ℕ)) (ending : Ending) (fault : RunFault) (err err' : Option (List ℕ))
     → Stops ending (Run fault) → AppendsPart err err' (run_line fault) → IsRefused file old new names ending err err'
 of_run file old new names ending run.NoMemory err err' is part = of_memory file old new names ending err err' part
-of_run file old new names ending run.NotYet err err' is part = record { line = run_line run.NotYet; is = rw is (inr (inr refl)); part = part }
 of_run file old new names ending (run.Topology line cause) err err' is part = record { line = run_line (run.Topology line cause); is = rw is (inr (inr refl)); part = part }
+of_run file old new names ending (run.Partitions line cause) err err' is part = record { line = run_line (run.Partitions line cause); is = rw is (inr (inr refl)); part = part }
 of_run file old new names ending (run.Script line cause) err err' is part = record { line = run_line (run.Script line cause); is = rw is (inr (inr refl)); part = part }
 
 of_stop : (file : Contents) (old new : Option (List (List ℕ))) (names : List (List ℕ)) (ending : Ending) (stop : Stop) (err err' : Option (List ℕ))

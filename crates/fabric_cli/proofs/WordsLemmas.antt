@@ -1,6 +1,7 @@
 -- What clap's answer says of the words.
-use Rattle.std.proofs.Common.{◌≡◌, ◌≢◌, ◌∙◌, true, List, [], ◌∷◌, Option, Some, None, option_map, ap, refl, sym, inl, inr, codes}
-use Rattle.clap.specs.Words.{App, HasKind, HasMatchesOf, IsAmong, Kinds, Row, Text, fault_of, first_of, first_value, is_simple, is_simple_and_free, kind_of, rows_of, subcommand_of, subcommand_rows_of}
+use Rattle.std.proofs.Common.{◌≡◌, ◌≢◌, ◌∙◌, Bool, true, false, not, ◌&&◌, List, [], ◌∷◌, Option, Some, None, option_map, ap, refl, sym, inl, inr, codes}
+use Rattle.clap.specs.declared.builder.command.Command.{Command}
+use Rattle.clap.specs.Words.{AddsSubcommand, App, HasKind, HasMatchesOf, IsAmong, Kinds, Row, Text, app_of, fault_of, first_of, first_value, is_simple, is_simple_and_free, kind_of, rows_of, subcommand_name_of, subcommand_of, subcommand_rows_of, with_subcommand}
 use Rattle.clap.specs.declared.error.Error.{Error}
 use Rattle.clap.specs.declared.error.kind.ErrorKind.TheVariants.{OutOfMemory}
 use Rattle.clap.specs.declared.parser.matches.ArgMatches.{ArgMatches}
@@ -10,21 +11,29 @@ use Rattle.clap.proofs.WalkLemmas.{first_value-rows}
 use Rattle.fabric_cli.specs.declared.faults.Stop.{Stop}
 use Rattle.fabric_cli.specs.declared.faults.Stop.TheVariants.{Words, NoMemory, Unread, Unwritten, Run}
 use Rattle.fabric_cli.specs.Faults.{IsOfWords, IsRefusalOf}
-use Rattle.fabric_cli.specs.Words.{Names, asked_by, asked_in, asked_of, fabric_command}
+use Rattle.fabric_cli.specs.Words.{Names, asked_by, asked_in, asked_of, fabric_command, work_in}
 
 same_some : {X : Type 0} (x y : X) → Some x ≡ Some y → x ≡ y
 same_some x y e = cc
 
-in_rows : (given : Option (Text × List Row)) (rows : List Row) → Some rows ≡ option_map (λ run. run.1) given
-    → asked_in given ≡ asked_by (first_of (codes "TOPO") rows) (first_of (codes "PARTS") rows) (first_of (codes "SCRIPT") rows)
-in_rows None rows e = cc
-in_rows (Some run) rows e =
-    ap (λ (found : List Row). asked_by (first_of (codes "TOPO") found) (first_of (codes "PARTS") found) (first_of (codes "SCRIPT") found)) (sym (same_some rows run.1 e))
+in_rows : (given : Option (Text × List Row)) (name : Text) (rows : List Row) → Some name ≡ option_map (λ found. found.0) given → Some rows ≡ option_map (λ found. found.1) given
+    → asked_in given ≡ asked_by (first_of (codes "TOPO") rows) (first_of (codes "PARTS") rows) (work_in name (first_of (codes "SCRIPT") rows))
+in_rows None name rows e f = cc
+in_rows (Some found) name rows e f =
+    rw (same_some name found.0 e, same_some rows found.1 f) refl
 
--- the names are the first values of the three arguments
-pub in_found : (given : Option (Text × List Row)) (found : Found) → Some (rows_of found) ≡ option_map (λ run. run.1) given
-    → asked_in given ≡ asked_by (first_value found (codes "TOPO")) (first_value found (codes "PARTS")) (first_value found (codes "SCRIPT"))
-in_found given found e = in_rows given (rows_of found) e
+first_of_both : {A B C : Type 0} (f : A → B) (g : A → C) (given : Option A) → option_map f given ≡ option_map (λ (p : B × C). p.0) (option_map (λ a. (f a, g a)) given)
+first_of_both f g None = refl
+first_of_both f g (Some a) = refl
+
+-- the subcommand's name stands beside its rows
+name_beside_rows : (m : ArgMatches) → subcommand_name_of m ≡ option_map (λ found. found.0) (subcommand_rows_of m)
+name_beside_rows m = first_of_both _ _ _
+
+-- the names are the first values of the arguments
+pub in_found : (m : ArgMatches) (name : Text) (found : Found) → Some name ≡ subcommand_name_of m → Some (rows_of found) ≡ option_map (λ run. run.1) (subcommand_rows_of m)
+    → asked_in (subcommand_rows_of m) ≡ asked_by (first_value found (codes "TOPO")) (first_value found (codes "PARTS")) (work_in name (first_value found (codes "SCRIPT")))
+in_found m name found e f = in_rows (subcommand_rows_of m) name (rows_of found) (e ∙ name_beside_rows m) f
     ∙ rw (← first_value-rows found (codes "TOPO"), ← first_value-rows found (codes "PARTS"), ← first_value-rows found (codes "SCRIPT")) refl
 
 fabric_is_simple : is_simple fabric_command ≡ true
@@ -74,3 +83,15 @@ refusal_is error asked NoMemory none is = tt
 refusal_is error asked (Unread name) none is = absurd is
 refusal_is error asked Unwritten none is = absurd is
 refusal_is error asked (Run fault) none is = absurd is
+
+-- ---- a plain command has no global argument
+third_of : (a b g rest : Bool) → a && (not b && (not g && rest)) ≡ true → g ≡ false
+third_of true false false rest e = refl
+third_of true false true rest e = cc
+third_of true true g rest e = cc
+third_of false b g rest e = cc
+
+pub adds_shape : (old sub new : Command) (app : App) → AddsSubcommand old sub new → app_of sub ≡ app → app.top.is_plain ≡ true → app_of new ≡ with_subcommand (app_of old) app.top
+adds_shape old sub new app adds is plain =
+    let kept : (app_of sub).top.is_plain ≡ true = ap (λ (a : App). a.top.is_plain) is ∙ plain in
+    adds.shape (third_of _ _ _ _ kept) ∙ ap (λ (a : App). with_subcommand (app_of old) a.top) is

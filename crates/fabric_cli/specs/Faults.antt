@@ -4,6 +4,7 @@ use Rattle.clap.specs.Words.{kind_of}
 use Rattle.clap.specs.declared.error.Error.{Error}
 use Rattle.clap.specs.declared.error.kind.ErrorKind.TheVariants.{OutOfMemory}
 use Rattle.topo_file.specs.Fault.{code_of as topology_code}
+use Rattle.partition_file.specs.Fault.{code_of as partitions_code}
 use Rattle.subnet_core.specs.Fault.{code_of as script_code}
 use Rattle.subnet_core.specs.declared.fault.RunFault.{RunFault}
 use Rattle.subnet_core.specs.declared.fault.RunFault.TheVariants as run
@@ -14,6 +15,9 @@ use Rattle.fabric_cli.specs.declared.faults.Stop.TheVariants.{Words, NoMemory, U
 -- `fault CODE topology line L` and LF
 abbrev pub topology_line : List ℕ → ℕ → List ℕ
 topology_line code number = codes "fault " ++ (code ++ (codes " topology line " ++ (decimal number ++ codes "\n")))
+
+abbrev pub partitions_line : List ℕ → ℕ → List ℕ
+partitions_line code number = codes "fault " ++ (code ++ (codes " partitions line " ++ (decimal number ++ codes "\n")))
 
 abbrev pub script_line : List ℕ → ℕ → List ℕ
 script_line code number = codes "fault " ++ (code ++ (codes " script line " ++ (decimal number ++ codes "\n")))
@@ -29,8 +33,8 @@ unwritten_line = codes "fault write\n"
 
 abbrev pub run_line : RunFault → List ℕ
 run_line run.NoMemory = memory_line
-run_line run.NotYet = codes "fault notyet\n"
 run_line (run.Topology line cause) = topology_line (topology_code cause) line
+run_line (run.Partitions line cause) = partitions_line (partitions_code cause) line
 run_line (run.Script line cause) = script_line (script_code cause) line
 
 abbrev pub run_status : RunFault → ℕ

@@ -1,36 +1,44 @@
 -- What a call answers, from its words and the bytes of its files alone.
-use Rattle.std.specs.Prelude.{ℕ, ◌≡◌, ◌⊎◌, List, [], Option, Some, None, option_map, Result, Ok, Err}
+use Rattle.std.specs.Prelude.{ℕ, ◌≡◌, ◌⊎◌, List, [], Option, Some, None, option_map, Result, Ok, Err, Vec}
+use Rattle.std.specs.Global.{Global}
 use Rattle.std.specs.Io.KnownBytes.{Appends, Keeps}
 use Rattle.subnet_core.specs.declared.fault.RunFault.{RunFault}
 use Rattle.subnet_core.specs.declared.fault.RunFault.TheVariants as run
-use Rattle.subnet_core.specs.Run.{Told, report_of}
+use Rattle.subnet_core.specs.Listing.{listing_text}
+use Rattle.subnet_core.specs.Run.{report_of, subnet_of}
 use Rattle.subnet_core.specs.Script.{◌>>=◌}
 use Rattle.subnet_core.specs.Text.{report_text}
 use Rattle.fabric_cli.specs.declared.faults.Stop.{Stop}
 use Rattle.fabric_cli.specs.declared.serving.Texts.{Texts}
+use Rattle.fabric_cli.specs.declared.words.Work.{Work}
+use Rattle.fabric_cli.specs.declared.words.Work.TheVariants as work
 use Rattle.fabric_cli.specs.declared.faults.Stop.TheVariants.{Words, NoMemory, Unread, Unwritten, Run}
 use Rattle.fabric_cli.specs.Faults.{memory_line, run_line, run_status, unread_line, unwritten_line}
 use Rattle.fabric_cli.specs.Files.{Contents, StopsAt}
 use Rattle.fabric_cli.specs.Words.{Names, asked_of}
 use Rattle.fabric_cli.specs.Writing.{AppendsPart}
 
--- how a call ends: clap's text, a fault's status and line, or a whole report
+-- how a call ends: clap's text, a fault's status and line, or a whole output
 pub data Ending : Type 0 where
   refused : Ending
   faulted : ℕ → List ℕ → Ending
   complete : List ℕ → Ending
 
--- the bytes of a run's files, as lists
+-- the bytes of the files, as lists
 pub record Bytes : Type 0 where
   pub topology : List ℕ
   pub partitions : Option (List ℕ)
-  pub script : List ℕ
+  pub work : Work (List ℕ)
+
+abbrev pub work_bytes : Work (Vec ℕ Global) → Work (List ℕ)
+work_bytes work.Check = work.Check
+work_bytes (work.Run script) = work.Run script.items
 
 abbrev pub texts_in : Texts → Bytes
 texts_in texts = record {
   topology = texts.topology.items;
   partitions = option_map (λ bytes. bytes.items) texts.partitions;
-  script = texts.script.items;
+  work = work_bytes texts.work;
 }
 
 -- a name that opens to nothing is not read
@@ -45,21 +53,38 @@ abbrev pub bytes_if_named : Contents → Option (List ℕ) → Result (Option (L
 bytes_if_named file None = Ok None
 bytes_if_named file (Some name) = bytes_of file name >>= λ bytes. Ok (Some bytes)
 
+abbrev pub work_of : Contents → Work (List ℕ) → Result (Work (List ℕ)) Ending
+work_of file work.Check = Ok work.Check
+work_of file (work.Run name) = bytes_of file name >>= λ bytes. Ok (work.Run bytes)
+
 -- all files are read before any of them is judged
 abbrev pub texts_of : Contents → Names → Result Bytes Ending
 texts_of file names = do
   topology ← bytes_of file names.topology
   partitions ← bytes_if_named file names.partitions
-  script ← bytes_of file names.script
-  Ok (record { topology = topology; partitions = partitions; script = script })
+  work ← work_of file names.work
+  Ok (record { topology = topology; partitions = partitions; work = work })
 
--- a fault is told by its line alone, and a report comes whole
-abbrev pub ending_by : Result Told RunFault → Ending
-ending_by (Ok told) = complete (report_text told.ports told.events)
+-- the listing of a subnet, and the report of a script in it
+abbrev pub listed : List ℕ → Option (List ℕ) → Result (List ℕ) RunFault
+listed topology partitions =
+    subnet_of topology partitions >>= λ subnet. Ok (listing_text subnet.headings subnet.ports)
+
+abbrev pub reported : List ℕ → Option (List ℕ) → List ℕ → Result (List ℕ) RunFault
+reported topology partitions script =
+    report_of topology partitions script >>= λ told. Ok (report_text told.ports told.events)
+
+abbrev pub output_of : List ℕ → Option (List ℕ) → Work (List ℕ) → Result (List ℕ) RunFault
+output_of topology partitions work.Check = listed topology partitions
+output_of topology partitions (work.Run script) = reported topology partitions script
+
+-- a fault is told by its line alone, and an output comes whole
+abbrev pub ending_by : Result (List ℕ) RunFault → Ending
+ending_by (Ok output) = complete output
 ending_by (Err fault) = faulted (run_status fault) (run_line fault)
 
 abbrev pub ending_with : Result Bytes Ending → Ending
-ending_with (Ok texts) = ending_by (report_of texts.topology texts.partitions texts.script)
+ending_with (Ok texts) = ending_by (output_of texts.topology texts.partitions texts.work)
 ending_with (Err ending) = ending
 
 abbrev pub ending_for : Contents → Option Names → Ending
@@ -74,20 +99,20 @@ ending_of file words = ending_for file (asked_of words)
 abbrev pub Ends : Ending → ℕ → Option (List ℕ) → Option (List ℕ) → Option (List ℕ) → Option (List ℕ) → Type 0
 Ends refused status out out' err err' = (status ≡ 2) × Keeps out out'
 Ends (faulted fault line) status out out' err err' = (status ≡ fault) × Keeps out out' × Appends err err' line
-Ends (complete report) status out out' err err' = (status ≡ 0) × Appends out out' report × Keeps err err'
+Ends (complete output) status out out' err err' = (status ≡ 0) × Appends out out' output × Keeps err err'
 
 -- what goes to the output where all of it goes out
-abbrev pub report_in : Ending → List ℕ
-report_in refused = []
-report_in (faulted fault line) = []
-report_in (complete report) = report
+abbrev pub output_in : Ending → List ℕ
+output_in refused = []
+output_in (faulted fault line) = []
+output_in (complete output) = output
 
--- the line that tells how a call ends where it could not end so: a report did not go out, or the
--- line of a fault did not; of a text of clap's nothing is said
+-- the line that tells how a call ends where it could not end so: an output did not go out, or
+-- the line of a fault did not; of a text of clap's nothing is said
 abbrev pub IsLineOf : Ending → List ℕ → Type 0
 IsLineOf refused line = Unit {0}
 IsLineOf (faulted status fault) line = line ≡ fault
-IsLineOf (complete report) line = line ≡ unwritten_line
+IsLineOf (complete output) line = line ≡ unwritten_line
 
 -- the line of a file at which reading stopped
 abbrev pub IsUnreadLine : Contents → Option (List (List ℕ)) → Option (List (List ℕ)) → List (List ℕ) → List ℕ → Type 0
@@ -99,7 +124,7 @@ pub record IsRefused (file : Contents) (old new : Option (List (List ℕ))) (nam
   pub is : (line ≡ memory_line) ⊎ (IsUnreadLine file old new names line ⊎ IsLineOf ending line)
   pub part : AppendsPart err err' line
 
--- why the report is not made, unless the machine refuses
+-- why the output is not made, unless the machine refuses
 abbrev pub RunStops : Ending → RunFault → Type 0
 RunStops ending run.NoMemory = Unit {0}
 RunStops ending fault = ending ≡ faulted (run_status fault) (run_line fault)
@@ -113,12 +138,12 @@ Stops ending (Run fault) = RunStops ending fault
 
 -- files are read to their end before anything is told of them
 abbrev pub IsTold : {X : Type 0} → Result X Stop → Type 0
-IsTold (Ok report) = Unit {0}
+IsTold (Ok output) = Unit {0}
 IsTold (Err (Words text)) = Unit {0}
 IsTold (Err (Run fault)) = Unit {0}
 IsTold _ = ⊥
 
--- a report comes as it is, and a stop by its line
-abbrev pub Reports : {X : Type 0} → (X → List ℕ) → Ending → Result X Stop → Type 0
-Reports view ending (Ok report) = ending ≡ complete (view report)
-Reports view ending (Err stop) = Stops ending stop
+-- an output comes as it is, and a stop by its line
+abbrev pub Gives : {X : Type 0} → (X → List ℕ) → Ending → Result X Stop → Type 0
+Gives view ending (Ok output) = ending ≡ complete (view output)
+Gives view ending (Err stop) = Stops ending stop

@@ -3,48 +3,69 @@ use Rattle.std.specs.Prelude.{List, [], ◌∷◌, ◌++◌, codes, Option, Some
 use Rattle.std.specs.Option.{option_to_list}
 use Rattle.std.specs.Str.{bytes_eq}
 use Rattle.clap.specs.Words.{App, Row, Rule, Text, Kinds, fault_of, first_of, new_app, new_rule, subcommand_of, with_rule, with_subcommand}
+use Rattle.std.specs.Borrow.{Bor}
 use Rattle.fabric_cli.specs.declared.words.Asked.{Asked}
+use Rattle.fabric_cli.specs.declared.words.Work.{Work}
+use Rattle.fabric_cli.specs.declared.words.Work.TheVariants.{Check, Run}
 use Rattle.clap.specs.declared.builder.ArgAction.TheVariants.{Set}
 
 -- an argument that has to be given
 abbrev pub wanted : Text → Rule
 wanted name = record (new_rule name) { action = Some Set; required = true }
 
+-- a command that names a subnet by its topology and its partitions
+abbrev pub subnet_command : Text → App
+subnet_command name = with_rule (with_rule (new_app name) (wanted (codes "TOPO"))) (wanted (codes "PARTS"))
+
+abbrev pub check_command : App
+check_command = subnet_command (codes "check")
+
 abbrev pub run_command : App
-run_command = with_rule (with_rule (with_rule (new_app (codes "run")) (wanted (codes "TOPO"))) (wanted (codes "PARTS"))) (wanted (codes "SCRIPT"))
+run_command = with_rule (subnet_command (codes "run")) (wanted (codes "SCRIPT"))
 
 -- the program's words: one of its subcommands, with that one's arguments
 abbrev pub fabric_top : App
 fabric_top = let app = new_app (codes "fabric") in record app { top = record app.top { has_version = true; subcommand_required = true } }
 
 abbrev pub fabric_command : App
-fabric_command = with_subcommand fabric_top run_command.top
+fabric_command = with_subcommand (with_subcommand fabric_top check_command.top) run_command.top
 
--- the names of the files of a run, as texts
+-- what is asked for, with the names of the files as texts
 pub record Names : Type 0 where
   pub topology : Text
   pub partitions : Option Text
-  pub script : Text
+  pub work : Work Text
+
+abbrev pub named_work : Work (Bor Text) → Work Text
+named_work Check = Check
+named_work (Run script) = Run script.now
 
 abbrev pub names : Asked → Names
 names asked = record {
   topology = asked.topology.now;
   partitions = option_map (λ name. name.now) asked.partitions;
-  script = asked.script.now;
+  work = named_work asked.work;
 }
 
 -- `-` stands for no file
 abbrev pub file_in : Text → Option Text
 file_in word = if bytes_eq word (codes "-") then None else Some word
 
-abbrev pub asked_by : Option Text → Option Text → Option Text → Option Names
-asked_by (Some topology) (Some partitions) (Some script) =
-    Some (record { topology = topology; partitions = file_in partitions; script = script })
+-- `check` needs no script, and `run` does
+abbrev pub work_in : Text → Option Text → Option (Work Text)
+work_in command script =
+    if bytes_eq command (codes "check") then Some Check else option_map (λ name. Run name) script
+
+abbrev pub asked_by : Option Text → Option Text → Option (Work Text) → Option Names
+asked_by (Some topology) (Some partitions) (Some work) =
+    Some (record { topology = topology; partitions = file_in partitions; work = work })
 asked_by _ _ _ = None
 
 abbrev pub asked_in : Option (Text × List Row) → Option Names
 asked_in None = None
-asked_in (Some run) = asked_by (first_of (codes "TOPO") run.1) (first_of (codes "PARTS") run.1) (first_of (codes "SCRIPT") run.1)
+asked_in (Some found) =
+    asked_by (first_of (codes "TOPO") found.1) (first_of (codes "PARTS") found.1)
+    (work_in found.0 (first_of (codes "SCRIPT") found.1))
 
 abbrev pub unless_refused : Kinds → Option Names → Option Names
 unless_refused [] asked = asked
@@ -55,7 +76,11 @@ unless_refused (kind ∷ kinds) asked = None
 unfoldable pub asked_of : List Text → Option Names
 asked_of words = unless_refused (fault_of fabric_command words) (asked_in (subcommand_of fabric_command words))
 
+abbrev pub script_names : Work Text → List Text
+script_names Check = []
+script_names (Run script) = script ∷ []
+
 -- the names that are opened, in order
 abbrev pub opened_for : Option Names → List Text
 opened_for None = []
-opened_for (Some asked) = asked.topology ∷ (option_to_list asked.partitions ++ asked.script ∷ [])
+opened_for (Some asked) = asked.topology ∷ (option_to_list asked.partitions ++ script_names asked.work)

@@ -7,7 +7,7 @@ ghost use Rattle.fabric_cli.specs.declared.faults.Stop.TheVariants.{NoMemory, Ru
 use std::alloc::{AllocError, AllocFailed, Global};
 use subnet_core::RunFault;
 
-/// The exit status of a run that completes.
+/// The exit status of a call that completes.
 pub const COMPLETE: u8 = 0;
 /// The exit status of a fault in a file.
 pub const FAULT: u8 = 1;
@@ -27,7 +27,7 @@ pub enum Stop<'a> {
     Unread(&'a str),
     /// The output does not go out whole.
     Unwritten,
-    /// The run faults.
+    /// A text faults.
     Run(RunFault),
 }
 
@@ -62,7 +62,7 @@ fn run_status(fault: RunFault) -> u8
 {
     match fault {
         RunFault::NoMemory => REFUSED,
-        RunFault::NotYet | RunFault::Topology { .. } | RunFault::Script { .. } => FAULT,
+        RunFault::Topology { .. } | RunFault::Partitions { .. } | RunFault::Script { .. } => FAULT,
     }
 }
 
@@ -71,10 +71,13 @@ fn run_line(alloc: Global, fault: RunFault) -> Result<String, AllocError>
 {
     match fault {
         RunFault::NoMemory => String::from_str(alloc, "fault memory\n"),
-        RunFault::NotYet => String::from_str(alloc, "fault notyet\n"),
         RunFault::Topology { line, cause } => {
             let code = cause.code();
             format!(in alloc; "fault {code} topology line {line}\n")
+        }
+        RunFault::Partitions { line, cause } => {
+            let code = cause.code();
+            format!(in alloc; "fault {code} partitions line {line}\n")
         }
         RunFault::Script { line, cause } => {
             let code = cause.code();

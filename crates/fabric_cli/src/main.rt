@@ -1,7 +1,8 @@
 //! The program `fabric`: an InfiniBand subnet manager over a simulated fabric.
 //!
-//! `fabric run TOPO PARTS SCRIPT` brings up the subnet of a topology, runs a script of commands in
-//! it, and prints what its ports receive. [`serving::serve`] does all the work, over any files and
+//! `fabric check TOPO PARTS` brings up the subnet of a topology under a partition file, and lists its
+//! ports and the members of its partitions. `fabric run TOPO PARTS SCRIPT` runs a script of commands
+//! in it, and prints what its ports receive. [`serving::serve`] does all the work, over any files and
 //! any two writers, and its contract says what it answers of the words and the bytes alone; `main`
 //! gives it the machine's.
 #![tactic(auto)]

@@ -4,30 +4,30 @@ ghost use Rattle.std.specs.Prelude.{ℕ, ◌≡◌, ◌≢◌, ◌⊎◌, Result
 ghost use Rattle.std.specs.Io.KnownBytes.{Appends};
 ghost use Rattle.fabric_cli.specs.Faults.{line_of, memory_line, status_of, IsOfFiles, IsOfRun, NamesUnread};
 ghost use Rattle.fabric_cli.specs.Files.{OpensAll, OpensInOrder};
-ghost use Rattle.fabric_cli.specs.Serving.{bytes_if_named, ending_of, ending_with, texts_in, report_in, texts_of, Ends, IsRefused, IsTold, Reports};
+ghost use Rattle.fabric_cli.specs.Serving.{bytes_if_named, ending_by, ending_of, ending_with, listed, output_in, reported, texts_in, texts_of, work_bytes, work_of, Ends, Gives, IsRefused, IsTold};
 ghost use Rattle.std.specs.Option.{option_to_list};
-ghost use Rattle.fabric_cli.specs.Words.{asked_of, names, opened_for};
+ghost use Rattle.fabric_cli.specs.Words.{asked_of, named_work, names, opened_for, script_names};
 ghost use Rattle.fabric_cli.specs.Writing.{AppendsPart};
 
 use crate::faults::{COMPLETE, REFUSED, Stop};
 use crate::files::Files;
 use crate::reading::read_file;
-use crate::words::{Asked, read_words};
+use crate::words::{Asked, Work, read_words};
 use crate::writing::write_whole;
 use std::alloc::Global;
 use std::io::Write;
-use subnet_core::run;
+use subnet_core::{bring_up, run};
 
-/// The bytes of a run's files.
+/// The bytes of the files, and what to do with them.
 #[derive(Drop)]
 struct Texts {
     topology: Vec<u8>,
     partitions: Option<Vec<u8>>,
-    script: Vec<u8>,
+    work: Work<Vec<u8>>,
 }
 
 /// Does what the words ask for, the first of them the program's own name, and answers the exit
-/// status: 0 where the whole report went to `out`; 1 where a file has a fault, 2 where the words are
+/// status: 0 where the whole output went to `out`; 1 where a file has a fault, 2 where the words are
 /// refused, and 3 where memory, a file or a writer refuses, which `err` is told.
 ///
 /// The files are opened and read in the order of the words, each to its end, before any is judged.
@@ -48,9 +48,9 @@ pub fn serve<F: Files, O: Write, E: Write>(
         (ending_of file (map string_bytes words.now)) (E.contents err.old) (E.contents err.new)) }
     ensures short { IfSome (F.told files.old) (λ file.
         AppendsPart (O.contents out.old) (O.contents out.new)
-        (report_in (ending_of file (map string_bytes words.now)))) }
+        (output_in (ending_of file (map string_bytes words.now)))) }
 {
-    match report(alloc, words, files) {
+    match output(alloc, words, files) {
         Ok(text) => {
             if write_whole(out, text.as_slice()) {
                 COMPLETE
@@ -83,8 +83,8 @@ pub fn told_stop<E: Write>(alloc: Global, stop: &Stop<'_>, err: &mut E) -> u8
     }
 }
 
-/// The report of the run that the words ask for, as it is printed.
-fn report<'a, F: Files>(
+/// The output that the words ask for.
+fn output<'a, F: Files>(
     alloc: Global,
     words: &'a [String],
     files: &mut F,
@@ -93,43 +93,79 @@ fn report<'a, F: Files>(
         (opened_for (asked_of (map string_bytes words.entry.now))) }
     ensures all { IsTold result → OpensAll (F.opened files.old) (F.opened files.new)
         (opened_for (asked_of (map string_bytes words.entry.now))) }
-    ensures exact { IfSome (F.told files.old) (λ file. Reports (λ text. text.items)
+    ensures exact { IfSome (F.told files.old) (λ file. Gives (λ text. text.items)
         (ending_of file (map string_bytes words.entry.now)) result) }
     ensures unread { IfErr result (NamesUnread (F.told files.old) (F.opened files.old) (F.opened files.new)
         (opened_for (asked_of (map string_bytes words.entry.now)))) }
 {
     match read_words(alloc, words) {
-        Ok(asked) => report_of_files(alloc, &asked, files),
+        Ok(asked) => output_of_files(alloc, &asked, files),
         Err(stop) => Err(stop),
     }
 }
 
-/// The report of the run of these files, each read before any is judged.
-fn report_of_files<'a, F: Files>(
+/// The output over these files, each read before any is judged.
+fn output_of_files<'a, F: Files>(
     alloc: Global,
     asked: &Asked<'a>,
     files: &mut F,
 ) -> Result<Vec<u8>, Stop<'a>>
     ensures order { OpensInOrder (F.opened files.old) (F.opened files.new) (opened_for (Some (names asked.now))) }
     ensures all { IsTold result → OpensAll (F.opened files.old) (F.opened files.new) (opened_for (Some (names asked.now))) }
-    ensures exact { IfSome (F.told files.old) (λ file. Reports (λ text. text.items)
+    ensures exact { IfSome (F.told files.old) (λ file. Gives (λ text. text.items)
         (ending_with (texts_of file (names asked.now))) result) }
     ensures unread { IfErr result (NamesUnread (F.told files.old) (F.opened files.old) (F.opened files.new) (opened_for (Some (names asked.now)))) }
 {
     match read_texts(alloc, asked, files) {
-        Ok(texts) => report_of_texts(alloc, &texts),
+        Ok(texts) => output_of_texts(alloc, &texts),
         Err(stop) => Err(stop),
     }
 }
 
-/// The report of the run of these texts.
-fn report_of_texts<'a>(alloc: Global, texts: &Texts) -> Result<Vec<u8>, Stop<'a>>
-    ensures exact { Reports (λ text. text.items) (ending_with (Ok (texts_in texts.now))) result }
+/// The output over these texts.
+fn output_of_texts<'a>(alloc: Global, texts: &Texts) -> Result<Vec<u8>, Stop<'a>>
+    ensures exact { Gives (λ text. text.items) (ending_with (Ok (texts_in texts.now))) result }
     ensures fault { IfErr result IsOfRun }
 {
     let topology = texts.topology.as_slice();
-    let script = texts.script.as_slice();
-    match run(alloc, topology, slice_of(&texts.partitions), script) {
+    let partitions = slice_of(&texts.partitions);
+    match &texts.work {
+        Work::Check => listed(alloc, topology, partitions),
+        Work::Run(script) => reported(alloc, topology, partitions, script.as_slice()),
+    }
+}
+
+/// The listing of a subnet.
+fn listed<'a>(
+    alloc: Global,
+    topology: &[u8],
+    partitions: Option<&[u8]>,
+) -> Result<Vec<u8>, Stop<'a>>
+    ensures exact { Gives (λ text. text.items)
+        (ending_by (listed topology.now (option_copied partitions.entry))) result }
+    ensures fault { IfErr result IsOfRun }
+{
+    match bring_up(alloc, topology, partitions) {
+        Ok(subnet) => match subnet.listing() {
+            Ok(text) => Ok(text),
+            Err(_) => Err(Stop::NoMemory),
+        },
+        Err(fault) => Err(Stop::Run(fault)),
+    }
+}
+
+/// The report of a script in a subnet.
+fn reported<'a>(
+    alloc: Global,
+    topology: &[u8],
+    partitions: Option<&[u8]>,
+    script: &[u8],
+) -> Result<Vec<u8>, Stop<'a>>
+    ensures exact { Gives (λ text. text.items)
+        (ending_by (reported topology.now (option_copied partitions.entry) script.now)) result }
+    ensures fault { IfErr result IsOfRun }
+{
+    match run(alloc, topology, partitions, script) {
         Ok(report) => match report.text() {
             Ok(text) => Ok(text),
             Err(_) => Err(Stop::NoMemory),
@@ -163,11 +199,11 @@ fn read_texts<'a, F: Files>(
 {
     let topology = read_file(alloc, files, asked.topology)?;
     let partitions = read_if_named(alloc, files, asked.partitions)?;
-    let script = read_file(alloc, files, asked.script)?;
+    let work = read_work(alloc, files, &asked.work)?;
     Ok(Texts {
         topology,
         partitions,
-        script,
+        work,
     })
 }
 
@@ -187,5 +223,24 @@ fn read_if_named<'a, F: Files>(
     match name {
         Some(name) => Ok(Some(read_file(alloc, files, name)?)),
         None => Ok(None),
+    }
+}
+
+/// The work with the bytes of its script, if it has one.
+fn read_work<'a, F: Files>(
+    alloc: Global,
+    files: &mut F,
+    work: &Work<&'a str>,
+) -> Result<Work<Vec<u8>>, Stop<'a>>
+    ensures opened { OpensAll (F.opened files.old) (F.opened files.new) (script_names (named_work work.now)) }
+    ensures same { F.told files.new ≡ F.told files.old }
+    ensures bytes { IfOk result (λ bytes. IfSome (F.told files.old) (λ file.
+        work_of file (named_work work.now) ≡ Ok (work_bytes bytes))) }
+    ensures fault { IfErr result IsOfFiles }
+    ensures unread { IfErr result (NamesUnread (F.told files.old) (F.opened files.old) (F.opened files.new) (script_names (named_work work.now))) }
+{
+    match work {
+        Work::Check => Ok(Work::Check),
+        Work::Run(script) => Ok(Work::Run(read_file(alloc, files, *script)?)),
     }
 }

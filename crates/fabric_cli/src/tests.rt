@@ -4,7 +4,10 @@ mod fixtures;
 mod memory;
 
 use crate::serving::serve;
-use crate::tests::fixtures::{BAD_SCRIPTS, BAD_TOPOLOGIES, REPORT, RUNS, SENDS, TWO_SWITCHES};
+use crate::tests::fixtures::{
+    BAD_PARTITIONS, BAD_SCRIPTS, BAD_TOPOLOGIES, LISTING, ONE_PARTITION, REPORT, RUNS, SENDS,
+    TWO_SWITCHES,
+};
 use crate::tests::memory::{Manner, Refusal, Shelf, Sink, Source};
 use std::alloc::{AllocError, Global};
 use std::test::Fail;
@@ -85,6 +88,72 @@ fn a_run_gives_its_report_and_nothing_else(rt: HostRuntime) -> Result<(), Fail> 
     Ok(())
 }
 
+/// What the program answers to these words, over a topology, partitions and a script.
+fn told_by(alloc: Global, words: &[&str], texts: [&str; 3]) -> Result<Answer, AllocError> {
+    let [topology, partitions, script] = texts;
+    let files = [
+        ("net.topo", plain(topology.as_bytes())),
+        ("parts", plain(partitions.as_bytes())),
+        ("sends", plain(script.as_bytes())),
+    ];
+    let mut out = sink(alloc, 1000, Refusal::Broken, true);
+    told(alloc, words, &files, &mut out)
+}
+
+const CHECK_UNDER_A_FILE: [&str; 4] = ["fabric", "check", "net.topo", "parts"];
+
+const RUN_UNDER_A_FILE: [&str; 5] = ["fabric", "run", "net.topo", "parts", "sends"];
+
+#[test]
+fn a_subnet_is_listed_with_its_partitions(rt: HostRuntime) -> Result<(), Fail> {
+    let alloc = rt.alloc();
+    let texts = [TWO_SWITCHES, ONE_PARTITION, ""];
+    let told = told_by(alloc, &["fabric", "check", "net.topo", "-"], texts)?;
+    assert_eq!(rt; told.status, 0);
+    assert_eq!(rt; told.out.as_slice(), LISTING.as_bytes());
+    assert_eq!(rt; told.err.len(), 0);
+    assert_eq!(rt; told.opened.ok_or("the names")?.len(), 1);
+    let told = told_by(alloc, &CHECK_UNDER_A_FILE, texts)?;
+    assert_eq!(rt; told.status, 0);
+    assert!(rt;
+        told.out.ends_with(
+            b"partition 1 0x0001 P1\nmember 0x8001 h1/1\nmember 0x0001 h2/1\nmember 0x0001 h3/1\n"
+        )
+    );
+    assert_eq!(rt; told.opened.ok_or("the names")?.len(), 2);
+    Ok(())
+}
+
+#[test]
+fn a_fault_of_the_partitions_is_told_by_both_commands(rt: HostRuntime) -> Result<(), Fail> {
+    let alloc = rt.alloc();
+    let mut many = String::from_str(alloc, "")?;
+    for base in 1..33u8 {
+        many.push_str(format!(in alloc; "P={base}:ALL;")?.as_str())?;
+    }
+    let large = [(many.as_str(), "PF7", 1)];
+    for (partitions, code, line) in BAD_PARTITIONS.into_iter().chain(large) {
+        let wanted = format!(in alloc; "fault {code} partitions line {line}\n")?;
+        // The topology's fault is told before it, and the script's after it.
+        let texts = [TWO_SWITCHES, partitions, "sent\n"];
+        for words in [CHECK_UNDER_A_FILE.as_slice(), RUN_UNDER_A_FILE.as_slice()] {
+            let told = told_by(alloc, words, texts)?;
+            assert_eq!(rt; told.status, 1, "at {partitions}");
+            assert_eq!(rt; told.out.len(), 0, "at {partitions}");
+            assert_eq!(rt; told.err.as_slice(), wanted.as_bytes(), "at {partitions}");
+        }
+    }
+    for words in [CHECK_UNDER_A_FILE.as_slice(), RUN_UNDER_A_FILE.as_slice()] {
+        let told = told_by(alloc, words, ["swich", "1P", "sent"])?;
+        assert_eq!(rt; told.status, 1);
+        assert_eq!(rt;
+            told.err.as_slice(),
+            b"fault TF1 topology line 1\n".as_slice()
+        );
+    }
+    Ok(())
+}
+
 #[test]
 fn a_fault_in_a_file_is_one_line_and_no_output(rt: HostRuntime) -> Result<(), Fail> {
     let alloc = rt.alloc();
@@ -160,8 +229,20 @@ fn files_that_are_not_read(rt: HostRuntime) -> Result<(), Fail> {
             2,
         ),
         (["net", "-", "failing"], 3, "", "fault read failing\n", 2),
-        (["net", "bad", "sends"], 1, "", "fault notyet\n", 3),
-        (["bad", "net", "sends"], 1, "", "fault notyet\n", 3),
+        (
+            ["net", "bad", "sends"],
+            1,
+            "",
+            "fault PF8 partitions line 1\n",
+            3,
+        ),
+        (
+            ["bad", "bad", "sends"],
+            1,
+            "",
+            "fault TF1 topology line 1\n",
+            3,
+        ),
     ];
     for (names, status, out, err, opened) in rows {
         let [topology, partitions, script] = names;
@@ -223,14 +304,16 @@ fn output_that_is_not_written(rt: HostRuntime) -> Result<(), Fail> {
 
 #[test]
 fn words_that_are_refused(rt: HostRuntime) -> Result<(), Fail> {
-    let rows: [(&[&str], &str); 14] = [
+    let rows: [(&[&str], &str); 19] = [
         (&["fabric"], "Usage:"),
         (&["fabric", "run"], "TOPO"),
         (&["fabric", "run", "a"], "PARTS"),
         (&["fabric", "run", "a", "-"], "SCRIPT"),
         (&["fabric", "run", "a", "-", "b", "c"], "unexpected"),
         (&["fabric", "rum", "a", "-", "b"], "rum"),
-        (&["fabric", "check", "a", "-"], "check"),
+        (&["fabric", "check"], "TOPO"),
+        (&["fabric", "check", "a"], "PARTS"),
+        (&["fabric", "check", "a", "-", "b"], "unexpected"),
         (
             &["fabric", "compare", "a", "-", "b", "c", "h1/1"],
             "compare",
@@ -238,6 +321,9 @@ fn words_that_are_refused(rt: HostRuntime) -> Result<(), Fail> {
         (&["fabric", "run", "--fast", "a", "-", "b"], "--fast"),
         (&["fabric", "--help"], "Exit statuses:"),
         (&["fabric", "--help"], "fault memory"),
+        (&["fabric", "--help"], "fault CODE partitions line L"),
+        (&["fabric", "check", "--help"], "partition NUMBER BASE NAME"),
+        (&["fabric", "check", "--help"], "member 0x0001 h2/1"),
         (
             &["fabric", "run", "--help"],
             "PORT recv SLID DLID PKEY QP N:HEX",

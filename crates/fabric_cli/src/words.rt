@@ -3,7 +3,7 @@
 ghost use Rattle.std.specs.Prelude.{◌≡◌, false, Some, map, string_bytes, option_map, IfOk, IfErr};
 ghost use Rattle.clap.specs.Words.{app_of, rule_of, subcommand_rows_of};
 ghost use Rattle.fabric_cli.specs.Faults.{IsOfWords, IsRefusalOf};
-ghost use Rattle.fabric_cli.specs.Words.{asked_by, asked_in, asked_of, fabric_command, file_in, names, wanted};
+ghost use Rattle.fabric_cli.specs.Words.{asked_by, asked_in, asked_of, fabric_command, file_in, named_work, names, subnet_command, wanted, work_in};
 
 use crate::faults::Stop;
 use clap::error::ErrorKind;
@@ -11,21 +11,32 @@ use clap::{Arg, ArgAction, ArgMatches, Command, Error};
 use std::alloc::{AllocError, Global};
 use std::{env, io};
 
-/// The files that a run is asked to read, by name.
-#[derive(Clone, Copy)]
+/// What to do in a subnet.
+#[derive(Drop)]
+pub enum Work<S> {
+    /// List its ports and the members of its partitions.
+    Check,
+    /// Run a script.
+    Run(S),
+}
+
+/// What is asked for, with the names of the files.
+#[derive(Drop)]
 pub struct Asked<'a> {
     /// The topology.
     pub topology: &'a str,
     /// The partitions, or none where the word is `-`.
     pub partitions: Option<&'a str>,
-    /// The script.
-    pub script: &'a str,
+    /// What to do in the subnet of these.
+    pub work: Work<&'a str>,
 }
 
 const ABOUT: &str = "An InfiniBand subnet manager over a simulated fabric";
 
-const ABOUT_RUN: &str =
-    "Runs a script in the subnet of a topology, and prints what its ports receive";
+const ABOUT_CHECK: &str =
+    "Lists the ports of a subnet by LID, and the members of each partition with their keys";
+
+const ABOUT_RUN: &str = "Runs a script in a subnet, and prints what its ports receive";
 
 const STATUSES: &str = "Exit statuses:
   0  complete
@@ -33,12 +44,31 @@ const STATUSES: &str = "Exit statuses:
   2  the words are refused, or help or the version is asked for
   3  want of memory, a file that is not read, or output that is not written
 
-A fault is told as `fault CODE topology line L`, `fault CODE script line L`, `fault memory`,
-`fault read NAME` or `fault write`.";
+A fault is told as `fault CODE topology line L`, `fault CODE partitions line L`,
+`fault CODE script line L`, `fault memory`, `fault read NAME` or `fault write`.";
 
 const NOT_TEXT: &str = "error: a word is not text\n";
 
-const USAGE: &str = "Usage: fabric run <TOPO> <PARTS> <SCRIPT>\n";
+const USAGE: &str = "Usage: fabric <COMMAND>\n";
+
+const LISTING: &str =
+    "The listing has a line for each end port by LID, then for each partition its line and one for
+each of its members by LID:
+  port LID GUID PORT            an end port; port 0 of switch A is A/0
+  partition NUMBER BASE NAME    a partition; - stands for an empty name
+  member KEY PORT               a member; the key of a full member is 0x8000 or more
+
+For example, for `P1=0x0001: 0x111=full, 0x121;` in PARTS:
+  port 0x0004 0x0000000000000111 h1/1
+  partition 1 0x0001 P1
+  member 0x8001 h1/1
+  member 0x0001 h2/1
+
+Exit statuses:
+  0  complete
+  1  a fault in a file, told on standard error by one line
+  2  the words are refused, or help is asked for
+  3  want of memory, a file that is not read, or output that is not written";
 
 const REPORT: &str = "The report has one line for each event, in order:
   PORT recv SLID DLID PKEY QP N:HEX     the port receives a packet
@@ -65,29 +95,48 @@ fn wanted<'a>(alloc: Global, name: &'a str, help: &'a str) -> Arg<'a>
         .help(help)
 }
 
-/// The program's command line.
-fn fabric_command<'a>(alloc: Global) -> Result<Command<'a>, AllocError>
-    ensures { IfOk result (λ command. app_of command ≡ fabric_command) }
+/// A command that names a subnet by its topology and its partitions.
+fn subnet_command<'a>(
+    alloc: Global,
+    name: &'a str,
+    about: &'a str,
+    help: &'a str,
+) -> Result<Command<'a>, AllocError>
+    ensures { IfOk result (λ command. app_of command ≡ subnet_command name.entry.now) }
 {
     let topology = wanted(
         alloc,
         "TOPO",
         "The topology: switches, adapters, cables and the subnet manager",
     );
-    let partitions = wanted(alloc, "PARTS", "The partitions, or `-` for none");
-    let script = wanted(alloc, "SCRIPT", "The script: what ports send");
-    let run = Command::new(alloc, "run")
-        .about(ABOUT_RUN)
-        .after_help(REPORT)
+    let partitions = wanted(
+        alloc,
+        "PARTS",
+        "The partitions and their members, or `-` for the default one alone",
+    );
+    let command = Command::new(alloc, name)
+        .about(about)
+        .after_help(help)
         .arg(topology)?
-        .arg(partitions)?
-        .arg(script)?;
-    Command::new(alloc, "fabric")
+        .arg(partitions)?;
+    Ok(command)
+}
+
+/// The program's command line.
+fn fabric_command<'a>(alloc: Global) -> Result<Command<'a>, AllocError>
+    ensures { IfOk result (λ command. app_of command ≡ fabric_command) }
+{
+    let check = subnet_command(alloc, "check", ABOUT_CHECK, LISTING)?;
+    let script = wanted(alloc, "SCRIPT", "The script: what ports send");
+    let run = subnet_command(alloc, "run", ABOUT_RUN, REPORT)?.arg(script)?;
+    let command = Command::new(alloc, "fabric")
         .version("0.1.0")
         .about(ABOUT)
         .after_help(STATUSES)
         .subcommand_required(true)
-        .subcommand(run)
+        .subcommand(check)?
+        .subcommand(run)?;
+    Ok(command)
 }
 
 /// The words of a program, its own name first. Words that are not text are refused.
@@ -115,31 +164,45 @@ pub fn read_words<'a>(alloc: Global, words: &'a [String]) -> Result<Asked<'a>, S
     }
 }
 
-/// The names in what clap found.
+/// What is asked for in what clap found.
 fn names_in<'a>(matches: &ArgMatches<'a>) -> Option<Asked<'a>>
     ensures { option_map names result ≡ asked_in (subcommand_rows_of matches.now) }
 {
-    let (_, run) = matches.subcommand()?;
-    let topology = run.get_str("TOPO");
-    let partitions = run.get_str("PARTS");
-    let script = run.get_str("SCRIPT");
-    asked_by(topology, partitions, script)
+    let (command, found) = matches.subcommand()?;
+    let topology = found.get_str("TOPO");
+    let partitions = found.get_str("PARTS");
+    let work = work_in(command, found.get_str("SCRIPT"));
+    asked_by(topology, partitions, work)
 }
 
-/// What is asked for by three words, or nothing where one is missing.
+/// What a command does, with its script if it has one.
+fn work_in<'a>(command: &str, script: Option<&'a str>) -> Option<Work<&'a str>>
+    ensures { option_map named_work result
+        ≡ work_in command.now (option_map (λ word. word.now) script.entry) }
+{
+    if command == "check" {
+        return Some(Work::Check);
+    }
+    match script {
+        Some(script) => Some(Work::Run(script)),
+        None => None,
+    }
+}
+
+/// What is asked for by these, or nothing where one is missing.
 fn asked_by<'a>(
     topology: Option<&'a str>,
     partitions: Option<&'a str>,
-    script: Option<&'a str>,
+    work: Option<Work<&'a str>>,
 ) -> Option<Asked<'a>>
     ensures { option_map names result ≡ asked_by (option_map (λ word. word.now) topology.entry)
-        (option_map (λ word. word.now) partitions.entry) (option_map (λ word. word.now) script.entry) }
+        (option_map (λ word. word.now) partitions.entry) (option_map named_work work.entry) }
 {
-    match (topology, partitions, script) {
-        (Some(topology), Some(partitions), Some(script)) => Some(Asked {
+    match (topology, partitions, work) {
+        (Some(topology), Some(partitions), Some(work)) => Some(Asked {
             topology,
             partitions: file_in(partitions),
-            script,
+            work,
         }),
         _ => None,
     }

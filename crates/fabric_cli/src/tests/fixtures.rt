@@ -1,4 +1,4 @@
-//! Texts of topologies and scripts, and what the program answers for them.
+//! Texts of topologies, partitions and scripts, and what the program answers for them.
 
 /// Two switches, the manager on h0/1, and h4 without a cable.
 pub const TWO_SWITCHES: &str = "switch A 0x10 4
@@ -40,6 +40,43 @@ pub const RUNS: [(&str, &str); 7] = [
         "send h1/1 5 0xffff 7 2:be",
         "h2/1 recv 0x0004 0x0005 0xffff 0x000007 2:be\n",
     ),
+];
+
+/// Of partition 1, h1 is a full member and h2 and h3 are limited ones.
+pub const ONE_PARTITION: &str = "P1=0x0001: 0x111=full, 0x121, 0x131;\n";
+
+/// Who is in the two switches' subnet without a partition file.
+pub const LISTING: &str = "port 0x0001 0x0000000000000101 h0/1
+port 0x0002 0x0000000000000010 A/0
+port 0x0003 0x0000000000000020 B/0
+port 0x0004 0x0000000000000111 h1/1
+port 0x0005 0x0000000000000121 h2/1
+port 0x0006 0x0000000000000131 h3/1
+partition 0 0x7fff Default
+member 0xffff h0/1
+member 0xffff A/0
+member 0xffff B/0
+member 0xffff h1/1
+member 0xffff h2/1
+member 0xffff h3/1
+";
+
+/// Partition files with a fault, each with its code and its line.
+pub const BAD_PARTITIONS: [(&str, &str, usize); 14] = [
+    ("1P=1:ALL;", "PF1", 1),
+    ("P=0x10000:ALL;", "PF2", 1),
+    ("P=1:SOME;", "PF2", 1),
+    ("P=0x8000:ALL;", "PF3", 1),
+    ("P=1,tclass=1:ALL;", "PF4", 1),
+    ("P=1,defmember=both:ALL;", "PF5", 1),
+    ("P=1:mgid=ff12::1;", "PF6", 1),
+    ("P=1;", "PF8", 1),
+    ("P=1:ALL", "PF8", 1),
+    ("P=1:ALL\n", "PF8", 2),
+    ("P=1,ipoib,rate=4:ALL;", "PF9", 1),
+    ("P1=0x0001:\n0x111=full,\n0x121z;\n", "PF2", 3),
+    ("# a\n# b\nP=1,ipiob:ALL;\n", "PF4", 3),
+    ("Default: ALL=full;", "PF3", 1),
 ];
 
 /// Topologies with a fault, each with its code and its line.

@@ -6,19 +6,19 @@ pub returns-in_err-partitions-clause-order : goal.returns-in_err-partitions-clau
 returns-in_err-partitions-clause-order g c =
     opens_first _ _ _ _ (opens_more _ _ _ _ _ c.read_file.ensures.opened c.read_if_named.ensures.opened)
 
-pub returns-in_err-script-clause-order : goal.returns-in_err-script-clause-order
-returns-in_err-script-clause-order g c =
-    opens_whole _ _ _ (opens_more _ _ _ _ _ (opens_more _ _ _ _ _ c.read_file.ensures.opened c.read_if_named.ensures.opened) c.read_file-2.ensures.opened)
+pub returns-in_err-work-clause-order : goal.returns-in_err-work-clause-order
+returns-in_err-work-clause-order g c =
+    opens_whole _ _ _ (opens_more _ _ _ _ _ (opens_more _ _ _ _ _ c.read_file.ensures.opened c.read_if_named.ensures.opened) c.read_work.ensures.opened)
 
 pub returns-clause-order : goal.returns-clause-order
 returns-clause-order g c =
-    opens_whole _ _ _ (opens_more _ _ _ _ _ (opens_more _ _ _ _ _ c.read_file.ensures.opened c.read_if_named.ensures.opened) c.read_file-2.ensures.opened)
+    opens_whole _ _ _ (opens_more _ _ _ _ _ (opens_more _ _ _ _ _ c.read_file.ensures.opened c.read_if_named.ensures.opened) c.read_work.ensures.opened)
 
-pub returns-in_err-script-clause-unread : goal.returns-in_err-script-clause-unread
-returns-in_err-script-clause-unread g c =
-    let p = err_from_is_err_and c.from_residual-in_err-script.result c.from_residual-in_err-script.ensures.1 in
+pub returns-in_err-work-clause-unread : goal.returns-in_err-work-clause-unread
+returns-in_err-work-clause-unread g c =
+    let p = err_from_is_err_and c.from_residual-in_err-work.result c.from_residual-in_err-work.ensures.1 in
     rw (p.1, p.2) (unread_after _ _ _ _ _ _ _ _ c.read_file.ensures.same c.read_file.ensures.opened (one_open _ _ _ c.in_ok-topology.ensures.bytes)
-    (unread_after _ _ _ _ _ _ _ _ c.read_if_named.ensures.same c.read_if_named.ensures.opened (named_open _ _ _ c.in_ok-partitions.ensures.bytes) c.in_err-script.ensures.unread))
+    (unread_after _ _ _ _ _ _ _ _ c.read_if_named.ensures.same c.read_if_named.ensures.opened (named_open _ _ _ c.in_ok-partitions.ensures.bytes) c.in_err-work.ensures.unread))
 
 pub returns-in_err-topology-clause-unread : goal.returns-in_err-topology-clause-unread
 returns-in_err-topology-clause-unread g c =

@@ -4,4 +4,7 @@ use Rattle.fabric_cli.proofs.WordsLemmas.{in_found}
 use Rattle.fabric_cli.proofs.words.names_in.Goals as goal
 
 pub returns : goal.returns
-returns c = c.asked_by.ensures ∙ rw (c.get_str-topology.ensures, c.get_str-partitions.ensures, c.get_str-script.ensures) (sym (in_found _ (found_of c.in_ok-run.run'.now) c.in_ok-run.ensures.rows))
+returns c =
+    c.asked_by.ensures
+    ∙ rw (c.work_in-work.ensures, c.get_str-topology.ensures, c.get_str-partitions.ensures, c.get_str.ensures)
+    (sym (in_found c.args.matches.now c.in_ok-command.command.now (found_of c.in_ok-command.found.now) c.in_ok-command.ensures.name c.in_ok-command.ensures.rows))
