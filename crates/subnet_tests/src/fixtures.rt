@@ -39,6 +39,9 @@ pub const ONE_PARTITION: [[u16; 2]; 6] = [
     [0x7fff, 0x0001],
 ];
 
+/// The partition file that gives the ports these keys.
+pub const ONE_PARTITION_FILE: &str = "P1=0x0001: 0x111=full, 0x121, 0x131;";
+
 /// The end ports with these keys, of which 0 is none.
 pub fn two_switches(alloc: Global, keys: &[[u16; 2]; 6]) -> Result<Vec<SubnetPort>, Fail> {
     let mut ports = Vec::new(alloc);

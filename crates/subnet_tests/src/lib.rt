@@ -7,4 +7,6 @@ mod fixtures;
 #[cfg(test)]
 mod neighbours;
 #[cfg(test)]
+mod partitions;
+#[cfg(test)]
 mod runs;

@@ -121,12 +121,6 @@ fn a_script_is_refused_at_its_first_faulty_line(rt: HostRuntime) {
 }
 
 #[test]
-fn a_partition_file_is_answered_before_the_topology_is_judged(rt: HostRuntime) {
-    let answer = run(rt.alloc(), b"nonsense", Some(b""), b"");
-    assert!(rt; matches!(answer, Err(RunFault::NotYet)));
-}
-
-#[test]
 fn a_run_is_told_or_memory_is_refused(rt: HostRuntime) -> Result<(), Fail> {
     let script = b"send h1/1 5 0xffff 7 2:beef\nsend h1/1 5 0x7fff 7 0:\n";
     let expected = b"h2/1 recv 0x0004 0x0005 0xffff 0x000007 2:beef\nh1/1 refused AR1\n";
