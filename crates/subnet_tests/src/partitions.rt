@@ -1,8 +1,8 @@
-use crate::fixtures::{ONE_PARTITION_FILE, TWO_SWITCHES};
+use crate::fixtures::{GUIDS, ONE_PARTITION, ONE_PARTITION_FILE, TWO_SWITCHES};
 use partition_file::PartitionFault;
 use std::alloc::Global;
 use std::test::Fail;
-use subnet_core::{RunFault, ScriptFault, bring_up, run};
+use subnet_core::{RunFault, ScriptFault, bring_up, ports_of, run};
 use topo_file::TopologyFault;
 
 /// The listing of the two-switch fabric under a partition file.
@@ -86,6 +86,25 @@ fn ports_stand_by_lid_and_members_by_partition(rt: HostRuntime) -> Result<(), Fa
         let listing = listed(rt.alloc(), partitions)?;
         let wanted = format!(in rt.alloc(); "{PORTS}{default}{further}")?;
         assert_eq!(rt; listing.as_str(), wanted.as_str());
+    }
+    Ok(())
+}
+
+#[test]
+fn end_ports_hold_the_keys_that_a_file_gives_them(rt: HostRuntime) -> Result<(), Fail> {
+    let topology = topo_file::read(rt.alloc(), TWO_SWITCHES.as_bytes())?;
+    let partitions = partition_file::read(rt.alloc(), ONE_PARTITION_FILE.as_bytes())?;
+    let ports = ports_of(rt.alloc(), &topology, &partitions)?;
+    assert_eq!(rt; ports.len(), GUIDS.len());
+    for (port, (guid, held)) in ports.iter().zip(GUIDS.iter().zip(ONE_PARTITION)) {
+        assert_eq!(rt; port.guid, *guid);
+        for bits in held {
+            assert_eq!(rt;
+                port.keys.find(bits).is_some(),
+                bits != 0,
+                "{bits} at {guid}"
+            );
+        }
     }
     Ok(())
 }
