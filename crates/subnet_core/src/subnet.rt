@@ -87,9 +87,8 @@ fn partitions_for(alloc: Global, text: Option<&[u8]>) -> Result<Partitions, RunF
 }
 
 impl Subnet {
-    /// Who is in the subnet, as it is printed: a line for each end port by LID, then for each partition
-    /// its line, and a line for each of its members by LID, with the key that it holds; in ASCII but
-    /// for names of partitions.
+    /// Who is in the subnet, as it is printed in ASCII: a line for each end port by LID, then for each
+    /// partition its line, and a line for each of its members by LID, with the key that it holds.
     pub fn listing(&self) -> Result<Vec<u8>, AllocError>
         ensures { IfOk result (λ text. text.items ≡ listing_text self.now.headings self.now.ports) }
     {
