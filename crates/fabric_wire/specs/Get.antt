@@ -1,8 +1,11 @@
 -- What one Get tells: the request, and what is read in the answer.
-use Rattle.std.specs.Prelude.{ℕ, ◌≡◌, ◌==◌, true, if◌then◌else◌, List, length, slice_get, slice_range, Option, Some, None, option_map, Result, Ok, Err}
+use Rattle.std.specs.Prelude.{ℕ, ◌≡◌, ◌-◌, ◌==◌, true, if◌then◌else◌, List, [], ◌∷◌, ◌++◌, length, replicate, slice_get, slice_range, Option, Some, None, option_map, Result, Ok, Err}
 use Rattle.std.specs.Int.Digits.{AllBelowBase}
 use Rattle.std.specs.Option.{option_and_then}
-use Rattle.mad_layout.specs.Bits.{field}
+use Rattle.mad_layout.specs.Bits.{field, number}
+use Rattle.mad_layout.specs.Layout.{Place, at}
+use Rattle.mad_layout.specs.Method.{method_code}
+use Rattle.mad_layout.specs.declared.method.Method.TheVariants as method
 use Rattle.attr_tables.specs.declared.smp_attribute.SmpAttribute.{SmpAttribute}
 use Rattle.attr_tables.specs.SmpAttribute.{smp_attribute_code}
 use Rattle.attr_tables.specs.Request.{is_request, is_version_1, is_get, modifier_of}
@@ -17,6 +20,10 @@ use Rattle.fabric_wire.specs.FabricState.{FabricState, adapter_port}
 use Rattle.fabric_wire.specs.Good.{IsGood}
 use Rattle.fabric_wire.specs.Walk.{exchange_after, exchange_reply, is_sent, last_of, path_of, walk}
 
+-- the 64 entries of the initial path; entry 0 is no hop's
+abbrev pub path_entries : List ℕ → List ℕ
+path_entries path = 0 ∷ path ++ replicate (63 - length path) 0
+
 -- the SMP asks for that part of an attribute, at the end of that path
 pub record AsksFor (attribute : SmpAttribute) (modifier : ℕ) (path : List ℕ) (smp : List ℕ) : Type 0 where
   pub request : is_request smp ≡ true
@@ -28,6 +35,30 @@ pub record AsksFor (attribute : SmpAttribute) (modifier : ℕ) (path : List ℕ)
   pub path_is : path_of smp ≡ path
   pub long : length smp ≡ 256
   pub bytes : AllBelowBase 256 smp
+
+-- a Get to the bit: no LID at either end, the path from entry 1, and 0 in all that it does not say
+abbrev pub plain_get : SmpAttribute → ℕ → List ℕ → List Place
+plain_get attribute modifier path =
+    at 0 8 1
+    ∷ at 8 8 129
+    ∷ at 16 8 1
+    ∷ at 24 8 (method_code method.Get)
+    ∷ at 32 1 0
+    ∷ at 33 15 0
+    ∷ at 48 8 0
+    ∷ at 56 8 (length path)
+    ∷ at 64 64 0
+    ∷ at 128 16 (smp_attribute_code attribute)
+    ∷ at 144 16 0
+    ∷ at 160 32 modifier
+    ∷ at 192 64 0
+    ∷ at 256 16 65535
+    ∷ at 272 16 65535
+    ∷ at 288 224 0
+    ∷ at 512 512 0
+    ∷ at 1024 512 (number (path_entries path))
+    ∷ at 1536 512 0
+    ∷ []
 
 -- the attribute in an answer of status 0
 abbrev pub attribute_in : List ℕ → Option (List ℕ)

@@ -1,8 +1,9 @@
 //! One attribute, read over any wire.
 
-ghost use Rattle.std.specs.Prelude.{◌≡◌, ◌≤◌, length, take, drop, Some};
+ghost use Rattle.std.specs.Prelude.{◌≡◌, ◌≤◌, length, Some};
 ghost use Rattle.std.specs.Option.{ForSome};
-ghost use Rattle.fabric_wire.specs.Get.{AsksFor, IsGiven, attribute_in, gives_along, learned_by};
+ghost use Rattle.mad_layout.specs.Layout.{Holds};
+ghost use Rattle.fabric_wire.specs.Get.{AsksFor, IsGiven, attribute_in, gives_along, learned_by, path_entries, plain_get};
 ghost use Rattle.fabric_wire.specs.Good.{IsGood};
 ghost use Rattle.fabric_wire.specs.Walk.{exchange_after};
 
@@ -17,7 +18,8 @@ const NO_LID: u16 = 0xffff;
 #[tactic(auto, unfolding(attr_tables::specs::Request::is_request))]
 pub fn get_request(attribute: SmpAttribute, modifier: u32, path: &[u8]) -> Mad
     requires { length path.now ≤ 63 }
-    ensures { AsksFor attribute modifier path.now result }
+    ensures asks { AsksFor attribute modifier path.now result }
+    ensures plain { Holds result (plain_get attribute modifier path.now) }
 {
     let header = Header {
         base_version: SMP_VERSION,
@@ -52,7 +54,7 @@ pub fn get_request(attribute: SmpAttribute, modifier: u32, path: &[u8]) -> Mad
 /// The ports by which hops leave, the first in entry 1.
 fn initial_path(path: &[u8]) -> [u8; 64]
     requires { length path.now ≤ 63 }
-    ensures { take (length path.now) (drop 1 result) ≡ path.now }
+    ensures { result ≡ path_entries path.now }
 {
     let mut ports = [0; 64];
     ports[1..1 + path.len()].copy_from_slice(path);

@@ -141,11 +141,11 @@ sets_put_all ps old layout fits =
       same_length = length-put_all old ps;
     }
 
-number_zeros : (n : ℕ) → number (replicate n 0) ≡ 0
+pub number_zeros : (n : ℕ) → number (replicate n 0) ≡ 0
 number_zeros zero = refl
 number_zeros (suc n) = let e = number_zeros n in number_cons 0 (replicate n 0) ∙ omega arith
 
-field_zeros : (n off len : ℕ) → field (replicate n 0) off len ≡ 0
+pub field_zeros : (n off len : ℕ) → field (replicate n 0) off len ≡ 0
 unfolding field
 field_zeros n off len =
     let low = 8 * length (replicate n 0) - (off + len) in

@@ -1,22 +1,25 @@
-use Rattle.std.proofs.Common.{false, length, refl, replicate}
-use Rattle.mad_layout.specs.declared.dr_smp.DrSmp.{DrSmp}
-use Rattle.fabric_wire.proofs.GetLemmas.{asks_for}
+use Rattle.std.proofs.Common.{refl}
+use Rattle.fabric_wire.proofs.GetLemmas.{asks_for, plain_is}
 use Rattle.fabric_wire.proofs.getting.get_request.Goals as goal
 
-pub returns : goal.returns
-returns c =
-    let route : DrSmp = record {
-      direction = false;
-      status = 0;
-      hop_pointer = 0;
-      hop_count = length c.args.path.now;
-      m_key = 0;
-      dr_slid = 65535;
-      dr_dlid = 65535;
-      «data» = replicate 64 0;
-      initial_path = c.initial_path.result;
-      return_path = replicate 64 0;
-    } in
-    asks_for _ _ c.write-2.new.mad _ route _ _ _ c.write.ensures c.write-2.ensures.fields c.write-2.ensures.initial_path c.write-2.array_long c.known_bytes.ensures
-    (record { base = refl; class = refl; version = refl; method = c.code.ensures; attribute_is = c.code-2.ensures; modifier_is = refl })
-    (record { out = refl; at_start = refl; hops = refl; few = c.requires; along = c.initial_path.ensures })
+pub returns-clause-asks : goal.returns-clause-asks
+returns-clause-asks c = asks_for (record {
+  first = c.write.ensures;
+  second = c.write-2.ensures.fields;
+  initial = c.write-2.ensures.initial_path;
+  long = c.write-2.array_long;
+  below = c.known_bytes.ensures;
+  header_is = record { base = refl; class = refl; version = refl; method = c.code.ensures; transaction = refl; attribute_is = c.code-2.ensures; modifier_is = refl };
+  route_is = record { out = refl; status = refl; at_start = refl; hops = refl; few = c.requires; key = refl; begins = refl; ends = refl; blank = refl; along = c.initial_path.ensures; back = refl };
+})
+
+pub returns-clause-plain : goal.returns-clause-plain
+returns-clause-plain c = plain_is (record {
+  first = c.write.ensures;
+  second = c.write-2.ensures.fields;
+  initial = c.write-2.ensures.initial_path;
+  long = c.write-2.array_long;
+  below = c.known_bytes.ensures;
+  header_is = record { base = refl; class = refl; version = refl; method = c.code.ensures; transaction = refl; attribute_is = c.code-2.ensures; modifier_is = refl };
+  route_is = record { out = refl; status = refl; at_start = refl; hops = refl; few = c.requires; key = refl; begins = refl; ends = refl; blank = refl; along = c.initial_path.ensures; back = refl };
+})
