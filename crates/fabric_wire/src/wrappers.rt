@@ -1,6 +1,8 @@
 //! Wires round another wire.
 
-ghost use Rattle.std.specs.Prelude.{◌≡◌, None};
+ghost use Rattle.std.specs.Prelude.{◌≡◌, ◌≤◌, ◌+◌, ◌-◌, ◌^◌, min, Some, None};
+ghost use Rattle.std.specs.Option.{ForSome};
+ghost use Rattle.fabric_wire.specs.Walk.{exchange_after, exchange_reply};
 
 use crate::smp_wire::SmpWire;
 use mad_layout::Mad;
@@ -17,7 +19,11 @@ pub struct CountingWire<W: SmpWire + Drop> {
 impl<W: SmpWire + Drop> SmpWire for CountingWire<W> {
     ghost fabric = { λ counting. W.fabric counting.wire };
 
-    fn exchange(&mut self, smp: &Mad) -> Option<Mad> {
+    fn exchange(&mut self, smp: &Mad) -> Option<Mad>
+        ensures answer { ForSome (W.fabric self.old.wire) (λ state. result ≡ exchange_reply state smp.now) }
+        ensures change { ForSome (W.fabric self.old.wire) (λ state. W.fabric self.new.wire ≡ Some (exchange_after state smp.now)) }
+        ensures count { self.new.count ≡ min (self.old.count + 1) (2 ^ 64 - 1) }
+    {
         self.count = self.count.saturating_add(1);
         self.wire.exchange(smp)
     }
@@ -35,7 +41,12 @@ pub struct SilencedWire<W: SmpWire + Drop> {
 impl<W: SmpWire + Drop> SmpWire for SilencedWire<W> {
     ghost fabric = { λ _. None };
 
-    fn exchange(&mut self, smp: &Mad) -> Option<Mad> {
+    fn exchange(&mut self, smp: &Mad) -> Option<Mad>
+        ensures left { self.new.left ≡ self.old.left - 1 }
+        ensures silent { self.old.left ≡ 0 → (result ≡ None) × (self.new ≡ self.old) }
+        ensures answer { 1 ≤ self.old.left → ForSome (W.fabric self.old.wire) (λ state. result ≡ exchange_reply state smp.now) }
+        ensures change { 1 ≤ self.old.left → ForSome (W.fabric self.old.wire) (λ state. W.fabric self.new.wire ≡ Some (exchange_after state smp.now)) }
+    {
         if self.left == 0 {
             return None;
         }
