@@ -5,9 +5,13 @@ use Rattle.mad_layout.specs.Bits.{put_field}
 use Rattle.mad_layout.specs.declared.status.MadStatus.{MadStatus}
 use Rattle.attr_tables.specs.declared.smp_attribute.SmpAttribute.{SmpAttribute}
 use Rattle.attr_tables.specs.Agent.{◌>>=◌, Getter, Setter, after, answer, changed, held_after, reply_of}
-use Rattle.attr_tables.specs.AgentLaws.{AsksSame, IsAttribute, IsSettled, IsUnseenPut, ReadsAlike, Shows}
+use Rattle.attr_tables.specs.AgentLaws.{AsksSame, IsAttribute, IsSettled, IsUnseenPut, ReadsAlike}
 use Rattle.attr_tables.specs.Request.{attribute_asked, is_request, is_set, modifier_of, reply_status, reply_to}
 use Rattle.attr_tables.proofs.UnseenLemmas.{unseen_passes}
+
+-- what is set can be asked for
+abbrev pub Shows : {S : Type 0} → Getter S → Setter S → Type 0
+Shows getter setter = (held next : _) (attribute : SmpAttribute) (smp : List ℕ) → setter held attribute smp ≡ Ok next → (bytes : List ℕ) × (getter next attribute (modifier_of smp) ≡ Ok bytes)
 
 -- the steps of what succeeds
 pub bind_ok : {A B E : Type 0} (r : Result A E) (f : A → Result B E) (y : B) → (r >>= f) ≡ Ok y → (x : A) × (r ≡ Ok x) × (f x ≡ Ok y)

@@ -22,7 +22,7 @@ use Rattle.attr_tables.specs.NodeInfo.{node_info, node_info_bytes}
 use Rattle.attr_tables.specs.PortInfo.{port_info, port_info_bytes}
 use Rattle.attr_tables.specs.Request.{reply_method, reply_to}
 use Rattle.attr_tables.specs.SwitchInfo.{switch_info, switch_info_bytes}
-use Rattle.attr_tables.proofs.RequestLemmas.{attribute_keeps, attribute_sets, attribute_status, refusal_keeps, refusal_status}
+use Rattle.attr_tables.proofs.RequestLemmas.{attribute_keeps, attribute_method, attribute_sets, attribute_status, refusal_data, refusal_keeps, refusal_method, refusal_status}
 
 put_below : (xs : List ℕ) (off len v : ℕ) → AllBelowBase 256 (put_field xs off len v)
 unfolding put_field
@@ -104,9 +104,12 @@ attribute_there smp bytes long is =
 pub carries : RepliesCarry
 carries =
     record {
+      method = λ smp bytes long is. attribute_method smp bytes long (attribute_fits bytes is);
       status = λ smp bytes long is. attribute_status smp bytes long (attribute_fits bytes is);
       attribute = attribute_there;
       refusal = λ smp status long. refusal_status smp status long (code_fits status);
+      method_of_refused = λ smp status long. refusal_method smp status long (code_fits status);
+      data_of_refused = λ smp status long. refusal_data smp status long (code_fits status);
       rest = λ smp bytes long is. attribute_keeps smp bytes long (attribute_fits bytes is);
       rest_of_refused = λ smp status long. refusal_keeps smp status long (code_fits status);
     }

@@ -86,3 +86,12 @@ attribute_status smp attribute long fits = sym (attribute_sets smp attribute lon
 
 pub refusal_status : (smp : List ℕ) (status : MadStatus) → length smp ≡ 256 → mad_status_code status < 2 ^ 15 → field (reply_to smp (Err status)) 33 15 ≡ mad_status_code status
 refusal_status smp status long fits = sym (refusal_sets smp status long fits).fields.1.0
+
+pub attribute_method : (smp attribute : List ℕ) → length smp ≡ 256 → number attribute < 2 ^ 512 → field (reply_to smp (Ok attribute)) 24 8 ≡ reply_method smp
+attribute_method smp attribute long fits = sym (attribute_sets smp attribute long fits).fields.0
+
+pub refusal_method : (smp : List ℕ) (status : MadStatus) → length smp ≡ 256 → mad_status_code status < 2 ^ 15 → field (reply_to smp (Err status)) 24 8 ≡ reply_method smp
+refusal_method smp status long fits = sym (refusal_sets smp status long fits).fields.0
+
+pub refusal_data : (smp : List ℕ) (status : MadStatus) → length smp ≡ 256 → mad_status_code status < 2 ^ 15 → field (reply_to smp (Err status)) 512 512 ≡ field smp 512 512
+refusal_data smp status long fits = (refusal_sets smp status long fits).others 512 512 (omega arith) refl

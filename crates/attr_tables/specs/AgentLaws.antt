@@ -8,18 +8,13 @@ use Rattle.mad_layout.specs.declared.status.MadStatus.{MadStatus}
 use Rattle.attr_tables.specs.declared.node_info.NodeInfo.{NodeInfo}
 use Rattle.attr_tables.specs.declared.port_info.PortInfo.{PortInfo}
 use Rattle.attr_tables.specs.declared.switch_info.SwitchInfo.{SwitchInfo}
-use Rattle.attr_tables.specs.declared.smp_attribute.SmpAttribute.{SmpAttribute}
 use Rattle.attr_tables.specs.Agent.{Getter, Setter, after, answer}
 use Rattle.attr_tables.specs.Blocks.{word_bytes}
 use Rattle.attr_tables.specs.NodeInfo.{node_info_bytes}
 use Rattle.attr_tables.specs.PortInfo.{port_info_bytes}
 use Rattle.attr_tables.specs.PortSetting.{port_setting}
-use Rattle.attr_tables.specs.Request.{asked, asked_ports, asked_words, attribute_asked, is_request, is_set, modifier_of, reply_to, KeepsRest}
+use Rattle.attr_tables.specs.Request.{asked, asked_ports, asked_words, attribute_asked, is_request, is_set, modifier_of, reply_method, reply_to, KeepsRest}
 use Rattle.attr_tables.specs.SwitchInfo.{switch_info_bytes}
-
--- what is set can be asked for
-abbrev pub Shows : {S : Type 0} → Getter S → Setter S → Type 0
-Shows getter setter = (held next : _) (attribute : SmpAttribute) (smp : List ℕ) → setter held attribute smp ≡ Ok next → (bytes : List ℕ) × (getter next attribute (modifier_of smp) ≡ Ok bytes)
 
 pub record IsSettled {S : Type 0} (getter : Getter S) (setter : Setter S) : Type 0 where
   -- what asks no agent changes nothing
@@ -62,11 +57,15 @@ pub record SpellsAttributes : Type 0 where
   pub switch_info : (info : SwitchInfo) → IsAttribute (switch_info_bytes info)
   pub words : (words : List ℕ) → length words ≡ 32 → IsAttribute (word_bytes words)
 
--- a reply of status 0 carries the attribute that answers, and a refusal its code
+-- a reply has the method of one; of status 0 it carries the attribute that answers, and a refusal its
+-- code and the data as they came
 pub record RepliesCarry : Type 0 where
+  pub method : (smp bytes : List ℕ) → length smp ≡ 256 → IsAttribute bytes → field (reply_to smp (Ok bytes)) 24 8 ≡ reply_method smp
   pub status : (smp bytes : List ℕ) → length smp ≡ 256 → IsAttribute bytes → field (reply_to smp (Ok bytes)) 33 15 ≡ 0
   pub attribute : (smp bytes : List ℕ) → length smp ≡ 256 → IsAttribute bytes → take 64 (drop 64 (reply_to smp (Ok bytes))) ≡ bytes
   pub refusal : (smp : List ℕ) (status : MadStatus) → length smp ≡ 256 → field (reply_to smp (Err status)) 33 15 ≡ mad_status_code status
+  pub method_of_refused : (smp : List ℕ) (status : MadStatus) → length smp ≡ 256 → field (reply_to smp (Err status)) 24 8 ≡ reply_method smp
+  pub data_of_refused : (smp : List ℕ) (status : MadStatus) → length smp ≡ 256 → field (reply_to smp (Err status)) 512 512 ≡ field smp 512 512
   -- and all of the request but method, status and attribute
   pub rest : (smp bytes : List ℕ) → length smp ≡ 256 → IsAttribute bytes → KeepsRest smp (reply_to smp (Ok bytes))
   pub rest_of_refused : (smp : List ℕ) (status : MadStatus) → length smp ≡ 256 → KeepsRest smp (reply_to smp (Err status))

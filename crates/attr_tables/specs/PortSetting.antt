@@ -30,6 +30,7 @@ pub record IsNarrow (wanted : PortSetting) : Type 0 where
   pub lid : wanted.lid < 2 ^ 16
   pub master_sm_lid : wanted.master_sm_lid < 2 ^ 16
   pub port_state : wanted.port_state < 2 ^ 4
+  pub lmc : wanted.lmc < 2 ^ 3
   pub neighbor_mtu : wanted.neighbor_mtu < 2 ^ 4
   pub master_sm_sl : wanted.master_sm_sl < 2 ^ 4
 

@@ -37,7 +37,7 @@ pub use crate::blocks::{
 };
 pub use crate::laws::{
     attributes_are_spelled, node_info_reads_back, port_block_reads_back, port_info_reads_back,
-    replies_carry, switch_info_reads_back, word_block_reads_back,
+    replies_carry, switch_info_reads_back, unseen_passes, word_block_reads_back,
 };
 pub use crate::link::Link;
 pub use crate::mtu::Mtu;

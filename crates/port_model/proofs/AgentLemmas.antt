@@ -7,10 +7,10 @@ use Rattle.attr_tables.specs.declared.smp_attribute.SmpAttribute.TheVariants.{No
 use Rattle.attr_tables.specs.Agent.{◌>>=◌, shown_at, word_block_set}
 use Rattle.attr_tables.specs.Blocks.{has_block, with_block}
 use Rattle.attr_tables.specs.PortInfo.{port_info_bytes}
-use Rattle.attr_tables.specs.AgentLaws.{AsksSame, Shows}
+use Rattle.attr_tables.specs.AgentLaws.{AsksSame}
 use Rattle.attr_tables.specs.PortSetting.{port_info_after, port_setting}
 use Rattle.attr_tables.specs.Request.{attribute_asked, modifier_of}
-use Rattle.attr_tables.proofs.AgentLemmas.{after_cases, bind_done, guard_ok}
+use Rattle.attr_tables.proofs.AgentLemmas.{Shows, after_cases, bind_done, guard_ok}
 use Rattle.attr_tables.proofs.PortSettingLemmas.{down_stays, unsettable_stays}
 use Rattle.attr_tables.proofs.TableLemmas.{no_difference, words_differ, words_shown}
 use Rattle.port_model.specs.AdapterState.{AdapterState}

@@ -8,13 +8,13 @@ use Rattle.attr_tables.specs.declared.switch_info.SwitchInfo.{SwitchInfo as Info
 use Rattle.attr_tables.specs.declared.smp_attribute.SmpAttribute.{SmpAttribute}
 use Rattle.attr_tables.specs.declared.smp_attribute.SmpAttribute.TheVariants.{NodeDescription, NodeInfo, SwitchInfo, PortInfo, PKeyTable, LinearForwardingTable, MulticastForwardingTable}
 use Rattle.attr_tables.specs.Agent.{◌>>=◌, shown_at, word_block, word_block_set}
-use Rattle.attr_tables.specs.AgentLaws.{AsksSame, DiffersInBlock, Shows}
+use Rattle.attr_tables.specs.AgentLaws.{AsksSame, DiffersInBlock}
 use Rattle.attr_tables.specs.Blocks.{block_of, has_block, with_block}
 use Rattle.attr_tables.specs.PortInfo.{port_info_bytes}
 use Rattle.attr_tables.specs.PortSetting.{port_info_after, port_setting}
 use Rattle.attr_tables.specs.Request.{asked, asked_ports, modifier_of}
 use Rattle.attr_tables.specs.SwitchInfo.{switch_info_bytes}
-use Rattle.attr_tables.proofs.AgentLemmas.{bind_done, bind_ok, guard_ok, passed}
+use Rattle.attr_tables.proofs.AgentLemmas.{Shows, bind_done, bind_ok, guard_ok, passed}
 use Rattle.attr_tables.proofs.PortSettingLemmas.{taken_ok}
 use Rattle.attr_tables.proofs.TableLemmas.{block_differs, given, length-asked_ports, same_blocks, words_shown}
 use Rattle.switch_model.specs.declared.switch_port.SwitchPort.{SwitchPort}
