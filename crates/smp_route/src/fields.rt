@@ -4,7 +4,7 @@ ghost use Rattle.std.specs.Prelude.{◌≡◌, ◌+◌, ◌<◌, ℕ, slice_set}
 ghost use Rattle.smp_route.specs.Places.{pointer, count, initial_port, return_port, with_pointer, with_return_port};
 ghost use Rattle.smp_route.specs.Laws.{PlacesAreFields};
 
-use mad_layout::{Mad, bytes_are_fields};
+use mad_layout::{Mad, bytes_are_fields, bytes_are_set};
 
 /// How many hops a path has at most.
 pub const MAX_HOPS: u8 = 63;
@@ -68,4 +68,5 @@ pub fn fields_are_the_standards()
     ensures { PlacesAreFields }
 {
     bytes_are_fields();
+    bytes_are_set();
 }
