@@ -7,7 +7,6 @@ use Rattle.attr_tables.specs.declared.node_type.NodeType.TheVariants.{ChannelAda
 use Rattle.attr_tables.specs.declared.node_info.NodeInfo.{NodeInfo}
 use Rattle.attr_tables.specs.declared.port_info.PortInfo.{PortInfo}
 use Rattle.attr_tables.specs.declared.switch_info.SwitchInfo.{SwitchInfo}
-use Rattle.attr_tables.specs.declared.word_block.WordBlock.{WordBlock}
 use Rattle.attr_tables.specs.declared.power_up.TheConstants.{LINEAR_TABLE, MULTICAST_TABLE}
 use Rattle.attr_tables.specs.NodeType.{node_type_code}
 use Rattle.pkey_rules.specs.declared.key_table.TheConstants.{PARTITIONS}
@@ -123,10 +122,6 @@ node_info_of node_type num_ports node_guid port_guid local_port_num =
       vendor_id = 0;
     }
 
--- the first block of a key table: the full key of the default partition, and empty places
-abbrev pub key_block_at_power_up : WordBlock
-key_block_at_power_up = record { words = 65535 ∷ replicate 31 0 }
-
--- a key table: the same, for as many keys as a port holds
+-- a key table: the full key of the default partition, and empty places for as many keys as a port holds
 abbrev pub keys_at_power_up : List ℕ
 keys_at_power_up = 65535 ∷ replicate (PARTITIONS - 1) 0

@@ -50,8 +50,8 @@ pub use crate::port_physical_state::PortPhysicalState;
 pub use crate::port_setting::{LAST_UNICAST_LID, PortSetting, port_info_after};
 pub use crate::port_state::PortState;
 pub use crate::power_up::{
-    LINEAR_TABLE, MULTICAST_TABLE, key_block_at_power_up, keys_at_power_up, node_info_of,
-    port_info_at_power_up, switch_info_at_power_up,
+    LINEAR_TABLE, MULTICAST_TABLE, keys_at_power_up, node_info_of, port_info_at_power_up,
+    switch_info_at_power_up,
 };
 pub use crate::rate::Rate;
 pub use crate::request::{

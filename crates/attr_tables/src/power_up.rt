@@ -1,5 +1,5 @@
 ghost use Rattle.std.specs.Prelude.{◌≡◌};
-ghost use Rattle.attr_tables.specs.PowerUp.{is_uncabled, key_block_at_power_up, keys_at_power_up, node_info_of, port_info_at_power_up, switch_info_at_power_up};
+ghost use Rattle.attr_tables.specs.PowerUp.{is_uncabled, keys_at_power_up, node_info_of, port_info_at_power_up, switch_info_at_power_up};
 ghost use Rattle.attr_tables.specs.PortInfo.{port_info};
 ghost use Rattle.attr_tables.specs.PortSetting.{is_down};
 ghost use Rattle.mad_layout.specs.Layout.{Fits};
@@ -12,7 +12,6 @@ use crate::port_info::PortInfo;
 use crate::port_physical_state::PortPhysicalState;
 use crate::port_state::PortState;
 use crate::switch_info::SwitchInfo;
-use crate::word_block::WordBlock;
 use pkey_rules::PARTITIONS;
 
 /// How many entries the linear forwarding table of a simulated switch has.
@@ -94,16 +93,6 @@ pub fn node_info_of(
         local_port_num,
         vendor_id: 0,
     }
-}
-
-/// The first block of each key table of a simulated node at power-up: the full key of the default
-/// partition, and empty places.
-pub fn key_block_at_power_up() -> WordBlock
-    ensures { result ≡ key_block_at_power_up }
-{
-    let mut words = [0; 32];
-    words[0] = 0xffff;
-    WordBlock { words }
 }
 
 /// The key table of each port of a simulated node at power-up: the full key of the default partition,

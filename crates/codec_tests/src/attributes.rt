@@ -2,8 +2,8 @@ ghost use Rattle.std.specs.Prelude.{◌+◌, ◌≤◌, length};
 
 use attr_tables::{
     BlockPlace, Link, Mtu, NodeDescription, NodeInfo, NodeType, PortBlock, PortInfo,
-    PortPhysicalState, PortState, SwitchInfo, WordBlock, block_count, block_place,
-    key_block_at_power_up, node_info_of, port_info_at_power_up, switch_info_at_power_up,
+    PortPhysicalState, PortState, SwitchInfo, WordBlock, block_count, block_place, node_info_of,
+    port_info_at_power_up, switch_info_at_power_up,
 };
 
 /// An attribute of zero bytes but for these, from that byte on.
@@ -155,9 +155,6 @@ fn blocks_of_keys_and_masks_read_and_write(rt: HostRuntime) {
         block.write(&mut written);
         assert_eq!(rt; written, attribute);
     }
-    let mut written = [0; 64];
-    key_block_at_power_up().write(&mut written);
-    assert_eq!(rt; written, attribute_with(0, &[0xff, 0xff]));
 }
 
 #[test]

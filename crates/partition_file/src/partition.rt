@@ -1,4 +1,4 @@
-ghost use Rattle.std.specs.Prelude.{◌≡◌, ◌≤◌, IfSome, option_map, length};
+ghost use Rattle.std.specs.Prelude.{◌≡◌, ◌≤◌, length};
 ghost use Rattle.pkey_rules.specs.declared.key_table.TheConstants.{PARTITIONS};
 ghost use Rattle.partition_file.specs.Partitions.{group_by, mgid_of};
 ghost use Rattle.partition_file.specs.Sound.{IsSound};
@@ -49,16 +49,6 @@ pub struct Partition {
     /// What all its definitions list, in order; in the default partition also what belongs there
     /// without being listed.
     pub items: ItemList,
-}
-
-impl Partition {
-    /// The MGID of its group: the broadcast group of IP over InfiniBand (RFC 4391).
-    pub fn mgid(&self) -> Option<[u8; 16]>
-        ensures { result ≡ option_map (λ group. mgid_of group.scope self.now.base) self.now.group }
-    {
-        let group = self.group?;
-        Some(mgid_of(group.scope, self.base))
-    }
 }
 
 /// ff1s:401b:kkkk:0000:0000:0000:ffff:ffff, where s is the scope and k the partition's full key.

@@ -79,9 +79,12 @@ impl Members {
     }
 
     /// The partitions and the keys, each to keep.
+    #[tactic(auto, using(crate::proofs::MemberLemmas::few_headings))]
     pub fn into_parts(self) -> (Vec<Heading>, Vec<KeyTable<PARTITIONS>>)
         ensures headings { result.0.items ≡ self.headings }
         ensures keys { result.1.items ≡ self.keys }
+        ensures sound { AreSoundHeadings result.0.items }
+        ensures count { length result.0.items ≤ PARTITIONS }
     {
         let Members { headings, keys } = self;
         (headings, keys)

@@ -1,5 +1,5 @@
-use crate::fixtures::partition_fault;
-use partition_file::{Group, Item, PartFault, PartitionFault, Partitions, Ports, read};
+use crate::fixtures::{end_ports, partition_fault};
+use partition_file::{Group, Item, PartFault, PartitionFault, Partitions, Ports, members, read};
 use std::alloc::{AllocError, Global};
 use std::test::Fail;
 
@@ -76,7 +76,9 @@ fn definitions_of_one_base_are_merged(rt: HostRuntime) -> Result<(), Fail> {
     let mgid = [
         0xff, 0x15, 0x40, 0x1b, 0x80, 0x01, 0, 0, 0, 0, 0, 0, 0xff, 0xff, 0xff, 0xff,
     ];
-    assert_eq!(rt; first.mgid(), Some(mgid));
+    let members = members(rt.alloc(), &partitions, &end_ports())?;
+    let heading = members.headings().get(1).ok_or("a partition")?;
+    assert_eq!(rt; heading.mgid(), Some(mgid));
     Ok(())
 }
 
