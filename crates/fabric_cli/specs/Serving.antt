@@ -107,8 +107,9 @@ output_in refused = []
 output_in (faulted fault line) = []
 output_in (complete output) = output
 
--- the line that tells how a call ends where it could not end so: an output did not go out, or
--- the line of a fault did not; of a text of clap's nothing is said
+-- the line that is told, whole or in part, where a call could not end so: that an output did not go
+-- out, or the line of the fault itself, at which standard error refused (after all of it was written too:
+-- a flush that fails looks so); of a text of clap's nothing is said
 abbrev pub IsLineOf : Ending → List ℕ → Type 0
 IsLineOf refused line = Unit {0}
 IsLineOf (faulted status fault) line = line ≡ fault
@@ -118,7 +119,8 @@ IsLineOf (complete output) line = line ≡ unwritten_line
 abbrev pub IsUnreadLine : Contents → Option (List (List ℕ)) → Option (List (List ℕ)) → List (List ℕ) → List ℕ → Type 0
 IsUnreadLine file old new names line = (name : List ℕ) × StopsAt file old new names name × (line ≡ unread_line name)
 
--- status 3: standard error is told that memory, a file or the output was refused
+-- status 3: standard error has some beginning of a line, from none of it to all of it: the line that tells
+-- that memory, a file or the output was refused, or the line of a fault at which it refused itself
 pub record IsRefused (file : Contents) (old new : Option (List (List ℕ))) (names : List (List ℕ)) (ending : Ending) (err err' : Option (List ℕ)) : Type 0 where
   pub line : List ℕ
   pub is : (line ≡ memory_line) ⊎ (IsUnreadLine file old new names line ⊎ IsLineOf ending line)

@@ -5,8 +5,8 @@ ghost use Rattle.fabric_wire.specs.Good.{ExchangesKeepGood, ExchangesKeepLinks, 
 ghost use Rattle.fabric_wire.specs.Get.{GetsTell};
 ghost use Rattle.fabric_wire.specs.TwoSwitches.{two_switches};
 
-/// A good fabric stays good, a port is Down exactly where it has no cable, and switches stay joined,
-/// whatever SMP is sent.
+/// Whatever SMP is sent, a good fabric stays good; one in which a port is Down exactly where it has no
+/// cable stays such a one; and one whose switches are joined stays such a one.
 pub fn exchanges_keep_the_fabric()
     ensures good { ExchangesKeepGood }
     ensures links { ExchangesKeepLinks }
@@ -21,8 +21,8 @@ pub fn the_two_switch_fabric_is_good()
     ensures joined { SwitchesJoined two_switches }
 {}
 
-/// A Get along a path leaves a good fabric as it was, and learns what the agent at the end of the path
-/// gives.
+/// A Get along a path leaves a good fabric as it was. It learns what the agent at the end of the path
+/// gives, where that is 64 bytes, and nothing where there is no walk, no agent or a refusal.
 pub fn gets_tell()
     ensures { GetsTell }
 {}

@@ -31,11 +31,11 @@ faults_of s None allowed piece _ = false
 unfoldable pub is_fault_at : Scanned → List ℕ → ℕ → PartitionFault → Bool
 is_fault_at s before byte fault = faults_of s (delimiter_of byte) (is_allowed byte) (piece_after before) fault
 
--- no byte of this beginning has a fault, and this is the state after it
+-- this beginning of a text was gone through without a fault, and this is the state after it
 abbrev pub IsClean : List ℕ → Scanned → Type 0
 IsClean text s = after [] start text ≡ Ok s
 
--- so says the recursion that goes through the text: each byte of a clean beginning follows a clean one, and has no fault
+-- no byte of a clean beginning has a fault: each follows a clean beginning of its own, and has none after it
 abbrev pub CleanThroughout : Type 0
 CleanThroughout = (before rest : List ℕ) (byte : ℕ) (s : Scanned) → IsClean (before ++ byte ∷ rest) s
     → (t : Scanned) × (IsClean before t × ((fault : PartitionFault) → is_fault_at t before byte fault ≡ false))

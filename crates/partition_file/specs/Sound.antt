@@ -65,7 +65,7 @@ abbrev pub has_fit_group : Option Group → Bool
 has_fit_group (Some group) = fits group
 has_fit_group None = true
 
--- partitions have sound bases and groups, and their number is their place
+-- partitions have sound bases, and groups that fit
 pub record IsSound (partitions : List Partition) : Type 0 where
   pub bases : AreSoundBases (all_bases partitions)
   pub groups : list_all (λ partition. has_fit_group partition.group) partitions ≡ true

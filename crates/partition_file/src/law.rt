@@ -4,7 +4,7 @@ ghost use Rattle.partition_file.specs.Law.{CleanThroughout, CommentsByBeginning,
 /// Which fault a partition text is refused for, as a law over the definitions that [`read`] meets.
 /// The function does nothing; its clauses are the theorem.
 ///
-/// A beginning of a text is clean where no byte of it has a fault. A text is refused exactly where
+/// No byte of a clean beginning of a text has a fault. A text is refused exactly where
 /// a byte that follows a clean beginning has a fault, or all of it is clean and ends inside a
 /// definition; it is refused for that fault, the first in turn if the byte has several, with the
 /// line of that byte or of the end.
@@ -17,7 +17,7 @@ pub fn first_fault()
     ensures end { EndRefuses }
     // No text is refused otherwise.
     ensures only { OnlySoRefused }
-    // What a clean beginning is.
+    // No byte of a clean beginning has a fault.
     ensures clean { CleanThroughout }
     // Comments don't matter to any of this.
     ensures comments { CommentsByBeginning }

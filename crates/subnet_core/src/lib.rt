@@ -4,7 +4,8 @@
 //! the three texts stand for (`specs/Run.antt`), and its clause `private` that what a port receives
 //! depends only on the ports that share a partition with it (`specs/Headline.antt`). [`bring_up`],
 //! [`Subnet::parse`] and [`Subnet::step`] do the same piece by piece, [`Report::text`] prints it, and
-//! [`Subnet::listing`] prints who is in the subnet (`specs/Listing.antt`). The fabric is the list of its end ports, for now; no caller can tell.
+//! [`Subnet::listing`] prints who is in the subnet (`specs/Listing.antt`). The fabric is the list of its
+//! end ports, for now; no caller can tell.
 #![tactic(auto)]
 
 mod end_ports;
