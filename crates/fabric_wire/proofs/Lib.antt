@@ -4,3 +4,8 @@ pub mod GoodLemmas
 pub mod KeptLemmas
 pub mod TwoSwitchesLemmas
 pub mod TellLemmas
+pub mod OfTopologyLemmas
+pub mod OfTopologyGuidLemmas
+pub mod OfTopologyGoodLemmas
+pub mod OfTopologyLinksLemmas
+pub mod OfTopologyWalkLemmas

@@ -1,5 +1,5 @@
 -- The fabric of our examples: two switches A and B, joined by a cable, and four channel adapters.
-use Rattle.std.specs.Prelude.{ℕ, ◌-◌, ◌++◌, List, [], ◌∷◌, length, codes, replicate}
+use Rattle.std.specs.Prelude.{ℕ, List, [], ◌∷◌, codes}
 use Rattle.attr_tables.specs.declared.link.Link.TheVariants.{Cabled, Uncabled}
 use Rattle.attr_tables.specs.declared.power_up.TheConstants.{LINEAR_TABLE, MULTICAST_TABLE}
 use Rattle.port_model.specs.AdapterState.{at_power_up as adapter_at_power_up}
@@ -9,10 +9,7 @@ use Rattle.topo_file.specs.declared.cable.PortRef.{PortRef}
 use Rattle.fabric_wire.specs.declared.node.Node.{Node}
 use Rattle.fabric_wire.specs.declared.node.Node.TheVariants.{Switch, Adapter}
 use Rattle.fabric_wire.specs.FabricState.{FabricState}
-
--- a name in the 64 bytes of NodeDescription
-abbrev pub named : List ℕ → List ℕ
-named name = name ++ replicate (64 - length name) 0
+use Rattle.fabric_wire.specs.OfTopology.{named}
 
 -- a switch of four ports, the last of them without a cable
 abbrev pub switch_of_four : ℕ → List ℕ → Node

@@ -3,6 +3,7 @@
 
 ghost use Rattle.fabric_wire.specs.Good.{ExchangesKeepGood, ExchangesKeepLinks, ExchangesKeepCables, IsGood, ShowsLinks, SwitchesJoined};
 ghost use Rattle.fabric_wire.specs.Get.{GetsTell};
+ghost use Rattle.fabric_wire.specs.OfTopology.{TopologiesAreJoined, TopologiesGiveGood, TopologiesShowLinks};
 ghost use Rattle.fabric_wire.specs.TwoSwitches.{two_switches};
 
 /// Whatever SMP is sent, a good fabric stays good; one in which a port is Down exactly where it has no
@@ -25,4 +26,12 @@ pub fn the_two_switch_fabric_is_good()
 /// gives, where that is 64 bytes, and nothing where there is no walk, no agent or a refusal.
 pub fn gets_tell()
     ensures { GetsTell }
+{}
+
+/// The fabric of a topology that was read is good at power-up, its links show, and its switches are
+/// joined.
+pub fn topologies_give_good_fabrics()
+    ensures good { TopologiesGiveGood }
+    ensures links { TopologiesShowLinks }
+    ensures joined { TopologiesAreJoined }
 {}

@@ -17,7 +17,10 @@ mod walking;
 mod wrappers;
 
 pub use crate::getting::{get_request, read_attribute};
-pub use crate::laws::{exchanges_keep_the_fabric, gets_tell, the_two_switch_fabric_is_good};
+pub use crate::laws::{
+    exchanges_keep_the_fabric, gets_tell, the_two_switch_fabric_is_good,
+    topologies_give_good_fabrics,
+};
 pub use crate::node::{AdapterPorts, Node};
 pub use crate::plain_wire::PlainWire;
 pub use crate::smp_wire::SmpWire;

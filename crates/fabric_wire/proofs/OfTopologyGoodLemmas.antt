@@ -1,0 +1,110 @@
+-- The fabric of a topology is good: its GUIDs, the ports of its nodes, and its cables.
+use Rattle.std.proofs.Common.{ℕ, zero, suc, ◌≡◌, ◌+◌, ◌==◌, ◌∙◌, refl, Bool, true, false, not, List, [], ◌∷◌, map, flat_map, ◌&&◌, ◌||◌, arith}
+use Rattle.std.specs.List.{list_all, list_any, range_with_len}
+use Rattle.std.specs.Str.{bytes_eq}
+use Rattle.std.proofs.lemmas.Bool.{and_from, and_left, and_parts, eq-eqb, not_from_false, not-true, or_from}
+use Rattle.std.proofs.lemmas.Bool.Decides.{nat_tests}
+use Rattle.std.proofs.lemmas.List.FromFn.{length-map-range_with_len}
+use Rattle.topo_file.specs.declared.cable.Cable.{Cable}
+use Rattle.topo_file.specs.declared.cable.PortRef.{PortRef}
+use Rattle.topo_file.specs.declared.node.Node.{Node as PlannedNode}
+use Rattle.topo_file.specs.declared.node.NodeKind.{NodeKind}
+use Rattle.topo_file.specs.declared.node.NodeKind.TheVariants as kind
+use Rattle.topo_file.specs.Cable.{is_cabled, is_same_port}
+use Rattle.topo_file.specs.Node.{is_switch_at as is_planned_at}
+use Rattle.topo_file.specs.Sound.{ends_at_ports, have_own_ports, is_sized, joins_right}
+use Rattle.fabric_wire.specs.Good.{all_differ, ends_of, has_a_right_count, is_in_order, is_of, is_right, node_guid}
+use Rattle.fabric_wire.specs.OfTopology.{TopologiesGiveGood, adapter_port_of, node_of, node_of_kind}
+use Rattle.fabric_wire.proofs.OfTopologyLemmas.{all_made, nodes_from, port_there, right_count, switch_there}
+use Rattle.fabric_wire.proofs.OfTopologyGuidLemmas.{end_guids_differ, guid_of, node_guids_differ}
+
+-- ---- the ports of an adapter stand in order
+all_of : (cables : List Cable) (place : ℕ) (node : PlannedNode) (number count : ℕ)
+    → list_all (is_of node.guid node.ports) (map (adapter_port_of cables place node) (range_with_len number count)) ≡ true
+all_of cables place node number zero = refl
+all_of cables place node number (suc count) =
+    and_from ((node.guid == node.guid) && (node.ports == node.ports)) _ (and_from (node.guid == node.guid) _ (eq-eqb node.guid node.guid refl) (eq-eqb node.ports node.ports refl))
+    (all_of cables place node (number + 1) count)
+
+counted : (cables : List Cable) (place : ℕ) (node : PlannedNode) (number count : ℕ)
+    → bytes_eq (map (λ port. port.number) (map (adapter_port_of cables place node) (range_with_len number count))) (range_with_len number count) ≡ true
+counted cables place node number zero = refl
+counted cables place node number (suc count) =
+    and_from (number == number) _ (eq-eqb number number refl) (counted cables place node (number + 1) count)
+
+ordered : (of : NodeKind) (cables : List Cable) (place : ℕ) (node : PlannedNode) → node_guid (node_of_kind of cables place node) ≡ node.guid
+    → is_in_order (node_of_kind of cables place node) ≡ true
+ordered kind.Switch cables place node guid = refl
+ordered kind.Adapter cables place node guid =
+    let long = length-map-range_with_len (adapter_port_of cables place node) 1 node.ports in
+    rw (guid, long) (and_from (list_all (is_of node.guid node.ports) (map (adapter_port_of cables place node) (range_with_len 1 node.ports))) _ (all_of cables place node 1 node.ports) (counted cables place node 1 node.ports))
+
+in_order : (cables : List Cable) (place : ℕ) (node : PlannedNode) → is_sized node ≡ true → is_in_order (node_of cables place node) ≡ true
+in_order cables place node sized = ordered node.kind cables place node (guid_of cables place node sized)
+
+-- ---- a cable joins right ports
+right_there : (cables : List Cable) (nodes : List PlannedNode) (cable : Cable) → ends_at_ports nodes cable ≡ true → joins_right nodes cable ≡ true
+    → is_right (nodes_from cables 0 nodes) cable ≡ true
+right_there cables nodes cable ends joins =
+    let both = and_parts _ _ ends in
+    rw (port_there cables nodes cable.first, port_there cables nodes cable.second, switch_there cables nodes cable.first.node, switch_there cables nodes cable.second.node)
+    (and_from _ _ both.0 (and_from _ _ both.1 joins))
+
+all_right : (built : List Cable) (nodes : List PlannedNode) (cables : List Cable) → list_all (λ cable. ends_at_ports nodes cable) cables ≡ true → list_all (joins_right nodes) cables ≡ true
+    → list_all (is_right (nodes_from built 0 nodes)) cables ≡ true
+all_right built nodes [] ends joins = refl
+all_right built nodes (cable ∷ cables) ends joins =
+    let one = and_parts (ends_at_ports nodes cable) _ ends in
+    let two = and_parts (joins_right nodes cable) _ joins in
+    and_from (is_right (nodes_from built 0 nodes) cable) _ (right_there built nodes cable one.0 two.0) (all_right built nodes cables one.1 two.1)
+
+-- ---- no port has two cables
+same_back : (m n : ℕ) → (m == n) ≡ (n == m)
+same_back m n = grind (arith, nat_tests)
+
+port_back : (one other : PortRef) → is_same_port one other ≡ is_same_port other one
+port_back one other = rw (same_back one.node other.node, same_back one.port other.port) refl
+
+either : (a b c : Bool) → (a || (b || c)) ≡ ((a || b) || c)
+either true b c = refl
+either false b c = refl
+
+ends_are : (port : PortRef) (cables : List Cable) → list_any (is_same_port port) (flat_map ends_of cables) ≡ is_cabled cables port
+ends_are port [] = refl
+ends_are port (cable ∷ cables) =
+    rw (port_back port cable.first, port_back port cable.second, ends_are port cables)
+    (either (is_same_port cable.first port) (is_same_port cable.second port) (is_cabled cables port))
+
+ends_apart : (nodes : List PlannedNode) (cable : Cable) → joins_right nodes cable ≡ true → is_same_port cable.first cable.second ≡ false
+ends_apart nodes cable joins =
+    and_left (cable.first.node == cable.second.node) _ (not-true _ (and_parts (not (cable.first.node == cable.second.node)) _ joins).0)
+
+all_once : (nodes : List PlannedNode) (cables : List Cable) → list_all (joins_right nodes) cables ≡ true → have_own_ports cables ≡ true
+    → all_differ is_same_port (flat_map ends_of cables) ≡ true
+all_once nodes [] joins own = refl
+all_once nodes (cable ∷ cables) joins own =
+    let join = and_parts (joins_right nodes cable) _ joins in
+    let one = and_parts (not (is_cabled cables cable.first)) _ own in
+    let two = and_parts (not (is_cabled cables cable.second)) _ one.1 in
+    let rest = flat_map ends_of cables in
+    let first : list_any (is_same_port cable.first) (cable.second ∷ rest) ≡ false = or_from (is_same_port cable.first cable.second) _ (ends_apart nodes cable join.0) (ends_are cable.first cables ∙ not-true _ one.0) in
+    let second : list_any (is_same_port cable.second) rest ≡ false = ends_are cable.second cables ∙ not-true _ two.0 in
+    and_from (not (list_any (is_same_port cable.first) (cable.second ∷ rest))) _ (not_from_false _ first)
+    (and_from (not (list_any (is_same_port cable.second) rest)) _ (not_from_false _ second) (all_once nodes cables join.1 two.1))
+
+-- ---- all of it
+pub good : TopologiesGiveGood
+good plan sound =
+    let lines = sound.lines in
+    let manager = and_parts (not (is_planned_at plan.nodes plan.sm.node)) _ sound.manager_port in
+    record {
+      node_guids = node_guids_differ plan.cables plan.nodes lines.sizes lines.own_guids;
+      end_guids = end_guids_differ plan.cables plan.nodes lines.sizes lines.own_guids;
+      counts = all_made has_a_right_count is_sized plan.cables 0 plan.nodes (λ place node sized. right_count plan.cables place node sized) lines.sizes;
+      order = all_made is_in_order is_sized plan.cables 0 plan.nodes (λ place node sized. in_order plan.cables place node sized) lines.sizes;
+      cables = all_right plan.cables plan.nodes plan.cables lines.ends lines.joins;
+      once = all_once plan.nodes plan.cables lines.joins lines.own_ports;
+      manager_port = port_there plan.cables plan.nodes plan.sm ∙ manager.1;
+      manager_adapter = switch_there plan.cables plan.nodes plan.sm.node ∙ not-true _ manager.0;
+      manager_cabled = sound.manager_cabled;
+    }

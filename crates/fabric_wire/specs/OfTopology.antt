@@ -1,0 +1,64 @@
+-- The fabric that a topology describes, at power-up.
+use Rattle.std.specs.Prelude.{ℕ, ◌+◌, ◌-◌, ◌++◌, if◌then◌else◌, List, map, length, replicate}
+use Rattle.std.specs.List.{enumerate_from, range_with_len}
+use Rattle.attr_tables.specs.declared.link.Link.{Link}
+use Rattle.attr_tables.specs.declared.link.Link.TheVariants.{Cabled, Uncabled}
+use Rattle.attr_tables.specs.declared.power_up.TheConstants.{LINEAR_TABLE, MULTICAST_TABLE}
+use Rattle.port_model.specs.AdapterState.{AdapterState, at_power_up as adapter_at_power_up}
+use Rattle.switch_model.specs.SwitchState.{at_power_up as switch_at_power_up}
+use Rattle.topo_file.specs.declared.cable.Cable.{Cable}
+use Rattle.topo_file.specs.declared.node.Node.{Node as PlannedNode}
+use Rattle.topo_file.specs.declared.node.NodeKind.{NodeKind}
+use Rattle.topo_file.specs.declared.node.NodeKind.TheVariants as kind
+use Rattle.topo_file.specs.Cable.{is_cabled}
+use Rattle.topo_file.specs.Sound.{IsSound}
+use Rattle.topo_file.specs.Topology.{Plan}
+use Rattle.fabric_wire.specs.declared.node.Node.{Node}
+use Rattle.fabric_wire.specs.declared.node.Node.TheVariants.{Switch, Adapter}
+use Rattle.fabric_wire.specs.FabricState.{FabricState}
+use Rattle.fabric_wire.specs.Good.{IsGood, ShowsLinks, SwitchesJoined}
+
+-- a port has a link where a cable ends at it
+abbrev pub link_of : List Cable → ℕ → ℕ → Link
+link_of cables place number = if is_cabled cables (record { node = place; port = number }) then Cabled else Uncabled
+
+-- the links of the ports of the node there, from port 1 on
+abbrev pub links_of : List Cable → ℕ → ℕ → List Link
+links_of cables place count = map (λ number. link_of cables place number) (range_with_len 1 count)
+
+-- a name in the 64 bytes of NodeDescription
+abbrev pub named : List ℕ → List ℕ
+named name = name ++ replicate (64 - length name) 0
+
+-- port p of an adapter has the GUID that is p above the adapter's
+abbrev pub adapter_port_of : List Cable → ℕ → PlannedNode → ℕ → AdapterState
+adapter_port_of cables place node number =
+    adapter_at_power_up node.guid node.ports number (node.guid + number) (named node.name) (link_of cables place number)
+
+-- the node there, of either kind
+abbrev pub node_of_kind : NodeKind → List Cable → ℕ → PlannedNode → Node
+node_of_kind kind.Switch cables place node =
+    Switch (switch_at_power_up node.guid (named node.name) (links_of cables place node.ports) LINEAR_TABLE MULTICAST_TABLE)
+node_of_kind kind.Adapter cables place node = Adapter (map (adapter_port_of cables place node) (range_with_len 1 node.ports))
+
+abbrev pub node_of : List Cable → ℕ → PlannedNode → Node
+node_of cables place node = node_of_kind node.kind cables place node
+
+-- the same nodes, cables and subnet manager's port
+abbrev pub fabric_of : Plan → FabricState
+fabric_of plan = record {
+  nodes = map (λ p. node_of plan.cables p.0 p.1) (enumerate_from 0 plan.nodes);
+  cables = plan.cables;
+  manager = plan.sm;
+}
+
+-- ---- what it is, of every topology that was read
+abbrev pub TopologiesGiveGood : Type 0
+TopologiesGiveGood = (plan : Plan) → IsSound plan → IsGood (fabric_of plan)
+
+-- of every plan whatever
+abbrev pub TopologiesShowLinks : Type 0
+TopologiesShowLinks = (plan : Plan) → ShowsLinks (fabric_of plan)
+
+abbrev pub TopologiesAreJoined : Type 0
+TopologiesAreJoined = (plan : Plan) → IsSound plan → SwitchesJoined (fabric_of plan)
