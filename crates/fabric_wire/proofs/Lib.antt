@@ -9,3 +9,4 @@ pub mod OfTopologyGuidLemmas
 pub mod OfTopologyGoodLemmas
 pub mod OfTopologyLinksLemmas
 pub mod OfTopologyWalkLemmas
+pub mod PowerUpLemmas

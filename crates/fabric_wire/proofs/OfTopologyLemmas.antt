@@ -1,5 +1,5 @@
 -- The nodes of a topology's fabric, each at the place of the node that it is made of.
-use Rattle.std.proofs.Common.{ℕ, zero, suc, ◌≡◌, ◌+◌, ◌≤◌, ◌∙◌, ap, refl, sym, Bool, true, false, List, [], ◌∷◌, map, slice_get, Option, Some, None, option_map, nat_le, ◌&&◌, arith, add-zero, zero-add, leb-true}
+use Rattle.std.proofs.Common.{ℕ, zero, suc, ◌≡◌, ◌+◌, ◌≤◌, ◌∙◌, ap, refl, sym, Bool, true, false, List, [], ◌∷◌, map, length, slice_get, Option, Some, None, option_map, nat_le, ◌&&◌, arith, add-zero, zero-add, leb-true}
 use Rattle.std.specs.List.{enumerate_from, list_all}
 use Rattle.std.specs.Option.{option_map_or}
 use Rattle.std.proofs.lemmas.Bool.{and_from, and_parts}
@@ -57,10 +57,13 @@ switch_there cables nodes k =
     ap (λ (o : Option Node). option_map_or is_switch o false) (node_at cables nodes k)
     ∙ read_or is_switch (node_of cables k) is_planned_switch false (slice_get nodes k) (λ node. kind_of node.kind cables k node)
 
+pub links_long : (cables : List Cable) (place count : ℕ) → length (links_of cables place count) ≡ count
+links_long cables place count = length-map-range_with_len (link_of cables place) 1 count
+
 count_of : (of : NodeKind) (cables : List Cable) (place : ℕ) (node : PlannedNode) → port_count (node_of_kind of cables place node) ≡ node.ports
 count_of kind.Switch cables place node =
     let all = length-ports_from 0 (Internal ∷ links_of cables place node.ports) in
-    let links = length-map-range_with_len (link_of cables place) 1 node.ports in
+    let links = links_long cables place node.ports in
     omega (arith, all, links)
 count_of kind.Adapter cables place node = length-map-range_with_len (adapter_port_of cables place node) 1 node.ports
 

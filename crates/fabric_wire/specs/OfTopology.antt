@@ -52,13 +52,13 @@ fabric_of plan = record {
   manager = plan.sm;
 }
 
--- ---- what it is, of every topology that was read
+-- ---- at power-up the fabric of a topology is good, and its switches are joined
 abbrev pub TopologiesGiveGood : Type 0
 TopologiesGiveGood = (plan : Plan) → IsSound plan → IsGood (fabric_of plan)
 
--- of every plan whatever
-abbrev pub TopologiesShowLinks : Type 0
-TopologiesShowLinks = (plan : Plan) → ShowsLinks (fabric_of plan)
-
 abbrev pub TopologiesAreJoined : Type 0
 TopologiesAreJoined = (plan : Plan) → IsSound plan → SwitchesJoined (fabric_of plan)
+
+-- and its links show, sound or not
+abbrev pub TopologiesShowLinks : Type 0
+TopologiesShowLinks = (plan : Plan) → ShowsLinks (fabric_of plan)

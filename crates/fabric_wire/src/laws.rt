@@ -28,8 +28,8 @@ pub fn gets_tell()
     ensures { GetsTell }
 {}
 
-/// The fabric of a topology that was read is good at power-up, its links show, and its switches are
-/// joined.
+/// At power-up the fabric of a topology is good, a port is Down exactly where it has no cable, and
+/// switches are joined.
 pub fn topologies_give_good_fabrics()
     ensures good { TopologiesGiveGood }
     ensures links { TopologiesShowLinks }

@@ -12,6 +12,7 @@ mod getting;
 mod laws;
 mod node;
 mod plain_wire;
+mod power_up;
 mod smp_wire;
 mod walking;
 mod wrappers;
