@@ -42,7 +42,7 @@ with_node fabric place node next there same = record {
   downs = λ number. read_same (λ one. down_at one number) fabric.nodes place node next there (same.down number);
 }
 
-after_found : (fabric : FabricState) (at : PortRef) (smp : List ℕ) (found : Option Node) → slice_get fabric.nodes at.node ≡ found
+pub after_found : (fabric : FabricState) (at : PortRef) (smp : List ℕ) (found : Option Node) → slice_get fabric.nodes at.node ≡ found
     → IsSame fabric (record fabric { nodes = nodes_after fabric.nodes at smp found })
 after_found fabric at smp None there = itself fabric
 after_found fabric at smp (Some node) there = with_node fabric at.node node _ there (same_node node at.port smp)
@@ -56,7 +56,7 @@ unfolding exchange_after
 after_exchange fabric smp = after_walked fabric smp (walk_of fabric smp)
 
 -- ---- a good fabric
-switch_same : (old new : FabricState) → IsSame old new → (place : ℕ) → is_switch_at new.nodes place ≡ is_switch_at old.nodes place
+pub switch_same : (old new : FabricState) → IsSame old new → (place : ℕ) → is_switch_at new.nodes place ≡ is_switch_at old.nodes place
 switch_same old new same place = or_same is_switch false old.nodes new.nodes place same.switches
 
 port_same : (old new : FabricState) → IsSame old new → (at : PortRef) → is_port new.nodes at ≡ is_port old.nodes at
@@ -70,7 +70,7 @@ ends_same : (old new : FabricState) → IsSame old new → flat_map end_port_gui
 ends_same old new same =
     sym (flat_map-map (λ guids. guids) end_port_guids new.nodes) ∙ ap (flat_map (λ guids. guids)) same.ends ∙ flat_map-map (λ guids. guids) end_port_guids old.nodes
 
-stays_good : (old new : FabricState) → IsSame old new → IsGood old → IsGood new
+pub stays_good : (old new : FabricState) → IsSame old new → IsGood old → IsGood new
 stays_good old new same good = record {
   node_guids = ap are_guids same.guids ∙ good.node_guids;
   end_guids = ap are_guids (ends_same old new same) ∙ good.end_guids;

@@ -1,9 +1,17 @@
+pub mod CablingLemmas
+pub mod HomeLemmas
+pub mod HopLemmas
+pub mod OutwardLemmas
+pub mod ReturnLemmas
 pub mod WalkLemmas
 pub mod GetLemmas
 pub mod GoodLemmas
 pub mod KeptLemmas
 pub mod TwoSwitchesLemmas
+pub mod ArrivalLemmas
 pub mod TellLemmas
+pub mod ExchangeLemmas
+pub mod MadeLemmas
 pub mod OfTopologyLemmas
 pub mod OfTopologyGuidLemmas
 pub mod OfTopologyGoodLemmas

@@ -1,8 +1,6 @@
 -- What a fabric is: its nodes, with what their agents hold, its cables, and the subnet manager's port.
 use Rattle.std.specs.Prelude.{ℕ, ◌-◌, ◌==◌, Bool, true, false, if◌then◌else◌, List, slice_get, slice_set, Option, Some, None, option_map, find}
 use Rattle.std.specs.Option.{option_and_then, option_map_or}
-use Rattle.attr_tables.specs.declared.node_type.NodeType.{NodeType}
-use Rattle.attr_tables.specs.declared.node_type.NodeType.TheVariants as kind
 use Rattle.port_model.specs.AdapterState.{AdapterState}
 use Rattle.port_model.specs.Agent.{agent_after as adapter_after, agent_reply as adapter_reply}
 use Rattle.switch_model.specs.Agent.{agent_after as switch_after, agent_reply as switch_reply}
@@ -18,10 +16,6 @@ pub record FabricState : Type 0 where
   pub manager : PortRef
 
 -- ---- nodes
-abbrev pub node_type_of : Node → NodeType
-node_type_of (Switch held) = kind.Switch
-node_type_of (Adapter ports) = kind.ChannelAdapter
-
 abbrev pub is_switch : Node → Bool
 is_switch (Switch held) = true
 is_switch (Adapter ports) = false

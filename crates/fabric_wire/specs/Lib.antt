@@ -1,5 +1,6 @@
 pub mod FabricState
 pub mod Walk
+pub mod Hopping
 pub mod Get
 pub mod Good
 pub mod OfTopology

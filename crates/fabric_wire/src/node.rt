@@ -1,9 +1,10 @@
 ghost use Rattle.std.specs.Prelude.{◌≡◌, is_some, unwrap_or, slice_get};
-ghost use Rattle.fabric_wire.specs.FabricState.{adapter_port, adapter_ports_after, node_after, node_reply, node_type_of};
+ghost use Rattle.fabric_wire.specs.FabricState.{adapter_port, adapter_ports_after, node_after, node_reply};
+ghost use Rattle.attr_tables.specs.Request.{KeepsRest};
 ghost use Rattle.port_model.specs.Agent.{agent_reply};
 ghost use Rattle.std.specs.Option.{option_and_then};
 
-use attr_tables::{LINEAR_TABLE, MULTICAST_TABLE, NodeType};
+use attr_tables::{LINEAR_TABLE, MULTICAST_TABLE};
 use mad_layout::Mad;
 use port_model::AdapterPort;
 use std::marker::Model;
@@ -37,6 +38,7 @@ impl AdapterPorts {
         ensures replied { result ≡ is_some (option_and_then (λ port. agent_reply port smp.old) (adapter_port self.old number)) }
         ensures reply { smp.new ≡ unwrap_or (option_and_then (λ port. agent_reply port smp.old) (adapter_port self.old number)) smp.old }
         ensures held { self.new ≡ adapter_ports_after self.old number smp.old (adapter_port self.old number) }
+        ensures kept { KeepsRest smp.old smp.new }
     {
         if number == 0 {
             return false;
@@ -58,22 +60,13 @@ pub enum Node {
 }
 
 impl Node {
-    /// The kind of node.
-    pub fn node_type(&self) -> NodeType
-        ensures { result ≡ node_type_of self.now }
-    {
-        match self {
-            Node::Switch(_) => NodeType::Switch,
-            Node::Adapter(_) => NodeType::ChannelAdapter,
-        }
-    }
-
     /// Answers an SMP that came in at that port, in its place, or gives no reply and leaves it.
     #[tactic(auto, unfolding(crate::specs::FabricState::node_reply, crate::specs::FabricState::node_after))]
     pub fn agent(&mut self, number: u8, smp: &mut Mad) -> bool
         ensures replied { result ≡ is_some (node_reply self.old number smp.old) }
         ensures reply { smp.new ≡ unwrap_or (node_reply self.old number smp.old) smp.old }
         ensures held { self.new ≡ node_after self.old number smp.old }
+        ensures kept { KeepsRest smp.old smp.new }
     {
         match self {
             Node::Switch(switch) => switch.agent(number, smp),

@@ -2,6 +2,7 @@
 
 ghost use Rattle.std.specs.Prelude.{◌≡◌, ◌≤◌, true, option_map, is_some, unwrap_or, slice_get};
 ghost use Rattle.std.specs.Option.{option_and_then};
+ghost use Rattle.attr_tables.specs.Request.{KeepsRest};
 ghost use Rattle.smp_route.specs.Places.{count};
 ghost use Rattle.topo_file.specs.Cable.{ends_at, is_same_port};
 ghost use Rattle.fabric_wire.specs.FabricState.{far_end, is_switch, is_switch_at, node_reply, nodes_after, other_end};
@@ -112,6 +113,7 @@ pub fn agent_at(nodes: &mut [Node], at: PortRef, smp: &mut Mad) -> bool
     ensures replied { result ≡ is_some (option_and_then (λ node. node_reply node at.port smp.old) (slice_get nodes.old at.node)) }
     ensures reply { smp.new ≡ unwrap_or (option_and_then (λ node. node_reply node at.port smp.old) (slice_get nodes.old at.node)) smp.old }
     ensures held { nodes.new ≡ nodes_after nodes.old at smp.old (slice_get nodes.old at.node) }
+    ensures kept { KeepsRest smp.old smp.new }
 {
     if at.node >= nodes.len() {
         return false;

@@ -1,0 +1,96 @@
+//! The simulated fabric.
+
+ghost use Rattle.std.specs.Prelude.{◌≡◌, Some, IfOk};
+ghost use Rattle.fabric_wire.specs.Good.{IsGood, ShowsLinks, SwitchesJoined};
+ghost use Rattle.fabric_wire.specs.OfTopology.{fabric_of};
+ghost use Rattle.fabric_wire.specs.Walk.{exchange_after, exchange_reply};
+
+use crate::cabling::Cabling;
+use crate::hopping::{come_home, go_out};
+use crate::node::Node;
+use crate::power_up::nodes_of;
+use crate::smp_wire::SmpWire;
+use crate::walking::{agent_at, is_sent};
+use mad_layout::{Mad, known_bytes, put_bits};
+use std::alloc::{AllocError, Global};
+use std::marker::Model;
+use topo_file::{PortRef, Topology};
+
+/// A fabric whose nodes hand SMPs on hop by hop, each of them knowing its own ports alone.
+#[derive(Debug, Drop)]
+pub struct Fabric {
+    nodes: Vec<Node>,
+    cabling: Cabling,
+    manager: PortRef,
+}
+
+impl Model for Fabric {
+    ghost use Rattle.fabric_wire.specs.FabricState.{FabricState};
+    ghost use Rattle.fabric_wire.specs.Good.{IsGood};
+
+    ghost Value = { FabricState };
+
+    ghost view = { λ fabric. record {
+      nodes = fabric.nodes.items;
+      cables = fabric.cabling;
+      manager = fabric.manager;
+    } };
+
+    ghost invariant = { λ fabric. IsGood (record {
+      nodes = fabric.nodes.items;
+      cables = fabric.cabling;
+      manager = fabric.manager;
+    }) };
+}
+
+impl Fabric {
+    /// The fabric that a topology describes, at power-up: its nodes, cables and subnet manager's port.
+    /// Memory alone can be refused.
+    pub fn new(alloc: Global, topology: &Topology) -> Result<Fabric, AllocError>
+        ensures value { IfOk result (λ fabric. fabric ≡ fabric_of topology.now) }
+        ensures good { IfOk result (λ fabric. IsGood fabric) }
+        ensures links { IfOk result (λ fabric. ShowsLinks fabric) }
+        ensures joined { IfOk result (λ fabric. SwitchesJoined fabric) }
+    {
+        topology.known_sound();
+        let nodes = nodes_of(alloc, topology)?;
+        let cabling = Cabling::new(alloc, topology.cables())?;
+        Ok(Fabric {
+            nodes,
+            cabling,
+            manager: topology.sm(),
+        })
+    }
+}
+
+/// Takes an SMP out, has it answered, and takes its reply home.
+#[tactic(auto, unfolding(crate::specs::Walk::exchange_reply, crate::specs::Walk::exchange_after))]
+fn exchange(nodes: &mut [Node], cabling: &Cabling, manager: PortRef, sent: &Mad) -> Option<Mad>
+    requires { IsGood (record { nodes = nodes.old; cables = cabling.now; manager = manager }) }
+    ensures answer { result ≡ exchange_reply (record { nodes = nodes.old; cables = cabling.now; manager = manager }) sent.now }
+    ensures change { record { nodes = nodes.new; cables = cabling.now; manager = manager } ≡ exchange_after (record { nodes = nodes.old; cables = cabling.now; manager = manager }) sent.now }
+{
+    if !is_sent(sent) {
+        return None;
+    }
+    known_bytes(sent);
+    let arrival = go_out(nodes, cabling, manager, sent)?;
+    let mut smp = arrival.smp;
+    if !agent_at(nodes, arrival.at, &mut smp) {
+        return None;
+    }
+    known_bytes(&smp);
+    put_bits::<32, 1>(&mut smp, 1);
+    if !come_home(nodes, cabling, manager, arrival.at, &mut smp) {
+        return None;
+    }
+    Some(smp)
+}
+
+impl SmpWire for Fabric {
+    ghost fabric = { λ fabric. Some fabric };
+
+    fn exchange(&mut self, smp: &Mad) -> Option<Mad> {
+        exchange(&mut self.nodes, &self.cabling, self.manager, smp)
+    }
+}
