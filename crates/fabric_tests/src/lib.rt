@@ -7,4 +7,8 @@
 #[cfg(test)]
 mod agents;
 #[cfg(test)]
+mod fat_tree;
+#[cfg(test)]
+mod random_fabrics;
+#[cfg(test)]
 mod wires;

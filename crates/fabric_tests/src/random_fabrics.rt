@@ -1,0 +1,179 @@
+//! Fabrics and SMPs by chance: the fabric that moves SMPs hop by hop answers as the plain wire does.
+
+ghost use Rattle.std.specs.Prelude.{◌<◌};
+
+use attr_tables::{LINEAR_TABLE, Link, MULTICAST_TABLE, SmpAttribute};
+use fabric_wire::{AdapterPorts, Fabric, Node, PlainWire, SmpWire, get_request};
+use mad_layout::{DrSmp, Mad};
+use port_model::AdapterPort;
+use std::alloc::Global;
+use std::test::Fail;
+use switch_model::Switch;
+use topo_file::{PortRef, Topology, read};
+
+/// Numbers that look like chance, the same in each run.
+#[derive(Drop)]
+struct Chance {
+    state: u64,
+}
+
+impl Chance {
+    /// One of 0 to `count` - 1.
+    fn below(&mut self, count: u8) -> u8
+        requires { 0 < count }
+        ensures { result < count }
+    {
+        self.state = self
+            .state
+            .wrapping_mul(6364136223846793005)
+            .wrapping_add(1442695040888963407);
+        (self.state >> 56) as u8 % count
+    }
+}
+
+/// Adds a word that ends in a digit.
+fn put(text: &mut Vec<u8>, word: &[u8], digit: u8) -> Result<(), Fail> {
+    text.extend_from_slice(word).ok().ok_or("memory")?;
+    text.push(digit.wrapping_add(b'0')).ok().ok_or("memory")?;
+    Ok(())
+}
+
+fn put_cable(text: &mut Vec<u8>, ends: [(&[u8], u8, u8); 2]) -> Result<(), Fail> {
+    text.extend_from_slice(b"cable").ok().ok_or("memory")?;
+    for (kind, node, port) in ends {
+        put(text, kind, node)?;
+        put(text, b"/", port)?;
+    }
+    text.push(b'\n').ok().ok_or("memory")?;
+    Ok(())
+}
+
+/// The text of a fabric of up to 3 switches and 4 adapters. Switch i is cabled to one before it; adapter
+/// i has a port on one switch, and now and then its other port on the next.
+fn fabric_text(alloc: Global, chance: &mut Chance) -> Result<Vec<u8>, Fail> {
+    let switches = 1 + chance.below(3);
+    let adapters = 1 + chance.below(4);
+    let mut text = Vec::new(alloc);
+    for i in 0..switches {
+        put(&mut text, b"switch s", i)?;
+        put(&mut text, b" 0x", i + 1)?;
+        text.extend_from_slice(b"00 8\n").ok().ok_or("memory")?;
+    }
+    for i in 0..adapters {
+        put(&mut text, b"adapter h", i)?;
+        put(&mut text, b" 0x", i + 1)?;
+        text.extend_from_slice(b"000 2\n").ok().ok_or("memory")?;
+    }
+    for i in 1..switches {
+        let parent = chance.below(i);
+        put_cable(&mut text, [(b" s", parent, i), (b" s", i, 8)])?;
+    }
+    for i in 0..adapters {
+        let on = chance.below(switches);
+        put_cable(&mut text, [(b" h", i, 1), (b" s", on, 3 + i)])?;
+        if on + 1 < switches && chance.below(2) == 0 {
+            put_cable(&mut text, [(b" s", on + 1, 3 + i), (b" h", i, 2)])?;
+        }
+    }
+    text.extend_from_slice(b"sm h0/1\n").ok().ok_or("memory")?;
+    Ok(text)
+}
+
+fn link_of(topology: &Topology, node: usize, port: u8) -> Link {
+    if topology.is_cabled(PortRef { node, port }) {
+        Link::Cabled
+    } else {
+        Link::Uncabled
+    }
+}
+
+/// The nodes of such a topology at power-up, as the plain wire keeps them.
+fn plain_wire_of(alloc: Global, topology: &Topology) -> Result<PlainWire, Fail> {
+    let mut nodes = Vec::new(alloc);
+    for (place, node) in topology.nodes().iter().enumerate() {
+        let name = node.name.as_bytes();
+        if node.is_switch() {
+            let mut links = [Link::Uncabled; 8];
+            for port in 1..9u8 {
+                links[port as usize - 1] = link_of(topology, place, port);
+            }
+            let switch: Switch<LINEAR_TABLE, MULTICAST_TABLE> = Switch::new(
+                node.guid, name, &links,
+            );
+            nodes.push(Node::Switch(switch)).ok().ok_or("memory")?;
+        } else {
+            let mut ports = Vec::new(alloc);
+            for number in 1..3u8 {
+                let guid = node.guid.wrapping_add(u64::from(number));
+                let link = link_of(topology, place, number);
+                let port = AdapterPort::new(node.guid, 2, number, guid, name, link);
+                ports.push(port).ok().ok_or("memory")?;
+            }
+            let adapter = Node::Adapter(AdapterPorts::new(ports));
+            nodes.push(adapter).ok().ok_or("memory")?;
+        }
+    }
+    let mut cables = Vec::new(alloc);
+    for cable in topology.cables() {
+        cables.push(*cable).ok().ok_or("memory")?;
+    }
+    Ok(PlainWire::new(nodes, cables, topology.sm()))
+}
+
+const ATTRIBUTES: [SmpAttribute; 7] = [
+    SmpAttribute::NodeDescription,
+    SmpAttribute::NodeInfo,
+    SmpAttribute::SwitchInfo,
+    SmpAttribute::PortInfo,
+    SmpAttribute::PKeyTable,
+    SmpAttribute::LinearForwardingTable,
+    SmpAttribute::MulticastForwardingTable,
+];
+
+/// A request along some path of up to 3 hops, a Get or a Set, and now and then one that is spelled
+/// wrong in a byte of its header or its path.
+fn some_request(chance: &mut Chance) -> Mad {
+    let mut path = [0; 3];
+    for port in &mut path {
+        *port = 1 + chance.below(8);
+    }
+    let hops = chance.below(4) as usize;
+    let attribute = ATTRIBUTES[chance.below(7) as usize];
+    let modifier = u32::from(chance.below(3));
+    let mut smp = get_request(attribute, modifier, &path[..hops]);
+    if chance.below(2) == 0 {
+        smp[3] = 2;
+        let mut fields = DrSmp::read(&smp);
+        for byte in &mut fields.data {
+            *byte = chance.below(4);
+        }
+        fields.write(&mut smp);
+    }
+    if chance.below(4) == 0 {
+        smp[chance.below(8) as usize] = chance.below(255);
+    }
+    smp
+}
+
+#[test]
+fn by_chance_the_fabric_answers_as_the_plain_wire_does(rt: HostRuntime) -> Result<(), Fail> {
+    let mut chance = Chance { state: 2026 };
+    let mut answers = 0u32;
+    for _ in 0..20u8 {
+        let text = fabric_text(rt.alloc(), &mut chance)?;
+        let topology = read(rt.alloc(), &text).ok().ok_or("the topology")?;
+        let mut fabric = Fabric::new(rt.alloc(), &topology).ok().ok_or("memory")?;
+        let mut plain = plain_wire_of(rt.alloc(), &topology)?;
+        for _ in 0..100u8 {
+            let request = some_request(&mut chance);
+            let answer = fabric.exchange(&request);
+            if answer.is_some() {
+                answers = answers.saturating_add(1);
+            }
+            assert_eq!(rt; answer, plain.exchange(&request));
+        }
+    }
+    // Of 2,000 requests enough come back for the comparison to say something.
+    assert!(rt; answers > 500);
+    Ok(())
+}
