@@ -1,4 +1,9 @@
 ghost use Rattle.std.specs.Prelude.{◌≡◌, ◌<◌};
+ghost use Rattle.mad_layout.specs.DrSmp.{dr_smp};
+ghost use Rattle.mad_layout.specs.Layout.{Sets};
+ghost use Rattle.mad_layout.specs.MadHeader.{mad_header};
+ghost use Rattle.mad_layout.specs.RmppHeader.{rmpp_header};
+ghost use Rattle.mad_layout.specs.SaMad.{sa_mad};
 ghost use Rattle.mad_layout.specs.Laws.{PutReadsBack, PutLeavesOthers, PartsHaveFields, BytesAreFields, BytesAreSet, LayoutsSet, LayoutsSpell, WhatIsHeldFits};
 
 use crate::dr_smp::DrSmp;
@@ -49,7 +54,8 @@ pub fn what_is_held_fits()
 
 /// A header that is written is read again.
 pub fn header_reads_back(header: &Header, mad: &mut Mad) -> Header
-    ensures { result ≡ header.now }
+    ensures read { result ≡ header.now }
+    ensures written { Sets mad.old mad.new (mad_header header.now) }
 {
     header.write(mad);
     Header::read(mad)
@@ -58,7 +64,8 @@ pub fn header_reads_back(header: &Header, mad: &mut Mad) -> Header
 /// The fields of a directed-route SMP that are written are read again.
 pub fn dr_smp_reads_back(smp: &DrSmp, mad: &mut Mad) -> DrSmp
     requires { smp.now.status < 32768 }
-    ensures { result ≡ smp.now }
+    ensures read { result ≡ smp.now }
+    ensures written { Sets mad.old mad.new (dr_smp smp.now) }
 {
     smp.write(mad);
     DrSmp::read(mad)
@@ -68,7 +75,8 @@ pub fn dr_smp_reads_back(smp: &DrSmp, mad: &mut Mad) -> DrSmp
 pub fn rmpp_header_reads_back(header: &RmppHeader, mad: &mut Mad) -> RmppHeader
     requires response_time { header.now.response_time < 32 }
     requires flags { header.now.flags < 8 }
-    ensures { result ≡ header.now }
+    ensures read { result ≡ header.now }
+    ensures written { Sets mad.old mad.new (rmpp_header header.now) }
 {
     header.write(mad);
     RmppHeader::read(mad)
@@ -76,7 +84,8 @@ pub fn rmpp_header_reads_back(header: &RmppHeader, mad: &mut Mad) -> RmppHeader
 
 /// The fields of a subnet administration MAD that are written are read again.
 pub fn sa_mad_reads_back(fields: &SaMad, mad: &mut Mad) -> SaMad
-    ensures { result ≡ fields.now }
+    ensures read { result ≡ fields.now }
+    ensures written { Sets mad.old mad.new (sa_mad fields.now) }
 {
     fields.write(mad);
     SaMad::read(mad)

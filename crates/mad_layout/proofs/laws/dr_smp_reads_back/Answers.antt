@@ -27,8 +27,8 @@ same_smp a b bytes h g d i r =
       return_path = r place;
     }
 
-pub returns : goal.returns
-returns c =
+pub returns-clause-read : goal.returns-clause-read
+returns-clause-read c =
     same_smp c.read.result c.args.smp.now c.write.new.mad c.read.ensures.fields c.write.ensures.fields.fields
     (c.read.ensures.data ∙ c.write.ensures.data)
     (c.read.ensures.initial_path ∙ c.write.ensures.initial_path)
