@@ -1,5 +1,5 @@
 -- Names opened one after the other.
-use Rattle.std.proofs.Common.{ℕ, ◌≡◌, inl, inr, true, is_some, IfSome, option_map, Ok, List, [], ◌∷◌, ◌++◌, length, Option, Some, None, append_assoc, append-nil, ap, refl, sym, ◌∙◌}
+use Rattle.std.proofs.Common.{ℕ, ◌≡◌, inl, inr, Bool, true, is_some, IfSome, option_map, Ok, List, [], ◌∷◌, ◌++◌, length, Option, Some, None, append_assoc, append-nil, ap, refl, sym, ◌∙◌}
 use Rattle.std.proofs.Math.Seq.{take-append_seam}
 use Rattle.std.proofs.lemmas.List.Folds.{list_all-append}
 use Rattle.std.specs.Borrow.{Bor}
@@ -8,7 +8,7 @@ use Rattle.subnet_core.specs.Script.{◌>>=◌}
 use Rattle.fabric_cli.specs.declared.faults.Stop.{Stop}
 use Rattle.fabric_cli.specs.declared.faults.Stop.TheVariants.{Words, NoMemory, Unread, Unwritten, Run}
 use Rattle.fabric_cli.specs.Faults.{NamesUnread}
-use Rattle.fabric_cli.specs.Files.{Contents, OpensAll, OpensInOrder, StopsAt, all_open}
+use Rattle.fabric_cli.specs.Files.{Contents, OpensAll, IsEndless, OpensInOrder, StopsAt, all_open}
 use Rattle.fabric_cli.specs.Serving.{bytes_if_named, opened_bytes}
 
 then_more : (old : Option (List (List ℕ))) (names more : List (List ℕ))
@@ -33,48 +33,51 @@ opens_whole before after names opened =
     rw append-nil at all
 
 -- reading stopped at the one name
-pub stops_here : (told : Option Contents) (old new : Option (List (List ℕ))) (name : Bor (List ℕ)) → OpensAll old new (name.now ∷ [])
-    → NamesUnread told old new (name.now ∷ []) (Unread name)
-stops_here None old new name opened = tt
-stops_here (Some file) old new name opened = record { before = []; after = []; cut = refl; opened = opened; open_before = refl }
+pub stops_here : (told : Option Contents) (reads : Bool) (old new : Option (List (List ℕ))) (name : Bor (List ℕ)) → OpensAll old new (name.now ∷ [])
+    → IfSome told (λ file. reads ≡ true → IsEndless (file name.now))
+    → NamesUnread told reads old new (name.now ∷ []) (Unread name)
+stops_here None reads old new name opened unread = tt
+stops_here (Some file) reads old new name opened unread = record { before = []; after = []; cut = refl; opened = opened; open_before = refl; unread = unread }
 
 -- where reading stopped among some names, it stopped among more
-pub unread_first : (told : Option Contents) (old new : Option (List (List ℕ))) (names more : List (List ℕ)) (stop : Stop)
-    → NamesUnread told old new names stop → NamesUnread told old new (names ++ more) stop
-unread_first None old new names more stop unread = tt
-unread_first (Some file) old new names more (Unread name) unread = record {
+pub unread_first : (told : Option Contents) (reads : Bool) (old new : Option (List (List ℕ))) (names more : List (List ℕ)) (stop : Stop)
+    → NamesUnread told reads old new names stop → NamesUnread told reads old new (names ++ more) stop
+unread_first None reads old new names more stop unread = tt
+unread_first (Some file) reads old new names more (Unread name) unread = record {
   before = unread.before;
   after = unread.after ++ more;
   cut = ap (λ (all : List (List ℕ)). all ++ more) unread.cut ∙ append_assoc unread.before (name.now ∷ unread.after) more;
   opened = unread.opened;
   open_before = unread.open_before;
+  unread = unread.unread;
 }
-unread_first (Some file) old new names more (Words text) unread = tt
-unread_first (Some file) old new names more NoMemory unread = tt
-unread_first (Some file) old new names more Unwritten unread = tt
-unread_first (Some file) old new names more (Run fault) unread = tt
+unread_first (Some file) reads old new names more (Words text) unread = tt
+unread_first (Some file) reads old new names more NoMemory unread = tt
+unread_first (Some file) reads old new names more Unwritten unread = tt
+unread_first (Some file) reads old new names more (Run fault) unread = tt
 
 -- where some names opened to bytes, reading stopped after them
-stops_after : (file : Contents) (first before after : Option (List (List ℕ))) (names more : List (List ℕ)) (name : List ℕ) → OpensAll first before names
-    → all_open file names ≡ true → StopsAt file before after more name → StopsAt file first after (names ++ more) name
-stops_after file first before after names more name opened read then = record {
+stops_after : (file : Contents) (reads : Bool) (first before after : Option (List (List ℕ))) (names more : List (List ℕ)) (name : List ℕ) → OpensAll first before names
+    → all_open file names ≡ true → StopsAt file reads before after more name → StopsAt file reads first after (names ++ more) name
+stops_after file reads first before after names more name opened read then = record {
   before = names ++ then.before;
   after = then.after;
   cut = ap (λ (all : List (List ℕ)). names ++ all) then.cut ∙ sym (append_assoc names then.before (name ∷ then.after));
   opened = let all = opens_more first before after names (then.before ++ name ∷ []) opened then.opened in rw (append_assoc names then.before (name ∷ [])) all;
   open_before = list_all-append (λ (n : List ℕ). is_some (file n)) names then.before ∙ rw (read, then.open_before) refl;
+  unread = then.unread;
 }
 
-pub unread_after : (told now : Option Contents) (first before after : Option (List (List ℕ))) (names more : List (List ℕ)) (stop : Stop) → now ≡ told
+pub unread_after : (told now : Option Contents) (reads reading : Bool) (first before after : Option (List (List ℕ))) (names more : List (List ℕ)) (stop : Stop) → now ≡ told → reading ≡ reads
     → OpensAll first before names → IfSome told (λ file. all_open file names ≡ true)
-    → NamesUnread now before after more stop → NamesUnread told first after (names ++ more) stop
-unread_after None now first before after names more stop same opened read unread = tt
-unread_after (Some file) now first before after names more (Unread name) same opened read unread =
-    stops_after file first before after names more name.now opened read (rw same at unread)
-unread_after (Some file) now first before after names more (Words text) same opened read unread = tt
-unread_after (Some file) now first before after names more NoMemory same opened read unread = tt
-unread_after (Some file) now first before after names more Unwritten same opened read unread = tt
-unread_after (Some file) now first before after names more (Run fault) same opened read unread = tt
+    → NamesUnread now reading before after more stop → NamesUnread told reads first after (names ++ more) stop
+unread_after None now reads reading first before after names more stop same stays opened read unread = tt
+unread_after (Some file) now reads reading first before after names more (Unread name) same stays opened read unread =
+    stops_after file reads first before after names more name.now opened read (rw (same, stays) at unread)
+unread_after (Some file) now reads reading first before after names more (Words text) same stays opened read unread = tt
+unread_after (Some file) now reads reading first before after names more NoMemory same stays opened read unread = tt
+unread_after (Some file) now reads reading first before after names more Unwritten same stays opened read unread = tt
+unread_after (Some file) now reads reading first before after names more (Run fault) same stays opened read unread = tt
 
 -- a name with bytes behind it opens to them
 pub one_open : (told : Option Contents) (name bytes : List ℕ) → IfSome told (λ file. file name ≡ Some bytes)
@@ -96,3 +99,24 @@ pub named_open : (told : Option Contents) (name : Option (List ℕ)) (bytes : Op
     → IfSome told (λ file. all_open file (option_to_list name) ≡ true)
 named_open None name bytes is = tt
 named_open (Some file) name bytes is = named_opens file name bytes is
+
+none_opens : (found : Option (List ℕ)) → None ≡ option_map Some found → IsEndless found
+none_opens None is = tt
+none_opens (Some bytes) is = cc
+
+-- a name that opens to nothing is unread
+pub no_file : (told : Option Contents) (reads : Bool) (name : List ℕ) → IfSome told (λ file. None ≡ option_map Some (file name))
+    → IfSome told (λ file. reads ≡ true → IsEndless (file name))
+no_file None reads name is = tt
+no_file (Some file) reads name is = λ sure. none_opens (file name) is
+
+bytes_endless : (found known : Option (List ℕ)) → Some known ≡ option_map Some found → IsEndless known
+    → IsEndless found
+bytes_endless None known is endless = tt
+bytes_endless (Some bytes) known is endless = let e : known ≡ Some bytes = cc in rw e at endless
+
+-- so is one that opens to bytes without an end
+pub endless_file : (told : Option Contents) (reads : Bool) (name : List ℕ) (known : Option (List ℕ)) → IfSome told (λ file. Some known ≡ option_map Some (file name))
+    → (reads ≡ true → IsEndless known) → IfSome told (λ file. reads ≡ true → IsEndless (file name))
+endless_file None reads name known is endless = tt
+endless_file (Some file) reads name known is endless = λ sure. bytes_endless (file name) known is (endless sure)

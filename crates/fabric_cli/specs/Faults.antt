@@ -1,5 +1,5 @@
 -- Why a call does not complete: the line that tells it, and the exit status.
-use Rattle.std.specs.Prelude.{ℕ, ◌≡◌, ◌≢◌, List, ◌++◌, codes, decimal, Option, Some, None, string_bytes}
+use Rattle.std.specs.Prelude.{ℕ, ◌≡◌, ◌≢◌, Bool, List, ◌++◌, codes, decimal, Option, Some, None, string_bytes}
 use Rattle.clap.specs.Words.{kind_of}
 use Rattle.clap.specs.declared.error.Error.{Error}
 use Rattle.clap.specs.declared.error.kind.ErrorKind.TheVariants.{OutOfMemory}
@@ -87,7 +87,7 @@ IsOfRun (Run fault) = Unit {0}
 IsOfRun _ = ⊥
 
 -- a stop for a file that is not read names the file at which reading stopped
-abbrev pub NamesUnread : Option Contents → Option (List (List ℕ)) → Option (List (List ℕ)) → List (List ℕ) → Stop → Type 0
-NamesUnread None old new names stop = Unit {0}
-NamesUnread (Some file) old new names (Unread name) = StopsAt file old new names name.now
-NamesUnread (Some file) old new names _ = Unit {0}
+abbrev pub NamesUnread : Option Contents → Bool → Option (List (List ℕ)) → Option (List (List ℕ)) → List (List ℕ) → Stop → Type 0
+NamesUnread None reads old new names stop = Unit {0}
+NamesUnread (Some file) reads old new names (Unread name) = StopsAt file reads old new names name.now
+NamesUnread (Some file) reads old new names _ = Unit {0}

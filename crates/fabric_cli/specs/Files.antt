@@ -1,6 +1,7 @@
 -- Files that tell what they hold: the bytes behind each name, and the names opened so far.
-use Rattle.std.specs.Prelude.{ℕ, ◌≡◌, ◌⊎◌, Bool, true, List, [], ◌∷◌, ◌++◌, take, Option, Some, None, is_some, IfSome, option_map}
+use Rattle.std.specs.Prelude.{ℕ, ◌≡◌, ◌≤◌, ◌⊎◌, Bool, true, List, [], ◌∷◌, ◌++◌, length, take, Option, Some, None, is_some, IfSome, option_map}
 use Rattle.std.specs.List.{list_all}
+use Rattle.fabric_cli.specs.declared.reading.TheConstants.{READS}
 
 -- the bytes that each name opens to, or that it opens to nothing
 abbrev pub Contents : Type 0
@@ -22,10 +23,16 @@ Opens remaining told name input = IfSome told (λ file. option_map remaining inp
 abbrev pub all_open : Contents → List (List ℕ) → Bool
 all_open file names = list_all (λ name. is_some (file name)) names
 
--- of these names this one was opened last, and those before it open to bytes: reading stopped here
-pub record StopsAt (file : Contents) (old new : Option (List (List ℕ))) (names : List (List ℕ)) (name : List ℕ) : Type 0 where
+-- no end came within the reads that a file is given
+abbrev pub IsEndless : Option (List ℕ) → Type 0
+IsEndless known = IfSome known (λ bytes. READS ≤ length bytes)
+
+-- of these names this one was opened last, and those before it open to bytes: reading stopped here,
+-- which where no read fails it does only at a name that opens to nothing, or to bytes without an end
+pub record StopsAt (file : Contents) (reads : Bool) (old new : Option (List (List ℕ))) (names : List (List ℕ)) (name : List ℕ) : Type 0 where
   pub before : List (List ℕ)
   pub after : List (List ℕ)
   pub cut : names ≡ before ++ name ∷ after
   pub opened : OpensAll old new (before ++ name ∷ [])
   pub open_before : all_open file before ≡ true
+  pub unread : reads ≡ true → IsEndless (file name)

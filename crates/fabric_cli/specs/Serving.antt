@@ -1,5 +1,5 @@
 -- What a call answers, from its words and the bytes of its files alone.
-use Rattle.std.specs.Prelude.{ℕ, ◌≡◌, ◌⊎◌, List, [], Option, Some, None, option_map, Result, Ok, Err, Vec}
+use Rattle.std.specs.Prelude.{ℕ, ◌≡◌, ◌≢◌, ◌⊎◌, Bool, true, List, [], Option, Some, None, option_map, Result, Ok, Err, Vec}
 use Rattle.std.specs.Global.{Global}
 use Rattle.std.specs.Io.KnownBytes.{Appends, Keeps}
 use Rattle.subnet_core.specs.declared.fault.RunFault.{RunFault}
@@ -13,10 +13,10 @@ use Rattle.fabric_cli.specs.declared.serving.Texts.{Texts}
 use Rattle.fabric_cli.specs.declared.words.Work.{Work}
 use Rattle.fabric_cli.specs.declared.words.Work.TheVariants as work
 use Rattle.fabric_cli.specs.declared.faults.Stop.TheVariants.{Words, NoMemory, Unread, Unwritten, Run}
-use Rattle.fabric_cli.specs.Faults.{memory_line, run_line, run_status, unread_line, unwritten_line}
+use Rattle.fabric_cli.specs.Faults.{line_of, status_of, memory_line, run_line, run_status, unread_line, unwritten_line}
 use Rattle.fabric_cli.specs.Files.{Contents, StopsAt}
 use Rattle.fabric_cli.specs.Words.{Names, asked_of}
-use Rattle.fabric_cli.specs.Writing.{AppendsPart}
+use Rattle.fabric_cli.specs.Writing.{Tells}
 
 -- how a call ends: clap's text, a fault's status and line, or a whole output
 pub data Ending : Type 0 where
@@ -107,24 +107,24 @@ output_in refused = []
 output_in (faulted fault line) = []
 output_in (complete output) = output
 
--- the line that is told, whole or in part, where a call could not end so: that an output did not go
--- out, or the line of the fault itself, at which standard error refused (after all of it was written too:
--- a flush that fails looks so); of a text of clap's nothing is said
-abbrev pub IsLineOf : Ending → List ℕ → Type 0
-IsLineOf refused line = Unit {0}
-IsLineOf (faulted status fault) line = line ≡ fault
-IsLineOf (complete output) line = line ≡ unwritten_line
+-- the line that is told, whole or in part, where a call could not end so: that an output that may refuse
+-- did not go out, or the line of the fault itself, at which standard error refused (after all of it was
+-- written too: a flush that fails looks so); of a text of clap's only that standard error may refuse
+abbrev pub IsLineOf : (out_is_sure err_is_sure : Bool) → Ending → List ℕ → Type 0
+IsLineOf out_is_sure err_is_sure refused line = err_is_sure ≢ true
+IsLineOf out_is_sure err_is_sure (faulted status fault) line = (line ≡ fault) × (err_is_sure ≢ true)
+IsLineOf out_is_sure err_is_sure (complete output) line = (line ≡ unwritten_line) × (out_is_sure ≢ true)
 
 -- the line of a file at which reading stopped
-abbrev pub IsUnreadLine : Contents → Option (List (List ℕ)) → Option (List (List ℕ)) → List (List ℕ) → List ℕ → Type 0
-IsUnreadLine file old new names line = (name : List ℕ) × StopsAt file old new names name × (line ≡ unread_line name)
+abbrev pub IsUnreadLine : Contents → Bool → Option (List (List ℕ)) → Option (List (List ℕ)) → List (List ℕ) → List ℕ → Type 0
+IsUnreadLine file reads old new names line = (name : List ℕ) × StopsAt file reads old new names name × (line ≡ unread_line name)
 
--- status 3: standard error has some beginning of a line, from none of it to all of it: the line that tells
--- that memory, a file or the output was refused, or the line of a fault at which it refused itself
-pub record IsRefused (file : Contents) (old new : Option (List (List ℕ))) (names : List (List ℕ)) (ending : Ending) (err err' : Option (List ℕ)) : Type 0 where
+-- status 3: standard error has some beginning of a line, and all of it where it refuses nothing: the line
+-- that tells that memory, a file or the output was refused, or the line of a fault at which it refused itself
+pub record IsRefused (file : Contents) (reads : Bool) (old new : Option (List (List ℕ))) (names : List (List ℕ)) (ending : Ending) (out_is_sure err_is_sure : Bool) (err err' : Option (List ℕ)) : Type 0 where
   pub line : List ℕ
-  pub is : (line ≡ memory_line) ⊎ (IsUnreadLine file old new names line ⊎ IsLineOf ending line)
-  pub part : AppendsPart err err' line
+  pub is : (line ≡ memory_line) ⊎ (IsUnreadLine file reads old new names line ⊎ IsLineOf out_is_sure err_is_sure ending line)
+  pub told : Tells err_is_sure err err' line
 
 -- why the output is not made, unless the machine refuses
 abbrev pub RunStops : Ending → RunFault → Type 0
@@ -137,6 +137,11 @@ Stops ending NoMemory = Unit {0}
 Stops ending (Unread name) = Unit {0}
 Stops ending Unwritten = ⊥
 Stops ending (Run fault) = RunStops ending fault
+
+-- a stop is told by its line, and with its status where the line can go out
+pub record TellsStop (stop : Stop) (answer : ℕ) (is_sure : Bool) (err err' : Option (List ℕ)) : Type 0 where
+  pub told : Tells is_sure err err' (line_of stop)
+  pub status : is_sure ≡ true → answer ≡ status_of stop
 
 -- files are read to their end before anything is told of them
 abbrev pub IsTold : {X : Type 0} → Result X Stop → Type 0

@@ -1,28 +1,62 @@
 //! Where the program's files come from.
 
 ghost use Rattle.fabric_cli.specs.Files.{Contents, Opens, OpensAll};
-ghost use Rattle.std.specs.Prelude.{◌≡◌, List, [], ◌∷◌, ℕ, Option, None};
+ghost use Rattle.std.specs.Prelude.{◌≡◌, List, [], ◌∷◌, ℕ, Bool, true, false, Option, None, IfSome, IsOk};
+ghost use Rattle.std.specs.Io.{ReadsAtMost};
+ghost use Rattle.std.specs.Io.KnownBytes.{ReadConsumes};
 
 use std::io::Read;
-use std::{fs, rt};
+use std::{fs, io, rt};
+
+/// What an opened file is read by.
+///
+/// Its ghost members are what a contract may know of it: `remaining` is the bytes that are left, where
+/// they are told, and `is_sure` whether no read of it fails.
+pub trait Reader {
+    ghost remaining: { Self → Option (List ℕ) };
+
+    ghost is_sure: { Self → Bool };
+
+    /// Reads the next bytes, and answers how many; 0 at the end alone.
+    fn next_piece(&mut self, piece: &mut [u8]) -> io::Result<usize>
+        ensures bound { ReadsAtMost result piece.new }
+        ensures bytes { ReadConsumes (remaining self.old) (remaining self.new) result piece.new }
+        ensures sure { is_sure self.old ≡ true → IsOk result }
+        ensures stays { is_sure self.old ≡ true → is_sure self.new ≡ true };
+}
+
+/// Any read may fail.
+impl<R: Read> Reader for R {
+    ghost remaining = { λ reader. R.remaining reader };
+
+    ghost is_sure = { λ _. false };
+
+    fn next_piece(&mut self, piece: &mut [u8]) -> io::Result<usize> {
+        self.read(piece)
+    }
+}
 
 /// A place that opens names to readers.
 ///
 /// Its ghost members are what a contract may know of it: `told` is which bytes each name opens to, or
 /// that it opens to nothing; `opened` the names opened so far. Each may be `None`: nothing is told, or
-/// the names could not be kept.
+/// the names could not be kept. `reads` is whether no read of any of the files fails.
 pub trait Files {
     /// What an opened file is read by.
-    type Input: Read + Drop;
+    type Input: Reader + Drop;
 
     ghost told: { Self → Option Contents };
 
     ghost opened: { Self → Option (List (List ℕ)) };
 
+    ghost reads: { Self → Bool };
+
     /// Opens a name, or answers `None` where there is no such file to read.
     fn open(&mut self, name: &str) -> Option<Self::Input>
         ensures noted { OpensAll (opened self.old) (opened self.new) (name.now ∷ []) }
         ensures same { told self.new ≡ told self.old }
+        ensures stays { reads self.new ≡ reads self.old }
+        ensures sure { reads self.old ≡ true → IfSome result (λ input. Self.Input.is_sure input ≡ true) }
         ensures bytes { Opens Self.Input.remaining (told self.old) name.now result };
 }
 
@@ -45,6 +79,8 @@ impl<'a, R: rt::Files> Files for MachineFiles<'a, R> {
     ghost told = { λ _. None };
 
     ghost opened = { λ _. None };
+
+    ghost reads = { λ _. false };
 
     fn open(&mut self, name: &str) -> Option<R::File> {
         fs::open(self.rt, name).ok()

@@ -4,18 +4,17 @@ ghost use Rattle.std.specs.Prelude.{ℕ, ◌≡◌, ◌≢◌, ◌⊎◌, Result
 ghost use Rattle.std.specs.Io.KnownBytes.{Appends};
 ghost use Rattle.fabric_cli.specs.Faults.{line_of, memory_line, status_of, IsOfFiles, IsOfRun, NamesUnread};
 ghost use Rattle.fabric_cli.specs.Files.{OpensAll, OpensInOrder};
-ghost use Rattle.fabric_cli.specs.Serving.{bytes_if_named, ending_by, ending_of, ending_with, listed, output_in, reported, texts_in, texts_of, work_bytes, work_of, Ends, Gives, IsRefused, IsTold};
+ghost use Rattle.fabric_cli.specs.Serving.{bytes_if_named, ending_by, ending_of, ending_with, listed, output_in, reported, texts_in, texts_of, work_bytes, work_of, Ends, Gives, IsRefused, IsTold, TellsStop};
 ghost use Rattle.std.specs.Option.{option_to_list};
 ghost use Rattle.fabric_cli.specs.Words.{asked_of, named_work, names, opened_for, script_names};
-ghost use Rattle.fabric_cli.specs.Writing.{AppendsPart};
+ghost use Rattle.fabric_cli.specs.Writing.{AppendsPart, Tells};
 
 use crate::faults::{COMPLETE, REFUSED, Stop};
 use crate::files::Files;
 use crate::reading::read_file;
 use crate::words::{Asked, Work, read_words};
-use crate::writing::write_whole;
+use crate::writing::{Output, write_whole};
 use std::alloc::Global;
-use std::io::Write;
 use subnet_core::{bring_up, run};
 
 /// The bytes of the files, and what to do with them.
@@ -31,7 +30,7 @@ struct Texts {
 /// refused, and 3 where memory, a file or a writer refuses, which `err` is told.
 ///
 /// The files are opened and read in the order of the words, each to its end, before any is judged.
-pub fn serve<F: Files, O: Write, E: Write>(
+pub fn serve<F: Files, O: Output, E: Output>(
     alloc: Global,
     words: &[String],
     files: &mut F,
@@ -44,8 +43,8 @@ pub fn serve<F: Files, O: Write, E: Write>(
         Ends (ending_of file (map string_bytes words.now)) result
         (O.contents out.old) (O.contents out.new) (E.contents err.old) (E.contents err.new)) }
     ensures refused { result ≡ 3 → IfSome (F.told files.old) (λ file.
-        IsRefused file (F.opened files.old) (F.opened files.new) (opened_for (asked_of (map string_bytes words.now)))
-        (ending_of file (map string_bytes words.now)) (E.contents err.old) (E.contents err.new)) }
+        IsRefused file (F.reads files.old) (F.opened files.old) (F.opened files.new) (opened_for (asked_of (map string_bytes words.now)))
+        (ending_of file (map string_bytes words.now)) (O.is_sure out.old) (E.is_sure err.old) (E.contents err.old) (E.contents err.new)) }
     ensures short { IfSome (F.told files.old) (λ file.
         AppendsPart (O.contents out.old) (O.contents out.new)
         (output_in (ending_of file (map string_bytes words.now)))) }
@@ -64,9 +63,9 @@ pub fn serve<F: Files, O: Write, E: Write>(
 
 /// Tells why a call does not complete, and answers the exit status. Where memory is refused, that is
 /// told, and where the whole line does not go out, the status is that of output not written.
-pub fn told_stop<E: Write>(alloc: Global, stop: &Stop<'_>, err: &mut E) -> u8
+pub fn told_stop<E: Output>(alloc: Global, stop: &Stop<'_>, err: &mut E) -> u8
     ensures whole { result ≢ 3 → (result ≡ status_of stop.now) × Appends (E.contents err.old) (E.contents err.new) (line_of stop.now) }
-    ensures part { AppendsPart (E.contents err.old) (E.contents err.new) (line_of stop.now) ⊎ AppendsPart (E.contents err.old) (E.contents err.new) memory_line }
+    ensures part { TellsStop stop.now result (E.is_sure err.old) (E.contents err.old) (E.contents err.new) ⊎ Tells (E.is_sure err.old) (E.contents err.old) (E.contents err.new) memory_line }
 {
     match stop.line(alloc) {
         Ok(line) => {
@@ -95,7 +94,7 @@ fn output<'a, F: Files>(
         (opened_for (asked_of (map string_bytes words.entry.now))) }
     ensures exact { IfSome (F.told files.old) (λ file. Gives (λ text. text.items)
         (ending_of file (map string_bytes words.entry.now)) result) }
-    ensures unread { IfErr result (NamesUnread (F.told files.old) (F.opened files.old) (F.opened files.new)
+    ensures unread { IfErr result (NamesUnread (F.told files.old) (F.reads files.old) (F.opened files.old) (F.opened files.new)
         (opened_for (asked_of (map string_bytes words.entry.now)))) }
 {
     match read_words(alloc, words) {
@@ -114,7 +113,7 @@ fn output_of_files<'a, F: Files>(
     ensures all { IsTold result → OpensAll (F.opened files.old) (F.opened files.new) (opened_for (Some (names asked.now))) }
     ensures exact { IfSome (F.told files.old) (λ file. Gives (λ text. text.items)
         (ending_with (texts_of file (names asked.now))) result) }
-    ensures unread { IfErr result (NamesUnread (F.told files.old) (F.opened files.old) (F.opened files.new) (opened_for (Some (names asked.now)))) }
+    ensures unread { IfErr result (NamesUnread (F.told files.old) (F.reads files.old) (F.opened files.old) (F.opened files.new) (opened_for (Some (names asked.now)))) }
 {
     match read_texts(alloc, asked, files) {
         Ok(texts) => output_of_texts(alloc, &texts),
@@ -195,7 +194,7 @@ fn read_texts<'a, F: Files>(
     ensures texts { IfOk result (λ texts. IfSome (F.told files.old) (λ file.
         texts_of file (names asked.now) ≡ Ok (texts_in texts))) }
     ensures fault { IfErr result IsOfFiles }
-    ensures unread { IfErr result (NamesUnread (F.told files.old) (F.opened files.old) (F.opened files.new) (opened_for (Some (names asked.now)))) }
+    ensures unread { IfErr result (NamesUnread (F.told files.old) (F.reads files.old) (F.opened files.old) (F.opened files.new) (opened_for (Some (names asked.now)))) }
 {
     let topology = read_file(alloc, files, asked.topology)?;
     let partitions = read_if_named(alloc, files, asked.partitions)?;
@@ -215,10 +214,11 @@ fn read_if_named<'a, F: Files>(
 ) -> Result<Option<Vec<u8>>, Stop<'a>>
     ensures opened { OpensAll (F.opened files.old) (F.opened files.new) (option_to_list (option_map (λ word. word.now) name.entry)) }
     ensures same { F.told files.new ≡ F.told files.old }
+    ensures stays { F.reads files.new ≡ F.reads files.old }
     ensures bytes { IfOk result (λ bytes. IfSome (F.told files.old) (λ file.
         bytes_if_named file (option_map (λ word. word.now) name.entry) ≡ Ok (option_map (λ items. items.items) bytes))) }
     ensures fault { IfErr result IsOfFiles }
-    ensures unread { IfErr result (NamesUnread (F.told files.old) (F.opened files.old) (F.opened files.new) (option_to_list (option_map (λ word. word.now) name.entry))) }
+    ensures unread { IfErr result (NamesUnread (F.told files.old) (F.reads files.old) (F.opened files.old) (F.opened files.new) (option_to_list (option_map (λ word. word.now) name.entry))) }
 {
     match name {
         Some(name) => Ok(Some(read_file(alloc, files, name)?)),
@@ -234,10 +234,11 @@ fn read_work<'a, F: Files>(
 ) -> Result<Work<Vec<u8>>, Stop<'a>>
     ensures opened { OpensAll (F.opened files.old) (F.opened files.new) (script_names (named_work work.now)) }
     ensures same { F.told files.new ≡ F.told files.old }
+    ensures stays { F.reads files.new ≡ F.reads files.old }
     ensures bytes { IfOk result (λ bytes. IfSome (F.told files.old) (λ file.
         work_of file (named_work work.now) ≡ Ok (work_bytes bytes))) }
     ensures fault { IfErr result IsOfFiles }
-    ensures unread { IfErr result (NamesUnread (F.told files.old) (F.opened files.old) (F.opened files.new) (script_names (named_work work.now))) }
+    ensures unread { IfErr result (NamesUnread (F.told files.old) (F.reads files.old) (F.opened files.old) (F.opened files.new) (script_names (named_work work.now))) }
 {
     match work {
         Work::Check => Ok(Work::Check),

@@ -1,6 +1,6 @@
 //! Files and writers in memory, some of which fail. All of them tell what they hold.
 
-ghost use Rattle.std.specs.Prelude.{◌≡◌, [], ◌∷◌, Some, find, map, option_map, string_bytes};
+ghost use Rattle.std.specs.Prelude.{◌≡◌, false, [], ◌∷◌, Some, find, map, option_map, string_bytes};
 ghost use Rattle.std.specs.Str.{bytes_eq};
 ghost use Rattle.fabric_cli.specs.Files.{OpensAll};
 
@@ -62,6 +62,8 @@ impl<'a> Files for Shelf<'a> {
     ghost told = { λ shelf. Some (λ name. option_map (λ known. known.1.bytes.now) (find (λ known. bytes_eq known.0.now name) shelf.files.now)) };
 
     ghost opened = { λ shelf. option_map (λ names. map string_bytes names.items) shelf.names };
+
+    ghost reads = { λ _. false };
 
     fn open(&mut self, name: &str) -> Option<Source<'a>> {
         self.names = noted(self.alloc, self.names.take(), name);

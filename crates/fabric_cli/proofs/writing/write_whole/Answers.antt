@@ -13,4 +13,5 @@ loop-done-preserved g c =
     record {
       within = let fits = rw rest at bound in omega (arith, fits, length-drop c.loop-done.done c.args.text.now, c.loop-done.invariant.within);
       written = rw all (rw rest at more);
+      sure = λ sure. c.put.ensures.stays (c.loop-done.invariant.sure sure);
     }

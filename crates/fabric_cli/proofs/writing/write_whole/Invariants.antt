@@ -1,12 +1,13 @@
 -- What is written so far is the beginning of the text.
-use Rattle.std.proofs.Common.{◌≤◌, ◌-◌, length, take}
+use Rattle.std.proofs.Common.{◌≡◌, true, ◌≤◌, ◌-◌, length, take}
 use Rattle.std.specs.Io.KnownBytes.{Appends}
 use Rattle.fabric_cli.proofs.writing.write_whole.Given as goal
 
 abbrev pub invariant-loop-done : goal.invariant-loop-done
 invariant-loop-done g l = record {
   within : l.done ≤ length l.text;
-  written : Appends (g.W.Write.contents l.fn.writer) (g.W.Write.contents l.writer) (take l.done l.text);
+  written : Appends (g.O.Output.contents l.fn.output) (g.O.Output.contents l.output) (take l.done l.text);
+  sure : g.O.Output.is_sure l.fn.output ≡ true → g.O.Output.is_sure l.output ≡ true;
 }
 
 abbrev pub decreases-loop-done : goal.decreases-loop-done
