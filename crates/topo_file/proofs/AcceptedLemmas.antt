@@ -2,8 +2,10 @@
 use Rattle.std.proofs.Common.{◌≡◌, ℕ, Bool, true, false, ◌&&◌, ◌||◌, nat_le, List, [], ◌∷◌, Option, Some, None, Result, Ok, Err, if◌then◌else◌, is_some, refl, sym}
 use Rattle.std.specs.List.{list_any}
 use Rattle.std.specs.Option.{ok_or}
+use Rattle.std.specs.Str.{bytes_eq}
 use Rattle.std.proofs.lemmas.Bool.{and_from, and_parts}
 use Rattle.text_words.specs.Number.{number_in}
+use Rattle.text_words.specs.Words.{is_name}
 use Rattle.topo_file.specs.declared.cable.Cable.{Cable}
 use Rattle.topo_file.specs.declared.cable.PortRef.{PortRef}
 use Rattle.topo_file.specs.declared.fault.TopologyFault.{TopologyFault}
@@ -12,8 +14,9 @@ use Rattle.topo_file.specs.declared.node.Node.{Node}
 use Rattle.topo_file.specs.declared.node.NodeKind.{NodeKind}
 use Rattle.topo_file.specs.Cable.{is_cabled, may_join, port_at}
 use Rattle.topo_file.specs.Node.{is_one_too_many, lacks_guids, most_ports, place_of, shares_guid}
-use Rattle.topo_file.specs.Sound.{is_sized, joins_right}
+use Rattle.topo_file.specs.Sound.{is_named, is_sized, joins_right}
 use Rattle.topo_file.specs.Topology.{◌>>=◌, cable_of, cable_spelt, name_of, new_cable, new_node, node_of, node_spelt, number_up_to, port_of, within}
+use Rattle.topo_file.proofs.NodeLemmas.{not_there}
 
 pub record Bound {A B E : Type 0} (r : Result A E) (f : A → Result B E) (b : B) : Type 0 where
   pub value : A
@@ -46,6 +49,8 @@ same_ok : {A : Type 0} (E : Type 0) (x y : A) → SameOk A E x y → x ≡ y
 same_ok E x y h = cc
 
 pub record IsNewNode (nodes : List Node) (node : Node) : Type 0 where
+  pub named : is_named node ≡ true
+  pub own_name : list_any (λ other. bytes_eq node.name other.name) nodes ≡ false
   pub sized : is_sized node ≡ true
   pub own : list_any (λ other. shares_guid node other) nodes ≡ false
 
@@ -53,12 +58,17 @@ none_of : (a b : Bool) → (a || b) ≡ false → b ≡ false
 none_of true b h = absurd cc
 none_of false b h = h
 
-new_is : (nodes : List Node) (node made : Node) → new_node nodes node ≡ Ok made → (lacks_guids nodes node ≡ false) × (made ≡ node)
+is_none : {X : Type 0} (o : Option X) → is_some o ≡ false → o ≡ None
+is_none None h = refl
+is_none (Some x) h = absurd cc
+
+new_is : (nodes : List Node) (node made : Node) → new_node nodes node ≡ Ok made
+    → (list_any (λ other. bytes_eq node.name other.name) nodes ≡ false) × (lacks_guids nodes node ≡ false) × (made ≡ node)
 new_is nodes node made h =
     let named = passed (is_some (place_of node.name nodes)) DuplicateName _ made h in
     let guids = passed (lacks_guids nodes node) DuplicateGuid _ made named.1 in
     let room = passed (is_one_too_many nodes node.kind node.ports) OverLimit _ made guids.1 in
-    (guids.0, sym (same_ok TopologyFault node made room.1))
+    (not_there (λ other. bytes_eq node.name other.name) nodes (is_none (place_of node.name nodes) named.0), guids.0, sym (same_ok TopologyFault node made room.1))
 
 spelt_is : (kind : NodeKind) (nodes : List Node) (name guid ports : List ℕ) (made : Node) → node_spelt kind nodes name guid ports ≡ Ok made → IsNewNode nodes made
 unfolding node_spelt
@@ -66,11 +76,12 @@ spelt_is kind nodes name guid ports made h =
     let named = bound (name_of name) _ made h in
     let numbered = bound (number_up_to 18446744073709551615 guid) _ made named.rest in
     let counted = bound (number_up_to (most_ports kind) ports) _ made numbered.rest in
+    let is = let_in (is_name name) Malformed name named.value named.first in
     let node : Node = record { name = named.value; kind = kind; guid = numbered.value; ports = counted.value } in
     let new = new_is nodes node made counted.rest in
     let guid_is = and_parts (nat_le 1 numbered.value) _ (in_range 18446744073709551615 numbered.value (number_in guid) numbered.first) in
     let ports_are = in_range (most_ports kind) counted.value (number_in ports) counted.first in
-    rw new.1 (record { sized = and_from (nat_le 1 numbered.value) _ guid_is.0 ports_are; own = none_of _ _ new.0 })
+    rw new.2 (record { named = rw is.1 is.0; own_name = new.0; sized = and_from (nat_le 1 numbered.value) _ guid_is.0 ports_are; own = none_of _ _ new.1 })
 
 pub new_node_is : (kind : NodeKind) (nodes : List Node) (words : List (List ℕ)) (made : Node) → node_of kind nodes words ≡ Ok made → IsNewNode nodes made
 unfolding node_of

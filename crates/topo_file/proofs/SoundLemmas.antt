@@ -1,5 +1,6 @@
 use Rattle.std.proofs.Common.{◌≡◌, ◌∙◌, ap₂, Bool, ◌||◌, ◌==◌, ℕ, zero, suc, ◌≤◌, true, false, not, ◌&&◌, nat_le, List, [], ◌∷◌, ◌++◌, Option, Some, None, refl, arith}
 use Rattle.std.specs.List.{list_all, list_any}
+use Rattle.std.specs.Str.{bytes_eq}
 use Rattle.std.proofs.lemmas.Bool.{and_parts, and_from}
 use Rattle.std.proofs.lemmas.Bool.Decides.{nat_tests}
 use Rattle.std.proofs.lemmas.List.Elements.{All-push}
@@ -9,7 +10,7 @@ use Rattle.topo_file.specs.declared.node.Node.{Node}
 use Rattle.topo_file.specs.declared.draft.Manager.{Manager}
 use Rattle.topo_file.specs.Node.{HasGuids, is_one_too_many, is_switch_at, last_guid, ports_at, shares_guid}
 use Rattle.topo_file.specs.Cable.{ends_at, is_cabled, is_same_port}
-use Rattle.topo_file.specs.Sound.{is_port, is_sized, ends_at_ports, have_own_guids, have_own_ports, is_manager_port, joins_right, on_adapter, AreSound, IsSoundSoFar}
+use Rattle.topo_file.specs.Sound.{is_named, is_port, is_sized, ends_at_ports, have_own_guids, have_own_names, have_own_ports, is_manager_port, joins_right, on_adapter, AreSound, IsSoundSoFar}
 use Rattle.topo_file.specs.Topology.{Declarations}
 use Rattle.topo_file.proofs.AcceptedLemmas.{IsNewNode, IsNewCable}
 use Rattle.topo_file.proofs.LimitLemmas.{within_limits_more}
@@ -85,6 +86,12 @@ none_more : {X : Type 0} (p : X → Bool) (xs : List X) (x : X) → list_any p x
 none_more p [] x h k = or_false (p x) false k refl
 none_more p (y ∷ ys) x h k = or_false (p y) (list_any p (ys ++ x ∷ [])) (or_first (p y) _ h) (none_more p ys x (or_rest (p y) _ h) k)
 
+all_more : {X : Type 0} (p : X → Bool) (xs : List X) (x : X) → list_all p xs ≡ true → p x ≡ true → list_all p (xs ++ x ∷ []) ≡ true
+all_more p [] x all one = and_from (p x) true one refl
+all_more p (y ∷ ys) x all one =
+    let parts = and_parts (p y) (list_all p ys) all in
+    and_from (p y) _ parts.0 (all_more p ys x parts.1 one)
+
 own_guids_more : (nodes : List Node) (node : Node) → have_own_guids nodes ≡ true → list_any (λ other. shares_guid node other) nodes ≡ false → have_own_guids (nodes ++ node ∷ []) ≡ true
 own_guids_more [] node own none = refl
 own_guids_more (first ∷ nodes) node own none =
@@ -94,11 +101,21 @@ own_guids_more (first ∷ nodes) node own none =
     (rw (none_more (λ other. shares_guid first other) nodes node (not_true _ parts.0) apart) refl)
     (own_guids_more nodes node parts.1 (or_rest (shares_guid node first) _ none))
 
-sizes_more : (nodes : List Node) (node : Node) → list_all is_sized nodes ≡ true → is_sized node ≡ true → list_all is_sized (nodes ++ node ∷ []) ≡ true
-sizes_more [] node all one = and_from (is_sized node) true one refl
-sizes_more (first ∷ nodes) node all one =
-    let parts = and_parts (is_sized first) (list_all is_sized nodes) all in
-    and_from (is_sized first) _ parts.0 (sizes_more nodes node parts.1 one)
+-- ---- nodes with names of their own
+name_turned : (one other : List ℕ) → bytes_eq one other ≡ bytes_eq other one
+name_turned [] [] = refl
+name_turned [] (b ∷ other) = refl
+name_turned (a ∷ one) [] = refl
+name_turned (a ∷ one) (b ∷ other) = ap₂ (λ (x y : Bool). x && y) (eq_turned a b) (name_turned one other)
+
+own_names_more : (nodes : List Node) (node : Node) → have_own_names nodes ≡ true → list_any (λ other. bytes_eq node.name other.name) nodes ≡ false → have_own_names (nodes ++ node ∷ []) ≡ true
+own_names_more [] node own none = refl
+own_names_more (first ∷ nodes) node own none =
+    let parts = and_parts (not (list_any (λ other. bytes_eq first.name other.name) nodes)) (have_own_names nodes) own in
+    let apart : bytes_eq first.name node.name ≡ false = name_turned first.name node.name ∙ or_first (bytes_eq node.name first.name) _ none in
+    and_from (not (list_any (λ other. bytes_eq first.name other.name) (nodes ++ node ∷ []))) _
+    (rw (none_more (λ other. bytes_eq first.name other.name) nodes node (not_true _ parts.0) apart) refl)
+    (own_names_more nodes node parts.1 (or_rest (bytes_eq node.name first.name) _ none))
 
 -- ---- cables between nodes that are there
 join_still : (nodes : List Node) (node : Node) (cable : Cable) → ends_at_ports nodes cable ≡ true → joins_right nodes cable ≡ true → joins_right (nodes ++ node ∷ []) cable ≡ true
@@ -116,9 +133,11 @@ joins_still nodes node (cable ∷ cables) ends joins =
 
 lines_still : (nodes : List Node) (node : Node) (cables : List Cable) → AreSound nodes cables → HasGuids node → is_one_too_many nodes node.kind node.ports ≡ false → IsNewNode nodes node → AreSound (nodes ++ node ∷ []) cables
 lines_still nodes node cables sound guids room new = record {
+  names = all_more is_named nodes node sound.names new.named;
+  own_names = own_names_more nodes node sound.own_names new.own_name;
   guids = All-push HasGuids nodes node sound.guids guids;
   own_guids = own_guids_more nodes node sound.own_guids new.own;
-  sizes = sizes_more nodes node sound.sizes new.sized;
+  sizes = all_more is_sized nodes node sound.sizes new.sized;
   limits = within_limits_more nodes node sound.limits room;
   ends = ends_still nodes node cables sound.ends;
   joins = joins_still nodes node cables sound.ends sound.joins;
@@ -136,12 +155,6 @@ sound_still so_far node sound guids room new = record {
 -- ---- a cable between ports that have none
 same_turned : (a b : PortRef) → is_same_port a b ≡ is_same_port b a
 same_turned a b = ap₂ (λ (x y : Bool). x && y) (eq_turned a.node b.node) (eq_turned a.port b.port)
-
-all_more : {X : Type 0} (p : X → Bool) (xs : List X) (x : X) → list_all p xs ≡ true → p x ≡ true → list_all p (xs ++ x ∷ []) ≡ true
-all_more p [] x all one = and_from (p x) true one refl
-all_more p (y ∷ ys) x all one =
-    let parts = and_parts (p y) (list_all p ys) all in
-    and_from (p y) _ parts.0 (all_more p ys x parts.1 one)
 
 own_ports_more : (cables : List Cable) (cable : Cable) → have_own_ports cables ≡ true → is_cabled cables cable.first ≡ false → is_cabled cables cable.second ≡ false → have_own_ports (cables ++ cable ∷ []) ≡ true
 own_ports_more [] cable own first second = refl
@@ -163,6 +176,8 @@ pub sound_with : (so_far : Declarations) (cable : Cable) → IsSoundSoFar so_far
     → IsSoundSoFar (record so_far { cables = so_far.cables ++ cable ∷ [] })
 sound_with so_far cable sound ends new = record {
   lines = record {
+    names = sound.lines.names;
+    own_names = sound.lines.own_names;
     guids = sound.lines.guids;
     own_guids = sound.lines.own_guids;
     sizes = sound.lines.sizes;

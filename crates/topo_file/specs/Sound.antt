@@ -1,6 +1,8 @@
 -- What is so of every topology that was read, whatever its text.
 use Rattle.std.specs.Prelude.{◌≡◌, Bool, true, not, ◌&&◌, nat_le, List, [], ◌∷◌, Option, Some, None, All}
 use Rattle.std.specs.List.{list_all, list_any}
+use Rattle.std.specs.Str.{bytes_eq}
+use Rattle.text_words.specs.Words.{is_name}
 use Rattle.topo_file.specs.declared.cable.Cable.{Cable}
 use Rattle.topo_file.specs.declared.cable.PortRef.{PortRef}
 use Rattle.topo_file.specs.declared.node.Node.{Node}
@@ -31,6 +33,15 @@ on_adapter nodes (Some manager) = is_manager_port nodes manager.port
 abbrev pub is_sized : Node → Bool
 is_sized node = nat_le 1 node.guid && (nat_le 1 node.ports && nat_le node.ports (most_ports node.kind))
 
+-- what stands as its name is a name
+abbrev pub is_named : Node → Bool
+is_named node = is_name node.name
+
+-- no two nodes have the same name
+abbrev pub have_own_names : List Node → Bool
+have_own_names [] = true
+have_own_names (node ∷ nodes) = not (list_any (λ other. bytes_eq node.name other.name) nodes) && have_own_names nodes
+
 -- no two nodes have a GUID in common
 abbrev pub have_own_guids : List Node → Bool
 have_own_guids [] = true
@@ -47,6 +58,8 @@ have_own_ports (cable ∷ cables) = not (is_cabled cables cable.first) && (not (
 
 -- what each line keeps, of the nodes and cables so far
 pub record AreSound (nodes : List Node) (cables : List Cable) : Type 0 where
+  pub names : list_all is_named nodes ≡ true
+  pub own_names : have_own_names nodes ≡ true
   pub guids : All HasGuids nodes
   pub own_guids : have_own_guids nodes ≡ true
   pub sizes : list_all is_sized nodes ≡ true

@@ -3,7 +3,7 @@ ghost use Rattle.std.specs.List.{list_all};
 ghost use Rattle.topo_file.specs.Cable.{is_cabled, port_at};
 ghost use Rattle.topo_file.specs.Connectivity.{is_connected};
 ghost use Rattle.topo_file.specs.Node.{HasGuids, IsWithinLimits, guid_at, is_switch_at, place_of, ports_at};
-ghost use Rattle.topo_file.specs.Sound.{IsSound, ends_at_ports, have_own_guids, have_own_ports, is_manager_port, is_sized, joins_right};
+ghost use Rattle.topo_file.specs.Sound.{IsSound, ends_at_ports, have_own_guids, have_own_names, have_own_ports, is_manager_port, is_named, is_sized, joins_right};
 
 use crate::cable::{Cable, CableList, PortRef, port_at};
 use crate::node::{Node, NodeList, is_switch_at};
@@ -40,6 +40,8 @@ impl Topology {
     /// The nodes, in the order of their lines.
     pub fn nodes(&self) -> &[Node]
         ensures value { result.now ≡ self.now.nodes }
+        ensures names { list_all is_named result.now ≡ true }
+        ensures own_names { have_own_names result.now ≡ true }
         ensures guids { All HasGuids result.now }
         ensures own_guids { have_own_guids result.now ≡ true }
         ensures sizes { list_all is_sized result.now ≡ true }
