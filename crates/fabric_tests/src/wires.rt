@@ -1,15 +1,14 @@
-//! Hops and wires on the two-switch fabric: A and B with ports 3 joined, h0 and h1 on A, h2 and h3 on B.
+//! Wires of the two-switch fabric: A and B with ports 3 joined, h0 and h1 on A, h2 and h3 on B.
 
 ghost use Rattle.std.specs.Prelude.{◌≤◌, ◌<◌, ◌*◌, length};
 
-use attr_tables::{LINEAR_TABLE, Link, MULTICAST_TABLE, NodeType, SmpAttribute, SwitchInfo};
+use attr_tables::{LINEAR_TABLE, Link, MULTICAST_TABLE, SmpAttribute, SwitchInfo};
 use fabric_wire::{
     AdapterPorts, CountingWire, Fabric, Node, PlainWire, SilencedWire, SmpWire, get_request,
     read_attribute,
 };
 use mad_layout::{DrSmp, Header, Mad};
 use port_model::AdapterPort;
-use smp_route::{Hop, back, outward, pointer_of, return_port_of};
 use std::alloc::{AllocError, AllocFailed, Global};
 use std::process::Abort;
 use std::test::Fail;
@@ -89,62 +88,6 @@ fn two_switch_fabric(alloc: Global) -> Result<Fabric, Fail> {
 /// Whether these bytes stand at that place.
 pub(crate) fn has_at(bytes: &[u8], place: usize, part: &[u8]) -> bool {
     bytes.iter().skip(place).zip(part).all(|(a, b)| a == b)
-}
-
-#[test]
-fn an_smp_goes_its_path_and_its_answer_comes_back(rt: HostRuntime) -> Result<(), Fail> {
-    let mut smp = get_request(SmpAttribute::NodeInfo, 0, &[1, 3]);
-    assert_eq!(rt;
-        outward(NodeType::ChannelAdapter, 0, &mut smp),
-        Hop::Forward(1),
-        "at h0"
-    );
-    assert_eq!(rt; pointer_of(&smp), 1);
-    assert_eq!(rt;
-        outward(NodeType::Switch, 1, &mut smp),
-        Hop::Forward(3),
-        "at A"
-    );
-    assert_eq!(rt; pointer_of(&smp), 2);
-    assert_eq!(rt;
-        outward(NodeType::Switch, 3, &mut smp),
-        Hop::ToAgent,
-        "at B"
-    );
-    assert_eq!(rt; pointer_of(&smp), 3);
-    assert_eq!(rt; (return_port_of(&smp, 1), return_port_of(&smp, 2)), (1, 3));
-    assert_eq!(rt;
-        back(NodeType::Switch, 0, &mut smp),
-        Hop::Forward(3),
-        "from B's agent"
-    );
-    assert_eq!(rt; pointer_of(&smp), 2);
-    assert_eq!(rt;
-        back(NodeType::Switch, 3, &mut smp),
-        Hop::Forward(1),
-        "at A"
-    );
-    assert_eq!(rt; pointer_of(&smp), 1);
-    assert_eq!(rt;
-        back(NodeType::ChannelAdapter, 1, &mut smp),
-        Hop::ToManager,
-        "at h0"
-    );
-    assert_eq!(rt; pointer_of(&smp), 0);
-    Ok(())
-}
-
-#[test]
-fn without_a_hop_an_smp_asks_the_managers_own_node(rt: HostRuntime) -> Result<(), Fail> {
-    let mut smp = get_request(SmpAttribute::NodeInfo, 0, &[]);
-    assert_eq!(rt;
-        outward(NodeType::ChannelAdapter, 0, &mut smp),
-        Hop::ToAgent
-    );
-    assert_eq!(rt; pointer_of(&smp), 1);
-    assert_eq!(rt; back(NodeType::ChannelAdapter, 0, &mut smp), Hop::ToManager);
-    assert_eq!(rt; pointer_of(&smp), 0);
-    Ok(())
 }
 
 /// The first bytes of PortInfo from byte 28 on, and of SwitchInfo, at power-up.
