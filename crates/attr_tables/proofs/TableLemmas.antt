@@ -28,7 +28,7 @@ outside size block k some other =
           inr (omega arith)
     ]
 
-block_within : (size block : ℕ) (table : List ℕ) → 0 < size → has_block size block table ≡ true → size * block + size ≤ length table
+pub block_within : (size block : ℕ) (table : List ℕ) → 0 < size → has_block size block table ≡ true → size * block + size ≤ length table
 block_within size block table some there =
     let whole = div-add-mod' (length table) size in
     let less : block < length table / size = grind (arith, nat_tests) in

@@ -2,6 +2,7 @@
 use Rattle.std.proofs.Common.{ℕ, if◌then◌else◌, ◌≡◌, ◌⊎◌, ◌-◌, ◌<◌, ◌≤◌, ◌==◌, ◌∙◌, ap, refl, sym, inl, inr, Bool, true, false, List, [], ◌∷◌, length, map, get_or, slice_get, slice_set, Option, Some, None, option_map, unwrap_or}
 use Rattle.std.specs.List.{list_all}
 use Rattle.std.specs.Option.{option_map_or}
+use Rattle.std.proofs.lemmas.Bool.{and_from, and_parts}
 use Rattle.std.proofs.lemmas.List.{length-set}
 use Rattle.std.proofs.lemmas.List.Folds.{list_all-map}
 use Rattle.std.proofs.Math.Seq.{map-set_same}
@@ -16,7 +17,8 @@ use Rattle.switch_model.proofs.ChangeLemmas.{changes_at_most as switch_changes}
 use Rattle.fabric_wire.specs.declared.node.Node.{Node}
 use Rattle.fabric_wire.specs.declared.node.Node.TheVariants.{Switch, Adapter}
 use Rattle.fabric_wire.specs.FabricState.{adapter_ports_after, is_switch, node_after}
-use Rattle.fabric_wire.specs.Good.{node_guid, end_port_guids, port_count, has_a_right_count, is_in_order, is_of, port_info_at}
+use Rattle.fabric_wire.specs.Good.{node_guid, end_port_guids, port_count, has_a_right_count, holds_attributes, is_description, is_in_order, is_of, port_info_at}
+use Rattle.fabric_wire.proofs.HoldingLemmas.{stays_small}
 
 -- whether the port of that number is Down
 abbrev pub down_at : Node → ℕ → Option Bool
@@ -29,6 +31,7 @@ pub record IsSameNode (old new : Node) : Type 0 where
   pub right : has_a_right_count new ≡ has_a_right_count old
   pub order : is_in_order new ≡ is_in_order old
   pub switch : is_switch new ≡ is_switch old
+  pub holds : holds_attributes old ≡ true → holds_attributes new ≡ true
   pub down : (number : ℕ) → down_at new number ≡ down_at old number
 
 -- ---- a switch
@@ -56,6 +59,7 @@ same_switch held smp =
       right = rw count refl;
       order = refl;
       switch = refl;
+      holds = λ is. let parts = and_parts (is_description held.description) _ is in and_from (is_description next.description) _ (ap is_description change.description ∙ parts.0) (stays_small held smp parts.1);
       down = λ number. flat (λ port. port.info) (λ info. is_down info) (slice_get next.ports number) ∙ down_in _ (λ port. is_down port.info) held.ports next.ports number change.num_ports (λ none. (change.ports number none).down) ∙ sym (flat (λ port. port.info) (λ info. is_down info) (slice_get held.ports number));
     }
 
@@ -65,12 +69,13 @@ pub record IsSamePort (old new : AdapterState) : Type 0 where
   pub count : new.num_ports ≡ old.num_ports
   pub number : new.number ≡ old.number
   pub own : new.port_guid ≡ old.port_guid
+  pub description : new.description ≡ old.description
   pub down : is_down new.info ≡ is_down old.info
 
 pub same_port : (held : AdapterState) (smp : List ℕ) → IsSamePort held (adapter_after held smp)
 same_port held smp =
     let change = adapter_changes held smp in
-    record { guid = change.node_guid; count = change.num_ports; number = change.number; own = change.port_guid; down = change.down }
+    record { guid = change.node_guid; count = change.num_ports; number = change.number; own = change.port_guid; description = change.description; down = change.down }
 
 -- a list with one element that f cannot tell from the one before it
 pub read_same : {X Y : Type 0} (f : X → Y) (xs : List X) (i : ℕ) (x y : X) → slice_get xs i ≡ Some x → f y ≡ f x → map f (slice_set xs i y) ≡ map f xs
@@ -119,11 +124,12 @@ same_set ports i x y there same =
       right = rw long refl;
       order = rw (guid, long, numbers, all (node_guid (Adapter ports)) (length ports)) refl;
       switch = refl;
+      holds = λ is. all_same (λ (port : AdapterState). is_description port.description) ports next (read_same (λ (port : AdapterState). is_description port.description) ports i x y there (ap is_description same.description)) ∙ is;
       down = λ number. down_of ports next number (read_same (λ (port : AdapterState). is_down port.info) ports i x y there same.down);
     }
 
 itself : (node : Node) → IsSameNode node node
-itself node = record { guid = refl; guids = refl; count = refl; right = refl; order = refl; switch = refl; down = λ number. refl }
+itself node = record { guid = refl; guids = refl; count = refl; right = refl; order = refl; switch = refl; holds = λ is. is; down = λ number. refl }
 
 same_ports : (ports : List AdapterState) (number : ℕ) (smp : List ℕ) (found : Option AdapterState) → slice_get ports (number - 1) ≡ found
     → IsSameNode (Adapter ports) (Adapter (adapter_ports_after ports number smp found))

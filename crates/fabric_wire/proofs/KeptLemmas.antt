@@ -1,5 +1,5 @@
 -- What an exchange leaves of a fabric.
-use Rattle.std.proofs.Common.{ℕ, ◌≡◌, ◌∙◌, not, ap, ap₂, refl, sym, Bool, false, List, [], ◌∷◌, map, flat_map, slice_get, slice_set, Option, Some, None, option_map}
+use Rattle.std.proofs.Common.{ℕ, ◌≡◌, ◌∙◌, not, ap, ap₂, refl, sym, Bool, true, false, List, [], ◌∷◌, map, flat_map, slice_get, slice_set, Option, Some, None, option_map}
 use Rattle.std.specs.List.{list_all}
 use Rattle.std.specs.Option.{option_and_then}
 use Rattle.std.proofs.lemmas.List.Folds.{flat_map-map}
@@ -11,7 +11,8 @@ use Rattle.topo_file.specs.Cable.{is_cabled}
 use Rattle.fabric_wire.specs.declared.node.Node.{Node}
 use Rattle.fabric_wire.specs.FabricState.{FabricState, is_switch, is_switch_at, nodes_after}
 use Rattle.fabric_wire.specs.Walk.{after_walk, exchange_after, hop, walk, walk_of}
-use Rattle.fabric_wire.specs.Good.{ExchangesKeepGood, ExchangesKeepLinks, ExchangesKeepCables, IsGood, ShowsLinks, SwitchesJoined, are_guids, end_port_guids, has_a_right_count, info_at, is_in_order, is_port, is_right, node_guid, port_count, port_info_at}
+use Rattle.fabric_wire.specs.Good.{ExchangesKeepGood, ExchangesKeepLinks, ExchangesKeepCables, IsGood, ShowsLinks, SwitchesJoined, are_guids, end_port_guids, has_a_right_count, holds_attributes, info_at, is_in_order, is_port, is_right, node_guid, port_count, port_info_at}
+use Rattle.fabric_wire.proofs.HoldingLemmas.{all_set, all_there}
 use Rattle.fabric_wire.proofs.GoodLemmas.{IsSameNode, all_same, down_at, get_same, or_same, read_same, same_node}
 
 pub record IsSame (old new : FabricState) : Type 0 where
@@ -23,10 +24,11 @@ pub record IsSame (old new : FabricState) : Type 0 where
   pub right : map has_a_right_count new.nodes ≡ map has_a_right_count old.nodes
   pub order : map is_in_order new.nodes ≡ map is_in_order old.nodes
   pub switches : map is_switch new.nodes ≡ map is_switch old.nodes
+  pub holdings : list_all holds_attributes old.nodes ≡ true → list_all holds_attributes new.nodes ≡ true
   pub downs : (number : ℕ) → map (λ node. down_at node number) new.nodes ≡ map (λ node. down_at node number) old.nodes
 
 itself : (fabric : FabricState) → IsSame fabric fabric
-itself fabric = record { cables = refl; manager = refl; guids = refl; ends = refl; counts = refl; right = refl; order = refl; switches = refl; downs = λ number. refl }
+itself fabric = record { cables = refl; manager = refl; guids = refl; ends = refl; counts = refl; right = refl; order = refl; switches = refl; holdings = λ all. all; downs = λ number. refl }
 
 with_node : (fabric : FabricState) (place : ℕ) (node next : Node) → slice_get fabric.nodes place ≡ Some node → IsSameNode node next
     → IsSame fabric (record fabric { nodes = slice_set fabric.nodes place next })
@@ -39,6 +41,7 @@ with_node fabric place node next there same = record {
   right = read_same has_a_right_count fabric.nodes place node next there same.right;
   order = read_same is_in_order fabric.nodes place node next there same.order;
   switches = read_same is_switch fabric.nodes place node next there same.switch;
+  holdings = λ all. all_set holds_attributes fabric.nodes place next all (same.holds (all_there holds_attributes fabric.nodes place node all there));
   downs = λ number. read_same (λ one. down_at one number) fabric.nodes place node next there (same.down number);
 }
 
@@ -76,6 +79,7 @@ stays_good old new same good = record {
   end_guids = ap are_guids (ends_same old new same) ∙ good.end_guids;
   counts = all_same has_a_right_count old.nodes new.nodes same.right ∙ good.counts;
   order = all_same is_in_order old.nodes new.nodes same.order ∙ good.order;
+  holdings = same.holdings good.holdings;
   cables = rw same.cables ((λ place. list_all (λ cable. right_same old new same cable place) old.cables) ∙ good.cables);
   once = rw same.cables good.once;
   manager_port = rw same.manager (port_same old new same old.manager ∙ good.manager_port);

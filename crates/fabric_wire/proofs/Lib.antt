@@ -5,6 +5,7 @@ pub mod OutwardLemmas
 pub mod ReturnLemmas
 pub mod WalkLemmas
 pub mod GetLemmas
+pub mod HoldingLemmas
 pub mod GoodLemmas
 pub mod KeptLemmas
 pub mod TwoSwitchesLemmas

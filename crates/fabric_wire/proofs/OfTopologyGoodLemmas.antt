@@ -5,6 +5,7 @@ use Rattle.std.specs.Str.{bytes_eq}
 use Rattle.std.proofs.lemmas.Bool.{and_from, and_left, and_parts, eq-eqb, not_from_false, not-true, or_from}
 use Rattle.std.proofs.lemmas.Bool.Decides.{nat_tests}
 use Rattle.std.proofs.lemmas.List.FromFn.{length-map-range_with_len}
+use Rattle.attr_tables.specs.declared.power_up.TheConstants.{LINEAR_TABLE}
 use Rattle.topo_file.specs.declared.cable.Cable.{Cable}
 use Rattle.topo_file.specs.declared.cable.PortRef.{PortRef}
 use Rattle.topo_file.specs.declared.node.Node.{Node as PlannedNode}
@@ -12,9 +13,10 @@ use Rattle.topo_file.specs.declared.node.NodeKind.{NodeKind}
 use Rattle.topo_file.specs.declared.node.NodeKind.TheVariants as kind
 use Rattle.topo_file.specs.Cable.{is_cabled, is_same_port}
 use Rattle.topo_file.specs.Node.{is_switch_at as is_planned_at}
-use Rattle.topo_file.specs.Sound.{ends_at_ports, have_own_ports, is_sized, joins_right}
-use Rattle.fabric_wire.specs.Good.{all_differ, ends_of, has_a_right_count, is_in_order, is_of, is_right, node_guid}
-use Rattle.fabric_wire.specs.OfTopology.{TopologiesGiveGood, adapter_port_of, node_of, node_of_kind}
+use Rattle.topo_file.specs.Sound.{ends_at_ports, have_own_ports, is_named, is_sized, joins_right}
+use Rattle.fabric_wire.specs.Good.{all_differ, ends_of, has_a_right_count, holds_attributes, is_byte, is_description, is_in_order, is_of, is_right, node_guid}
+use Rattle.fabric_wire.specs.OfTopology.{TopologiesGiveGood, adapter_port_of, named, node_of, node_of_kind}
+use Rattle.fabric_wire.proofs.HoldingLemmas.{all_alike, name_described}
 use Rattle.fabric_wire.proofs.OfTopologyLemmas.{all_made, nodes_from, port_there, right_count, switch_there}
 use Rattle.fabric_wire.proofs.OfTopologyGuidLemmas.{end_guids_differ, guid_of, node_guids_differ}
 
@@ -41,6 +43,17 @@ ordered kind.Adapter cables place node guid =
 
 in_order : (cables : List Cable) (place : ℕ) (node : PlannedNode) → is_sized node ≡ true → is_in_order (node_of cables place node) ≡ true
 in_order cables place node sized = ordered node.kind cables place node (guid_of cables place node sized)
+
+-- ---- what agents give fills an attribute
+ports_hold : (cables : List Cable) (place : ℕ) (node : PlannedNode) (number count : ℕ) → is_description (named node.name) ≡ true
+    → list_all (λ port. is_description port.description) (map (adapter_port_of cables place node) (range_with_len number count)) ≡ true
+ports_hold cables place node number zero is = refl
+ports_hold cables place node number (suc count) is = and_from (is_description (named node.name)) _ is (ports_hold cables place node (number + 1) count is)
+
+holding : (of : NodeKind) (cables : List Cable) (place : ℕ) (node : PlannedNode) → is_named node ≡ true → holds_attributes (node_of_kind of cables place node) ≡ true
+holding kind.Switch cables place node is =
+    and_from (is_description (named node.name)) _ (name_described node.name is) (all_alike is_byte 255 LINEAR_TABLE refl)
+holding kind.Adapter cables place node is = ports_hold cables place node 1 node.ports (name_described node.name is)
 
 -- ---- a cable joins right ports
 right_there : (cables : List Cable) (nodes : List PlannedNode) (cable : Cable) → ends_at_ports nodes cable ≡ true → joins_right nodes cable ≡ true
@@ -102,6 +115,7 @@ good plan sound =
       end_guids = end_guids_differ plan.cables plan.nodes lines.sizes lines.own_guids;
       counts = all_made has_a_right_count is_sized plan.cables 0 plan.nodes (λ place node sized. right_count plan.cables place node sized) lines.sizes;
       order = all_made is_in_order is_sized plan.cables 0 plan.nodes (λ place node sized. in_order plan.cables place node sized) lines.sizes;
+      holdings = all_made holds_attributes is_named plan.cables 0 plan.nodes (λ place node is. holding node.kind plan.cables place node is) lines.names;
       cables = all_right plan.cables plan.nodes plan.cables lines.ends lines.joins;
       once = all_once plan.nodes plan.cables lines.joins lines.own_ports;
       manager_port = port_there plan.cables plan.nodes plan.sm ∙ manager.1;

@@ -33,6 +33,7 @@ use Rattle.fabric_wire.specs.FabricState.{FabricState, adapter_port, adapter_por
 use Rattle.fabric_wire.specs.Get.{AsksFor, GetsTell, IsGiven, Tells, attribute_in, gives_along, gives_at, learned_by, node_gives}
 use Rattle.fabric_wire.specs.Good.{IsGood}
 use Rattle.fabric_wire.specs.Walk.{arrived, exchange_after, exchange_reply, last_of, returned, walk, walk_of}
+use Rattle.fabric_wire.proofs.HoldingLemmas.{AreAttributes, attributes_given, nothing_given}
 use Rattle.fabric_wire.proofs.ArrivalLemmas.{IsCarrier, put_below, arrived_carries, both_of, walks_right}
 
 -- ---- one agent: a Get changes nothing, and is answered by what is given
@@ -175,15 +176,15 @@ read_refused smp status long =
     rw (code, never_0 status) refl
 
 -- ---- all of it
-learned_is : (fabric : FabricState) (sent smp : List ℕ) (given : Option (Result (List ℕ) MadStatus)) → length smp ≡ 256
+learned_is : (fabric : FabricState) (sent smp : List ℕ) (given : Option (Result (List ℕ) MadStatus)) → length smp ≡ 256 → AreAttributes given
     → exchange_reply fabric sent ≡ option_map returned (option_map (λ one. reply_to smp one) given) → IsGiven given (learned_by fabric sent)
-learned_is fabric sent smp None long reply = rw reply refl
-learned_is fabric sent smp (Some (Err status)) long reply = rw reply (read_refused smp status long)
-learned_is fabric sent smp (Some (Ok bytes)) long reply = λ is. rw reply (read_given smp bytes long is)
+learned_is fabric sent smp None long are reply = rw reply refl
+learned_is fabric sent smp (Some (Err status)) long are reply = rw reply (read_refused smp status long)
+learned_is fabric sent smp (Some (Ok bytes)) long are reply = rw reply (read_given smp bytes long (are bytes refl))
 
-told_by : (fabric : FabricState) (sent smp : List ℕ) (given : Option (Result (List ℕ) MadStatus)) → length smp ≡ 256 → exchange_after fabric sent ≡ fabric
+told_by : (fabric : FabricState) (sent smp : List ℕ) (given : Option (Result (List ℕ) MadStatus)) → length smp ≡ 256 → AreAttributes given → exchange_after fabric sent ≡ fabric
     → exchange_reply fabric sent ≡ option_map returned (option_map (λ one. reply_to smp one) given) → Tells fabric sent given
-told_by fabric sent smp given long kept reply = record { unchanged = kept; learned = learned_is fabric sent smp given long reply }
+told_by fabric sent smp given long are kept reply = record { unchanged = kept; learned = learned_is fabric sent smp given long are reply }
 
 walk_is : (fabric : FabricState) (attribute : SmpAttribute) (modifier : ℕ) (path smp : List ℕ) → AsksFor attribute modifier path smp
     → walk_of fabric smp ≡ walk fabric.nodes fabric.cables true fabric.manager path
@@ -198,7 +199,7 @@ by_walk : (fabric : FabricState) (attribute : SmpAttribute) (modifier : ℕ) (pa
 unfolding exchange_after exchange_reply
 by_walk fabric attribute modifier path smp None good asks low long is =
     let no = walk_is fabric attribute modifier path smp asks ∙ is in
-    told_by fabric smp smp None long (rw no refl) (rw no refl)
+    told_by fabric smp smp None long nothing_given (rw no refl) (rw no refl)
 by_walk fabric attribute modifier path smp (Some ends) good asks low long is =
     let so = walk_is fabric attribute modifier path smp asks ∙ is in
     let few = few_hops (field smp 32 1 == 0) (pointer smp == 0) (count smp) asks.sent in
@@ -207,7 +208,7 @@ by_walk fabric attribute modifier path smp (Some ends) good asks low long is =
     let carrier = arrived_carries smp ends low long hops few right.1 in
     let gets = carrier_gets attribute modifier path smp (arrived ends smp) asks carrier in
     let at = last_of fabric.manager ends in
-    told_by fabric smp (arrived ends smp) (gives_at fabric at attribute modifier) carrier.long
+    told_by fabric smp (arrived ends smp) (gives_at fabric at attribute modifier) carrier.long (attributes_given fabric at attribute modifier good.holdings)
     (rw so (ap (λ (nodes : List Node). record fabric { nodes = nodes }) (kept_at fabric.nodes at attribute modifier (arrived ends smp) (slice_get fabric.nodes at.node) gets refl)))
     (rw so (ap (option_map returned) (replied_at (slice_get fabric.nodes at.node) at.port attribute modifier (arrived ends smp) gets)))
 

@@ -1,14 +1,20 @@
 -- The two-switch fabric meets what a good fabric meets.
-use Rattle.std.proofs.Common.{ℕ, suc, ◌≡◌, ◌∙◌, refl, sym, Bool, true, not, [], ◌∷◌, Some, nat_le, ◌&&◌, ◌<◌, zero, arith}
-use Rattle.std.proofs.lemmas.Bool.{false≢true}
+use Rattle.std.proofs.Common.{ℕ, suc, ◌≡◌, ◌∙◌, refl, sym, Bool, true, not, List, [], ◌∷◌, codes, Some, nat_le, ◌&&◌, ◌<◌, zero, arith}
+use Rattle.std.proofs.lemmas.Bool.{and_from, false≢true}
 use Rattle.std.proofs.lemmas.Bool.Decides.{nat_tests}
 use Rattle.attr_tables.specs.PortSetting.{is_down}
 use Rattle.attr_tables.specs.declared.port_info.PortInfo.{PortInfo}
+use Rattle.attr_tables.specs.declared.power_up.TheConstants.{LINEAR_TABLE}
 use Rattle.topo_file.specs.Cable.{is_cabled}
 use Rattle.fabric_wire.specs.FabricState.{is_switch_at}
+use Rattle.fabric_wire.specs.OfTopology.{named}
 use Rattle.fabric_wire.specs.Walk.{hop}
-use Rattle.fabric_wire.specs.Good.{IsGood, ShowsLinks, SwitchesJoined, info_at, is_port}
-use Rattle.fabric_wire.specs.TwoSwitches.{port, two_switches}
+use Rattle.fabric_wire.specs.Good.{IsGood, ShowsLinks, SwitchesJoined, holds_attributes, info_at, is_byte, is_description, is_port}
+use Rattle.fabric_wire.specs.TwoSwitches.{port, switch_of_four, two_switches}
+use Rattle.fabric_wire.proofs.HoldingLemmas.{all_alike}
+
+switch_holds : (guid : ℕ) (name : List ℕ) → is_description (named name) ≡ true → holds_attributes (switch_of_four guid name) ≡ true
+switch_holds guid name is = and_from (is_description (named name)) _ is (all_alike is_byte 255 LINEAR_TABLE refl)
 
 pub good : IsGood two_switches
 good = record {
@@ -16,6 +22,7 @@ good = record {
   end_guids = refl;
   counts = refl;
   order = refl;
+  holdings = and_from (holds_attributes (switch_of_four 16 (codes "A"))) _ (switch_holds 16 (codes "A") refl) (and_from (holds_attributes (switch_of_four 32 (codes "B"))) _ (switch_holds 32 (codes "B") refl) refl);
   cables = refl;
   once = refl;
   manager_port = refl;

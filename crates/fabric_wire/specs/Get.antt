@@ -10,7 +10,6 @@ use Rattle.attr_tables.specs.declared.smp_attribute.SmpAttribute.{SmpAttribute}
 use Rattle.attr_tables.specs.SmpAttribute.{smp_attribute_code}
 use Rattle.attr_tables.specs.Request.{is_request, is_version_1, is_get, modifier_of}
 use Rattle.mad_layout.specs.declared.status.MadStatus.{MadStatus}
-use Rattle.attr_tables.specs.AgentLaws.{IsAttribute}
 use Rattle.port_model.specs.Agent.{get as adapter_gives}
 use Rattle.switch_model.specs.Agent.{get as switch_gives}
 use Rattle.topo_file.specs.declared.cable.PortRef.{PortRef}
@@ -81,11 +80,11 @@ abbrev pub gives_along : FabricState → List ℕ → SmpAttribute → ℕ → O
 gives_along fabric path attribute modifier =
     option_and_then (λ ends. gives_at fabric (last_of fabric.manager ends) attribute modifier) (walk fabric.nodes fabric.cables true fabric.manager path)
 
--- what was learned is what is given; what agents give fills the 64 bytes of an attribute
+-- what was learned is what is given
 abbrev pub IsGiven : Option (Result (List ℕ) MadStatus) → Option (List ℕ) → Type 0
 IsGiven None learned = learned ≡ None
 IsGiven (Some (Err status)) learned = learned ≡ None
-IsGiven (Some (Ok bytes)) learned = IsAttribute bytes → learned ≡ Some bytes
+IsGiven (Some (Ok bytes)) learned = learned ≡ Some bytes
 
 -- a Get leaves the fabric as it was, and learns what is given
 pub record Tells (fabric : FabricState) (smp : List ℕ) (given : Option (Result (List ℕ) MadStatus)) : Type 0 where

@@ -59,6 +59,20 @@ is_in_order (Adapter ports) =
 abbrev pub is_port : List Node → PortRef → Bool
 is_port nodes at = nat_le 1 at.port && nat_le at.port (option_map_or port_count (slice_get nodes at.node) 0)
 
+-- ---- what agents give
+abbrev pub is_byte : ℕ → Bool
+is_byte number = nat_lt number 256
+
+-- NodeDescription's 64 bytes
+abbrev pub is_description : List ℕ → Bool
+is_description bytes = (length bytes == 64) && list_all is_byte bytes
+
+-- what agents give fills an attribute: a description and a block of a linear forwarding table are given as
+-- they are held, and all else is spelled in bytes whatever it is
+abbrev pub holds_attributes : Node → Bool
+holds_attributes (Switch held) = is_description held.description && list_all is_byte held.linear
+holds_attributes (Adapter ports) = list_all (λ port. is_description port.description) ports
+
 -- ---- cables
 -- a cable joins ports of two different switches, or of a switch and an adapter
 abbrev pub is_right : List Node → Cable → Bool
@@ -73,6 +87,7 @@ pub record IsGood (fabric : FabricState) : Type 0 where
   pub end_guids : are_guids (flat_map end_port_guids fabric.nodes) ≡ true
   pub counts : list_all has_a_right_count fabric.nodes ≡ true
   pub order : list_all is_in_order fabric.nodes ≡ true
+  pub holdings : list_all holds_attributes fabric.nodes ≡ true
   pub cables : list_all (is_right fabric.nodes) fabric.cables ≡ true
   -- no port has two cables
   pub once : all_differ is_same_port (flat_map ends_of fabric.cables) ≡ true

@@ -22,8 +22,8 @@ pub fn the_two_switch_fabric_is_good()
     ensures joined { SwitchesJoined two_switches }
 {}
 
-/// A Get along a path leaves a good fabric as it was. It learns what the agent at the end of the path
-/// gives, where that is 64 bytes, and nothing where there is no walk, no agent or a refusal.
+/// A Get along a path leaves a good fabric as it was. It learns the 64 bytes that the agent at the end of
+/// the path gives, and nothing where there is no walk, no agent or a refusal.
 pub fn gets_tell()
     ensures { GetsTell }
 {}
