@@ -1,6 +1,9 @@
 ghost use Rattle.std.specs.Prelude.{◌≡◌, ◌<◌};
 ghost use Rattle.attr_tables.specs.AgentLaws.{RepliesCarry, SpellsAttributes, UnseenPasses};
-ghost use Rattle.attr_tables.specs.PortInfo.{port_info};
+ghost use Rattle.attr_tables.specs.Blocks.{word_bytes};
+ghost use Rattle.attr_tables.specs.NodeInfo.{node_info_bytes};
+ghost use Rattle.attr_tables.specs.PortInfo.{port_info, port_info_bytes};
+ghost use Rattle.attr_tables.specs.SwitchInfo.{switch_info_bytes};
 ghost use Rattle.mad_layout.specs.Layout.{Fits};
 
 use crate::node_info::NodeInfo;
@@ -12,7 +15,8 @@ use crate::word_block::WordBlock;
 /// A NodeInfo that is written is read again.
 pub fn node_info_reads_back(info: &NodeInfo, bytes: &mut [u8; 64]) -> NodeInfo
     requires { info.now.vendor_id < 16777216 }
-    ensures { result ≡ info.now }
+    ensures read { result ≡ info.now }
+    ensures written { bytes.new ≡ node_info_bytes info.now }
 {
     info.write(bytes);
     NodeInfo::read(bytes)
@@ -21,7 +25,8 @@ pub fn node_info_reads_back(info: &NodeInfo, bytes: &mut [u8; 64]) -> NodeInfo
 /// A PortInfo that is written is read again.
 pub fn port_info_reads_back(info: &PortInfo, bytes: &mut [u8; 64]) -> PortInfo
     requires { Fits (port_info info.now) }
-    ensures { result ≡ info.now }
+    ensures read { result ≡ info.now }
+    ensures written { bytes.new ≡ port_info_bytes info.now }
 {
     info.write(bytes);
     PortInfo::read(bytes)
@@ -30,7 +35,8 @@ pub fn port_info_reads_back(info: &PortInfo, bytes: &mut [u8; 64]) -> PortInfo
 /// A SwitchInfo that is written is read again.
 pub fn switch_info_reads_back(info: &SwitchInfo, bytes: &mut [u8; 64]) -> SwitchInfo
     requires { info.now.life_time_value < 32 }
-    ensures { result ≡ info.now }
+    ensures read { result ≡ info.now }
+    ensures written { bytes.new ≡ switch_info_bytes info.now }
 {
     info.write(bytes);
     SwitchInfo::read(bytes)
@@ -38,7 +44,8 @@ pub fn switch_info_reads_back(info: &SwitchInfo, bytes: &mut [u8; 64]) -> Switch
 
 /// A block of ports that is written is read again.
 pub fn port_block_reads_back(block: &PortBlock, bytes: &mut [u8; 64]) -> PortBlock
-    ensures { result ≡ block.now }
+    ensures read { result ≡ block.now }
+    ensures written { bytes.new ≡ block.now.ports }
 {
     block.write(bytes);
     PortBlock::read(bytes)
@@ -46,7 +53,8 @@ pub fn port_block_reads_back(block: &PortBlock, bytes: &mut [u8; 64]) -> PortBlo
 
 /// A block of keys or masks that is written is read again.
 pub fn word_block_reads_back(block: &WordBlock, bytes: &mut [u8; 64]) -> WordBlock
-    ensures { result ≡ block.now }
+    ensures read { result ≡ block.now }
+    ensures written { bytes.new ≡ word_bytes block.now.words }
 {
     block.write(bytes);
     WordBlock::read(bytes)

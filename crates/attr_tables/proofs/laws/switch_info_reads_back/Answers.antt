@@ -42,6 +42,6 @@ same_switch_info a b bytes h g =
       enhanced_port0 = e15 place;
     }
 
-pub returns : goal.returns
-returns c =
+pub returns-clause-read : goal.returns-clause-read
+returns-clause-read c =
     same_switch_info c.read.result c.args.info.now c.write.new.bytes c.read.ensures.fields c.write.ensures.spells.fields
