@@ -23,7 +23,7 @@ pub record IsSettled {S : Type 0} (getter : Getter S) (setter : Setter S) : Type
   pub get : (held : S) (smp : List ℕ) → is_set smp ≡ false → after setter held smp ≡ held
   -- nor what is refused
   pub refused : (held : S) (smp : List ℕ) (status : MadStatus) → answer getter setter held smp ≡ Err status → after setter held smp ≡ held
-  -- what a Set is answered with is what every Get of it that follows is answered with
+  -- what a Set is answered with is what a Get of it right after is answered with
   pub set : (held : S) (smp later bytes : List ℕ) → is_request smp ≡ true → answer getter setter held smp ≡ Ok bytes → attribute_asked later ≡ attribute_asked smp → modifier_of later ≡ modifier_of smp → is_set later ≡ false → answer getter setter (after setter held smp) later ≡ Ok bytes
 
 -- PortInfo without what a Set may change of a port that enforces partitions, or of one that does not

@@ -87,7 +87,9 @@ fn two_switch_fabric(alloc: Global) -> Result<Fabric, Fail> {
 
 /// Whether these bytes stand at that place.
 pub(crate) fn has_at(bytes: &[u8], place: usize, part: &[u8]) -> bool {
-    bytes.iter().skip(place).zip(part).all(|(a, b)| a == b)
+    bytes
+        .get(place..)
+        .is_some_and(|rest| rest.starts_with(part))
 }
 
 /// The first bytes of PortInfo from byte 28 on, and of SwitchInfo, at power-up.
@@ -97,7 +99,7 @@ const PORT_INFO: [u8; 16] = [
 
 const SWITCH_INFO: [u8; 17] = [2, 0, 0, 0, 4, 0, 0, 0, 0, 0, 0, 0x90, 0, 0, 0, 0x20, 0xc0];
 
-/// The same over any wire of the two-switch fabric.
+/// What three nodes hold at power-up, read over any wire of the two-switch fabric.
 fn power_up_values_are_read<W: SmpWire>(rt: &impl Abort, wire: &mut W) -> Result<(), Fail> {
     let own = read_attribute(wire, SmpAttribute::PortInfo, 0, &[]).ok_or("PortInfo of h0")?;
     assert!(rt; has_at(&own, 0, &[0; 28]));

@@ -11,7 +11,7 @@ use Rattle.topo_file.specs.Cable.{is_cabled}
 use Rattle.fabric_wire.specs.declared.node.Node.{Node}
 use Rattle.fabric_wire.specs.FabricState.{FabricState, is_switch, is_switch_at, nodes_after}
 use Rattle.fabric_wire.specs.Walk.{after_walk, exchange_after, hop, walk, walk_of}
-use Rattle.fabric_wire.specs.Good.{ExchangesKeepGood, ExchangesKeepLinks, ExchangesKeepCables, IsGood, ShowsLinks, SwitchesJoined, are_guids, end_port_guids, has_a_right_count, holds_attributes, info_at, is_in_order, is_port, is_right, node_guid, port_count, port_info_at}
+use Rattle.fabric_wire.specs.Good.{ExchangesKeepGood, ExchangesKeepLinks, ExchangesKeepJoined, IsGood, ShowsLinks, SwitchesJoined, are_guids, end_port_guids, has_a_right_count, holds_attributes, info_at, is_in_order, is_port, is_right, node_guid, port_count, port_info_at}
 use Rattle.fabric_wire.proofs.HoldingLemmas.{all_set, all_there}
 use Rattle.fabric_wire.proofs.GoodLemmas.{IsSameNode, all_same, down_at, get_same, or_same, read_same, same_node}
 
@@ -134,5 +134,5 @@ stays_joined old new same joins a b is_a is_b =
     let way = joins a b (sym (switch_same old new same a) ∙ is_a) (sym (switch_same old new same b) ∙ is_b) in
     (way.0, rw (walk_same old new same false (record { node = a; port = 0 }) way.0) way.1)
 
-pub cables : ExchangesKeepCables
-cables fabric smp was = stays_joined fabric (exchange_after fabric smp) (after_exchange fabric smp) was
+pub joins : ExchangesKeepJoined
+joins fabric smp was = stays_joined fabric (exchange_after fabric smp) (after_exchange fabric smp) was

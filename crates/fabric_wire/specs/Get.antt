@@ -35,7 +35,7 @@ pub record AsksFor (attribute : SmpAttribute) (modifier : ℕ) (path : List ℕ)
   pub long : length smp ≡ 256
   pub bytes : AllBelowBase 256 smp
 
--- a Get to the bit: no LID at either end, the path from entry 1, and 0 in all that it does not say
+-- a Get to the bit: the permissive LID at both ends, the path from entry 1, and 0 in all that it does not say
 abbrev pub plain_get : SmpAttribute → ℕ → List ℕ → List Place
 plain_get attribute modifier path =
     at 0 8 1

@@ -1,5 +1,5 @@
--- What every good fabric meets, whatever its agents were asked; and, apart from it, that its switches are
--- joined.
+-- What every good fabric meets, whatever its agents were asked; and, apart from it, that links show and
+-- that switches are joined.
 use Rattle.std.specs.Prelude.{ℕ, ◌≡◌, ◌==◌, not, ◌&&◌, ◌||◌, nat_le, nat_lt, Bool, true, false, List, [], ◌∷◌, map, flat_map, length, slice_get, Option, Some, option_map}
 use Rattle.std.specs.List.{list_all, list_any, range_with_len}
 use Rattle.std.specs.Str.{bytes_eq}
@@ -22,7 +22,7 @@ abbrev pub node_guid : Node → ℕ
 node_guid (Switch held) = held.node_guid
 node_guid (Adapter ports) = option_map_or (λ port. port.node_guid) (slice_get ports 0) 0
 
--- those of its end ports: port 0 of a switch has the switch's own
+-- those of its ports, cabled or not: port 0 of a switch has the switch's own
 abbrev pub end_port_guids : Node → List ℕ
 end_port_guids (Switch held) = held.node_guid ∷ []
 end_port_guids (Adapter ports) = map (λ port. port.port_guid) ports
@@ -126,5 +126,5 @@ ExchangesKeepGood = (fabric : FabricState) (smp : List ℕ) → IsGood fabric �
 abbrev pub ExchangesKeepLinks : Type 0
 ExchangesKeepLinks = (fabric : FabricState) (smp : List ℕ) → ShowsLinks fabric → ShowsLinks (exchange_after fabric smp)
 
-abbrev pub ExchangesKeepCables : Type 0
-ExchangesKeepCables = (fabric : FabricState) (smp : List ℕ) → SwitchesJoined fabric → SwitchesJoined (exchange_after fabric smp)
+abbrev pub ExchangesKeepJoined : Type 0
+ExchangesKeepJoined = (fabric : FabricState) (smp : List ℕ) → SwitchesJoined fabric → SwitchesJoined (exchange_after fabric smp)

@@ -11,8 +11,8 @@ use crate::smp_wire::SmpWire;
 use attr_tables::{DIRECTED_ROUTE_CLASS, SMP_VERSION, SmpAttribute};
 use mad_layout::{DrSmp, Header, Mad, Method, known_bytes};
 
-/// The LID at either end of a path that begins and ends by no LID.
-const NO_LID: u16 = 0xffff;
+/// The LID at either end of a path that goes by ports alone.
+const PERMISSIVE_LID: u16 = 0xffff;
 
 /// The SMP that asks for that part of an attribute, at the end of that path.
 #[tactic(auto, unfolding(attr_tables::specs::Request::is_request))]
@@ -38,8 +38,8 @@ pub fn get_request(attribute: SmpAttribute, modifier: u32, path: &[u8]) -> Mad
         hop_pointer: 0,
         hop_count: path.len() as u8,
         m_key: 0,
-        dr_slid: NO_LID,
-        dr_dlid: NO_LID,
+        dr_slid: PERMISSIVE_LID,
+        dr_dlid: PERMISSIVE_LID,
         data: [0; 64],
         initial_path: initial_path(path),
         return_path: [0; 64],

@@ -1,7 +1,6 @@
-//! What holds of every exchange, in the words of `specs/Good.antt`. Each function's contract is its law; it
-//! does nothing.
+//! The laws of fabrics and exchanges. Each function's contract is its law; it does nothing.
 
-ghost use Rattle.fabric_wire.specs.Good.{ExchangesKeepGood, ExchangesKeepLinks, ExchangesKeepCables, IsGood, ShowsLinks, SwitchesJoined};
+ghost use Rattle.fabric_wire.specs.Good.{ExchangesKeepGood, ExchangesKeepLinks, ExchangesKeepJoined, IsGood, ShowsLinks, SwitchesJoined};
 ghost use Rattle.fabric_wire.specs.Get.{GetsTell};
 ghost use Rattle.fabric_wire.specs.OfTopology.{TopologiesAreJoined, TopologiesGiveGood, TopologiesShowLinks};
 ghost use Rattle.fabric_wire.specs.TwoSwitches.{two_switches};
@@ -11,7 +10,7 @@ ghost use Rattle.fabric_wire.specs.TwoSwitches.{two_switches};
 pub fn exchanges_keep_the_fabric()
     ensures good { ExchangesKeepGood }
     ensures links { ExchangesKeepLinks }
-    ensures cables { ExchangesKeepCables }
+    ensures joined { ExchangesKeepJoined }
 {}
 
 /// The two-switch fabric of our examples is good, its links show, and its switches are joined: so what

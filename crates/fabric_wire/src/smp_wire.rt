@@ -12,9 +12,11 @@ use mad_layout::Mad;
 pub trait SmpWire {
     ghost fabric: { Self → Option FabricState };
 
-    /// Sends an SMP, and gives what comes back: nothing where it or its reply is discarded.
+    /// Sends an SMP, and gives what comes back. Nothing comes where the SMP is not at the start of its way
+    /// (its direction bit is set, its hop pointer is not 0, or its path has more than 63 hops), where no
+    /// cable leads on, where a channel adapter would have to hand it on, or where it asks no agent.
     ///
-    /// Source: IBA volume 1, 14.2.1.2.
+    /// Source: IBA volume 1, chapter 14, over the fields of 14.2.1.2.
     fn exchange(&mut self, smp: &Mad) -> Option<Mad>
         ensures answer { ForSome (fabric self.old) (λ state. result ≡ exchange_reply state smp.now) }
         ensures change { ForSome (fabric self.old) (λ state. fabric self.new ≡ Some (exchange_after state smp.now)) };

@@ -7,7 +7,7 @@ pub fn smps_change_what_they_name()
 {}
 
 /// What asks no agent, a Get, and what is refused change nothing; what a Set is answered with is what
-/// every Get that follows is answered with.
+/// a Get right after it is answered with.
 pub fn smps_settle()
     ensures { SmpsSettle }
 {}

@@ -1,4 +1,4 @@
-use Rattle.fabric_wire.proofs.KeptLemmas.{cables, good, links}
+use Rattle.fabric_wire.proofs.KeptLemmas.{good, joins, links}
 use Rattle.fabric_wire.proofs.laws.exchanges_keep_the_fabric.Goals as goal
 
 pub returns-clause-good : goal.returns-clause-good
@@ -7,5 +7,5 @@ returns-clause-good c = good
 pub returns-clause-links : goal.returns-clause-links
 returns-clause-links c = links
 
-pub returns-clause-cables : goal.returns-clause-cables
-returns-clause-cables c = cables
+pub returns-clause-joined : goal.returns-clause-joined
+returns-clause-joined c = joins
