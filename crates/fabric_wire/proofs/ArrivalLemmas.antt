@@ -19,8 +19,8 @@ use Rattle.topo_file.specs.declared.cable.PortRef.{PortRef}
 use Rattle.topo_file.specs.Cable.{ends_at, is_same_port}
 use Rattle.fabric_wire.specs.declared.node.Node.{Node}
 use Rattle.fabric_wire.specs.declared.node.Node.TheVariants.{Switch, Adapter}
-use Rattle.fabric_wire.specs.FabricState.{FabricState, far_end, other_end}
-use Rattle.fabric_wire.specs.Good.{IsGood, has_a_right_count, is_port, is_right, port_count}
+use Rattle.fabric_wire.specs.FabricState.{FabricState, far_end, is_port, other_end, port_count}
+use Rattle.fabric_wire.specs.Good.{IsGood, has_a_right_count, is_right}
 use Rattle.fabric_wire.specs.Walk.{arrived, hands_on, hop, walk, with_return_ports}
 
 -- ---- bytes that agents do not look at
@@ -130,7 +130,7 @@ far_small fabric here there (Some cable) good right is =
 
 hop_small : (fabric : FabricState) (starts : Bool) (here there : PortRef) (number : ℕ) → IsGood fabric → hop fabric.nodes fabric.cables starts here number ≡ Some there → there.port < 256
 unfolding hop
-hop_small fabric starts here there number good is = if_small (hands_on fabric.nodes starts here) is
+hop_small fabric starts here there number good is = if_small (hands_on fabric.nodes starts here && is_port fabric.nodes (record { node = here.node; port = number })) is
   where
     if_small : (b : Bool) → (if b then far_end fabric.cables (record { node = here.node; port = number }) else None) ≡ Some there → there.port < 256
     if_small true h = far_small fabric (record { node = here.node; port = number }) there (find (λ cable. ends_at (record { node = here.node; port = number }) cable) fabric.cables) good

@@ -6,12 +6,12 @@ use Rattle.std.specs.Option.{option_map_or}
 use Rattle.std.proofs.lemmas.Bool.{and_parts, eq-eqb}
 use Rattle.std.proofs.lemmas.Bool.Decides.{nat_tests}
 use Rattle.std.proofs.lemmas.List.{get_or-set_other, length-set}
-use Rattle.mad_layout.specs.Bits.{field, put_field}
+use Rattle.mad_layout.specs.Bits.{put_field}
 use Rattle.mad_layout.specs.Layout.{at, is_free}
 use Rattle.mad_layout.proofs.AlignedLemmas.{byte_is_field}
 use Rattle.mad_layout.proofs.LayoutLemmas.{field-put_apart, length-put_field}
 use Rattle.attr_tables.specs.Request.{KeepsRest}
-use Rattle.smp_route.specs.Places.{count, pointer, return_port, with_return_port}
+use Rattle.smp_route.specs.Places.{count, is_outgoing, pointer, return_port, turned_round, with_return_port}
 use Rattle.topo_file.specs.declared.cable.Cable.{Cable}
 use Rattle.topo_file.specs.declared.cable.PortRef.{PortRef}
 use Rattle.fabric_wire.specs.declared.node.Node.{Node}
@@ -78,13 +78,13 @@ ready_at : (fabric : FabricState) (sent reply : List ℕ) (new : List Node) (end
     → walk fabric.nodes fabric.cables true fabric.manager (path_of sent) ≡ Some ends
     → AllBelowBase 256 reply → length reply ≡ 256 → KeepsRest (arrived ends sent) reply
     → new ≡ nodes_after fabric.nodes (last_of fabric.manager ends) (arrived ends sent) (slice_get fabric.nodes (last_of fabric.manager ends).node)
-    → IsReady new fabric.cables fabric.manager (last_of fabric.manager ends) (put_field reply 32 1 1)
+    → IsReady new fabric.cables fabric.manager (last_of fabric.manager ends) (turned_round reply)
 ready_at fabric sent reply new ends good is low long walked low_reply long_reply keeps new_is =
     let agent = last_of fabric.manager ends in
     let request = arrived ends sent in
     let noted = with_return_ports 1 ends sent in
-    let turned = put_field reply 32 1 1 in
-    let few = few_hops (field sent 32 1 == 0) (pointer sent == 0) (count sent) is in
+    let turned = turned_round reply in
+    let few = few_hops (is_outgoing sent) (pointer sent == 0) (count sent) is in
     let right = walks_right fabric true fabric.manager (path_of sent) ends good walked in
     let path_long : length (path_of sent) ≡ count sent = path_length sent long few in
     let hops : length ends ≡ count sent = right.0 ∙ path_long in
@@ -114,7 +114,7 @@ ready_by : (fabric : FabricState) (sent reply : List ℕ) (new : List Node) (arr
     → walk fabric.nodes fabric.cables true fabric.manager (path_of sent) ≡ walked → Some arrival ≡ option_map (arrival_of fabric.manager sent) walked
     → AllBelowBase 256 reply → length reply ≡ 256 → KeepsRest arrival.smp reply
     → new ≡ nodes_after fabric.nodes arrival.at arrival.smp (slice_get fabric.nodes arrival.at.node)
-    → IsReady new fabric.cables fabric.manager arrival.at (put_field reply 32 1 1)
+    → IsReady new fabric.cables fabric.manager arrival.at (turned_round reply)
 ready_by fabric sent reply new arrival None good is low long walked there low_reply long_reply keeps new_is = cc
 ready_by fabric sent reply new arrival (Some ends) good is low long walked there low_reply long_reply keeps new_is =
     let same : arrival ≡ arrival_of fabric.manager sent ends = same_some _ _ there in
@@ -124,6 +124,6 @@ pub ready : (fabric : FabricState) (sent reply : List ℕ) (new : List Node) (ar
     → Some arrival ≡ option_map (arrival_of fabric.manager sent) (walk fabric.nodes fabric.cables true fabric.manager (path_of sent))
     → AllBelowBase 256 reply → length reply ≡ 256 → KeepsRest arrival.smp reply
     → new ≡ nodes_after fabric.nodes arrival.at arrival.smp (slice_get fabric.nodes arrival.at.node)
-    → IsReady new fabric.cables fabric.manager arrival.at (put_field reply 32 1 1)
+    → IsReady new fabric.cables fabric.manager arrival.at (turned_round reply)
 ready fabric sent reply new arrival good is low long there low_reply long_reply keeps new_is =
     ready_by fabric sent reply new arrival _ good is low long refl there low_reply long_reply keeps new_is

@@ -16,8 +16,8 @@ use Rattle.switch_model.specs.Agent.{agent_after as switch_after}
 use Rattle.switch_model.proofs.ChangeLemmas.{changes_at_most as switch_changes}
 use Rattle.fabric_wire.specs.declared.node.Node.{Node}
 use Rattle.fabric_wire.specs.declared.node.Node.TheVariants.{Switch, Adapter}
-use Rattle.fabric_wire.specs.FabricState.{adapter_ports_after, is_switch, node_after}
-use Rattle.fabric_wire.specs.Good.{node_guid, end_port_guids, port_count, has_a_right_count, holds_attributes, is_description, is_in_order, is_of, port_info_at}
+use Rattle.fabric_wire.specs.FabricState.{adapter_ports_after, is_switch, node_after, port_count}
+use Rattle.fabric_wire.specs.Good.{node_guid, end_port_guids, has_a_right_count, holds_attributes, is_description, is_in_order, is_of, port_info_at}
 use Rattle.fabric_wire.proofs.HoldingLemmas.{stays_small}
 
 -- whether the port of that number is Down

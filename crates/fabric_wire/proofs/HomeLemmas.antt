@@ -10,8 +10,8 @@ use Rattle.topo_file.specs.declared.cable.Cable.{Cable}
 use Rattle.topo_file.specs.declared.cable.PortRef.{PortRef}
 use Rattle.topo_file.specs.Cable.{is_same_port}
 use Rattle.fabric_wire.specs.declared.node.Node.{Node}
-use Rattle.fabric_wire.specs.FabricState.{far_end, is_switch_at}
-use Rattle.fabric_wire.specs.Good.{all_differ, ends_of, is_port, is_right}
+use Rattle.fabric_wire.specs.FabricState.{far_end, is_port, is_switch_at}
+use Rattle.fabric_wire.specs.Good.{all_differ, ends_of, is_right}
 use Rattle.fabric_wire.specs.Hopping.{leads_home}
 use Rattle.fabric_wire.specs.Walk.{hands_on, hop, last_of, walk, with_return_ports}
 use Rattle.fabric_wire.proofs.CablingLemmas.{far_end_before}
@@ -131,6 +131,15 @@ ends_numbered nodes cable right =
 pub numbered : (nodes : List Node) (cables : List Cable) (a b : PortRef) → list_all (is_right nodes) cables ≡ true → far_end cables a ≡ Some b → AreNumbered a b
 numbered nodes cables a b right is = far_ends_meet AreNumbered (is_right nodes) (ends_numbered nodes) cables a b right is
 
+-- ---- a port with a cable is a port of its node
+ends_are_ports : (nodes : List Node) (cable : Cable) → is_right nodes cable ≡ true → (is_port nodes cable.first ≡ true) × (is_port nodes cable.second ≡ true)
+ends_are_ports nodes cable right =
+    let one = and_parts (is_port nodes cable.first) _ right in
+    (one.0, (and_parts (is_port nodes cable.second) _ one.1).0)
+
+pub cabled_is_port : (nodes : List Node) (cables : List Cable) (a b : PortRef) → list_all (is_right nodes) cables ≡ true → far_end cables a ≡ Some b → is_port nodes a ≡ true
+cabled_is_port nodes cables a b right is = far_ends_meet (λ end other. is_port nodes end ≡ true) (is_right nodes) (ends_are_ports nodes) cables a b right is
+
 -- ---- home
 leads_by : (left : ℕ) (nodes : List Node) (one other : ℕ → Bool) (found : Option PortRef) → ((node : ℕ) → one node ≡ other node)
     → option_map_or (λ there. ((left == 0) || is_switch_at nodes there.node) && one there.node) found false ≡ option_map_or (λ there. ((left == 0) || is_switch_at nodes there.node) && other there.node) found false
@@ -157,13 +166,15 @@ pub home_on : (nodes : List Node) (cables : List Cable) (manager : ℕ) (starts 
     → leads_home nodes cables manager (with_return_port (suc hops) there.port smp) (suc hops) there.node ≡ true
 unfolding hop
 home_on nodes cables manager starts here there number hops smp once begins few long is home =
-    let parts = hop_parts (hands_on nodes starts here) _ there is in
-    let back = both_ways cables (record { node = here.node; port = number }) there once parts.1 in
+    let out : PortRef = record { node = here.node; port = number } in
+    let parts = hop_parts (hands_on nodes starts here && is_port nodes out) _ there is in
+    let hands = (and_parts (hands_on nodes starts here) (is_port nodes out) parts.0).0 in
+    let back = both_ways cables out there once parts.1 in
     let next = with_return_port (suc hops) there.port smp in
     let entry : return_port next (suc hops) ≡ there.port = get_or-set_same smp (192 + suc hops) there.port 0 (omega (arith, few, long)) in
     let rest : leads_home nodes cables manager next hops here.node ≡ true =
     leads_alike nodes cables manager next smp hops here.node (λ k from to. get_or-set_other smp (192 + suc hops) (192 + k) there.port 0 (λ e. omega (arith, to, e))) ∙ home in
-    rw (entry, back) (and_from ((hops == 0) || is_switch_at nodes here.node) _ (ap (λ (b : Bool). b || is_switch_at nodes here.node) (sym begins) ∙ parts.0) rest)
+    rw (entry, back) (and_from ((hops == 0) || is_switch_at nodes here.node) _ (ap (λ (b : Bool). b || is_switch_at nodes here.node) (sym begins) ∙ hands) rest)
 
 -- ---- the whole walk
 abbrev LeadsFrom : List Node → List Cable → ℕ → ℕ → List ℕ → PortRef → List PortRef → Type 0

@@ -1,5 +1,5 @@
 -- The hop rules lead an SMP along the walk of the definition.
-use Rattle.std.proofs.Common.{ℕ, zero, suc, ◌≡◌, ◌≢◌, ◌+◌, ◌<◌, ◌≤◌, ◌==◌, ◌∙◌, nat_lt, ap, refl, sym, Bool, true, false, if◌then◌else◌, List, length, slice_index, Option, Some, None, arith}
+use Rattle.std.proofs.Common.{ℕ, zero, suc, ◌≡◌, ◌≢◌, ◌+◌, ◌<◌, ◌≤◌, ◌==◌, ◌∙◌, nat_lt, ap, refl, sym, ◌&&◌, Bool, true, false, if◌then◌else◌, List, length, slice_index, Option, Some, None, arith}
 use Rattle.std.specs.List.{list_all}
 use Rattle.std.proofs.lemmas.Bool.{eqb-true, false≢true}
 use Rattle.std.proofs.lemmas.Bool.Decides.{nat_tests}
@@ -11,11 +11,11 @@ use Rattle.smp_route.specs.Places.{count, initial_port, pointer, with_pointer, w
 use Rattle.topo_file.specs.declared.cable.Cable.{Cable}
 use Rattle.topo_file.specs.declared.cable.PortRef.{PortRef}
 use Rattle.fabric_wire.specs.declared.node.Node.{Node}
-use Rattle.fabric_wire.specs.FabricState.{far_end, is_switch_at}
+use Rattle.fabric_wire.specs.FabricState.{far_end, is_port, is_switch_at}
 use Rattle.fabric_wire.specs.Good.{is_right}
 use Rattle.fabric_wire.specs.Hopping.{node_type_at}
 use Rattle.fabric_wire.specs.Walk.{hands_on, hop}
-use Rattle.fabric_wire.proofs.HomeLemmas.{numbered}
+use Rattle.fabric_wire.proofs.HomeLemmas.{cabled_is_port, numbered}
 use Rattle.fabric_wire.proofs.WalkLemmas.{IsUnderWay}
 
 -- ---- the bytes that hops change
@@ -70,14 +70,29 @@ pub port_0_is_bare : (nodes : List Node) (cables : List Cable) (node number : �
 port_0_is_bare nodes cables node number right zero_is =
     bare_by cables node (far_end cables (record { node = node; port = number })) (λ there is. false≢true (sym (numbered nodes cables (record { node = node; port = number }) there right is).0 ∙ zero_is))
 
-no_hop : (nodes : List Node) (cables : List Cable) (starts b : Bool) (at : PortRef) (number : ℕ) → hands_on nodes starts at ≡ b → far_end cables (record { node = at.node; port = number }) ≡ None → hop nodes cables starts at number ≡ None
+no_hop : (nodes : List Node) (cables : List Cable) (starts : Bool) (at : PortRef) (number : ℕ) → far_end cables (record { node = at.node; port = number }) ≡ None → hop nodes cables starts at number ≡ None
 unfolding hop
-no_hop nodes cables starts true at number is none = rw is none
-no_hop nodes cables starts false at number is none = rw is refl
+no_hop nodes cables starts at number none = by (hands_on nodes starts at && is_port nodes (record { node = at.node; port = number }))
+  where
+    by : (b : Bool) → (if b then far_end cables (record { node = at.node; port = number }) else None) ≡ None
+    by true = none
+    by false = refl
 
 not_handed : (nodes : List Node) (cables : List Cable) (starts : Bool) (at : PortRef) (number : ℕ) → hands_on nodes starts at ≡ false → hop nodes cables starts at number ≡ None
 unfolding hop
 not_handed nodes cables starts at number is = rw is refl
+
+-- where cables are right, a hop of a node that hands on asks for a cable alone
+bare_unless : (is : Bool) (found : Option PortRef) → ((there : PortRef) → found ≡ Some there → is ≡ true) → (if is then found else None) ≡ found
+bare_unless true found ports = refl
+bare_unless false None ports = refl
+bare_unless false (Some there) ports = absurd (false≢true (ports there refl))
+
+pub hop_is_far_end : (nodes : List Node) (cables : List Cable) (starts : Bool) (at : PortRef) (number : ℕ) → list_all (is_right nodes) cables ≡ true → hands_on nodes starts at ≡ true
+    → hop nodes cables starts at number ≡ far_end cables (record { node = at.node; port = number })
+unfolding hop
+hop_is_far_end nodes cables starts at number right is =
+    rw is (bare_unless (is_port nodes (record { node = at.node; port = number })) (far_end cables (record { node = at.node; port = number })) (λ there found. cabled_is_port nodes cables (record { node = at.node; port = number }) there right found))
 
 -- ---- the rules of the way out
 short : (hops : ℕ) → hops ≤ 63 → nat_lt 63 hops ≡ false
@@ -120,7 +135,7 @@ from_manager_by nodes cables sent at smp true none step right is zero_is same pa
     let least : count sent ≡ 0 = rw (← same) (eqb-true (count smp) 0 is) in
     arrives (omega (arith, least)) (rule ∙ rw (is, least) refl)
 from_manager_by nodes cables sent at smp false true step right is zero_is same path rule =
-    drops (some_hop (count sent) (ap (λ (n : ℕ). n == 0) (sym same) ∙ is)) (no_hop nodes cables true true at (initial_port sent (0 + 1)) refl (port_0_is_bare nodes cables at.node (initial_port sent 1) right (ap (λ (n : ℕ). n == 0) (sym path) ∙ zero_is))) (rule ∙ rw (is, zero_is) refl)
+    drops (some_hop (count sent) (ap (λ (n : ℕ). n == 0) (sym same) ∙ is)) (no_hop nodes cables true at (initial_port sent (0 + 1)) (port_0_is_bare nodes cables at.node (initial_port sent 1) right (ap (λ (n : ℕ). n == 0) (sym path) ∙ zero_is))) (rule ∙ rw (is, zero_is) refl)
 from_manager_by nodes cables sent at smp false false step right is zero_is same path rule =
     passes (some_hop (count sent) (ap (λ (n : ℕ). n == 0) (sym same) ∙ is)) refl (rule ∙ rw (is, zero_is, path) refl)
 
@@ -141,8 +156,7 @@ handed_by nodes cables sent done at port smp false none step right more switch z
     let later : (suc done == 0) ≡ false = grind (arith, nat_tests) in
     drops more (not_handed nodes cables (suc done == 0) at (initial_port sent (suc done + 1)) (rw (later, switch) refl)) (rule ∙ rw switch refl)
 handed_by nodes cables sent done at port smp true true step right more switch zero_is path here writes rule =
-    let later : (suc done == 0) ≡ false = grind (arith, nat_tests) in
-    drops more (no_hop nodes cables (suc done == 0) true at (initial_port sent (suc done + 1)) (rw (later, switch) refl) (port_0_is_bare nodes cables at.node (initial_port sent (suc done + 1)) right (ap (λ (n : ℕ). n == 0) (sym path) ∙ zero_is)))
+    drops more (no_hop nodes cables (suc done == 0) at (initial_port sent (suc done + 1)) (port_0_is_bare nodes cables at.node (initial_port sent (suc done + 1)) right (ap (λ (n : ℕ). n == 0) (sym path) ∙ zero_is)))
     (rule ∙ rw (switch, here, zero_is) refl)
 handed_by nodes cables sent done at port smp true false step right more switch zero_is path here writes rule =
     let later : (suc done == 0) ≡ false = grind (arith, nat_tests) in

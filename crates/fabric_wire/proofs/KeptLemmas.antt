@@ -9,9 +9,9 @@ use Rattle.topo_file.specs.declared.cable.Cable.{Cable}
 use Rattle.topo_file.specs.declared.cable.PortRef.{PortRef}
 use Rattle.topo_file.specs.Cable.{is_cabled}
 use Rattle.fabric_wire.specs.declared.node.Node.{Node}
-use Rattle.fabric_wire.specs.FabricState.{FabricState, is_switch, is_switch_at, nodes_after}
+use Rattle.fabric_wire.specs.FabricState.{FabricState, is_port, is_switch, is_switch_at, nodes_after, port_count}
 use Rattle.fabric_wire.specs.Walk.{after_walk, exchange_after, hop, walk, walk_of}
-use Rattle.fabric_wire.specs.Good.{ExchangesKeepGood, ExchangesKeepLinks, ExchangesKeepJoined, IsGood, ShowsLinks, SwitchesJoined, are_guids, end_port_guids, has_a_right_count, holds_attributes, info_at, is_in_order, is_port, is_right, node_guid, port_count, port_info_at}
+use Rattle.fabric_wire.specs.Good.{ExchangesKeepGood, ExchangesKeepLinks, ExchangesKeepJoined, IsGood, ShowsLinks, SwitchesJoined, are_guids, end_port_guids, has_a_right_count, holds_attributes, info_at, is_in_order, is_right, node_guid, port_info_at}
 use Rattle.fabric_wire.proofs.HoldingLemmas.{all_set, all_there}
 use Rattle.fabric_wire.proofs.GoodLemmas.{IsSameNode, all_same, down_at, get_same, or_same, read_same, same_node}
 
@@ -122,7 +122,7 @@ links fabric smp was = stays_linked fabric (exchange_after fabric smp) (after_ex
 -- ---- walks
 hop_same : (old new : FabricState) → IsSame old new → (starts : Bool) (here : PortRef) (number : ℕ) → hop new.nodes new.cables starts here number ≡ hop old.nodes old.cables starts here number
 unfolding hop
-hop_same old new same starts here number = rw (same.cables, switch_same old new same here.node) refl
+hop_same old new same starts here number = rw (same.cables, switch_same old new same here.node, port_same old new same (record { node = here.node; port = number })) refl
 
 walk_same : (old new : FabricState) → IsSame old new → (starts : Bool) (here : PortRef) (numbers : List ℕ) → walk new.nodes new.cables starts here numbers ≡ walk old.nodes old.cables starts here numbers
 walk_same old new same starts here [] = refl

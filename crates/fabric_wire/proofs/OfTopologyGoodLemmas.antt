@@ -63,7 +63,7 @@ right_there cables nodes cable ends joins =
     rw (port_there cables nodes cable.first, port_there cables nodes cable.second, switch_there cables nodes cable.first.node, switch_there cables nodes cable.second.node)
     (and_from _ _ both.0 (and_from _ _ both.1 joins))
 
-all_right : (built : List Cable) (nodes : List PlannedNode) (cables : List Cable) → list_all (λ cable. ends_at_ports nodes cable) cables ≡ true → list_all (joins_right nodes) cables ≡ true
+pub all_right : (built : List Cable) (nodes : List PlannedNode) (cables : List Cable) → list_all (λ cable. ends_at_ports nodes cable) cables ≡ true → list_all (joins_right nodes) cables ≡ true
     → list_all (is_right (nodes_from built 0 nodes)) cables ≡ true
 all_right built nodes [] ends joins = refl
 all_right built nodes (cable ∷ cables) ends joins =

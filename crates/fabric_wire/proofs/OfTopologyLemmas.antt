@@ -14,8 +14,8 @@ use Rattle.topo_file.specs.declared.node.NodeKind.TheVariants as kind
 use Rattle.topo_file.specs.Node.{is_switch as is_planned_switch, is_switch_at as is_planned_at, is_switch_kind, most_ports, ports_at}
 use Rattle.topo_file.specs.Sound.{is_port as is_planned_port, is_sized}
 use Rattle.fabric_wire.specs.declared.node.Node.{Node}
-use Rattle.fabric_wire.specs.FabricState.{is_switch, is_switch_at}
-use Rattle.fabric_wire.specs.Good.{has_a_right_count, is_port, port_count}
+use Rattle.fabric_wire.specs.FabricState.{is_port, is_switch, is_switch_at, port_count}
+use Rattle.fabric_wire.specs.Good.{has_a_right_count}
 use Rattle.fabric_wire.specs.OfTopology.{adapter_port_of, link_of, links_of, node_of, node_of_kind}
 
 -- ---- places

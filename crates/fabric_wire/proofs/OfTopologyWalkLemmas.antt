@@ -13,9 +13,11 @@ use Rattle.topo_file.specs.Topology.{Plan}
 use Rattle.topo_file.proofs.WalkLemmas.{joined_if}
 use Rattle.fabric_wire.specs.declared.node.Node.{Node}
 use Rattle.fabric_wire.specs.FabricState.{far_end, is_switch_at, other_end}
-use Rattle.fabric_wire.specs.Good.{leads}
+use Rattle.fabric_wire.specs.Good.{is_right, leads}
 use Rattle.fabric_wire.specs.OfTopology.{TopologiesAreJoined, fabric_of}
-use Rattle.fabric_wire.specs.Walk.{hop, last_of, walk}
+use Rattle.fabric_wire.specs.Walk.{last_of, walk}
+use Rattle.fabric_wire.proofs.HopLemmas.{hop_is_far_end}
+use Rattle.fabric_wire.proofs.OfTopologyGoodLemmas.{all_right}
 use Rattle.fabric_wire.proofs.OfTopologyLemmas.{nodes_from, switch_there}
 
 abbrev port : ℕ → ℕ → PortRef
@@ -97,11 +99,11 @@ pub record Goes (nodes : List Node) (cables : List Cable) (here : PortRef) (b : 
   pub walked : walk nodes cables false here numbers ≡ Some ends
   pub arrives : (last_of here ends).node ≡ b
 
-goes_on : (nodes : List Node) (cables : List Cable) (here : PortRef) (next b : ℕ) (out : GoesOut cables here.node next) → is_switch_at nodes here.node ≡ true
+goes_on : (nodes : List Node) (cables : List Cable) (here : PortRef) (next b : ℕ) (out : GoesOut cables here.node next) → list_all (is_right nodes) cables ≡ true → is_switch_at nodes here.node ≡ true
     → Goes nodes cables out.there b → Goes nodes cables here b
-unfolding hop
-goes_on nodes cables here next b out switch rest =
-    record { numbers = out.number ∷ rest.numbers; ends = out.there ∷ rest.ends; walked = rw (switch, out.far, rest.walked) refl; arrives = rest.arrives }
+goes_on nodes cables here next b out right switch rest =
+    let hopped = hop_is_far_end nodes cables false here out.number right switch ∙ out.far in
+    record { numbers = out.number ∷ rest.numbers; ends = out.there ∷ rest.ends; walked = rw (hopped, rest.walked) refl; arrives = rest.arrives }
 
 goes : (plan : Plan) → IsSound plan → (here : PortRef) (steps : List ℕ) (b : ℕ) → is_walk plan.nodes plan.cables here.node steps b ≡ true
     → Goes (nodes_from plan.cables 0 plan.nodes) plan.cables here b
@@ -111,7 +113,7 @@ goes plan sound here (next ∷ steps) b walks =
     let first = and_parts (is_planned_at plan.nodes here.node) _ walks in
     let second = and_parts (list_any (λ cable. joins here.node next cable) plan.cables) _ first.1 in
     let out = out_by plan.nodes plan.cables here.node next sound.lines.joins sound.lines.own_ports second.0 in
-    goes_on (nodes_from plan.cables 0 plan.nodes) plan.cables here next b out (switch_there plan.cables plan.nodes here.node ∙ first.0)
+    goes_on (nodes_from plan.cables 0 plan.nodes) plan.cables here next b out (all_right plan.cables plan.nodes plan.cables sound.lines.ends sound.lines.joins) (switch_there plan.cables plan.nodes here.node ∙ first.0)
     (goes plan sound out.there steps b (subst (λ (k : ℕ). is_walk plan.nodes plan.cables k steps b ≡ true) (sym out.node) second.1))
 
 leads_there : (plan : Plan) (a b : ℕ) (way : Goes (nodes_from plan.cables 0 plan.nodes) plan.cables (port a 0) b) → leads (fabric_of plan) a way.numbers b ≡ true

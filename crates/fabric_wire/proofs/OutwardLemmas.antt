@@ -4,11 +4,10 @@ use Rattle.std.specs.List.{list_all}
 use Rattle.std.proofs.lemmas.Bool.{and_parts, eqb-true}
 use Rattle.std.proofs.lemmas.Bool.Decides.{nat_tests}
 use Rattle.std.proofs.lemmas.List.{length-set, set-get_or, set-set}
-use Rattle.mad_layout.specs.Bits.{field}
 use Rattle.smp_route.specs.declared.hop.Hop.{Hop}
 use Rattle.smp_route.specs.declared.hop.Hop.TheVariants.{Forward, ToAgent, ToManager, Discard}
 use Rattle.smp_route.specs.Hops.{Step, outgoing}
-use Rattle.smp_route.specs.Places.{count, initial_port, pointer, with_pointer, with_return_port}
+use Rattle.smp_route.specs.Places.{count, initial_port, is_outgoing, pointer, with_pointer, with_return_port}
 use Rattle.topo_file.specs.declared.cable.Cable.{Cable}
 use Rattle.topo_file.specs.declared.cable.PortRef.{PortRef}
 use Rattle.fabric_wire.specs.declared.node.Node.{Node}
@@ -16,10 +15,10 @@ use Rattle.fabric_wire.specs.declared.walking.Arrival.{Arrival}
 use Rattle.fabric_wire.specs.FabricState.{far_end}
 use Rattle.fabric_wire.specs.Good.{is_right}
 use Rattle.fabric_wire.specs.Hopping.{node_type_at}
-use Rattle.fabric_wire.specs.Walk.{arrival_of, hands_on, hop, is_sent, path_of, walk}
+use Rattle.fabric_wire.specs.Walk.{arrival_of, hop, is_sent, path_of, walk}
 use Rattle.fabric_wire.proofs.WalkLemmas.{IsUnderWay, begins, ends, goes_on, stops}
 use Rattle.fabric_wire.proofs.HomeLemmas.{numbered}
-use Rattle.fabric_wire.proofs.HopLemmas.{IsOnWay, Leaves, byte_kept, byte_left, leaves, noted_by, pointer_set}
+use Rattle.fabric_wire.proofs.HopLemmas.{IsOnWay, Leaves, byte_kept, byte_left, hop_is_far_end, leaves, noted_by, pointer_set}
 use Rattle.fabric_wire.proofs.HopLemmas.Leaves.{arrives, drops, passes}
 
 -- ---- the loop: at the beginning
@@ -30,7 +29,7 @@ few_hops out start hops h =
 
 pub begun : (nodes : List Node) (cables : List Cable) (manager : PortRef) (sent : List ℕ) → length sent ≡ 256 → is_sent sent ≡ true → IsOnWay nodes cables manager sent 0 manager 0 sent
 begun nodes cables manager sent long is =
-    let parts = few_hops (field sent 32 1 == 0) (pointer sent == 0) (count sent) is in
+    let parts = few_hops (is_outgoing sent) (pointer sent == 0) (count sent) is in
     record {
       under = begins nodes cables manager sent;
       sent_long = long;
@@ -72,19 +71,15 @@ lost_by nodes cables manager sent hops at entered smp step way (drops more none 
 same_port_out : (a b : ℕ) → Forward a ≡ Forward b → a ≡ b
 same_port_out a b e = cc
 
-hop_by : (nodes : List Node) (cables : List Cable) (starts : Bool) (at : PortRef) (number : ℕ) → hands_on nodes starts at ≡ true → hop nodes cables starts at number ≡ far_end cables (record { node = at.node; port = number })
-unfolding hop
-hop_by nodes cables starts at number is = rw is refl
-
-bare_port_by : (nodes : List Node) (cables : List Cable) (manager : PortRef) (sent : List ℕ) (hops : ℕ) (at : PortRef) (entered : ℕ) (smp : List ℕ) (step : Step) (number : ℕ)
+bare_port_by : (nodes : List Node) (cables : List Cable) (manager : PortRef) (sent : List ℕ) (hops : ℕ) (at : PortRef) (entered : ℕ) (smp : List ℕ) (step : Step) (number : ℕ) → list_all (is_right nodes) cables ≡ true
     → IsOnWay nodes cables manager sent hops at entered smp → Leaves nodes cables sent hops at smp step → step.hop ≡ Forward number → far_end cables (record { node = at.node; port = number }) ≡ None → Ends nodes cables manager sent None
-bare_port_by nodes cables manager sent hops at entered smp step number way (arrives over is) to none =
+bare_port_by nodes cables manager sent hops at entered smp step number right way (arrives over is) to none =
     let clash : ToAgent ≡ Forward number = sym (ap (λ (s : Step). s.hop) is) ∙ to in
     cc
-bare_port_by nodes cables manager sent hops at entered smp step number way (passes more hands is) to none =
+bare_port_by nodes cables manager sent hops at entered smp step number right way (passes more hands is) to none =
     let same : initial_port sent (hops + 1) ≡ number = same_port_out _ _ (sym (ap (λ (s : Step). s.hop) is) ∙ to) in
-    stops nodes cables manager sent hops at (noted_by hops at smp) way.sent_long way.few more way.under (hop_by nodes cables (hops == 0) at (initial_port sent (hops + 1)) hands ∙ rw same none)
-bare_port_by nodes cables manager sent hops at entered smp step number way (drops more none_is is) to none =
+    stops nodes cables manager sent hops at (noted_by hops at smp) way.sent_long way.few more way.under (hop_is_far_end nodes cables (hops == 0) at (initial_port sent (hops + 1)) right hands ∙ rw same none)
+bare_port_by nodes cables manager sent hops at entered smp step number right way (drops more none_is is) to none =
     stops nodes cables manager sent hops at (noted_by hops at smp) way.sent_long way.few more way.under none_is
 
 -- ---- from turn to turn
@@ -140,7 +135,7 @@ goes_by nodes cables manager sent hops at there entered smp step number right wa
     cc
 goes_by nodes cables manager sent hops at there entered smp step number right way (passes more hands is) to there_is =
     let same : initial_port sent (hops + 1) ≡ number = same_port_out _ _ (sym (ap (λ (s : Step). s.hop) is) ∙ to) in
-    rw (ap (λ (s : Step). s.smp) is) (way_on nodes cables manager sent hops at there entered number smp right way more (hop_by nodes cables (hops == 0) at (initial_port sent (hops + 1)) hands ∙ rw same there_is) there_is)
+    rw (ap (λ (s : Step). s.smp) is) (way_on nodes cables manager sent hops at there entered number smp right way more (hop_is_far_end nodes cables (hops == 0) at (initial_port sent (hops + 1)) right hands ∙ rw same there_is) there_is)
 goes_by nodes cables manager sent hops at there entered smp step number right way (drops more none is) to there_is =
     let clash : Discard ≡ Forward number = sym (ap (λ (s : Step). s.hop) is) ∙ to in
     cc
@@ -162,7 +157,7 @@ lost nodes cables manager sent hops at entered smp right way given is to =
 pub bare_port : (nodes : List Node) (cables : List Cable) (manager : PortRef) (sent : List ℕ) (hops : ℕ) (at : PortRef) (entered : ℕ) (smp : List ℕ) (number : ℕ) → list_all (is_right nodes) cables ≡ true
     → IsOnWay nodes cables manager sent hops at entered smp → (Turn nodes at entered smp).hop ≡ Forward number → far_end cables (record { node = at.node; port = number }) ≡ None → Ends nodes cables manager sent None
 bare_port nodes cables manager sent hops at entered smp number right way to none =
-    bare_port_by nodes cables manager sent hops at entered smp _ number way (leaves nodes cables manager sent hops at entered smp right way) to none
+    bare_port_by nodes cables manager sent hops at entered smp _ number right way (leaves nodes cables manager sent hops at entered smp right way) to none
 
 pub goes : (nodes : List Node) (cables : List Cable) (manager : PortRef) (sent : List ℕ) (hops : ℕ) (at there : PortRef) (entered : ℕ) (smp : List ℕ) (number : ℕ) → list_all (is_right nodes) cables ≡ true
     → IsOnWay nodes cables manager sent hops at entered smp → (Turn nodes at entered smp).hop ≡ Forward number → far_end cables (record { node = at.node; port = number }) ≡ Some there

@@ -6,10 +6,10 @@ use Rattle.attr_tables.specs.PortSetting.{is_down}
 use Rattle.attr_tables.specs.declared.port_info.PortInfo.{PortInfo}
 use Rattle.attr_tables.specs.declared.power_up.TheConstants.{LINEAR_TABLE}
 use Rattle.topo_file.specs.Cable.{is_cabled}
-use Rattle.fabric_wire.specs.FabricState.{is_switch_at}
+use Rattle.fabric_wire.specs.FabricState.{is_port, is_switch_at}
 use Rattle.fabric_wire.specs.OfTopology.{named}
 use Rattle.fabric_wire.specs.Walk.{hop}
-use Rattle.fabric_wire.specs.Good.{IsGood, ShowsLinks, SwitchesJoined, holds_attributes, info_at, is_byte, is_description, is_port}
+use Rattle.fabric_wire.specs.Good.{IsGood, ShowsLinks, SwitchesJoined, holds_attributes, info_at, is_byte, is_description}
 use Rattle.fabric_wire.specs.TwoSwitches.{port, switch_of_four, two_switches}
 use Rattle.fabric_wire.proofs.HoldingLemmas.{all_alike}
 

@@ -1,9 +1,10 @@
 -- What a fabric is: its nodes, with what their agents hold, its cables, and the subnet manager's port.
-use Rattle.std.specs.Prelude.{ℕ, ◌-◌, ◌==◌, Bool, true, false, if◌then◌else◌, List, slice_get, slice_set, Option, Some, None, option_map, find}
+use Rattle.std.specs.Prelude.{ℕ, ◌-◌, ◌==◌, ◌&&◌, nat_le, Bool, true, false, if◌then◌else◌, List, length, slice_get, slice_set, Option, Some, None, option_map, find}
 use Rattle.std.specs.Option.{option_and_then, option_map_or}
 use Rattle.port_model.specs.AdapterState.{AdapterState}
 use Rattle.port_model.specs.Agent.{agent_after as adapter_after, agent_reply as adapter_reply}
 use Rattle.switch_model.specs.Agent.{agent_after as switch_after, agent_reply as switch_reply}
+use Rattle.switch_model.specs.SwitchState.{num_ports}
 use Rattle.topo_file.specs.declared.cable.Cable.{Cable}
 use Rattle.topo_file.specs.declared.cable.PortRef.{PortRef}
 use Rattle.topo_file.specs.Cable.{ends_at, is_same_port}
@@ -23,6 +24,15 @@ is_switch (Adapter ports) = false
 -- a switch stands at that place
 abbrev pub is_switch_at : List Node → ℕ → Bool
 is_switch_at nodes place = option_map_or is_switch (slice_get nodes place) false
+
+-- how many ports a node has, port 0 of a switch not counted
+abbrev pub port_count : Node → ℕ
+port_count (Switch held) = num_ports held
+port_count (Adapter ports) = length ports
+
+-- the port is one of its node, and not port 0
+abbrev pub is_port : List Node → PortRef → Bool
+is_port nodes at = nat_le 1 at.port && nat_le at.port (option_map_or port_count (slice_get nodes at.node) 0)
 
 -- the port of that number of an adapter; ports count from 1
 abbrev pub adapter_port : List AdapterState → ℕ → Option AdapterState

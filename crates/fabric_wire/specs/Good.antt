@@ -7,13 +7,14 @@ use Rattle.std.specs.Option.{option_and_then, option_map_or}
 use Rattle.attr_tables.specs.PortSetting.{is_down}
 use Rattle.attr_tables.specs.declared.port_info.PortInfo.{PortInfo}
 use Rattle.port_model.specs.AdapterState.{AdapterState}
-use Rattle.switch_model.specs.SwitchState.{num_ports}
 use Rattle.topo_file.specs.declared.cable.Cable.{Cable}
 use Rattle.topo_file.specs.declared.cable.PortRef.{PortRef}
+use Rattle.topo_file.specs.declared.node.NodeKind.TheVariants as kind
 use Rattle.topo_file.specs.Cable.{is_cabled, is_same_port}
+use Rattle.topo_file.specs.Node.{most_ports}
 use Rattle.fabric_wire.specs.declared.node.Node.{Node}
 use Rattle.fabric_wire.specs.declared.node.Node.TheVariants.{Switch, Adapter}
-use Rattle.fabric_wire.specs.FabricState.{FabricState, adapter_port, is_switch_at}
+use Rattle.fabric_wire.specs.FabricState.{FabricState, adapter_port, is_port, is_switch_at, port_count}
 use Rattle.fabric_wire.specs.Walk.{exchange_after, last_of, walk}
 
 -- ---- GUIDs
@@ -36,15 +37,13 @@ abbrev pub are_guids : List ℕ → Bool
 are_guids guids = list_all (λ guid. nat_lt 0 guid) guids && all_differ (λ a b. a == b) guids
 
 -- ---- ports
--- how many ports a node has, port 0 of a switch not counted
-abbrev pub port_count : Node → ℕ
-port_count (Switch held) = num_ports held
-port_count (Adapter ports) = length ports
+-- a node has at least one, and no more than a topology gives to its kind
+abbrev pub most_ports_of : Node → ℕ
+most_ports_of (Switch held) = most_ports kind.Switch
+most_ports_of (Adapter ports) = most_ports kind.Adapter
 
--- a switch has 1 to 36, an adapter 1 to 8
 abbrev pub has_a_right_count : Node → Bool
-has_a_right_count (Switch held) = nat_le 1 (num_ports held) && nat_le (num_ports held) 36
-has_a_right_count (Adapter ports) = nat_le 1 (length ports) && nat_le (length ports) 8
+has_a_right_count node = nat_le 1 (port_count node) && nat_le (port_count node) (most_ports_of node)
 
 -- the ports of an adapter are of one node, and stand in order of their numbers
 abbrev pub is_of : ℕ → ℕ → AdapterState → Bool
@@ -54,10 +53,6 @@ abbrev pub is_in_order : Node → Bool
 is_in_order (Switch held) = true
 is_in_order (Adapter ports) =
     list_all (is_of (node_guid (Adapter ports)) (length ports)) ports && bytes_eq (map (λ port. port.number) ports) (range_with_len 1 (length ports))
-
--- the port is one of its node, and not port 0
-abbrev pub is_port : List Node → PortRef → Bool
-is_port nodes at = nat_le 1 at.port && nat_le at.port (option_map_or port_count (slice_get nodes at.node) 0)
 
 -- ---- what agents give
 abbrev pub is_byte : ℕ → Bool

@@ -2,22 +2,23 @@
 -- a list of ports, and the answer that comes back.
 use Rattle.std.specs.Prelude.{ℕ, ◌+◌, ◌==◌, ◌&&◌, ◌||◌, nat_le, Bool, true, false, if◌then◌else◌, List, [], ◌∷◌, take, drop, Option, Some, None, option_map}
 use Rattle.std.specs.Option.{option_and_then}
-use Rattle.mad_layout.specs.Bits.{field, put_field}
-use Rattle.smp_route.specs.Places.{count, pointer, with_pointer, with_return_port}
+use Rattle.smp_route.specs.Places.{count, is_outgoing, pointer, turned_round, with_pointer, with_return_port}
 use Rattle.topo_file.specs.declared.cable.PortRef.{PortRef}
 use Rattle.topo_file.specs.declared.cable.Cable.{Cable}
 use Rattle.fabric_wire.specs.declared.node.Node.{Node}
 use Rattle.fabric_wire.specs.declared.walking.Arrival.{Arrival}
-use Rattle.fabric_wire.specs.FabricState.{FabricState, after_at, far_end, is_switch_at, reply_at}
+use Rattle.fabric_wire.specs.FabricState.{FabricState, after_at, far_end, is_port, is_switch_at, reply_at}
 
 -- an SMP leaves the node that it starts from; on its way only switches hand it on
 abbrev pub hands_on : List Node → Bool → PortRef → Bool
 hands_on nodes starts here = starts || is_switch_at nodes here.node
 
--- one hop: out of the port of that number, to the other end of its cable
+-- one hop: out of a port of the node, to the other end of its cable
+abbrev pub hop_by : List Node → List Cable → Bool → PortRef → Option PortRef
+hop_by nodes cables hands out = if hands && is_port nodes out then far_end cables out else None
+
 unfoldable pub hop : List Node → List Cable → Bool → PortRef → ℕ → Option PortRef
-hop nodes cables starts here number =
-    if hands_on nodes starts here then far_end cables (record { node = here.node; port = number }) else None
+hop nodes cables starts here number = hop_by nodes cables (hands_on nodes starts here) (record { node = here.node; port = number })
 
 -- hop by hop out of these ports: the ports by which the SMP comes in
 abbrev pub walk : List Node → List Cable → Bool → PortRef → List ℕ → Option (List PortRef)
@@ -36,7 +37,7 @@ path_of smp = take (count smp) (drop 129 smp)
 
 -- it is outgoing, at the beginning of its path, and its path is not too long
 abbrev pub is_sent : List ℕ → Bool
-is_sent smp = (field smp 32 1 == 0) && ((pointer smp == 0) && nat_le (count smp) 63)
+is_sent smp = is_outgoing smp && ((pointer smp == 0) && nat_le (count smp) 63)
 
 -- the walk of an SMP from the subnet manager's port
 abbrev pub walk_of : FabricState → List ℕ → Option (List PortRef)
@@ -57,7 +58,7 @@ arrival_of manager smp ends = record { at = last_of manager ends; smp = arrived 
 
 -- the reply as the subnet manager gets it: its direction bit is set, and no hop is left
 abbrev pub returned : List ℕ → List ℕ
-returned smp = with_pointer 0 (put_field smp 32 1 1)
+returned smp = with_pointer 0 (turned_round smp)
 
 -- what the subnet manager gets for an SMP
 unfoldable pub exchange_reply : FabricState → List ℕ → Option (List ℕ)

@@ -11,7 +11,8 @@ use crate::node::Node;
 use crate::power_up::nodes_of;
 use crate::smp_wire::SmpWire;
 use crate::walking::{agent_at, is_sent};
-use mad_layout::{Mad, known_bytes, put_bits};
+use mad_layout::{Mad, known_bytes};
+use smp_route::turn_round;
 use std::alloc::{AllocError, Global};
 use std::marker::Model;
 use topo_file::{PortRef, Topology};
@@ -80,7 +81,7 @@ fn exchange(nodes: &mut [Node], cabling: &Cabling, manager: PortRef, sent: &Mad)
         return None;
     }
     known_bytes(&smp);
-    put_bits::<32, 1>(&mut smp, 1);
+    turn_round(&mut smp);
     if !come_home(nodes, cabling, manager, arrival.at, &mut smp) {
         return None;
     }

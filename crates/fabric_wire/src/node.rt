@@ -1,5 +1,5 @@
 ghost use Rattle.std.specs.Prelude.{◌≡◌, is_some, unwrap_or, slice_get};
-ghost use Rattle.fabric_wire.specs.FabricState.{adapter_port, adapter_ports_after, node_after, node_reply};
+ghost use Rattle.fabric_wire.specs.FabricState.{adapter_port, adapter_ports_after, node_after, node_reply, port_count};
 ghost use Rattle.attr_tables.specs.Request.{KeepsRest};
 ghost use Rattle.port_model.specs.Agent.{agent_reply};
 ghost use Rattle.std.specs.Option.{option_and_then};
@@ -60,6 +60,16 @@ pub enum Node {
 }
 
 impl Node {
+    /// How many ports it has, port 0 of a switch not counted.
+    pub fn port_count(&self) -> usize
+        ensures { result ≡ port_count self.now }
+    {
+        match self {
+            Node::Switch(switch) => switch.port_count(),
+            Node::Adapter(ports) => ports.ports.len(),
+        }
+    }
+
     /// Answers an SMP that came in at that port, in its place, or gives no reply and leaves it.
     #[tactic(auto, unfolding(crate::specs::FabricState::node_reply, crate::specs::FabricState::node_after))]
     pub fn agent(&mut self, number: u8, smp: &mut Mad) -> bool

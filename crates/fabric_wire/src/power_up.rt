@@ -2,7 +2,8 @@
 
 ghost use Rattle.std.specs.Prelude.{◌≡◌, ◌≤◌, ◌<◌, ◌+◌, ◌^◌, true, IfOk, map};
 ghost use Rattle.std.specs.List.{range_with_len};
-ghost use Rattle.topo_file.specs.Node.{HasGuids};
+ghost use Rattle.topo_file.specs.declared.node.NodeKind.TheVariants as kind;
+ghost use Rattle.topo_file.specs.Node.{HasGuids, most_ports};
 ghost use Rattle.topo_file.specs.Sound.{is_sized};
 ghost use Rattle.fabric_wire.specs.OfTopology.{adapter_port_of, fabric_of, link_of, links_of, node_of, node_of_kind};
 
@@ -50,7 +51,7 @@ fn switch_of(
     place: usize,
     node: &PlannedNode,
 ) -> Result<Node, AllocError>
-    requires { node.now.ports ≤ 36 }
+    requires { node.now.ports ≤ most_ports kind.Switch }
     ensures { IfOk result (λ built. built ≡ node_of_kind NodeKind.Switch topology.now.cables place node.now) }
 {
     let links = links_of(alloc, topology, place, node.ports)?;
@@ -69,7 +70,7 @@ fn adapter_of(
     node: &PlannedNode,
 ) -> Result<Node, AllocError>
     requires guids { node.now.guid + node.now.ports < 2 ^ 64 }
-    requires few { node.now.ports ≤ 8 }
+    requires few { node.now.ports ≤ most_ports kind.Adapter }
     ensures { IfOk result (λ built. built ≡ node_of_kind NodeKind.Adapter topology.now.cables place node.now) }
 {
     let ports = adapter_ports_of(alloc, topology, place, node)?;
@@ -84,7 +85,7 @@ fn adapter_ports_of(
     node: &PlannedNode,
 ) -> Result<Vec<AdapterPort>, AllocError>
     requires guids { node.now.guid + node.now.ports < 2 ^ 64 }
-    requires few { node.now.ports ≤ 8 }
+    requires few { node.now.ports ≤ most_ports kind.Adapter }
     ensures { IfOk result (λ ports. ports.items ≡ map (adapter_port_of topology.now.cables place node.now) (range_with_len 1 node.now.ports)) }
 {
     let mut ports = Vec::with_capacity(alloc, node.ports as usize)?;
@@ -115,7 +116,7 @@ fn links_of(
     place: usize,
     count: u8,
 ) -> Result<Vec<Link>, AllocError>
-    requires { count ≤ 36 }
+    requires { count ≤ most_ports kind.Switch }
     ensures { IfOk result (λ links. links.items ≡ links_of topology.now.cables place count) }
 {
     (1..count + 1)

@@ -5,12 +5,15 @@ ghost use Rattle.std.specs.Option.{option_and_then};
 ghost use Rattle.attr_tables.specs.Request.{KeepsRest};
 ghost use Rattle.smp_route.specs.Places.{count};
 ghost use Rattle.topo_file.specs.Cable.{ends_at, is_same_port};
-ghost use Rattle.fabric_wire.specs.FabricState.{far_end, is_switch, is_switch_at, node_reply, nodes_after, other_end};
+ghost use Rattle.fabric_wire.specs.FabricState.{far_end, is_port, is_switch, is_switch_at, node_reply, nodes_after, other_end};
 ghost use Rattle.fabric_wire.specs.Walk.{arrival_of, hop, is_sent, path_of, returned, walk};
 
 use crate::node::Node;
-use mad_layout::{Mad, get_bits, put_bits};
-use smp_route::{MAX_HOPS, count_of, initial_port_of, pointer_of, set_pointer, set_return_port};
+use mad_layout::Mad;
+use smp_route::{
+    MAX_HOPS, count_of, initial_port_of, is_outgoing, pointer_of, set_pointer, set_return_port,
+    turn_round,
+};
 use topo_file::{Cable, PortRef};
 
 /// Whether a switch stands at that place.
@@ -20,6 +23,16 @@ pub fn is_switch_at(nodes: &[Node], place: usize) -> bool
     match nodes.get(place) {
         Some(Node::Switch(_)) => true,
         Some(Node::Adapter(_)) | None => false,
+    }
+}
+
+/// Whether the node has that port, and it is not port 0.
+fn is_port(nodes: &[Node], at: PortRef) -> bool
+    ensures { result ≡ is_port nodes.now at }
+{
+    match nodes.get(at.node) {
+        Some(node) => 1 <= at.port && at.port as usize <= node.port_count(),
+        None => false,
     }
 }
 
@@ -54,14 +67,14 @@ pub fn far_end(cables: &[Cable], here: PortRef) -> Option<PortRef>
 fn hop(nodes: &[Node], cables: &[Cable], starts: bool, here: PortRef, number: u8) -> Option<PortRef>
     ensures { result ≡ hop nodes.now cables.now starts here number }
 {
-    if !(starts || is_switch_at(nodes, here.node)) {
-        return None;
-    }
     let out = PortRef {
         node: here.node,
         port: number,
     };
-    far_end(cables, out)
+    if (starts || is_switch_at(nodes, here.node)) && is_port(nodes, out) {
+        return far_end(cables, out);
+    }
+    None
 }
 
 /// Where the walk of an SMP ends, and what the SMP is there.
@@ -97,14 +110,14 @@ pub fn arrive(nodes: &[Node], cables: &[Cable], manager: PortRef, sent: &Mad) ->
 pub fn is_sent(smp: &Mad) -> bool
     ensures { result ≡ is_sent smp.now }
 {
-    get_bits::<32, 1>(smp) == 0 && pointer_of(smp) == 0 && count_of(smp) <= MAX_HOPS
+    is_outgoing(smp) && pointer_of(smp) == 0 && count_of(smp) <= MAX_HOPS
 }
 
 /// Turns a reply into what the subnet manager gets.
 pub fn put_returned(smp: &mut Mad)
     ensures { smp.new ≡ returned smp.old }
 {
-    put_bits::<32, 1>(smp, 1);
+    turn_round(smp);
     set_pointer(smp, 0);
 }
 

@@ -1,5 +1,14 @@
--- Where a directed-route SMP (InfiniBand volume 1, 14.2.1.2) has what its hops read and write, as bytes.
-use Rattle.std.specs.Prelude.{ℕ, ◌+◌, List, slice_index, slice_set}
+-- Where a directed-route SMP (InfiniBand volume 1, 14.2.1.2) has what its hops read and write, as bytes; and
+-- its direction bit.
+use Rattle.std.specs.Prelude.{ℕ, ◌+◌, ◌==◌, Bool, List, slice_index, slice_set}
+use Rattle.mad_layout.specs.Bits.{field, put_field}
+
+-- its direction bit is 0 on the way out, and 1 on the way back
+abbrev pub is_outgoing : List ℕ → Bool
+is_outgoing smp = field smp 32 1 == 0
+
+abbrev pub turned_round : List ℕ → List ℕ
+turned_round smp = put_field smp 32 1 1
 
 -- how far along its path the SMP is
 abbrev pub pointer : List ℕ → ℕ

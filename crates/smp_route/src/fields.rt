@@ -1,10 +1,10 @@
-//! The bytes of an SMP that hops read and write.
+//! What hops, and the two ends of a path, read and write of an SMP.
 
 ghost use Rattle.std.specs.Prelude.{◌≡◌, ◌+◌, ◌<◌, ℕ, slice_set};
-ghost use Rattle.smp_route.specs.Places.{pointer, count, initial_port, return_port, with_pointer, with_return_port};
+ghost use Rattle.smp_route.specs.Places.{pointer, count, initial_port, is_outgoing, return_port, turned_round, with_pointer, with_return_port};
 ghost use Rattle.smp_route.specs.Laws.{PlacesAreFields};
 
-use mad_layout::{Mad, bytes_are_fields, bytes_are_set};
+use mad_layout::{Mad, bytes_are_fields, bytes_are_set, get_bits, put_bits};
 
 /// How many hops a path has at most.
 pub const MAX_HOPS: u8 = 63;
@@ -16,6 +16,20 @@ const COUNT: usize = 7;
 const INITIAL_PATH: usize = 128;
 
 const RETURN_PATH: usize = 192;
+
+/// Whether the SMP is on its way from the subnet manager, as its direction bit says.
+pub fn is_outgoing(smp: &Mad) -> bool
+    ensures { result ≡ is_outgoing smp.now }
+{
+    get_bits::<32, 1>(smp) == 0
+}
+
+/// Sets the direction bit: the SMP is on its way back.
+pub fn turn_round(smp: &mut Mad)
+    ensures { smp.new ≡ turned_round smp.old }
+{
+    put_bits::<32, 1>(smp, 1);
+}
 
 /// How far along its path the SMP is.
 pub fn pointer_of(smp: &Mad) -> u8

@@ -12,8 +12,8 @@ mod outgoing;
 mod returning;
 
 pub use crate::fields::{
-    MAX_HOPS, count_of, fields_are_the_standards, initial_port_of, pointer_of, return_port_of,
-    set_pointer, set_return_port,
+    MAX_HOPS, count_of, fields_are_the_standards, initial_port_of, is_outgoing, pointer_of,
+    return_port_of, set_pointer, set_return_port, turn_round,
 };
 pub use crate::hop::Hop;
 pub use crate::outgoing::outward;

@@ -4,7 +4,7 @@ ghost use Rattle.attr_tables.specs.Agent.{Leaves, answer, held_after};
 ghost use Rattle.attr_tables.specs.AgentLaws.{IsAttribute};
 ghost use Rattle.attr_tables.specs.Request.{KeepsRest};
 ghost use Rattle.switch_model.specs.Agent.{agent_after, agent_reply, get, set};
-ghost use Rattle.switch_model.specs.SwitchState.{at_power_up};
+ghost use Rattle.switch_model.specs.SwitchState.{at_power_up, num_ports};
 ghost use Rattle.switch_model.specs.declared.switch.TheConstants.{PORTS};
 
 use crate::linear_table::{linear_get, linear_set, linear_top_set};
@@ -78,6 +78,14 @@ impl<const LFT: usize, const MFT: usize> Switch<LFT, MFT> {
         }
     }
 
+    /// How many ports it has, port 0 not counted.
+    pub fn port_count(&self) -> usize
+        ensures count { result ≡ num_ports self.now }
+        ensures few { result ≤ PORTS }
+    {
+        self.ports.len() - 1
+    }
+
     /// Answers an SMP that came in at that port, in its place, or gives no reply and leaves it, where it
     /// asks no agent of subnet management. Port 0 is where the SMP comes from the switch itself.
     #[tactic(auto, unfolding(crate::specs::Agent::agent_reply, crate::specs::Agent::agent_after))]
@@ -132,7 +140,7 @@ impl<const LFT: usize, const MFT: usize> Switch<LFT, MFT> {
     fn node_info(&self, in_port: u8, modifier: u32) -> Result<[u8; 64], MadStatus>
         ensures { result ≡ get in_port self.now SmpAttribute.NodeInfo modifier }
     {
-        let num_ports = (self.ports.len() - 1) as u8;
+        let num_ports = self.port_count() as u8;
         let guid = self.node_guid;
         let info = node_info_of(NodeType::Switch, num_ports, guid, guid, in_port);
         whole(modifier, info.to_bytes())
