@@ -74,12 +74,12 @@ few_hops out start hops h =
     let few = (and_parts start (nat_le hops 63) (and_parts out (start && nat_le hops 63) h).1).1 in
     grind (arith, nat_tests, few)
 
-ready_at : (fabric : FabricState) (sent reply : List ℕ) (new : List Node) (ends : List PortRef) → IsGood fabric → is_sent sent ≡ true → AllBelowBase 256 sent → length sent ≡ 256
+-- over the nodes as they were
+pub ready_before : (fabric : FabricState) (sent reply : List ℕ) (ends : List PortRef) → IsGood fabric → is_sent sent ≡ true → AllBelowBase 256 sent → length sent ≡ 256
     → walk fabric.nodes fabric.cables true fabric.manager (path_of sent) ≡ Some ends
     → AllBelowBase 256 reply → length reply ≡ 256 → KeepsRest (arrived ends sent) reply
-    → new ≡ nodes_after fabric.nodes (last_of fabric.manager ends) (arrived ends sent) (slice_get fabric.nodes (last_of fabric.manager ends).node)
-    → IsReady new fabric.cables fabric.manager (last_of fabric.manager ends) (turned_round reply)
-ready_at fabric sent reply new ends good is low long walked low_reply long_reply keeps new_is =
+    → IsReady fabric.nodes fabric.cables fabric.manager (last_of fabric.manager ends) (turned_round reply)
+ready_before fabric sent reply ends good is low long walked low_reply long_reply keeps =
     let agent = last_of fabric.manager ends in
     let request = arrived ends sent in
     let noted = with_return_ports 1 ends sent in
@@ -90,8 +90,6 @@ ready_at fabric sent reply new ends good is low long walked low_reply long_reply
     let hops : length ends ≡ count sent = right.0 ∙ path_long in
     let carrier = arrived_carries sent ends low long hops few right.1 in
     let noted_long : length noted ≡ 256 = sym (length-set noted 6 (count sent + 1)) ∙ carrier.long in
-    let same : IsSame fabric (record fabric { nodes = new }) = rw new_is (after_found fabric agent request (slice_get fabric.nodes agent.node) refl) in
-    let still = stays_good fabric (record fabric { nodes = new }) same good in
     let byte : (k : ℕ) → k < 256 → IsKept k → slice_index turned k ≡ slice_index request k =
     λ k inside kept. kept_byte request reply k carrier.below low_reply carrier.long long_reply keeps inside kept in
     let count_is : count turned ≡ count sent = byte 7 (omega arith) (omega arith, refl) ∙ byte_kept noted (count sent + 1) 7 (λ e. omega (arith, e)) ∙ count_noted 1 ends sent in
@@ -103,11 +101,25 @@ ready_at fabric sent reply new ends good is low long walked low_reply long_reply
     leads_alike fabric.nodes fabric.cables fabric.manager.node turned noted (count sent) agent.node
     (λ k from to. byte (192 + k) (omega (arith, to, few)) (return_kept k (omega (arith, to, few))) ∙ byte_kept noted (count sent + 1) (192 + k) (λ e. omega (arith, e)))
     ∙ rw (← hops_are) led in
+    record { right = good.cables; few = rw count_is few; pointer_is = rw count_is pointer_is; home = rw count_is home }
+
+-- and as they are then
+ready_at : (fabric : FabricState) (sent reply : List ℕ) (new : List Node) (ends : List PortRef) → IsGood fabric → is_sent sent ≡ true → AllBelowBase 256 sent → length sent ≡ 256
+    → walk fabric.nodes fabric.cables true fabric.manager (path_of sent) ≡ Some ends
+    → AllBelowBase 256 reply → length reply ≡ 256 → KeepsRest (arrived ends sent) reply
+    → new ≡ nodes_after fabric.nodes (last_of fabric.manager ends) (arrived ends sent) (slice_get fabric.nodes (last_of fabric.manager ends).node)
+    → IsReady new fabric.cables fabric.manager (last_of fabric.manager ends) (turned_round reply)
+ready_at fabric sent reply new ends good is low long walked low_reply long_reply keeps new_is =
+    let agent = last_of fabric.manager ends in
+    let turned = turned_round reply in
+    let before = ready_before fabric sent reply ends good is low long walked low_reply long_reply keeps in
+    let same : IsSame fabric (record fabric { nodes = new }) = rw new_is (after_found fabric agent (arrived ends sent) (slice_get fabric.nodes agent.node) refl) in
+    let still = stays_good fabric (record fabric { nodes = new }) same good in
     record {
       right = still.cables;
-      few = rw count_is few;
-      pointer_is = rw count_is pointer_is;
-      home = rw count_is (same_way fabric.nodes new fabric.cables fabric.manager.node turned (count sent) agent.node (λ place. switch_same fabric (record fabric { nodes = new }) same place) ∙ home);
+      few = before.few;
+      pointer_is = before.pointer_is;
+      home = same_way fabric.nodes new fabric.cables fabric.manager.node turned (count turned) agent.node (λ place. switch_same fabric (record fabric { nodes = new }) same place) ∙ before.home;
     }
 
 ready_by : (fabric : FabricState) (sent reply : List ℕ) (new : List Node) (arrival : Arrival) (walked : Option (List PortRef)) → IsGood fabric → is_sent sent ≡ true → AllBelowBase 256 sent → length sent ≡ 256

@@ -155,7 +155,7 @@ words_are block table bytes h =
     let t = taken_ok (has_block 32 block table) (word_bytes (block_of 32 block table)) bytes InvalidField h in
     subst IsAttribute t.1 (attributes.words (block_of 32 block table) (block_long 32 block table (omega arith) t.0))
 
-adapter_given : (held : AdapterState) (attribute : SmpAttribute) (modifier : ℕ) (bytes : List ℕ) → is_description held.description ≡ true → adapter_gives held attribute modifier ≡ Ok bytes → IsAttribute bytes
+pub adapter_given : (held : AdapterState) (attribute : SmpAttribute) (modifier : ℕ) (bytes : List ℕ) → is_description held.description ≡ true → adapter_gives held attribute modifier ≡ Ok bytes → IsAttribute bytes
 unfolding adapter_gives
 adapter_given held NodeDescription modifier bytes is h = whole_is modifier held.description bytes (described held.description is) h
 adapter_given held NodeInfo modifier bytes is h = whole_is modifier _ bytes (attributes.node_info _) h
@@ -166,7 +166,7 @@ adapter_given held SwitchInfo modifier bytes is h = absurd (cc)
 adapter_given held LinearForwardingTable modifier bytes is h = absurd (cc)
 adapter_given held MulticastForwardingTable modifier bytes is h = absurd (cc)
 
-switch_given : (held : SwitchState) (n : ℕ) (attribute : SmpAttribute) (modifier : ℕ) (bytes : List ℕ) → holds_attributes (Switch held) ≡ true → switch_gives n held attribute modifier ≡ Ok bytes → IsAttribute bytes
+pub switch_given : (held : SwitchState) (n : ℕ) (attribute : SmpAttribute) (modifier : ℕ) (bytes : List ℕ) → holds_attributes (Switch held) ≡ true → switch_gives n held attribute modifier ≡ Ok bytes → IsAttribute bytes
 unfolding switch_gives
 switch_given held n NodeDescription modifier bytes is h = whole_is modifier held.description bytes (described held.description (and_parts (is_description held.description) _ is).0) h
 switch_given held n NodeInfo modifier bytes is h = whole_is modifier _ bytes (attributes.node_info _) h

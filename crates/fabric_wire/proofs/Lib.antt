@@ -11,7 +11,10 @@ pub mod KeptLemmas
 pub mod TwoSwitchesLemmas
 pub mod ArrivalLemmas
 pub mod TellLemmas
+pub mod ReplyLemmas
 pub mod ExchangeLemmas
+pub mod HopByHopLemmas
+pub mod AnsweredLemmas
 pub mod MadeLemmas
 pub mod OfTopologyLemmas
 pub mod OfTopologyGuidLemmas

@@ -1,5 +1,5 @@
 -- What a Get learns: its reply carries what is given.
-use Rattle.std.proofs.Common.{ℕ, ◌≡◌, ◌⊎◌, ◌+◌, ◌-◌, ◌≤◌, ◌==◌, ◌∙◌, ◌&&◌, ap, refl, sym, inl, inr, Bool, true, false, nat_le, if◌then◌else◌, List, [], ◌∷◌, length, take, drop, slice_get, slice_set, Option, Some, None, option_map, Result, Ok, Err, arith}
+use Rattle.std.proofs.Common.{ℕ, ◌≡◌, ◌⊎◌, ◌+◌, ◌-◌, ◌≤◌, ◌==◌, ◌∙◌, ◌&&◌, ap, refl, sym, inl, inr, Bool, true, false, nat_le, if◌then◌else◌, List, length, take, drop, slice_get, slice_set, Option, Some, None, option_map, Result, Ok, Err, arith}
 use Rattle.std.specs.Int.Digits.{AllBelowBase}
 use Rattle.std.specs.Option.{ForSome, option_and_then}
 use Rattle.std.proofs.lemmas.Bool.Decides.{nat_tests}
@@ -11,11 +11,11 @@ use Rattle.mad_layout.specs.Layout.{at}
 use Rattle.mad_layout.specs.MadStatus.{mad_status_code}
 use Rattle.mad_layout.specs.declared.status.MadStatus.{MadStatus}
 use Rattle.mad_layout.specs.declared.status.MadStatus.TheVariants.{BadVersion, MethodNotSupported, AttributeNotSupported, InvalidField, NoResources, RequestInvalid, NoRecords, TooManyRecords, InvalidGid, InsufficientComponents}
-use Rattle.mad_layout.proofs.LayoutLemmas.{field-put_apart, length-put_all, length-put_field}
+use Rattle.mad_layout.proofs.LayoutLemmas.{field-put_apart, length-put_field}
 use Rattle.attr_tables.specs.AgentLaws.{IsAttribute}
 use Rattle.attr_tables.specs.Request.{attribute_asked, is_request, is_set, modifier_of}
 use Rattle.attr_tables.specs.Agent.{Getter, Setter, after, reply_of}
-use Rattle.attr_tables.specs.Request.{reply_method, reply_to}
+use Rattle.attr_tables.specs.Request.{reply_to}
 use Rattle.attr_tables.specs.SmpAttribute.{smp_attribute_code, smp_attribute_of}
 use Rattle.attr_tables.specs.declared.smp_attribute.SmpAttribute.{SmpAttribute}
 use Rattle.attr_tables.specs.declared.smp_attribute.SmpAttribute.TheVariants.{NodeDescription, NodeInfo, SwitchInfo, PortInfo, PKeyTable, LinearForwardingTable, MulticastForwardingTable}
@@ -34,6 +34,7 @@ use Rattle.fabric_wire.specs.Get.{AsksFor, GetsTell, IsGiven, Tells, attribute_i
 use Rattle.fabric_wire.specs.Good.{IsGood}
 use Rattle.fabric_wire.specs.Walk.{arrived, exchange_after, exchange_reply, last_of, returned, walk, walk_of}
 use Rattle.fabric_wire.proofs.HoldingLemmas.{AreAttributes, attributes_given, nothing_given}
+use Rattle.fabric_wire.proofs.ReplyLemmas.{reply_below, reply_long}
 use Rattle.fabric_wire.proofs.ArrivalLemmas.{IsCarrier, put_below, arrived_carries, both_of, walks_right}
 
 -- ---- one agent: a Get changes nothing, and is answered by what is given
@@ -117,16 +118,6 @@ carrier_gets attribute modifier path sent smp asks here = record {
 }
 
 -- ---- the answer as the subnet manager reads it
-reply_below : (smp : List ℕ) (given : Result (List ℕ) MadStatus) → AllBelowBase 256 (reply_to smp given)
-unfolding reply_to
-reply_below smp (Ok bytes) = put_below _ _ _ _
-reply_below smp (Err status) = put_below _ _ _ _
-
-reply_long : (smp : List ℕ) (given : Result (List ℕ) MadStatus) → length smp ≡ 256 → length (reply_to smp given) ≡ 256
-unfolding reply_to
-reply_long smp (Ok bytes) long = length-put_all smp (at 24 8 (reply_method smp) ∷ at 33 15 0 ∷ at 512 512 (number bytes) ∷ []) ∙ long
-reply_long smp (Err status) long = length-put_all smp (at 24 8 (reply_method smp) ∷ at 33 15 (mad_status_code status) ∷ []) ∙ long
-
 -- a field apart from the direction bit and the hop pointer
 returned_field : (reply : List ℕ) (off len : ℕ) → AllBelowBase 256 reply → length reply ≡ 256 → off + len ≤ 2048 → (off + len ≤ 32) ⊎ (33 ≤ off) → (off + len ≤ 48) ⊎ (56 ≤ off)
     → field (returned reply) off len ≡ field reply off len

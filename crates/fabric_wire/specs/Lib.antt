@@ -1,6 +1,7 @@
 pub mod FabricState
 pub mod Walk
 pub mod Hopping
+pub mod HopByHop
 pub mod Get
 pub mod Good
 pub mod OfTopology

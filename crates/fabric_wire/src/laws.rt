@@ -2,6 +2,7 @@
 
 ghost use Rattle.fabric_wire.specs.Good.{ExchangesKeepGood, ExchangesKeepLinks, ExchangesKeepJoined, IsGood, ShowsLinks, SwitchesJoined};
 ghost use Rattle.fabric_wire.specs.Get.{GetsTell};
+ghost use Rattle.fabric_wire.specs.HopByHop.{ExchangesGoByHops};
 ghost use Rattle.fabric_wire.specs.OfTopology.{TopologiesAreJoined, TopologiesGiveGood, TopologiesShowLinks};
 ghost use Rattle.fabric_wire.specs.TwoSwitches.{two_switches};
 
@@ -19,6 +20,13 @@ pub fn the_two_switch_fabric_is_good()
     ensures good { IsGood two_switches }
     ensures links { ShowsLinks two_switches }
     ensures joined { SwitchesJoined two_switches }
+{}
+
+/// The walk that answers an SMP is the way that the hop rules take it: in a good fabric a reply comes
+/// exactly where each node on the way out hands the SMP on over a cable until one gives it to its agent,
+/// and each on the way back hands on what that answers until it is at the subnet manager's node.
+pub fn exchanges_go_by_hops()
+    ensures { ExchangesGoByHops }
 {}
 
 /// A Get along a path leaves a good fabric as it was. It learns the 64 bytes that the agent at the end of

@@ -1,0 +1,268 @@
+-- In a good fabric the hop rules bring an answer home, and so a reply comes exactly where they do.
+use Rattle.std.proofs.Common.{ℕ, zero, suc, ◌≡◌, ◌≢◌, ◌+◌, ◌<◌, ◌==◌, ◌∙◌, ap, refl, sym, subst, inl, inr, Bool, true, false, List, [], ◌∷◌, length, Option, Some, None, option_map, arith}
+use Rattle.std.specs.Int.Digits.{AllBelowBase}
+use Rattle.std.specs.List.{list_all}
+use Rattle.std.proofs.lemmas.Bool.{and_parts, eqb-true, false≢true}
+use Rattle.std.proofs.lemmas.List.{length-set}
+use Rattle.mad_layout.proofs.LayoutLemmas.{length-put_field}
+use Rattle.smp_route.specs.declared.hop.Hop.{Hop}
+use Rattle.smp_route.specs.declared.hop.Hop.TheVariants.{Forward, ToAgent, ToManager, Discard}
+use Rattle.smp_route.specs.Places.{count, turned_round, with_pointer, with_return_port}
+use Rattle.topo_file.specs.declared.cable.PortRef.{PortRef}
+use Rattle.fabric_wire.specs.declared.walking.Arrival.{Arrival}
+use Rattle.fabric_wire.specs.FabricState.{FabricState, after_at, far_end, reply_at}
+use Rattle.fabric_wire.specs.Good.{IsGood, is_right}
+use Rattle.fabric_wire.specs.HopByHop.{ComesHome, ExchangesGoByHops, Goes, IsAnswered, Reaches, Visit, back_from, out_from}
+use Rattle.fabric_wire.specs.Hopping.{node_type_at}
+use Rattle.fabric_wire.specs.Walk.{arrival_of, arrived, exchange_after, exchange_reply, is_sent, last_of, path_of, returned, walk, with_return_ports}
+use Rattle.fabric_wire.proofs.ExchangeLemmas.{IsReady, ready_before}
+use Rattle.fabric_wire.proofs.HopByHopLemmas.{follows, found, is_sent_by, walk_ends}
+use Rattle.fabric_wire.proofs.OutwardLemmas.{begun}
+use Rattle.fabric_wire.proofs.ReplyLemmas.{replies}
+use Rattle.fabric_wire.proofs.ReturnLemmas.{IsComing, bare_port, came, goes, lost, set_out}
+
+abbrev visit : PortRef → ℕ → List ℕ → Visit
+visit at entered smp = record { node = at.node; entered = entered; smp = smp }
+
+-- ---- every way back to the subnet manager ends where the way of the definition does
+IsHome : FabricState → Bool → List ℕ → Visit → Type 0
+IsHome fabric home reply last = ((last.node == fabric.manager.node) ≡ home) × ((back_from fabric.nodes last).smp ≡ with_pointer 0 reply)
+
+back_follows : (fabric : FabricState) (home : Bool) (reply : List ℕ) (way : List Visit) (done : ℕ) (at : PortRef) (entered : ℕ) (smp : List ℕ) (last : Visit) → list_all (is_right fabric.nodes) fabric.cables ≡ true
+    → IsComing fabric.nodes fabric.cables fabric.manager.node home reply done at entered smp
+    → Goes fabric.cables (back_from fabric.nodes) (visit at entered smp) way last → (back_from fabric.nodes last).hop ≡ ToManager → IsHome fabric home reply last
+unfolding IsHome
+back_follows fabric home reply [] done at entered smp last right on is to =
+    let here : (back_from fabric.nodes (visit at entered smp)).hop ≡ ToManager = ap (λ (v : Visit). (back_from fabric.nodes v).hop) is ∙ to in
+    subst (λ (v : Visit). IsHome fabric home reply v) is (came fabric.nodes fabric.cables fabric.manager.node home reply done at entered smp right on here)
+back_follows fabric home reply (next ∷ later) done at entered smp last right on way to =
+    let pass = way.0 in
+    let there : PortRef = record { node = next.node; port = next.entered } in
+    let on_there = goes fabric.nodes fabric.cables fabric.manager.node home reply done at there entered smp pass.port right on pass.leaves pass.cable in
+    back_follows fabric home reply later (done + 1) there next.entered next.smp last right (rw pass.as_left on_there) way.1 to
+
+-- ---- where the definition leads home there is a way
+record FoundHome (fabric : FabricState) (reply : List ℕ) (here : Visit) : Type 0 where
+  pub way : List Visit
+  pub last : Visit
+  pub goes : Goes fabric.cables (back_from fabric.nodes) here way last
+  pub to_manager : (back_from fabric.nodes last).hop ≡ ToManager
+  pub home : last.node ≡ fabric.manager.node
+  pub smp_is : (back_from fabric.nodes last).smp ≡ with_pointer 0 reply
+
+home_by : (fabric : FabricState) (reply : List ℕ) (done : ℕ) (at : PortRef) (entered : ℕ) (smp : List ℕ) (hop : Hop) → list_all (is_right fabric.nodes) fabric.cables ≡ true
+    → IsComing fabric.nodes fabric.cables fabric.manager.node true reply done at entered smp
+    → (back_from fabric.nodes (visit at entered smp)).hop ≡ hop
+    → ((there : PortRef) (next : List ℕ) → IsComing fabric.nodes fabric.cables fabric.manager.node true reply (done + 1) there there.port next → FoundHome fabric reply (visit there there.port next))
+    → FoundHome fabric reply (visit at entered smp)
+home_by fabric reply done at entered smp ToManager right on to later =
+    let here = came fabric.nodes fabric.cables fabric.manager.node true reply done at entered smp right on to in
+    record { way = []; last = visit at entered smp; goes = refl; to_manager = to; home = eqb-true at.node fabric.manager.node here.0; smp_is = here.1 }
+home_by fabric reply done at entered smp ToAgent right on to later =
+    absurd (false≢true (lost fabric.nodes fabric.cables fabric.manager.node true reply done at entered smp right on ToAgent (sym to) (inl refl)))
+home_by fabric reply done at entered smp Discard right on to later =
+    absurd (false≢true (lost fabric.nodes fabric.cables fabric.manager.node true reply done at entered smp right on Discard (sym to) (inr refl)))
+home_by fabric reply done at entered smp (Forward port) right on to later = by_cable (far_end fabric.cables (record { node = at.node; port = port })) refl
+  where
+    by_cable : (end : Option PortRef) → far_end fabric.cables (record { node = at.node; port = port }) ≡ end → FoundHome fabric reply (visit at entered smp)
+    by_cable None is = absurd (false≢true (bare_port fabric.nodes fabric.cables fabric.manager.node true reply done at entered smp port right on to is))
+    by_cable (Some there) is =
+        let left = (back_from fabric.nodes (visit at entered smp)).smp in
+        let rest = later there left (goes fabric.nodes fabric.cables fabric.manager.node true reply done at there entered smp port right on to is) in
+        record { way = visit there there.port left ∷ rest.way; last = rest.last; goes = (record { port = port; leaves = to; cable = is; as_left = refl }, rest.goes); to_manager = rest.to_manager; home = rest.home; smp_is = rest.smp_is }
+
+home_within : (fabric : FabricState) (reply : List ℕ) (fuel done : ℕ) (at : PortRef) (entered : ℕ) (smp : List ℕ) → list_all (is_right fabric.nodes) fabric.cables ≡ true
+    → IsComing fabric.nodes fabric.cables fabric.manager.node true reply done at entered smp → count reply < done + fuel → FoundHome fabric reply (visit at entered smp)
+home_within fabric reply zero done at entered smp right on few = let hops = on.hops in absurd (omega (arith, hops, few))
+home_within fabric reply (suc fuel) done at entered smp right on few =
+    home_by fabric reply done at entered smp _ right on refl (λ there next on_there. home_within fabric reply fuel (done + 1) there there.port next right on_there (omega (arith, few)))
+
+-- ---- what an agent answers comes home as the definition says
+coming : (fabric : FabricState) (agent : PortRef) (turned : List ℕ) → length turned ≡ 256 → IsReady fabric.nodes fabric.cables fabric.manager agent turned
+    → IsComing fabric.nodes fabric.cables fabric.manager.node true turned 0 agent 0 turned
+coming fabric agent turned long ready =
+    subst (λ (home : Bool). IsComing fabric.nodes fabric.cables fabric.manager.node home turned 0 agent 0 turned) ready.home
+    (set_out fabric.nodes fabric.cables fabric.manager.node turned agent long ready.few ready.pointer_is)
+
+comes : (fabric : FabricState) (agent : PortRef) (answer : List ℕ) → length answer ≡ 256 → IsReady fabric.nodes fabric.cables fabric.manager agent (turned_round answer)
+    → ComesHome fabric agent.node answer (returned answer)
+comes fabric agent answer long ready =
+    let turned = turned_round answer in
+    let wide : length turned ≡ 256 = length-put_field answer 32 1 1 ∙ long in
+    let home = home_within fabric turned (count turned + 1) 0 agent 0 turned ready.right (coming fabric agent turned wide ready) (omega arith) in
+    record { way = home.way; last = home.last; goes = home.goes; to_manager = home.to_manager; home = home.home; reply_is = sym home.smp_is }
+
+only_reply : (fabric : FabricState) (agent : PortRef) (answer reply : List ℕ) → length answer ≡ 256 → IsReady fabric.nodes fabric.cables fabric.manager agent (turned_round answer)
+    → ComesHome fabric agent.node answer reply → reply ≡ returned answer
+unfolding IsHome
+only_reply fabric agent answer reply long ready home =
+    let turned = turned_round answer in
+    let wide : length turned ≡ 256 = length-put_field answer 32 1 1 ∙ long in
+    home.reply_is ∙ (back_follows fabric true turned home.way 0 agent 0 turned home.last ready.right (coming fabric agent turned wide ready) home.goes home.to_manager).1
+
+-- ---- the way out, as a walk
+not_dropped : (fabric : FabricState) (here last : Visit) (way : List Visit) → Goes fabric.cables (out_from fabric.nodes) here way last → (out_from fabric.nodes last).hop ≡ ToAgent
+    → (out_from fabric.nodes here).hop ≢ Discard
+not_dropped fabric here last [] is to dropped =
+    let clash : Discard ≡ ToAgent = sym dropped ∙ ap (λ (v : Visit). (out_from fabric.nodes v).hop) is ∙ to in
+    cc
+not_dropped fabric here last (next ∷ later) way to dropped =
+    let pass = way.0 in
+    let clash : Discard ≡ Forward pass.port = sym dropped ∙ pass.leaves in
+    cc
+
+pub record IsWalked (fabric : FabricState) (smp : List ℕ) (at : PortRef) (request : List ℕ) : Type 0 where
+  pub sent : is_sent smp ≡ true
+  pub ends : walk_ends fabric smp ≡ Some (record { at = at; smp = request })
+
+walked : (fabric : FabricState) (smp : List ℕ) (at : PortRef) (request : List ℕ) → IsGood fabric → length smp ≡ 256 → Reaches fabric smp at request → IsWalked fabric smp at request
+walked fabric smp at request good long reaches =
+    let sent = is_sent_by (node_type_at fabric.nodes fabric.manager.node) smp reaches.outgoing (not_dropped fabric (visit fabric.manager 0 smp) reaches.last reaches.way reaches.goes reaches.to_agent) in
+    let on = begun fabric.nodes fabric.cables fabric.manager smp long sent in
+    record {
+      sent = sent;
+      ends = sym (follows fabric smp reaches.way 0 fabric.manager 0 smp reaches.last good.cables on refl reaches.goes reaches.to_agent)
+          ∙ rw (reaches.at_is, reaches.request_is) refl;
+    }
+
+reached : (fabric : FabricState) (smp : List ℕ) (ends : List PortRef) → IsGood fabric → length smp ≡ 256 → is_sent smp ≡ true → walk fabric.nodes fabric.cables true fabric.manager (path_of smp) ≡ Some ends
+    → Reaches fabric smp (last_of fabric.manager ends) (arrived ends smp)
+reached fabric smp ends good long sent is =
+    let way = found fabric smp (arrival_of fabric.manager smp ends) good long sent (ap (option_map (arrival_of fabric.manager smp)) is) in
+    record {
+      outgoing = (and_parts _ _ sent).0;
+      way = way.way;
+      last = way.last;
+      goes = way.goes;
+      to_agent = way.to_agent;
+      at_is = ap (λ (a : Arrival). a.at) way.arrival_is;
+      request_is = ap (λ (a : Arrival). a.smp) way.arrival_is;
+    }
+
+-- ---- one exchange
+long_noted : (k : ℕ) (ends : List PortRef) (smp : List ℕ) → length (with_return_ports k ends smp) ≡ length smp
+long_noted k [] smp = refl
+long_noted k (end ∷ ends) smp = long_noted (k + 1) ends (with_return_port k end.port smp) ∙ length-set smp (192 + k) end.port
+
+long_arrived : (ends : List PortRef) (smp : List ℕ) → length (arrived ends smp) ≡ length smp
+long_arrived ends smp = length-set (with_return_ports 1 ends smp) 6 (count smp + 1) ∙ long_noted 1 ends smp
+
+-- what the agent at the end of a walk answers is ready to come home
+record IsAnswer (fabric : FabricState) (at : PortRef) (answer : List ℕ) : Type 0 where
+  pub long : length answer ≡ 256
+  pub ready : IsReady fabric.nodes fabric.cables fabric.manager at (turned_round answer)
+
+is_answer : (fabric : FabricState) (smp : List ℕ) (ends : List PortRef) (answer : List ℕ) → IsGood fabric → length smp ≡ 256 → AllBelowBase 256 smp → is_sent smp ≡ true
+    → walk fabric.nodes fabric.cables true fabric.manager (path_of smp) ≡ Some ends → reply_at fabric (last_of fabric.manager ends) (arrived ends smp) ≡ Some answer
+    → IsAnswer fabric (last_of fabric.manager ends) answer
+is_answer fabric smp ends answer good long below sent is answers =
+    let reply = replies fabric (last_of fabric.manager ends) (arrived ends smp) answer (long_arrived ends smp ∙ long) good.holdings answers in
+    record { long = reply.long; ready = ready_before fabric smp answer ends good sent below long is reply.below reply.long reply.keeps }
+
+not_sent_reply : (fabric : FabricState) (smp : List ℕ) → is_sent smp ≡ false → exchange_reply fabric smp ≡ None
+unfolding exchange_reply
+not_sent_reply fabric smp is = rw is refl
+
+not_sent_after : (fabric : FabricState) (smp : List ℕ) → is_sent smp ≡ false → exchange_after fabric smp ≡ fabric
+unfolding exchange_after
+not_sent_after fabric smp is = rw is refl
+
+no_walk_reply : (fabric : FabricState) (smp : List ℕ) → is_sent smp ≡ true → walk fabric.nodes fabric.cables true fabric.manager (path_of smp) ≡ None → exchange_reply fabric smp ≡ None
+unfolding exchange_reply
+no_walk_reply fabric smp sent is = rw (sent, is) refl
+
+no_walk_after : (fabric : FabricState) (smp : List ℕ) → is_sent smp ≡ true → walk fabric.nodes fabric.cables true fabric.manager (path_of smp) ≡ None → exchange_after fabric smp ≡ fabric
+unfolding exchange_after
+no_walk_after fabric smp sent is = rw (sent, is) refl
+
+walk_reply : (fabric : FabricState) (smp : List ℕ) (ends : List PortRef) → is_sent smp ≡ true → walk fabric.nodes fabric.cables true fabric.manager (path_of smp) ≡ Some ends
+    → exchange_reply fabric smp ≡ option_map returned (reply_at fabric (last_of fabric.manager ends) (arrived ends smp))
+unfolding exchange_reply
+walk_reply fabric smp ends sent is = rw (sent, is) refl
+
+walk_after : (fabric : FabricState) (smp : List ℕ) (ends : List PortRef) → is_sent smp ≡ true → walk fabric.nodes fabric.cables true fabric.manager (path_of smp) ≡ Some ends
+    → exchange_after fabric smp ≡ after_at fabric (last_of fabric.manager ends) (arrived ends smp)
+unfolding exchange_after
+walk_after fabric smp ends sent is = rw (sent, is) refl
+
+same_some : {X : Type 0} (x y : X) → Some x ≡ Some y → x ≡ y
+same_some x y e = cc
+
+-- a walk that reaches the agent at that port, as its list of ports
+record Walked (fabric : FabricState) (smp : List ℕ) (at : PortRef) (request : List ℕ) : Type 0 where
+  pub sent : is_sent smp ≡ true
+  pub ends : List PortRef
+  pub is : walk fabric.nodes fabric.cables true fabric.manager (path_of smp) ≡ Some ends
+  pub at_is : last_of fabric.manager ends ≡ at
+  pub request_is : arrived ends smp ≡ request
+
+walked_by : (fabric : FabricState) (smp : List ℕ) (at : PortRef) (request : List ℕ) (some : Option (List PortRef)) → is_sent smp ≡ true → walk fabric.nodes fabric.cables true fabric.manager (path_of smp) ≡ some
+    → option_map (arrival_of fabric.manager smp) some ≡ Some (record { at = at; smp = request }) → Walked fabric smp at request
+walked_by fabric smp at request None sent is ends = cc
+walked_by fabric smp at request (Some ends) sent is arrives =
+    let same = same_some _ _ arrives in
+    record { sent = sent; ends = ends; is = is; at_is = ap (λ (a : Arrival). a.at) same; request_is = ap (λ (a : Arrival). a.smp) same }
+
+as_walk : (fabric : FabricState) (smp : List ℕ) (at : PortRef) (request : List ℕ) → IsGood fabric → length smp ≡ 256 → Reaches fabric smp at request → Walked fabric smp at request
+as_walk fabric smp at request good long reaches =
+    let way = walked fabric smp at request good long reaches in
+    walked_by fabric smp at request _ way.sent refl way.ends
+
+-- ---- a reply comes only where hops bring it
+answered_by : (fabric : FabricState) (smp reply : List ℕ) (ends : List PortRef) (answer : Option (List ℕ)) → IsGood fabric → length smp ≡ 256 → AllBelowBase 256 smp → is_sent smp ≡ true
+    → walk fabric.nodes fabric.cables true fabric.manager (path_of smp) ≡ Some ends → reply_at fabric (last_of fabric.manager ends) (arrived ends smp) ≡ answer
+    → option_map returned answer ≡ Some reply → IsAnswered fabric smp reply
+answered_by fabric smp reply ends None good long below sent is answers replied = cc
+answered_by fabric smp reply ends (Some answer) good long below sent is answers replied =
+    let at = last_of fabric.manager ends in
+    let found = is_answer fabric smp ends answer good long below sent is answers in
+    record {
+      at = at;
+      request = arrived ends smp;
+      answer = answer;
+      reaches = reached fabric smp ends good long sent is;
+      answers = answers;
+      comes_home = subst (λ (one : List ℕ). ComesHome fabric at.node answer one) (same_some _ _ replied) (comes fabric at answer found.long found.ready);
+    }
+
+by_walk : (fabric : FabricState) (smp reply : List ℕ) (sent : Bool) (some : Option (List PortRef)) → IsGood fabric → length smp ≡ 256 → AllBelowBase 256 smp → is_sent smp ≡ sent
+    → walk fabric.nodes fabric.cables true fabric.manager (path_of smp) ≡ some → exchange_reply fabric smp ≡ Some reply → IsAnswered fabric smp reply
+by_walk fabric smp reply false some good long below sent is replied =
+    let none = not_sent_reply fabric smp sent in
+    cc
+by_walk fabric smp reply true None good long below sent is replied =
+    let none = no_walk_reply fabric smp sent is in
+    cc
+by_walk fabric smp reply true (Some ends) good long below sent is replied =
+    answered_by fabric smp reply ends _ good long below sent is refl (sym (walk_reply fabric smp ends sent is) ∙ replied)
+
+-- ---- and wherever they do
+by_hops : (fabric : FabricState) (smp reply : List ℕ) → IsGood fabric → length smp ≡ 256 → AllBelowBase 256 smp → IsAnswered fabric smp reply → exchange_reply fabric smp ≡ Some reply
+by_hops fabric smp reply good long below answered =
+    let way = as_walk fabric smp answered.at answered.request good long answered.reaches in
+    let at = last_of fabric.manager way.ends in
+    let answers : reply_at fabric at (arrived way.ends smp) ≡ Some answered.answer = rw (way.at_is, way.request_is) answered.answers in
+    let found = is_answer fabric smp way.ends answered.answer good long below way.sent way.is answers in
+    let home : ComesHome fabric at.node answered.answer reply = rw way.at_is answered.comes_home in
+    walk_reply fabric smp way.ends way.sent way.is ∙ ap (option_map returned) answers
+    ∙ ap (λ (one : List ℕ). Some one) (sym (only_reply fabric at answered.answer reply found.long found.ready home))
+
+-- ---- what the fabric is then
+changed : (fabric : FabricState) (smp : List ℕ) (at : PortRef) (request : List ℕ) → IsGood fabric → length smp ≡ 256 → Reaches fabric smp at request → exchange_after fabric smp ≡ after_at fabric at request
+changed fabric smp at request good long reaches =
+    let way = as_walk fabric smp at request good long reaches in
+    walk_after fabric smp way.ends way.sent way.is ∙ rw (way.at_is, way.request_is) refl
+
+unchanged : (fabric : FabricState) (smp : List ℕ) (sent : Bool) (some : Option (List PortRef)) → IsGood fabric → length smp ≡ 256 → is_sent smp ≡ sent
+    → walk fabric.nodes fabric.cables true fabric.manager (path_of smp) ≡ some → ((at : PortRef) (request : List ℕ) → Reaches fabric smp at request → ⊥) → exchange_after fabric smp ≡ fabric
+unchanged fabric smp false some good long sent is none = not_sent_after fabric smp sent
+unchanged fabric smp true None good long sent is none = no_walk_after fabric smp sent is
+unchanged fabric smp true (Some ends) good long sent is none = absurd (none (last_of fabric.manager ends) (arrived ends smp) (reached fabric smp ends good long sent is))
+
+pub exchanges_go_by_hops : ExchangesGoByHops
+exchanges_go_by_hops fabric smp good long below =
+    record {
+      replies = λ reply. (λ replied. by_walk fabric smp reply _ _ good long below refl refl replied, λ answered. by_hops fabric smp reply good long below answered);
+      change = λ at request reaches. changed fabric smp at request good long reaches;
+      no_change = λ none. unchanged fabric smp _ _ good long refl refl none;
+    }

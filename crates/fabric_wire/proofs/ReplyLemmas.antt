@@ -1,0 +1,107 @@
+-- What the agents of a good fabric reply: the request with its method, its status and an attribute.
+use Rattle.std.proofs.Common.{ℕ, ◌≡◌, ◌-◌, ◌==◌, ◌∙◌, ap, refl, subst, Bool, true, false, if◌then◌else◌, List, [], ◌∷◌, length, slice_get, Option, Some, None, Result, Ok, Err}
+use Rattle.std.specs.Int.Digits.{AllBelowBase}
+use Rattle.std.specs.List.{list_all}
+use Rattle.std.specs.Option.{option_and_then}
+use Rattle.mad_layout.specs.Bits.{number}
+use Rattle.mad_layout.specs.Layout.{at}
+use Rattle.mad_layout.specs.MadStatus.{mad_status_code}
+use Rattle.mad_layout.specs.declared.status.MadStatus.{MadStatus}
+use Rattle.mad_layout.proofs.LayoutLemmas.{length-put_all}
+use Rattle.attr_tables.specs.Agent.{◌>>=◌, Getter, Setter, after, answer, changed, reply_of}
+use Rattle.attr_tables.specs.AgentLaws.{IsAttribute}
+use Rattle.attr_tables.specs.Request.{KeepsRest, attribute_asked, is_request, modifier_of, reply_method, reply_to}
+use Rattle.attr_tables.specs.declared.smp_attribute.SmpAttribute.{SmpAttribute}
+use Rattle.attr_tables.proofs.AgentLemmas.{bind_ok}
+use Rattle.attr_tables.proofs.CarryLemmas.{carries}
+use Rattle.port_model.specs.AdapterState.{AdapterState}
+use Rattle.port_model.specs.Agent.{agent_reply as adapter_reply, agent_after as adapter_after, get as adapter_gives, set as adapter_set}
+use Rattle.switch_model.specs.Agent.{agent_reply as switch_reply, agent_after as switch_after, get as switch_gives, set as switch_set}
+use Rattle.switch_model.specs.SwitchState.{SwitchState}
+use Rattle.topo_file.specs.declared.cable.PortRef.{PortRef}
+use Rattle.fabric_wire.specs.declared.node.Node.{Node}
+use Rattle.fabric_wire.specs.declared.node.Node.TheVariants.{Switch, Adapter}
+use Rattle.fabric_wire.specs.FabricState.{FabricState, node_reply, reply_at}
+use Rattle.fabric_wire.specs.Good.{holds_attributes, is_description}
+use Rattle.fabric_wire.proofs.ArrivalLemmas.{put_below}
+use Rattle.fabric_wire.proofs.GoodLemmas.{same_port, same_switch}
+use Rattle.fabric_wire.proofs.HoldingLemmas.{adapter_given, all_there, switch_given}
+
+pub reply_below : (smp : List ℕ) (given : Result (List ℕ) MadStatus) → AllBelowBase 256 (reply_to smp given)
+unfolding reply_to
+reply_below smp (Ok bytes) = put_below _ _ _ _
+reply_below smp (Err status) = put_below _ _ _ _
+
+pub reply_long : (smp : List ℕ) (given : Result (List ℕ) MadStatus) → length smp ≡ 256 → length (reply_to smp given) ≡ 256
+unfolding reply_to
+reply_long smp (Ok bytes) long = length-put_all smp (at 24 8 (reply_method smp) ∷ at 33 15 0 ∷ at 512 512 (number bytes) ∷ []) ∙ long
+reply_long smp (Err status) long = length-put_all smp (at 24 8 (reply_method smp) ∷ at 33 15 (mad_status_code status) ∷ []) ∙ long
+
+pub record IsReply (request reply : List ℕ) : Type 0 where
+  pub keeps : KeepsRest request reply
+  pub long : length reply ≡ 256
+  pub below : AllBelowBase 256 reply
+
+is_reply : (smp : List ℕ) (given : Result (List ℕ) MadStatus) → length smp ≡ 256 → ((bytes : List ℕ) → given ≡ Ok bytes → IsAttribute bytes) → IsReply smp (reply_to smp given)
+is_reply smp (Ok bytes) long are = record { keeps = carries.rest smp bytes long (are bytes refl); long = reply_long smp (Ok bytes) long; below = reply_below smp (Ok bytes) }
+is_reply smp (Err status) long are = record { keeps = carries.rest_of_refused smp status long; long = reply_long smp (Err status) long; below = reply_below smp (Err status) }
+
+-- ---- one agent: what answers fills an attribute, where what is held afterwards does
+after_is : {S : Type 0} (setter : Setter S) (held next : S) (attribute : SmpAttribute) (smp : List ℕ) → is_request smp ≡ true → attribute_asked smp ≡ Ok attribute → changed setter held attribute smp ≡ Ok next
+    → after setter held smp ≡ next
+after_is setter held next attribute smp request asked done = rw (request, asked, done) refl
+
+spelled : {S : Type 0} (getter : Getter S) (setter : Setter S) (held : S) (smp bytes : List ℕ) (Holds : S → Type 0) → is_request smp ≡ true
+    → ((next : S) (attribute : SmpAttribute) → Holds next → getter next attribute (modifier_of smp) ≡ Ok bytes → IsAttribute bytes)
+    → Holds (after setter held smp) → answer getter setter held smp ≡ Ok bytes → IsAttribute bytes
+spelled getter setter held smp bytes Holds request each holds h =
+    let asked = bind_ok (attribute_asked smp) (λ attribute. changed setter held attribute smp >>= λ next. getter next attribute (modifier_of smp)) bytes h in
+    let done = bind_ok (changed setter held asked.0 smp) (λ next. getter next asked.0 (modifier_of smp)) bytes asked.2 in
+    each done.0 asked.0 (subst Holds (after_is setter held done.0 asked.0 smp request asked.1 done.1) holds) done.2
+
+replied_if : {S : Type 0} (getter : Getter S) (setter : Setter S) (held : S) (smp reply : List ℕ) (request : Bool) → is_request smp ≡ request → length smp ≡ 256
+    → (is_request smp ≡ true → (bytes : List ℕ) → answer getter setter held smp ≡ Ok bytes → IsAttribute bytes)
+    → (if request then Some (reply_to smp (answer getter setter held smp)) else None) ≡ Some reply → IsReply smp reply
+replied_if getter setter held smp reply true request long are h =
+    let same : reply_to smp (answer getter setter held smp) ≡ reply = cc in
+    subst (IsReply smp) same (is_reply smp (answer getter setter held smp) long (are request))
+replied_if getter setter held smp reply false request long are h = cc
+
+replied : {S : Type 0} (getter : Getter S) (setter : Setter S) (held : S) (smp reply : List ℕ) (Holds : S → Type 0) → length smp ≡ 256
+    → ((next : S) (attribute : SmpAttribute) (bytes : List ℕ) → Holds next → getter next attribute (modifier_of smp) ≡ Ok bytes → IsAttribute bytes)
+    → Holds (after setter held smp) → reply_of getter setter held smp ≡ Some reply → IsReply smp reply
+replied getter setter held smp reply Holds long each holds h =
+    replied_if getter setter held smp reply (is_request smp) refl long
+    (λ request bytes given. spelled getter setter held smp bytes Holds request (λ next attribute. each next attribute bytes) holds given) h
+
+-- ---- a node, and the node at a port
+adapter_replies : (ports : List AdapterState) (place : ℕ) (found : Option AdapterState) (smp reply : List ℕ) → length smp ≡ 256 → list_all (λ port. is_description port.description) ports ≡ true
+    → slice_get ports place ≡ found → option_and_then (λ port. adapter_reply port smp) found ≡ Some reply → IsReply smp reply
+unfolding adapter_reply adapter_after
+adapter_replies ports place None smp reply long all there h = cc
+adapter_replies ports place (Some port) smp reply long all there h =
+    let Holds : AdapterState → Type 0 = λ one. is_description one.description ≡ true in
+    let is = all_there (λ one. is_description one.description) ports place port all there in
+    replied adapter_gives adapter_set port smp reply Holds long (λ next attribute bytes holds given. adapter_given next attribute (modifier_of smp) bytes holds given)
+    (ap is_description (same_port port smp).description ∙ is) h
+
+port_replies : (none : Bool) (ports : List AdapterState) (place : ℕ) (smp reply : List ℕ) → length smp ≡ 256 → list_all (λ port. is_description port.description) ports ≡ true
+    → option_and_then (λ port. adapter_reply port smp) (if none then None else slice_get ports place) ≡ Some reply → IsReply smp reply
+port_replies true ports place smp reply long all h = cc
+port_replies false ports place smp reply long all h = adapter_replies ports place (slice_get ports place) smp reply long all refl h
+
+node_replies : (node : Node) (number : ℕ) (smp reply : List ℕ) → length smp ≡ 256 → holds_attributes node ≡ true → node_reply node number smp ≡ Some reply → IsReply smp reply
+unfolding node_reply switch_reply switch_after
+node_replies (Switch held) number smp reply long is h =
+    let Holds : SwitchState → Type 0 = λ one. holds_attributes (Switch one) ≡ true in
+    replied (switch_gives number) switch_set held smp reply Holds long (λ next attribute bytes holds given. switch_given next number attribute (modifier_of smp) bytes holds given)
+    ((same_switch held smp).holds is) h
+node_replies (Adapter ports) number smp reply long is h = port_replies (number == 0) ports (number - 1) smp reply long is h
+
+found_replies : (nodes : List Node) (place number : ℕ) (found : Option Node) (smp reply : List ℕ) → length smp ≡ 256 → list_all holds_attributes nodes ≡ true → slice_get nodes place ≡ found
+    → option_and_then (λ node. node_reply node number smp) found ≡ Some reply → IsReply smp reply
+found_replies nodes place number None smp reply long all there h = cc
+found_replies nodes place number (Some node) smp reply long all there h = node_replies node number smp reply long (all_there holds_attributes nodes place node all there) h
+
+pub replies : (fabric : FabricState) (at : PortRef) (smp reply : List ℕ) → length smp ≡ 256 → list_all holds_attributes fabric.nodes ≡ true → reply_at fabric at smp ≡ Some reply → IsReply smp reply
+replies fabric at smp reply long all h = found_replies fabric.nodes at.node at.port (slice_get fabric.nodes at.node) smp reply long all refl h
