@@ -12,6 +12,7 @@ pub mod TwoSwitchesLemmas
 pub mod ArrivalLemmas
 pub mod TellLemmas
 pub mod ReplyLemmas
+pub mod ChangeLemmas
 pub mod ExchangeLemmas
 pub mod HopByHopLemmas
 pub mod AnsweredLemmas

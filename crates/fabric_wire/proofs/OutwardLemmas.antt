@@ -22,7 +22,7 @@ use Rattle.fabric_wire.proofs.HopLemmas.{IsOnWay, Leaves, byte_kept, byte_left, 
 use Rattle.fabric_wire.proofs.HopLemmas.Leaves.{arrives, drops, passes}
 
 -- ---- the loop: at the beginning
-few_hops : (out start : Bool) (hops : ℕ) → out && (start && nat_le hops 63) ≡ true → (start ≡ true) × (hops ≤ 63)
+pub few_hops : (out start : Bool) (hops : ℕ) → out && (start && nat_le hops 63) ≡ true → (start ≡ true) × (hops ≤ 63)
 few_hops out start hops h =
     let parts = and_parts start (nat_le hops 63) (and_parts out (start && nat_le hops 63) h).1 in
     (parts.0, grind (arith, nat_tests, parts))

@@ -34,7 +34,7 @@ use Rattle.fabric_wire.specs.Get.{AsksFor, GetsTell, IsGiven, Tells, attribute_i
 use Rattle.fabric_wire.specs.Good.{IsGood}
 use Rattle.fabric_wire.specs.Walk.{arrived, exchange_after, exchange_reply, last_of, returned, walk, walk_of}
 use Rattle.fabric_wire.proofs.HoldingLemmas.{AreAttributes, attributes_given, nothing_given}
-use Rattle.fabric_wire.proofs.ReplyLemmas.{reply_below, reply_long}
+use Rattle.fabric_wire.proofs.ReplyLemmas.{reply_below, reply_long, returned_field}
 use Rattle.fabric_wire.proofs.ArrivalLemmas.{IsCarrier, put_below, arrived_carries, both_of, walks_right}
 
 -- ---- one agent: a Get changes nothing, and is answered by what is given
@@ -118,16 +118,6 @@ carrier_gets attribute modifier path sent smp asks here = record {
 }
 
 -- ---- the answer as the subnet manager reads it
--- a field apart from the direction bit and the hop pointer
-returned_field : (reply : List ℕ) (off len : ℕ) → AllBelowBase 256 reply → length reply ≡ 256 → off + len ≤ 2048 → (off + len ≤ 32) ⊎ (33 ≤ off) → (off + len ≤ 48) ⊎ (56 ≤ off)
-    → field (returned reply) off len ≡ field reply off len
-returned_field reply off len below long within one two =
-    let turned = put_field reply 32 1 1 in
-    let wide : length turned ≡ 256 = length-put_field reply 32 1 1 ∙ long in
-    ap (λ (xs : List ℕ). field xs off len) (byte_is_set turned 6 0 (put_below reply 32 1 1) (omega (arith, wide)) (omega arith))
-    ∙ field-put_apart turned 48 8 0 off len (omega (arith, wide)) (omega (arith, wide, within)) (omega arith) two
-    ∙ field-put_apart reply 32 1 1 off len (omega (arith, long)) (omega (arith, long, within)) (omega arith) one
-
 returned_below : (reply : List ℕ) → length reply ≡ 256 → AllBelowBase 256 (returned reply)
 returned_below reply long =
     let wide : length (put_field reply 32 1 1) ≡ 256 = length-put_field reply 32 1 1 ∙ long in

@@ -4,6 +4,7 @@ pub mod Hopping
 pub mod HopByHop
 pub mod Get
 pub mod Good
+pub mod Changes
 pub mod OfTopology
 pub mod TwoSwitches
 pub use Rattle.smp_route.specs.Places

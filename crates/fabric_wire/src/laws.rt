@@ -1,6 +1,7 @@
 //! The laws of fabrics and exchanges. Each function's contract is its law; it does nothing.
 
 ghost use Rattle.fabric_wire.specs.Good.{ExchangesKeepGood, ExchangesKeepLinks, ExchangesKeepJoined, IsGood, ShowsLinks, SwitchesJoined};
+ghost use Rattle.fabric_wire.specs.Changes.{ExchangesChangeWhatTheyName};
 ghost use Rattle.fabric_wire.specs.Get.{GetsTell};
 ghost use Rattle.fabric_wire.specs.HopByHop.{ExchangesGoByHops};
 ghost use Rattle.fabric_wire.specs.OfTopology.{TopologiesAreJoined, TopologiesGiveGood, TopologiesShowLinks};
@@ -20,6 +21,12 @@ pub fn the_two_switch_fabric_is_good()
     ensures good { IsGood two_switches }
     ensures links { ShowsLinks two_switches }
     ensures joined { SwitchesJoined two_switches }
+{}
+
+/// Whatever SMP is sent, it changes at most one node of a good fabric, that at the end of its walk, and of
+/// that what it names; and where no reply comes, or a refusal, or it sets nothing, all stays as it was.
+pub fn exchanges_change_what_they_name()
+    ensures { ExchangesChangeWhatTheyName }
 {}
 
 /// The walk that answers an SMP is the way that the hop rules take it: in a good fabric a reply comes
