@@ -1,24 +1,25 @@
 -- In a good fabric the hop rules bring an answer home, and so a reply comes exactly where they do.
-use Rattle.std.proofs.Common.{ℕ, zero, suc, ◌≡◌, ◌≢◌, ◌+◌, ◌<◌, ◌==◌, ◌∙◌, ap, refl, sym, subst, inl, inr, Bool, true, false, List, [], ◌∷◌, length, Option, Some, None, option_map, arith}
+use Rattle.std.proofs.Common.{ℕ, zero, suc, ◌≡◌, ◌≢◌, ◌+◌, ◌<◌, ◌==◌, ◌∙◌, ap, refl, sym, subst, inl, inr, Bool, true, List, [], ◌∷◌, length, Option, Some, None, option_map, arith}
 use Rattle.std.specs.Int.Digits.{AllBelowBase}
 use Rattle.std.specs.List.{list_all}
 use Rattle.std.proofs.lemmas.Bool.{and_parts, eqb-true, false≢true}
-use Rattle.std.proofs.lemmas.List.{length-set}
+use Rattle.std.proofs.lemmas.Option.{same_Some}
 use Rattle.mad_layout.proofs.LayoutLemmas.{length-put_field}
 use Rattle.smp_route.specs.declared.hop.Hop.{Hop}
 use Rattle.smp_route.specs.declared.hop.Hop.TheVariants.{Forward, ToAgent, ToManager, Discard}
-use Rattle.smp_route.specs.Places.{count, turned_round, with_pointer, with_return_port}
+use Rattle.smp_route.specs.Places.{count, turned_round, with_pointer}
 use Rattle.topo_file.specs.declared.cable.PortRef.{PortRef}
 use Rattle.fabric_wire.specs.declared.walking.Arrival.{Arrival}
 use Rattle.fabric_wire.specs.FabricState.{FabricState, after_at, far_end, reply_at}
 use Rattle.fabric_wire.specs.Good.{IsGood, is_right}
 use Rattle.fabric_wire.specs.HopByHop.{ComesHome, ExchangesGoByHops, Goes, IsAnswered, Reaches, Visit, back_from, out_from}
 use Rattle.fabric_wire.specs.Hopping.{node_type_at}
-use Rattle.fabric_wire.specs.Walk.{arrival_of, arrived, exchange_after, exchange_reply, is_sent, last_of, path_of, returned, walk, with_return_ports}
+use Rattle.fabric_wire.specs.Walk.{arrival_of, arrived, exchange_after, exchange_reply, last_of, path_of, returned, walk, walk_of}
 use Rattle.fabric_wire.proofs.ExchangeLemmas.{IsReady, ready_before}
-use Rattle.fabric_wire.proofs.HopByHopLemmas.{follows, found, is_sent_by, walk_ends}
+use Rattle.fabric_wire.proofs.HopByHopLemmas.{follows, found, is_sent_by}
 use Rattle.fabric_wire.proofs.OutwardLemmas.{begun}
 use Rattle.fabric_wire.proofs.ReplyLemmas.{replies}
+use Rattle.fabric_wire.proofs.WalkedLemmas.{carried, no_walk_after, no_walk_reply, walk_after, walk_reply, walks}
 use Rattle.fabric_wire.proofs.ReturnLemmas.{IsComing, bare_port, came, goes, lost, set_out}
 
 abbrev visit : PortRef → ℕ → List ℕ → Visit
@@ -111,26 +112,33 @@ not_dropped fabric here last (next ∷ later) way to dropped =
     let clash : Discard ≡ Forward pass.port = sym dropped ∙ pass.leaves in
     cc
 
-pub record IsWalked (fabric : FabricState) (smp : List ℕ) (at : PortRef) (request : List ℕ) : Type 0 where
-  pub sent : is_sent smp ≡ true
-  pub ends : walk_ends fabric smp ≡ Some (record { at = at; smp = request })
+-- a walk to the agent at that port, and the SMP as the agent gets it
+record WalksTo (fabric : FabricState) (smp : List ℕ) (at : PortRef) (request : List ℕ) : Type 0 where
+  pub ends : List PortRef
+  pub is : walk_of fabric smp ≡ Some ends
+  pub at_is : last_of fabric.manager ends ≡ at
+  pub request_is : arrived ends smp ≡ request
 
-walked : (fabric : FabricState) (smp : List ℕ) (at : PortRef) (request : List ℕ) → IsGood fabric → length smp ≡ 256 → Reaches fabric smp at request → IsWalked fabric smp at request
-walked fabric smp at request good long reaches =
+walks_to : (fabric : FabricState) (smp : List ℕ) (at : PortRef) (request : List ℕ) (walked : Option (List PortRef)) → walk_of fabric smp ≡ walked
+    → option_map (arrival_of fabric.manager smp) walked ≡ Some (record { at = at; smp = request }) → WalksTo fabric smp at request
+walks_to fabric smp at request None is arrives = cc
+walks_to fabric smp at request (Some ends) is arrives =
+    let same = same_Some _ _ arrives in
+    record { ends = ends; is = is; at_is = ap (λ (a : Arrival). a.at) same; request_is = ap (λ (a : Arrival). a.smp) same }
+
+as_walk : (fabric : FabricState) (smp : List ℕ) (at : PortRef) (request : List ℕ) → IsGood fabric → length smp ≡ 256 → Reaches fabric smp at request → WalksTo fabric smp at request
+as_walk fabric smp at request good long reaches =
     let sent = is_sent_by (node_type_at fabric.nodes fabric.manager.node) smp reaches.outgoing (not_dropped fabric (visit fabric.manager 0 smp) reaches.last reaches.way reaches.goes reaches.to_agent) in
     let on = begun fabric.nodes fabric.cables fabric.manager smp long sent in
-    record {
-      sent = sent;
-      ends = sym (follows fabric smp reaches.way 0 fabric.manager 0 smp reaches.last good.cables on refl reaches.goes reaches.to_agent)
-          ∙ rw (reaches.at_is, reaches.request_is) refl;
-    }
+    let ends = follows fabric smp reaches.way 0 fabric.manager 0 smp reaches.last good.cables on refl reaches.goes reaches.to_agent in
+    walks_to fabric smp at request (walk fabric.nodes fabric.cables true fabric.manager (path_of smp)) (rw sent refl) (sym ends ∙ rw (reaches.at_is, reaches.request_is) refl)
 
-reached : (fabric : FabricState) (smp : List ℕ) (ends : List PortRef) → IsGood fabric → length smp ≡ 256 → is_sent smp ≡ true → walk fabric.nodes fabric.cables true fabric.manager (path_of smp) ≡ Some ends
-    → Reaches fabric smp (last_of fabric.manager ends) (arrived ends smp)
-reached fabric smp ends good long sent is =
-    let way = found fabric smp (arrival_of fabric.manager smp ends) good long sent (ap (option_map (arrival_of fabric.manager smp)) is) in
+as_hops : (fabric : FabricState) (smp : List ℕ) (ends : List PortRef) → IsGood fabric → length smp ≡ 256 → walk_of fabric smp ≡ Some ends → Reaches fabric smp (last_of fabric.manager ends) (arrived ends smp)
+as_hops fabric smp ends good long is =
+    let so = walks fabric smp ends is in
+    let way = found fabric smp (arrival_of fabric.manager smp ends) good long so.sent (ap (option_map (arrival_of fabric.manager smp)) so.walked) in
     record {
-      outgoing = (and_parts _ _ sent).0;
+      outgoing = (and_parts _ _ so.sent).0;
       way = way.way;
       last = way.last;
       goes = way.goes;
@@ -139,102 +147,38 @@ reached fabric smp ends good long sent is =
       request_is = ap (λ (a : Arrival). a.smp) way.arrival_is;
     }
 
--- ---- one exchange
-long_noted : (k : ℕ) (ends : List PortRef) (smp : List ℕ) → length (with_return_ports k ends smp) ≡ length smp
-long_noted k [] smp = refl
-long_noted k (end ∷ ends) smp = long_noted (k + 1) ends (with_return_port k end.port smp) ∙ length-set smp (192 + k) end.port
-
-long_arrived : (ends : List PortRef) (smp : List ℕ) → length (arrived ends smp) ≡ length smp
-long_arrived ends smp = length-set (with_return_ports 1 ends smp) 6 (count smp + 1) ∙ long_noted 1 ends smp
-
--- what the agent at the end of a walk answers is ready to come home
+-- ---- what the agent at the end of a walk answers is ready to come home
 record IsAnswer (fabric : FabricState) (at : PortRef) (answer : List ℕ) : Type 0 where
   pub long : length answer ≡ 256
   pub ready : IsReady fabric.nodes fabric.cables fabric.manager at (turned_round answer)
 
-is_answer : (fabric : FabricState) (smp : List ℕ) (ends : List PortRef) (answer : List ℕ) → IsGood fabric → length smp ≡ 256 → AllBelowBase 256 smp → is_sent smp ≡ true
-    → walk fabric.nodes fabric.cables true fabric.manager (path_of smp) ≡ Some ends → reply_at fabric (last_of fabric.manager ends) (arrived ends smp) ≡ Some answer
-    → IsAnswer fabric (last_of fabric.manager ends) answer
-is_answer fabric smp ends answer good long below sent is answers =
-    let reply = replies fabric (last_of fabric.manager ends) (arrived ends smp) answer (long_arrived ends smp ∙ long) good.holdings answers in
-    record { long = reply.long; ready = ready_before fabric smp answer ends good sent below long is reply.below reply.long reply.keeps }
-
-not_sent_reply : (fabric : FabricState) (smp : List ℕ) → is_sent smp ≡ false → exchange_reply fabric smp ≡ None
-unfolding exchange_reply
-not_sent_reply fabric smp is = rw is refl
-
-not_sent_after : (fabric : FabricState) (smp : List ℕ) → is_sent smp ≡ false → exchange_after fabric smp ≡ fabric
-unfolding exchange_after
-not_sent_after fabric smp is = rw is refl
-
-no_walk_reply : (fabric : FabricState) (smp : List ℕ) → is_sent smp ≡ true → walk fabric.nodes fabric.cables true fabric.manager (path_of smp) ≡ None → exchange_reply fabric smp ≡ None
-unfolding exchange_reply
-no_walk_reply fabric smp sent is = rw (sent, is) refl
-
-no_walk_after : (fabric : FabricState) (smp : List ℕ) → is_sent smp ≡ true → walk fabric.nodes fabric.cables true fabric.manager (path_of smp) ≡ None → exchange_after fabric smp ≡ fabric
-unfolding exchange_after
-no_walk_after fabric smp sent is = rw (sent, is) refl
-
-walk_reply : (fabric : FabricState) (smp : List ℕ) (ends : List PortRef) → is_sent smp ≡ true → walk fabric.nodes fabric.cables true fabric.manager (path_of smp) ≡ Some ends
-    → exchange_reply fabric smp ≡ option_map returned (reply_at fabric (last_of fabric.manager ends) (arrived ends smp))
-unfolding exchange_reply
-walk_reply fabric smp ends sent is = rw (sent, is) refl
-
-walk_after : (fabric : FabricState) (smp : List ℕ) (ends : List PortRef) → is_sent smp ≡ true → walk fabric.nodes fabric.cables true fabric.manager (path_of smp) ≡ Some ends
-    → exchange_after fabric smp ≡ after_at fabric (last_of fabric.manager ends) (arrived ends smp)
-unfolding exchange_after
-walk_after fabric smp ends sent is = rw (sent, is) refl
-
-same_some : {X : Type 0} (x y : X) → Some x ≡ Some y → x ≡ y
-same_some x y e = cc
-
--- a walk that reaches the agent at that port, as its list of ports
-record Walked (fabric : FabricState) (smp : List ℕ) (at : PortRef) (request : List ℕ) : Type 0 where
-  pub sent : is_sent smp ≡ true
-  pub ends : List PortRef
-  pub is : walk fabric.nodes fabric.cables true fabric.manager (path_of smp) ≡ Some ends
-  pub at_is : last_of fabric.manager ends ≡ at
-  pub request_is : arrived ends smp ≡ request
-
-walked_by : (fabric : FabricState) (smp : List ℕ) (at : PortRef) (request : List ℕ) (some : Option (List PortRef)) → is_sent smp ≡ true → walk fabric.nodes fabric.cables true fabric.manager (path_of smp) ≡ some
-    → option_map (arrival_of fabric.manager smp) some ≡ Some (record { at = at; smp = request }) → Walked fabric smp at request
-walked_by fabric smp at request None sent is ends = cc
-walked_by fabric smp at request (Some ends) sent is arrives =
-    let same = same_some _ _ arrives in
-    record { sent = sent; ends = ends; is = is; at_is = ap (λ (a : Arrival). a.at) same; request_is = ap (λ (a : Arrival). a.smp) same }
-
-as_walk : (fabric : FabricState) (smp : List ℕ) (at : PortRef) (request : List ℕ) → IsGood fabric → length smp ≡ 256 → Reaches fabric smp at request → Walked fabric smp at request
-as_walk fabric smp at request good long reaches =
-    let way = walked fabric smp at request good long reaches in
-    walked_by fabric smp at request _ way.sent refl way.ends
+is_answer : (fabric : FabricState) (smp : List ℕ) (ends : List PortRef) (answer : List ℕ) → IsGood fabric → length smp ≡ 256 → AllBelowBase 256 smp → walk_of fabric smp ≡ Some ends
+    → reply_at fabric (last_of fabric.manager ends) (arrived ends smp) ≡ Some answer → IsAnswer fabric (last_of fabric.manager ends) answer
+is_answer fabric smp ends answer good long below is answers =
+    let so = walks fabric smp ends is in
+    let reply = replies fabric (last_of fabric.manager ends) (arrived ends smp) answer (carried fabric smp ends good long below is).long good.holdings answers in
+    record { long = reply.long; ready = ready_before fabric smp answer ends good so.sent below long so.walked reply.below reply.long reply.keeps }
 
 -- ---- a reply comes only where hops bring it
-answered_by : (fabric : FabricState) (smp reply : List ℕ) (ends : List PortRef) (answer : Option (List ℕ)) → IsGood fabric → length smp ≡ 256 → AllBelowBase 256 smp → is_sent smp ≡ true
-    → walk fabric.nodes fabric.cables true fabric.manager (path_of smp) ≡ Some ends → reply_at fabric (last_of fabric.manager ends) (arrived ends smp) ≡ answer
-    → option_map returned answer ≡ Some reply → IsAnswered fabric smp reply
-answered_by fabric smp reply ends None good long below sent is answers replied = cc
-answered_by fabric smp reply ends (Some answer) good long below sent is answers replied =
+answered_by : (fabric : FabricState) (smp reply : List ℕ) (ends : List PortRef) (answer : Option (List ℕ)) → IsGood fabric → length smp ≡ 256 → AllBelowBase 256 smp → walk_of fabric smp ≡ Some ends
+    → reply_at fabric (last_of fabric.manager ends) (arrived ends smp) ≡ answer → option_map returned answer ≡ Some reply → IsAnswered fabric smp reply
+answered_by fabric smp reply ends None good long below is answers replied = cc
+answered_by fabric smp reply ends (Some answer) good long below is answers replied =
     let at = last_of fabric.manager ends in
-    let found = is_answer fabric smp ends answer good long below sent is answers in
+    let one = is_answer fabric smp ends answer good long below is answers in
     record {
       at = at;
       request = arrived ends smp;
       answer = answer;
-      reaches = reached fabric smp ends good long sent is;
+      reaches = as_hops fabric smp ends good long is;
       answers = answers;
-      comes_home = subst (λ (one : List ℕ). ComesHome fabric at.node answer one) (same_some _ _ replied) (comes fabric at answer found.long found.ready);
+      comes_home = subst (λ (home : List ℕ). ComesHome fabric at.node answer home) (same_Some _ _ replied) (comes fabric at answer one.long one.ready);
     }
 
-by_walk : (fabric : FabricState) (smp reply : List ℕ) (sent : Bool) (some : Option (List PortRef)) → IsGood fabric → length smp ≡ 256 → AllBelowBase 256 smp → is_sent smp ≡ sent
-    → walk fabric.nodes fabric.cables true fabric.manager (path_of smp) ≡ some → exchange_reply fabric smp ≡ Some reply → IsAnswered fabric smp reply
-by_walk fabric smp reply false some good long below sent is replied =
-    let none = not_sent_reply fabric smp sent in
-    cc
-by_walk fabric smp reply true None good long below sent is replied =
-    let none = no_walk_reply fabric smp sent is in
-    cc
-by_walk fabric smp reply true (Some ends) good long below sent is replied =
-    answered_by fabric smp reply ends _ good long below sent is refl (sym (walk_reply fabric smp ends sent is) ∙ replied)
+only_by_hops : (fabric : FabricState) (smp reply : List ℕ) (walked : Option (List PortRef)) → IsGood fabric → length smp ≡ 256 → AllBelowBase 256 smp → walk_of fabric smp ≡ walked
+    → exchange_reply fabric smp ≡ Some reply → IsAnswered fabric smp reply
+only_by_hops fabric smp reply None good long below is replied = let none = no_walk_reply fabric smp is in cc
+only_by_hops fabric smp reply (Some ends) good long below is replied = answered_by fabric smp reply ends _ good long below is refl (sym (walk_reply fabric smp ends is) ∙ replied)
 
 -- ---- and wherever they do
 by_hops : (fabric : FabricState) (smp reply : List ℕ) → IsGood fabric → length smp ≡ 256 → AllBelowBase 256 smp → IsAnswered fabric smp reply → exchange_reply fabric smp ≡ Some reply
@@ -242,27 +186,25 @@ by_hops fabric smp reply good long below answered =
     let way = as_walk fabric smp answered.at answered.request good long answered.reaches in
     let at = last_of fabric.manager way.ends in
     let answers : reply_at fabric at (arrived way.ends smp) ≡ Some answered.answer = rw (way.at_is, way.request_is) answered.answers in
-    let found = is_answer fabric smp way.ends answered.answer good long below way.sent way.is answers in
+    let one = is_answer fabric smp way.ends answered.answer good long below way.is answers in
     let home : ComesHome fabric at.node answered.answer reply = rw way.at_is answered.comes_home in
-    walk_reply fabric smp way.ends way.sent way.is ∙ ap (option_map returned) answers
-    ∙ ap (λ (one : List ℕ). Some one) (sym (only_reply fabric at answered.answer reply found.long found.ready home))
+    walk_reply fabric smp way.ends way.is ∙ ap (option_map returned) answers ∙ ap (λ (reply : List ℕ). Some reply) (sym (only_reply fabric at answered.answer reply one.long one.ready home))
 
 -- ---- what the fabric is then
 changed : (fabric : FabricState) (smp : List ℕ) (at : PortRef) (request : List ℕ) → IsGood fabric → length smp ≡ 256 → Reaches fabric smp at request → exchange_after fabric smp ≡ after_at fabric at request
 changed fabric smp at request good long reaches =
     let way = as_walk fabric smp at request good long reaches in
-    walk_after fabric smp way.ends way.sent way.is ∙ rw (way.at_is, way.request_is) refl
+    walk_after fabric smp way.ends way.is ∙ rw (way.at_is, way.request_is) refl
 
-unchanged : (fabric : FabricState) (smp : List ℕ) (sent : Bool) (some : Option (List PortRef)) → IsGood fabric → length smp ≡ 256 → is_sent smp ≡ sent
-    → walk fabric.nodes fabric.cables true fabric.manager (path_of smp) ≡ some → ((at : PortRef) (request : List ℕ) → Reaches fabric smp at request → ⊥) → exchange_after fabric smp ≡ fabric
-unchanged fabric smp false some good long sent is none = not_sent_after fabric smp sent
-unchanged fabric smp true None good long sent is none = no_walk_after fabric smp sent is
-unchanged fabric smp true (Some ends) good long sent is none = absurd (none (last_of fabric.manager ends) (arrived ends smp) (reached fabric smp ends good long sent is))
+unchanged : (fabric : FabricState) (smp : List ℕ) (walked : Option (List PortRef)) → IsGood fabric → length smp ≡ 256 → walk_of fabric smp ≡ walked
+    → ((at : PortRef) (request : List ℕ) → Reaches fabric smp at request → ⊥) → exchange_after fabric smp ≡ fabric
+unchanged fabric smp None good long is none = no_walk_after fabric smp is
+unchanged fabric smp (Some ends) good long is none = absurd (none (last_of fabric.manager ends) (arrived ends smp) (as_hops fabric smp ends good long is))
 
 pub exchanges_go_by_hops : ExchangesGoByHops
 exchanges_go_by_hops fabric smp good long below =
     record {
-      replies = λ reply. (λ replied. by_walk fabric smp reply _ _ good long below refl refl replied, λ answered. by_hops fabric smp reply good long below answered);
+      replies = λ reply. (λ replied. only_by_hops fabric smp reply _ good long below refl replied, λ answered. by_hops fabric smp reply good long below answered);
       change = λ at request reaches. changed fabric smp at request good long reaches;
-      no_change = λ none. unchanged fabric smp _ _ good long refl refl none;
+      no_change = λ none. unchanged fabric smp _ good long refl none;
     }

@@ -1,10 +1,11 @@
 -- The SMP as it arrives asks what was asked, and the ports of its walk are bytes.
-use Rattle.std.proofs.Common.{ℕ, zero, suc, ◌≡◌, ◌+◌, ◌*◌, ◌<◌, ◌≤◌, ◌∙◌, ◌&&◌, ap, refl, sym, Bool, true, false, nat_le, ◌^◌, if◌then◌else◌, List, [], ◌∷◌, length, find, slice_get, slice_set, Option, Some, None, option_map, arith}
+use Rattle.std.proofs.Common.{ℕ, suc, ◌≡◌, ◌+◌, ◌*◌, ◌<◌, ◌≤◌, ◌∙◌, ◌&&◌, ap, refl, sym, Bool, true, false, nat_le, ◌^◌, if◌then◌else◌, List, [], ◌∷◌, length, find, slice_get, slice_set, Option, Some, None, option_map, arith}
 use Rattle.std.specs.Int.Digits.{AllBelowBase}
 use Rattle.std.specs.List.{list_all}
 use Rattle.std.specs.Option.{option_and_then, option_map_or}
-use Rattle.std.proofs.lemmas.Bool.{false≢true}
+use Rattle.std.proofs.lemmas.Bool.{and_parts}
 use Rattle.std.proofs.lemmas.Bool.Decides.{nat_tests}
+use Rattle.std.proofs.lemmas.Option.{same_Some}
 use Rattle.mad_layout.specs.Bits.{number, put_field}
 use Rattle.mad_layout.proofs.AlignedLemmas.{byte_is_set}
 use Rattle.mad_layout.specs.Layout.{at}
@@ -22,6 +23,7 @@ use Rattle.fabric_wire.specs.declared.node.Node.TheVariants.{Switch, Adapter}
 use Rattle.fabric_wire.specs.FabricState.{FabricState, far_end, is_port, other_end, port_count}
 use Rattle.fabric_wire.specs.Good.{IsGood, has_a_right_count, is_right}
 use Rattle.fabric_wire.specs.Walk.{arrived, hands_on, hop, walk, with_return_ports}
+use Rattle.fabric_wire.proofs.HoldingLemmas.{all_there}
 
 -- ---- bytes that agents do not look at
 pub record IsCarrier (sent smp : List ℕ) : Type 0 where
@@ -76,30 +78,18 @@ arrived_carries sent ends below long hops few bytes =
     (noted_carries sent sent 1 ends (record { asks = record { request = refl; set = refl; attribute = refl; modifier = refl; setting = refl; linear_fdb_top = refl; words = refl; ports = refl }; below = below; long = long }) (omega (arith, hops, few)) bytes)
     (omega arith) (omega (arith, few)) refl
 
-pub both_of : (a b : Bool) → a && b ≡ true → (a ≡ true) × (b ≡ true)
-both_of true b h = (refl, h)
-both_of false b h = absurd (false≢true h)
-
-same_some : {X : Type 0} (x y : X) → Some x ≡ Some y → x ≡ y
-same_some x y e = cc
-
 pick : {X : Type 0} (p : X → Bool) (b : Bool) (y x : X) (rest : Option X) → (if b then Some y else rest) ≡ Some x → p y ≡ true → (rest ≡ Some x → p x ≡ true) → p x ≡ true
-pick p true y x rest found here later = ap p (sym (same_some y x found)) ∙ here
+pick p true y x rest found here later = ap p (sym (same_Some y x found)) ∙ here
 pick p false y x rest found here later = later found
 
 find_all : {X : Type 0} (p q : X → Bool) (xs : List X) (x : X) → list_all p xs ≡ true → find q xs ≡ Some x → p x ≡ true
 find_all p q [] x all found = cc
 find_all p q (y ∷ ys) x all found =
-    let parts = both_of (p y) (list_all p ys) all in
+    let parts = and_parts (p y) (list_all p ys) all in
     pick p (q y) y x (find q ys) found parts.0 (λ h. find_all p q ys x parts.1 h)
 
-get_all : {X : Type 0} (p : X → Bool) (xs : List X) (i : ℕ) (x : X) → list_all p xs ≡ true → slice_get xs i ≡ Some x → p x ≡ true
-get_all p [] i x all there = cc
-get_all p (y ∷ ys) zero x all there = ap p (sym (same_some y x there)) ∙ (both_of (p y) (list_all p ys) all).0
-get_all p (y ∷ ys) (suc k) x all there = get_all p ys k x (both_of (p y) (list_all p ys) all).1 there
-
 below : (n most : ℕ) → nat_le 1 n && nat_le n most ≡ true → n ≤ most
-below n most h = let part = (both_of (nat_le 1 n) (nat_le n most) h).1 in grind (arith, nat_tests, part)
+below n most h = let part = (and_parts (nat_le 1 n) (nat_le n most) h).1 in grind (arith, nat_tests, part)
 
 few_ports : (node : Node) → has_a_right_count node ≡ true → port_count node ≤ 36
 few_ports (Switch held) h = below (num_ports held) 36 h
@@ -111,22 +101,22 @@ few_at nodes (Some node) right = few_ports node (right node refl)
 
 port_small : (nodes : List Node) (at : PortRef) → list_all has_a_right_count nodes ≡ true → is_port nodes at ≡ true → at.port < 256
 port_small nodes at right is =
-    let few = few_at nodes (slice_get nodes at.node) (λ node there. get_all has_a_right_count nodes at.node node right there) in
+    let few = few_at nodes (slice_get nodes at.node) (λ node there. all_there has_a_right_count nodes at.node node right there) in
     let within = below at.port (option_map_or port_count (slice_get nodes at.node) 0) is in
     omega (arith, few, within)
 
 other_small : (fabric : FabricState) (here : PortRef) (cable : Cable) (b : Bool) → IsGood fabric → is_right fabric.nodes cable ≡ true
     → (if b then cable.second else cable.first).port < 256
 other_small fabric here cable true good right =
-    port_small fabric.nodes cable.second good.counts (both_of _ _ (both_of _ _ right).1).0
-other_small fabric here cable false good right = port_small fabric.nodes cable.first good.counts (both_of _ _ right).0
+    port_small fabric.nodes cable.second good.counts (and_parts _ _ (and_parts _ _ right).1).0
+other_small fabric here cable false good right = port_small fabric.nodes cable.first good.counts (and_parts _ _ right).0
 
 far_small : (fabric : FabricState) (here there : PortRef) (found : Option Cable) → IsGood fabric → ((cable : Cable) → found ≡ Some cable → is_right fabric.nodes cable ≡ true)
     → option_map (other_end here) found ≡ Some there → there.port < 256
 far_small fabric here there None good right is = cc
 far_small fabric here there (Some cable) good right is =
     let small = other_small fabric here cable (is_same_port cable.first here) good (right cable refl) in
-    rw (sym (same_some _ _ is)) small
+    rw (sym (same_Some _ _ is)) small
 
 hop_small : (fabric : FabricState) (starts : Bool) (here there : PortRef) (number : ℕ) → IsGood fabric → hop fabric.nodes fabric.cables starts here number ≡ Some there → there.port < 256
 unfolding hop
@@ -146,7 +136,7 @@ walked_on : (fabric : FabricState) (numbers : List ℕ) (there : PortRef) (ends 
 walked_on fabric numbers there ends None small right is = cc
 walked_on fabric numbers there ends (Some some) small right is =
     let so = right some refl in
-    rw (sym (same_some _ _ is)) (ap suc so.0, (small, so.1))
+    rw (sym (same_Some _ _ is)) (ap suc so.0, (small, so.1))
 
 walked_from : (fabric : FabricState) (numbers : List ℕ) (ends : List PortRef) (next : Option PortRef) → ((there : PortRef) → next ≡ Some there → there.port < 256)
     → ((there : PortRef) (some : List PortRef) → walk fabric.nodes fabric.cables false there numbers ≡ Some some → WalksRight numbers some)
@@ -157,7 +147,7 @@ walked_from fabric numbers ends (Some there) small right is =
 
 pub walks_right : (fabric : FabricState) (starts : Bool) (here : PortRef) (numbers : List ℕ) (ends : List PortRef) → IsGood fabric
     → walk fabric.nodes fabric.cables starts here numbers ≡ Some ends → WalksRight numbers ends
-walks_right fabric starts here [] ends good is = rw (sym (same_some [] ends is)) (refl, tt)
+walks_right fabric starts here [] ends good is = rw (sym (same_Some [] ends is)) (refl, tt)
 walks_right fabric starts here (number ∷ numbers) ends good is =
     walked_from fabric numbers ends (hop fabric.nodes fabric.cables starts here number) (λ there h. hop_small fabric starts here there number good h)
     (λ there some h. walks_right fabric false there numbers some good h) is

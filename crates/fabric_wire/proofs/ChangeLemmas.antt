@@ -1,5 +1,5 @@
 -- What an exchange changes of a good fabric: at one node what the SMP names.
-use Rattle.std.proofs.Common.{ℕ, zero, suc, ◌≡◌, ◌≢◌, ◌+◌, ◌-◌, ◌≤◌, ◌==◌, ◌∙◌, ap, refl, sym, subst, inl, inr, Bool, true, false, if◌then◌else◌, List, [], ◌∷◌, length, slice_get, slice_set, Option, Some, None, option_map, arith}
+use Rattle.std.proofs.Common.{ℕ, zero, suc, ◌≡◌, ◌≢◌, ◌-◌, ◌==◌, ◌∙◌, ap, refl, sym, subst, inl, inr, Bool, true, false, if◌then◌else◌, List, [], ◌∷◌, length, slice_get, slice_set, Option, Some, None, option_map, arith}
 use Rattle.std.specs.Int.Digits.{AllBelowBase}
 use Rattle.std.specs.Option.{option_and_then}
 use Rattle.std.proofs.lemmas.Bool.Decides.{nat_tests}
@@ -12,7 +12,6 @@ use Rattle.port_model.specs.AdapterState.{AdapterState}
 use Rattle.port_model.specs.Agent.{agent_reply as adapter_reply, agent_after as adapter_after, get as adapter_gives, set as adapter_set}
 use Rattle.port_model.specs.Laws.{ChangesAtMost as PortChangesAtMost}
 use Rattle.port_model.proofs.AgentLemmas.{changes_at_most as adapter_changes, shows as adapter_shows, takes_alike as adapter_takes}
-use Rattle.smp_route.specs.Places.{count, is_outgoing, pointer}
 use Rattle.switch_model.specs.Agent.{agent_reply as switch_reply, agent_after as switch_after, get as switch_gives, set as switch_set}
 use Rattle.switch_model.specs.SwitchState.{SwitchState}
 use Rattle.switch_model.proofs.AgentLemmas.{shows as switch_shows, takes_alike as switch_takes}
@@ -20,14 +19,12 @@ use Rattle.switch_model.proofs.ChangeLemmas.{changes_at_most as switch_changes}
 use Rattle.topo_file.specs.declared.cable.PortRef.{PortRef}
 use Rattle.fabric_wire.specs.declared.node.Node.{Node}
 use Rattle.fabric_wire.specs.declared.node.Node.TheVariants.{Switch, Adapter}
-use Rattle.fabric_wire.specs.Changes.{AdapterChangesAtMost, ChangesAtMost, ExchangesChangeWhatTheyName, NodeChangesAtMost, NodesChangeAtMost}
+use Rattle.fabric_wire.specs.Changes.{AdapterChangesAtMost, ExchangesChangeWhatTheyName, NodeChangesAtMost, NodesChangeAtMost}
 use Rattle.fabric_wire.specs.FabricState.{FabricState, adapter_port, adapter_ports_after, after_at, node_after, node_reply, nodes_after, reply_at}
 use Rattle.fabric_wire.specs.Good.{IsGood}
-use Rattle.fabric_wire.specs.Walk.{arrived, exchange_after, exchange_reply, is_sent, last_of, path_of, returned, walk, walk_of}
-use Rattle.fabric_wire.proofs.ArrivalLemmas.{IsCarrier, arrived_carries, walks_right}
-use Rattle.fabric_wire.proofs.OutwardLemmas.{few_hops}
+use Rattle.fabric_wire.specs.Walk.{arrived, exchange_after, exchange_reply, last_of, returned, walk_of}
 use Rattle.fabric_wire.proofs.ReplyLemmas.{replies, returned_field, set_back}
-use Rattle.fabric_wire.proofs.WalkLemmas.{path_length}
+use Rattle.fabric_wire.proofs.WalkedLemmas.{carried, no_walk_after, walk_after, walk_reply}
 
 -- ---- lists with one element written
 get_other : {X : Type 0} (xs : List X) (i k : ℕ) (x : X) → k ≢ i → slice_get (slice_set xs i x) k ≡ slice_get xs k
@@ -149,36 +146,6 @@ nodes_change nodes at smp (Some node) there =
     }
 
 -- ---- an exchange
-record Walks (fabric : FabricState) (smp : List ℕ) (ends : List PortRef) : Type 0 where
-  pub sent : is_sent smp ≡ true
-  pub walked : walk fabric.nodes fabric.cables true fabric.manager (path_of smp) ≡ Some ends
-
-walks_by : (fabric : FabricState) (smp : List ℕ) (ends : List PortRef) (sent : Bool) → is_sent smp ≡ sent
-    → (if sent then walk fabric.nodes fabric.cables true fabric.manager (path_of smp) else None) ≡ Some ends → Walks fabric smp ends
-walks_by fabric smp ends true sent is = record { sent = sent; walked = is }
-walks_by fabric smp ends false sent is = cc
-
--- what comes to the end of the walk asks what was sent
-carried : (fabric : FabricState) (smp : List ℕ) (ends : List PortRef) → IsGood fabric → length smp ≡ 256 → AllBelowBase 256 smp → walk_of fabric smp ≡ Some ends → IsCarrier smp (arrived ends smp)
-carried fabric smp ends good long below is =
-    let so = walks_by fabric smp ends (is_sent smp) refl is in
-    let few = (few_hops (is_outgoing smp) (pointer smp == 0) (count smp) so.sent).1 in
-    let right = walks_right fabric true fabric.manager (path_of smp) ends good so.walked in
-    arrived_carries smp ends below long (right.0 ∙ path_length smp long few) few right.1
-
-no_walk_after : (fabric : FabricState) (smp : List ℕ) → walk_of fabric smp ≡ None → exchange_after fabric smp ≡ fabric
-unfolding exchange_after
-no_walk_after fabric smp is = rw is refl
-
-walk_after : (fabric : FabricState) (smp : List ℕ) (ends : List PortRef) → walk_of fabric smp ≡ Some ends → exchange_after fabric smp ≡ after_at fabric (last_of fabric.manager ends) (arrived ends smp)
-unfolding exchange_after
-walk_after fabric smp ends is = rw is refl
-
-walk_reply : (fabric : FabricState) (smp : List ℕ) (ends : List PortRef) → walk_of fabric smp ≡ Some ends
-    → exchange_reply fabric smp ≡ option_map returned (reply_at fabric (last_of fabric.manager ends) (arrived ends smp))
-unfolding exchange_reply
-walk_reply fabric smp ends is = rw is refl
-
 walk_changes : (fabric : FabricState) (smp : List ℕ) (ends : List PortRef) → IsGood fabric → length smp ≡ 256 → AllBelowBase 256 smp → walk_of fabric smp ≡ Some ends
     → NodesChangeAtMost (last_of fabric.manager ends) smp fabric.nodes (exchange_after fabric smp).nodes
 walk_changes fabric smp ends good long below is =

@@ -1,17 +1,17 @@
 -- A reply is ready to come home: by the ports that its request has noted.
-use Rattle.std.proofs.Common.{ℕ, zero, suc, ◌≡◌, ◌+◌, ◌*◌, ◌<◌, ◌≤◌, ◌==◌, ◌∙◌, ◌&&◌, ◌||◌, nat_le, refl, sym, inr, Bool, true, false, List, [], ◌∷◌, length, slice_get, slice_index, Option, Some, None, option_map, arith}
+use Rattle.std.proofs.Common.{ℕ, zero, suc, ◌≡◌, ◌+◌, ◌*◌, ◌<◌, ◌≤◌, ◌∙◌, refl, sym, inr, true, List, [], ◌∷◌, length, slice_get, slice_index, Option, Some, None, option_map, arith}
 use Rattle.std.specs.Int.Digits.{AllBelowBase}
 use Rattle.std.specs.List.{list_all}
-use Rattle.std.specs.Option.{option_map_or}
-use Rattle.std.proofs.lemmas.Bool.{and_parts, eq-eqb}
+use Rattle.std.proofs.lemmas.Bool.{eq-eqb}
 use Rattle.std.proofs.lemmas.Bool.Decides.{nat_tests}
 use Rattle.std.proofs.lemmas.List.{get_or-set_other, length-set}
+use Rattle.std.proofs.lemmas.Option.{same_Some}
 use Rattle.mad_layout.specs.Bits.{put_field}
 use Rattle.mad_layout.specs.Layout.{at, is_free}
 use Rattle.mad_layout.proofs.AlignedLemmas.{byte_is_field}
 use Rattle.mad_layout.proofs.LayoutLemmas.{field-put_apart, length-put_field}
 use Rattle.attr_tables.specs.Request.{KeepsRest}
-use Rattle.smp_route.specs.Places.{count, is_outgoing, pointer, return_port, turned_round, with_return_port}
+use Rattle.smp_route.specs.Places.{count, pointer, return_port, turned_round, with_return_port}
 use Rattle.topo_file.specs.declared.cable.Cable.{Cable}
 use Rattle.topo_file.specs.declared.cable.PortRef.{PortRef}
 use Rattle.fabric_wire.specs.declared.node.Node.{Node}
@@ -20,11 +20,11 @@ use Rattle.fabric_wire.specs.FabricState.{FabricState, far_end, is_switch_at, no
 use Rattle.fabric_wire.specs.Good.{IsGood, is_right}
 use Rattle.fabric_wire.specs.Hopping.{leads_home}
 use Rattle.fabric_wire.specs.Walk.{arrival_of, arrived, is_sent, last_of, path_of, walk, with_return_ports}
-use Rattle.fabric_wire.proofs.HomeLemmas.{leads_alike, walk_leads_home}
+use Rattle.fabric_wire.proofs.HomeLemmas.{leads_alike, leads_by, walk_leads_home}
 use Rattle.fabric_wire.proofs.HopLemmas.{byte_kept, pointer_set}
 use Rattle.fabric_wire.proofs.KeptLemmas.{IsSame, after_found, stays_good, switch_same}
 use Rattle.fabric_wire.proofs.ArrivalLemmas.{arrived_carries, put_below, walks_right}
-use Rattle.fabric_wire.proofs.WalkLemmas.{path_length}
+use Rattle.fabric_wire.proofs.WalkLemmas.{path_length, sent_parts}
 
 pub record IsReady (nodes : List Node) (cables : List Cable) (manager agent : PortRef) (smp : List ℕ) : Type 0 where
   pub right : list_all (is_right nodes) cables ≡ true
@@ -50,11 +50,6 @@ return_kept : (k : ℕ) → k < 64 → IsKept (192 + k)
 return_kept k low = (omega arith, grind (arith, nat_tests, low))
 
 -- ---- nodes that are as they were
-leads_by : (left : ℕ) (old new : List Node) (one other : ℕ → Bool) (found : Option PortRef) → ((place : ℕ) → is_switch_at new place ≡ is_switch_at old place) → ((node : ℕ) → one node ≡ other node)
-    → option_map_or (λ there. ((left == 0) || is_switch_at new there.node) && one there.node) found false ≡ option_map_or (λ there. ((left == 0) || is_switch_at old there.node) && other there.node) found false
-leads_by left old new one other None switches same = refl
-leads_by left old new one other (Some there) switches same = rw (switches there.node, same there.node) refl
-
 same_way : (old new : List Node) (cables : List Cable) (manager : ℕ) (smp : List ℕ) (left node : ℕ) → ((place : ℕ) → is_switch_at new place ≡ is_switch_at old place)
     → leads_home new cables manager smp left node ≡ leads_home old cables manager smp left node
 same_way old new cables manager smp zero node switches = refl
@@ -62,17 +57,9 @@ same_way old new cables manager smp (suc left) node switches =
     leads_by left old new (leads_home new cables manager smp left) (leads_home old cables manager smp left) (far_end cables (record { node = node; port = return_port smp (suc left) })) switches (λ there. same_way old new cables manager smp left there switches)
 
 -- ---- the way home of a request that has arrived
-same_some : {X : Type 0} (x y : X) → Some x ≡ Some y → x ≡ y
-same_some x y e = cc
-
 count_noted : (k : ℕ) (ends : List PortRef) (smp : List ℕ) → count (with_return_ports k ends smp) ≡ count smp
 count_noted k [] smp = refl
 count_noted k (end ∷ ends) smp = count_noted (k + 1) ends (with_return_port k end.port smp) ∙ get_or-set_other smp (192 + k) 7 end.port 0 (λ e. omega (arith, e))
-
-few_hops : (out start : Bool) (hops : ℕ) → out && (start && nat_le hops 63) ≡ true → hops ≤ 63
-few_hops out start hops h =
-    let few = (and_parts start (nat_le hops 63) (and_parts out (start && nat_le hops 63) h).1).1 in
-    grind (arith, nat_tests, few)
 
 -- over the nodes as they were
 pub ready_before : (fabric : FabricState) (sent reply : List ℕ) (ends : List PortRef) → IsGood fabric → is_sent sent ≡ true → AllBelowBase 256 sent → length sent ≡ 256
@@ -84,7 +71,7 @@ ready_before fabric sent reply ends good is low long walked low_reply long_reply
     let request = arrived ends sent in
     let noted = with_return_ports 1 ends sent in
     let turned = turned_round reply in
-    let few = few_hops (is_outgoing sent) (pointer sent == 0) (count sent) is in
+    let few = (sent_parts sent is).1 in
     let right = walks_right fabric true fabric.manager (path_of sent) ends good walked in
     let path_long : length (path_of sent) ≡ count sent = path_length sent long few in
     let hops : length ends ≡ count sent = right.0 ∙ path_long in
@@ -129,7 +116,7 @@ ready_by : (fabric : FabricState) (sent reply : List ℕ) (new : List Node) (arr
     → IsReady new fabric.cables fabric.manager arrival.at (turned_round reply)
 ready_by fabric sent reply new arrival None good is low long walked there low_reply long_reply keeps new_is = cc
 ready_by fabric sent reply new arrival (Some ends) good is low long walked there low_reply long_reply keeps new_is =
-    let same : arrival ≡ arrival_of fabric.manager sent ends = same_some _ _ there in
+    let same : arrival ≡ arrival_of fabric.manager sent ends = same_Some _ _ there in
     rw same (ready_at fabric sent reply new ends good is low long walked low_reply long_reply (rw same at keeps) (rw same at new_is))
 
 pub ready : (fabric : FabricState) (sent reply : List ℕ) (new : List Node) (arrival : Arrival) → IsGood fabric → is_sent sent ≡ true → AllBelowBase 256 sent → length sent ≡ 256

@@ -5,6 +5,7 @@ use Rattle.std.specs.Option.{option_and_then, option_map_or}
 use Rattle.std.proofs.lemmas.Bool.{and_from, and_parts, eqb-true, eq-eqb, false≢true}
 use Rattle.std.proofs.lemmas.Bool.Decides.{nat_tests}
 use Rattle.std.proofs.lemmas.List.{get_or-set_other, get_or-set_same, length-set}
+use Rattle.std.proofs.lemmas.Option.{same_Some}
 use Rattle.smp_route.specs.Places.{return_port, with_return_port}
 use Rattle.topo_file.specs.declared.cable.Cable.{Cable}
 use Rattle.topo_file.specs.declared.cable.PortRef.{PortRef}
@@ -17,16 +18,13 @@ use Rattle.fabric_wire.specs.Walk.{hands_on, hop, last_of, walk, with_return_por
 use Rattle.fabric_wire.proofs.CablingLemmas.{far_end_before}
 
 -- ---- ports
-same_port : (a b : PortRef) → is_same_port a b ≡ true → a ≡ b
+pub same_port : (a b : PortRef) → is_same_port a b ≡ true → a ≡ b
 same_port a b h =
     let parts = and_parts (a.node == b.node) (a.port == b.port) h in
     λ place. record { node = eqb-true a.node b.node parts.0 place; port = eqb-true a.port b.port parts.1 place }
 
-itself : (a : PortRef) → is_same_port a a ≡ true
+pub itself : (a : PortRef) → is_same_port a a ≡ true
 itself a = and_from (a.node == a.node) (a.port == a.port) (eq-eqb a.node a.node refl) (eq-eqb a.port a.port refl)
-
-same_some : {X : Type 0} (x y : X) → Some x ≡ Some y → x ≡ y
-same_some x y e = cc
 
 not_any : (one rest : Bool) → not (one || rest) ≡ true → (one ≡ false) × (rest ≡ false)
 not_any true rest h = absurd (false≢true h)
@@ -41,9 +39,9 @@ met : (P : PortRef → PortRef → Type 0) (cable : Cable) (a b : PortRef) (rest
     → Both P cable → (rest ≡ Some b → P a b) → cond first (Some cable.second) (cond second (Some cable.first) rest) ≡ Some b → P a b
 unfolding Both
 met P cable a b rest true second f s both later is =
-    subst (λ (p : PortRef). P p b) (same_port cable.first a f) (subst (λ (p : PortRef). P cable.first p) (same_some _ _ is) both.0)
+    subst (λ (p : PortRef). P p b) (same_port cable.first a f) (subst (λ (p : PortRef). P cable.first p) (same_Some _ _ is) both.0)
 met P cable a b rest false true f s both later is =
-    subst (λ (p : PortRef). P p b) (same_port cable.second a s) (subst (λ (p : PortRef). P cable.second p) (same_some _ _ is) both.1)
+    subst (λ (p : PortRef). P p b) (same_port cable.second a s) (subst (λ (p : PortRef). P cable.second p) (same_Some _ _ is) both.1)
 met P cable a b rest false false f s both later is = later is
 
 pub far_ends_meet : (P : PortRef → PortRef → Type 0) (test : Cable → Bool) → ((cable : Cable) → test cable ≡ true → P cable.first cable.second × P cable.second cable.first)
@@ -58,14 +56,14 @@ far_ends_meet P test each (cable ∷ cables) a b all is =
 is_among : (cable : Cable) (a b end : PortRef) (rest : Option PortRef) (others first second : Bool) → is_same_port end b ≡ true
     → cond first (Some cable.second) (cond second (Some cable.first) rest) ≡ Some b → (rest ≡ Some b → others ≡ true) → is_same_port end cable.first || (is_same_port end cable.second || others) ≡ true
 is_among cable a b end rest others true second same is later =
-    let here : is_same_port end cable.second ≡ true = ap (is_same_port end) (same_some _ _ is) ∙ same in
+    let here : is_same_port end cable.second ≡ true = ap (is_same_port end) (same_Some _ _ is) ∙ same in
     rw here (or_true (is_same_port end cable.first))
   where
     or_true : (x : Bool) → x || true ≡ true
     or_true true = refl
     or_true false = refl
 is_among cable a b end rest others false true same is later =
-    let here : is_same_port end cable.first ≡ true = ap (is_same_port end) (same_some _ _ is) ∙ same in
+    let here : is_same_port end cable.first ≡ true = ap (is_same_port end) (same_Some _ _ is) ∙ same in
     rw here refl
 is_among cable a b end rest others false false same is later = rw (later is) (or_both (is_same_port end cable.first) (is_same_port end cable.second))
   where
@@ -91,10 +89,10 @@ back_by : (cable : Cable) (cables : List Cable) (a b : PortRef) (first second : 
     → cond first (Some cable.second) (cond second (Some cable.first) (far_end cables a)) ≡ Some b → far_end (cable ∷ cables) b ≡ Some a
 back_by cable cables a b true second f s apart alone other later is =
     let to : far_end (cable ∷ cables) cable.second ≡ Some cable.first = sym (far_end_before cable cables cable.second) ∙ rw (apart, itself cable.second) refl in
-    ap (far_end (cable ∷ cables)) (sym (same_some _ _ is)) ∙ to ∙ ap (λ (p : PortRef). Some p) (same_port cable.first a f)
+    ap (far_end (cable ∷ cables)) (sym (same_Some _ _ is)) ∙ to ∙ ap (λ (p : PortRef). Some p) (same_port cable.first a f)
 back_by cable cables a b false true f s apart alone other later is =
     let to : far_end (cable ∷ cables) cable.first ≡ Some cable.second = sym (far_end_before cable cables cable.first) ∙ rw (itself cable.first) refl in
-    ap (far_end (cable ∷ cables)) (sym (same_some _ _ is)) ∙ to ∙ ap (λ (p : PortRef). Some p) (same_port cable.second a s)
+    ap (far_end (cable ∷ cables)) (sym (same_Some _ _ is)) ∙ to ∙ ap (λ (p : PortRef). Some p) (same_port cable.second a s)
 back_by cable cables a b false false f s apart alone other later is =
     let one = apart_from cables a b cable.first (is_same_port cable.first b) refl alone is in
     let two = apart_from cables a b cable.second (is_same_port cable.second b) refl other is in
@@ -141,10 +139,11 @@ pub cabled_is_port : (nodes : List Node) (cables : List Cable) (a b : PortRef) �
 cabled_is_port nodes cables a b right is = far_ends_meet (λ end other. is_port nodes end ≡ true) (is_right nodes) (ends_are_ports nodes) cables a b right is
 
 -- ---- home
-leads_by : (left : ℕ) (nodes : List Node) (one other : ℕ → Bool) (found : Option PortRef) → ((node : ℕ) → one node ≡ other node)
-    → option_map_or (λ there. ((left == 0) || is_switch_at nodes there.node) && one there.node) found false ≡ option_map_or (λ there. ((left == 0) || is_switch_at nodes there.node) && other there.node) found false
-leads_by left nodes one other None same = refl
-leads_by left nodes one other (Some there) same = rw (same there.node) refl
+-- two ways home that lead alike from every node, over nodes of the same kinds
+pub leads_by : (left : ℕ) (old new : List Node) (one other : ℕ → Bool) (found : Option PortRef) → ((place : ℕ) → is_switch_at new place ≡ is_switch_at old place) → ((node : ℕ) → one node ≡ other node)
+    → option_map_or (λ there. ((left == 0) || is_switch_at new there.node) && one there.node) found false ≡ option_map_or (λ there. ((left == 0) || is_switch_at old there.node) && other there.node) found false
+leads_by left old new one other None switches same = refl
+leads_by left old new one other (Some there) switches same = rw (switches there.node, same there.node) refl
 
 -- the way home goes by the ports of the return path, and by nothing else of the SMP
 pub leads_alike : (nodes : List Node) (cables : List Cable) (manager : ℕ) (one other : List ℕ) (left node : ℕ)
@@ -153,7 +152,7 @@ pub leads_alike : (nodes : List Node) (cables : List Cable) (manager : ℕ) (one
 leads_alike nodes cables manager one other zero node same = refl
 leads_alike nodes cables manager one other (suc left) node same =
     rw (same (suc left) (omega arith) (omega arith))
-    (leads_by left nodes (leads_home nodes cables manager one left) (leads_home nodes cables manager other left) _ (λ there. leads_alike nodes cables manager one other left there (λ k from to. same k from (omega (arith, to)))))
+    (leads_by left nodes nodes (leads_home nodes cables manager one left) (leads_home nodes cables manager other left) _ (λ place. refl) (λ there. leads_alike nodes cables manager one other left there (λ k from to. same k from (omega (arith, to)))))
 
 -- as it is when it arrives by a cable
 hop_parts : (b : Bool) (found : Option PortRef) (there : PortRef) → (if b then found else None) ≡ Some there → (b ≡ true) × (found ≡ Some there)
@@ -188,7 +187,7 @@ led_on nodes cables manager hops smp here there ends (Some some) right is =
     let more : suc hops + length some ≡ hops + suc (length some) = omega arith in
     let first : with_return_ports (suc hops) (there ∷ some) smp ≡ with_return_ports (suc (suc hops)) some (with_return_port (suc hops) there.port smp) =
     ap (λ (k : ℕ). with_return_ports k some (with_return_port (suc hops) there.port smp)) (add-one (suc hops)) in
-    rw (sym (same_some _ _ is), ← more, first) (right some refl)
+    rw (sym (same_Some _ _ is), ← more, first) (right some refl)
 
 led_from : (nodes : List Node) (cables : List Cable) (manager hops : ℕ) (smp : List ℕ) (here : PortRef) (numbers : List ℕ) (ends : List PortRef) (next : Option PortRef)
     → ((there : PortRef) (some : List PortRef) → next ≡ Some there → walk nodes cables false there numbers ≡ Some some → LeadsFrom nodes cables manager (suc hops) (with_return_port (suc hops) there.port smp) there some)
@@ -204,7 +203,7 @@ pub walk_leads_home : (nodes : List Node) (cables : List Cable) (manager : ℕ) 
     → LeadsFrom nodes cables manager hops smp here ends
 walk_leads_home nodes cables manager starts here hops [] smp ends once begins few long home is =
     let none : hops + 0 ≡ hops = omega arith in
-    rw (sym (same_some [] ends is), none) home
+    rw (sym (same_Some [] ends is), none) home
 walk_leads_home nodes cables manager starts here hops (number ∷ numbers) smp ends once begins few long home is =
     led_from nodes cables manager hops smp here numbers ends (hop nodes cables starts here number)
     (λ there some hopped walked. walk_leads_home nodes cables manager false there (suc hops) numbers (with_return_port (suc hops) there.port smp) some once (sym (grind (arith, nat_tests))) (omega (arith, few)) (length-set smp (192 + suc hops) there.port ∙ long)

@@ -61,6 +61,10 @@ pub data Leaves (nodes : List Node) (cables : List Cable) (sent : List ℕ) (hop
   passes : hops < count sent → hands_on nodes (hops == 0) at ≡ true → step ≡ record { hop = Forward (initial_port sent (hops + 1)); smp = with_pointer (hops + 1) (noted_by hops at smp) } → Leaves nodes cables sent hops at smp step
   drops : hops < count sent → hop nodes cables (hops == 0) at (initial_port sent (hops + 1)) ≡ None → step ≡ discarded smp → Leaves nodes cables sent hops at smp step
 
+-- one hop leaves by one port
+pub same_port_out : (a b : ℕ) → Forward a ≡ Forward b → a ≡ b
+same_port_out a b e = cc
+
 -- port 0 has no cable
 bare_by : (cables : List Cable) (node : ℕ) (found : Option PortRef) → ((there : PortRef) → found ≡ Some there → ⊥) → found ≡ None
 bare_by cables node None h = refl

@@ -3,6 +3,7 @@ use Rattle.std.proofs.Common.{ℕ, ◌≡◌, ◌∙◌, not, ap, ap₂, refl, s
 use Rattle.std.specs.List.{list_all}
 use Rattle.std.specs.Option.{option_and_then}
 use Rattle.std.proofs.lemmas.List.Folds.{flat_map-map}
+use Rattle.std.proofs.lemmas.Option.{same_Some}
 use Rattle.attr_tables.specs.PortSetting.{is_down}
 use Rattle.attr_tables.specs.declared.port_info.PortInfo.{PortInfo}
 use Rattle.topo_file.specs.declared.cable.Cable.{Cable}
@@ -102,13 +103,10 @@ down_same : (old new : FabricState) → IsSame old new → (at : PortRef) → op
 down_same old new same at =
     down_by (slice_get new.nodes at.node) at.port ∙ ap (option_and_then (λ x. x)) (get_same (λ node. down_at node at.port) old.nodes new.nodes at.node (same.downs at.port)) ∙ sym (down_by (slice_get old.nodes at.node) at.port)
 
-same_some : {X : Type 0} (x y : X) → Some x ≡ Some y → x ≡ y
-same_some x y e = cc
-
 was_down : (b : Bool) (info : PortInfo) (old : Option PortInfo) → Some (is_down info) ≡ option_map (λ one. is_down one) old
     → ((one : PortInfo) → old ≡ Some one → is_down one ≡ b) → is_down info ≡ b
 was_down b info None e each = cc
-was_down b info (Some one) e each = same_some _ _ e ∙ each one refl
+was_down b info (Some one) e each = same_Some _ _ e ∙ each one refl
 
 stays_linked : (old new : FabricState) → IsSame old new → ShowsLinks old → ShowsLinks new
 stays_linked old new same links at info port is =

@@ -4,6 +4,7 @@ pub mod HopLemmas
 pub mod OutwardLemmas
 pub mod ReturnLemmas
 pub mod WalkLemmas
+pub mod WalkedLemmas
 pub mod GetLemmas
 pub mod HoldingLemmas
 pub mod GoodLemmas

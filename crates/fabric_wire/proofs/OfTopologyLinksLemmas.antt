@@ -4,6 +4,7 @@ use Rattle.std.specs.List.{range_with_len}
 use Rattle.std.specs.Option.{option_and_then}
 use Rattle.std.proofs.lemmas.Bool.{and_parts, leb-true, ne_eqb}
 use Rattle.std.proofs.lemmas.Option.{slice_get-map}
+use Rattle.std.proofs.lemmas.Option.{same_Some}
 use Rattle.attr_tables.specs.declared.link.Link.TheVariants.{Cabled, Uncabled, Internal}
 use Rattle.attr_tables.specs.declared.node_type.NodeType.{NodeType}
 use Rattle.attr_tables.specs.declared.node_type.NodeType.TheVariants as type
@@ -30,9 +31,6 @@ port node number = record { node = node; port = number }
 abbrev Shows : List Cable → ℕ → ℕ → PortInfo → Type 0
 Shows cables place number info = is_down info ≡ not (is_cabled cables (port place number))
 
-same_some : {X : Type 0} (x y : X) → Some x ≡ Some y → x ≡ y
-same_some x y e = cc
-
 -- ---- a port at power-up
 down_by : (of : NodeType) (number : ℕ) (cabled : Bool) → is_down (port_info_at_power_up of number (if cabled then Cabled else Uncabled)) ≡ not cabled
 down_by of number true = refl
@@ -41,12 +39,12 @@ down_by of number false = refl
 shows_link : (of : NodeType) (cables : List Cable) (place number there : ℕ) (info : PortInfo) → there ≡ number
     → Some (port_info_at_power_up of number (link_of cables place there)) ≡ Some info → Shows cables place number info
 shows_link of cables place number there info is found =
-    ap is_down (sym (same_some _ info found)) ∙ down_by of number (is_cabled cables (port place there)) ∙ ap (λ (n : ℕ). not (is_cabled cables (port place n))) is
+    ap is_down (sym (same_Some _ info found)) ∙ down_by of number (is_cabled cables (port place there)) ∙ ap (λ (n : ℕ). not (is_cabled cables (port place n))) is
 
 -- ---- the port that has a number
 ranged : (first count k there : ℕ) → slice_get (range_with_len first count) k ≡ Some there → there ≡ first + k
 ranged first zero k there found = cc
-ranged first (suc count) zero there found = let same = same_some first there found in omega (arith, same)
+ranged first (suc count) zero there found = let same = same_Some first there found in omega (arith, same)
 ranged first (suc count) (suc k) there found = let later = ranged (first + 1) count k there found in omega (arith, later)
 
 switch_shows : (cables : List Cable) (place number : ℕ) (info : PortInfo) (found : Option ℕ) → ((there : ℕ) → found ≡ Some there → there ≡ number)

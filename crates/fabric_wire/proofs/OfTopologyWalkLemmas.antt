@@ -1,7 +1,7 @@
 -- A walk from switch to switch over a topology's cables is a walk of SMPs through its fabric.
-use Rattle.std.proofs.Common.{ℕ, ◌≡◌, ◌==◌, ◌∙◌, ap, ap₂, refl, sym, inl, inr, subst, Bool, true, false, not, List, [], ◌∷◌, Some, ◌&&◌}
+use Rattle.std.proofs.Common.{ℕ, ◌≡◌, ◌==◌, ◌∙◌, ap, refl, sym, inl, inr, subst, Bool, true, false, not, List, [], ◌∷◌, Some, ◌&&◌}
 use Rattle.std.specs.List.{list_all, list_any}
-use Rattle.std.proofs.lemmas.Bool.{and_from, and_left, and_parts, eq-eqb, eqb-true, false≢true, not-true, or_cases, or_from}
+use Rattle.std.proofs.lemmas.Bool.{and_left, and_parts, eq-eqb, eqb-true, false≢true, not-true, or_cases, or_from}
 use Rattle.topo_file.specs.declared.cable.Cable.{Cable}
 use Rattle.topo_file.specs.declared.cable.PortRef.{PortRef}
 use Rattle.topo_file.specs.declared.node.Node.{Node as PlannedNode}
@@ -16,6 +16,7 @@ use Rattle.fabric_wire.specs.FabricState.{far_end, is_switch_at, other_end}
 use Rattle.fabric_wire.specs.Good.{is_right, leads}
 use Rattle.fabric_wire.specs.OfTopology.{TopologiesAreJoined, fabric_of}
 use Rattle.fabric_wire.specs.Walk.{last_of, walk}
+use Rattle.fabric_wire.proofs.HomeLemmas.{itself, same_port}
 use Rattle.fabric_wire.proofs.HopLemmas.{hop_is_far_end}
 use Rattle.fabric_wire.proofs.OfTopologyGoodLemmas.{all_right}
 use Rattle.fabric_wire.proofs.OfTopologyLemmas.{nodes_from, switch_there}
@@ -31,26 +32,16 @@ pub record GoesOut (cables : List Cable) (a next : ℕ) : Type 0 where
   pub cabled : is_cabled cables (port a number) ≡ true
   pub node : there.node ≡ next
 
-same_is : (one other : PortRef) → is_same_port one other ≡ true → one ≡ other
-same_is one other h =
-    let parts = and_parts (one.node == other.node) _ h in
-    let node = eqb-true one.node other.node parts.0 in
-    let number = eqb-true one.port other.port parts.1 in
-    ap₂ (λ (n k : ℕ). port n k) node number
-
-same_self : (one : PortRef) → is_same_port one one ≡ true
-same_self one = and_from (one.node == one.node) _ (eq-eqb one.node one.node refl) (eq-eqb one.port one.port refl)
-
 -- by the first end of the first cable, or by its second
 by_first : (cable : Cable) (cables : List Cable) (a next : ℕ) → cable.first.node ≡ a → cable.second.node ≡ next → GoesOut (cable ∷ cables) a next
 by_first cable cables a next here there =
-    let same : is_same_port cable.first (port a cable.first.port) ≡ true = subst (λ (k : ℕ). is_same_port cable.first (port k cable.first.port) ≡ true) here (same_self cable.first) in
+    let same : is_same_port cable.first (port a cable.first.port) ≡ true = subst (λ (k : ℕ). is_same_port cable.first (port k cable.first.port) ≡ true) here (itself cable.first) in
     record { number = cable.first.port; there = cable.second; far = rw (same, same) refl; cabled = rw same refl; node = there }
 
 by_second : (cable : Cable) (cables : List Cable) (a next : ℕ) → (cable.first.node == cable.second.node) ≡ false → cable.second.node ≡ a → cable.first.node ≡ next
     → GoesOut (cable ∷ cables) a next
 by_second cable cables a next apart here there =
-    let same : is_same_port cable.second (port a cable.second.port) ≡ true = subst (λ (k : ℕ). is_same_port cable.second (port k cable.second.port) ≡ true) here (same_self cable.second) in
+    let same : is_same_port cable.second (port a cable.second.port) ≡ true = subst (λ (k : ℕ). is_same_port cable.second (port k cable.second.port) ≡ true) here (itself cable.second) in
     let other : is_same_port cable.first (port a cable.second.port) ≡ false = and_left (cable.first.node == a) _ (subst (λ (k : ℕ). (cable.first.node == k) ≡ false) here apart) in
     let turned : other_end (port a cable.second.port) cable ≡ cable.first = rw other refl in
     record { number = cable.second.port; there = cable.first; far = rw (other, same) (ap (λ (one : PortRef). Some one) turned); cabled = rw (other, same) refl; node = there }
@@ -65,7 +56,7 @@ not_end cable cables at first second cabled =
     is_other end free = by (is_same_port end at) refl
       where
         by : (b : Bool) → is_same_port end at ≡ b → b ≡ false
-        by true h = absurd (false≢true (sym free ∙ ap (is_cabled cables) (same_is end at h) ∙ cabled))
+        by true h = absurd (false≢true (sym free ∙ ap (is_cabled cables) (same_port end at h) ∙ cabled))
         by false h = refl
 
 by_later : (cable : Cable) (cables : List Cable) (a next : ℕ) → is_cabled cables cable.first ≡ false → is_cabled cables cable.second ≡ false → GoesOut cables a next

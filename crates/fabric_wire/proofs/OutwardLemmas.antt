@@ -1,13 +1,11 @@
 -- The way out, turn by turn: the SMP is on the walk of the definition.
-use Rattle.std.proofs.Common.{ℕ, zero, suc, ◌≡◌, ◌⊎◌, ◌+◌, ◌<◌, ◌≤◌, ◌==◌, ◌∙◌, ◌&&◌, nat_le, ap, refl, sym, inl, inr, Bool, true, List, length, Option, Some, None, option_map, arith, add-one}
+use Rattle.std.proofs.Common.{ℕ, zero, suc, ◌≡◌, ◌⊎◌, ◌+◌, ◌<◌, ◌==◌, ◌∙◌, ap, refl, sym, inl, inr, true, List, length, Option, Some, None, option_map, arith, add-one}
 use Rattle.std.specs.List.{list_all}
-use Rattle.std.proofs.lemmas.Bool.{and_parts, eqb-true}
-use Rattle.std.proofs.lemmas.Bool.Decides.{nat_tests}
 use Rattle.std.proofs.lemmas.List.{length-set, set-get_or, set-set}
 use Rattle.smp_route.specs.declared.hop.Hop.{Hop}
 use Rattle.smp_route.specs.declared.hop.Hop.TheVariants.{Forward, ToAgent, ToManager, Discard}
 use Rattle.smp_route.specs.Hops.{Step, outgoing}
-use Rattle.smp_route.specs.Places.{count, initial_port, is_outgoing, pointer, with_pointer, with_return_port}
+use Rattle.smp_route.specs.Places.{count, initial_port, pointer, with_pointer, with_return_port}
 use Rattle.topo_file.specs.declared.cable.Cable.{Cable}
 use Rattle.topo_file.specs.declared.cable.PortRef.{PortRef}
 use Rattle.fabric_wire.specs.declared.node.Node.{Node}
@@ -16,25 +14,20 @@ use Rattle.fabric_wire.specs.FabricState.{far_end}
 use Rattle.fabric_wire.specs.Good.{is_right}
 use Rattle.fabric_wire.specs.Hopping.{node_type_at}
 use Rattle.fabric_wire.specs.Walk.{arrival_of, hop, is_sent, path_of, walk}
-use Rattle.fabric_wire.proofs.WalkLemmas.{IsUnderWay, begins, ends, goes_on, stops}
+use Rattle.fabric_wire.proofs.WalkLemmas.{IsUnderWay, begins, ends, goes_on, sent_parts, stops}
 use Rattle.fabric_wire.proofs.HomeLemmas.{numbered}
-use Rattle.fabric_wire.proofs.HopLemmas.{IsOnWay, Leaves, byte_kept, byte_left, hop_is_far_end, leaves, noted_by, pointer_set}
+use Rattle.fabric_wire.proofs.HopLemmas.{IsOnWay, Leaves, byte_kept, byte_left, hop_is_far_end, leaves, noted_by, pointer_set, same_port_out}
 use Rattle.fabric_wire.proofs.HopLemmas.Leaves.{arrives, drops, passes}
 
 -- ---- the loop: at the beginning
-pub few_hops : (out start : Bool) (hops : ℕ) → out && (start && nat_le hops 63) ≡ true → (start ≡ true) × (hops ≤ 63)
-few_hops out start hops h =
-    let parts = and_parts start (nat_le hops 63) (and_parts out (start && nat_le hops 63) h).1 in
-    (parts.0, grind (arith, nat_tests, parts))
-
 pub begun : (nodes : List Node) (cables : List Cable) (manager : PortRef) (sent : List ℕ) → length sent ≡ 256 → is_sent sent ≡ true → IsOnWay nodes cables manager sent 0 manager 0 sent
 begun nodes cables manager sent long is =
-    let parts = few_hops (is_outgoing sent) (pointer sent == 0) (count sent) is in
+    let parts = sent_parts sent is in
     record {
       under = begins nodes cables manager sent;
       sent_long = long;
       long = long;
-      pointer_is = eqb-true (pointer sent) 0 parts.0;
+      pointer_is = parts.0;
       count_is = refl;
       path_is = λ k low. refl;
       few = parts.1;
@@ -67,9 +60,6 @@ lost_by nodes cables manager sent hops at entered smp step way (passes more hand
     elim to [ inl one ↦ cc | inr other ↦ cc ]
 lost_by nodes cables manager sent hops at entered smp step way (drops more none is) to =
     stops nodes cables manager sent hops at (noted_by hops at smp) way.sent_long way.few more way.under none
-
-same_port_out : (a b : ℕ) → Forward a ≡ Forward b → a ≡ b
-same_port_out a b e = cc
 
 bare_port_by : (nodes : List Node) (cables : List Cable) (manager : PortRef) (sent : List ℕ) (hops : ℕ) (at : PortRef) (entered : ℕ) (smp : List ℕ) (step : Step) (number : ℕ) → list_all (is_right nodes) cables ≡ true
     → IsOnWay nodes cables manager sent hops at entered smp → Leaves nodes cables sent hops at smp step → step.hop ≡ Forward number → far_end cables (record { node = at.node; port = number }) ≡ None → Ends nodes cables manager sent None

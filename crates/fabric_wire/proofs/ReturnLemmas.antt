@@ -15,7 +15,7 @@ use Rattle.fabric_wire.specs.FabricState.{far_end, is_switch_at}
 use Rattle.fabric_wire.specs.Good.{is_right}
 use Rattle.fabric_wire.specs.Hopping.{leads_home, node_type_at}
 use Rattle.fabric_wire.proofs.HomeLemmas.{numbered}
-use Rattle.fabric_wire.proofs.HopLemmas.{byte_kept, pointer_set, port_0_is_bare}
+use Rattle.fabric_wire.proofs.HopLemmas.{byte_kept, pointer_set, port_0_is_bare, same_port_out}
 
 -- whether a node hands on what came in; at the beginning it comes from the node's own agent
 abbrev pub hands_back : List Node → ℕ → ℕ → ℕ → Bool
@@ -141,9 +141,6 @@ lost_by nodes cables manager home reply done at smp step (passes left hops leads
     let hop_is : step.hop ≡ Forward (return_port reply (suc left)) = ap (λ (s : Step). s.hop) is in
     elim to [ inl one ↦ cc | inr other ↦ cc ]
 lost_by nodes cables manager home reply done at smp step (drops leads is) to = sym leads
-
-same_port_out : (a b : ℕ) → Forward a ≡ Forward b → a ≡ b
-same_port_out a b e = cc
 
 bare_by : (nodes : List Node) (cables : List Cable) (manager : ℕ) (home : Bool) (reply : List ℕ) (done : ℕ) (at : PortRef) (smp : List ℕ) (step : Step) (number : ℕ)
     → Returns cables nodes manager home reply done at smp step → step.hop ≡ Forward number → far_end cables (record { node = at.node; port = number }) ≡ None → false ≡ home

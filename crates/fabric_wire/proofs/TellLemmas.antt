@@ -1,41 +1,38 @@
 -- What a Get learns: its reply carries what is given.
-use Rattle.std.proofs.Common.{ℕ, ◌≡◌, ◌⊎◌, ◌+◌, ◌-◌, ◌≤◌, ◌==◌, ◌∙◌, ◌&&◌, ap, refl, sym, inl, inr, Bool, true, false, nat_le, if◌then◌else◌, List, length, take, drop, slice_get, slice_set, Option, Some, None, option_map, Result, Ok, Err, arith}
+use Rattle.std.proofs.Common.{ℕ, ◌≡◌, ◌==◌, ◌∙◌, ap, refl, sym, inl, inr, true, false, List, length, take, drop, slice_get, Option, Some, None, option_map, Result, Ok, Err, arith}
 use Rattle.std.specs.Int.Digits.{AllBelowBase}
 use Rattle.std.specs.Option.{ForSome, option_and_then}
 use Rattle.std.proofs.lemmas.Bool.Decides.{nat_tests}
-use Rattle.std.proofs.lemmas.List.{length-set, set-get_or}
-use Rattle.std.proofs.lemmas.Option.{get_or_from_slice_get}
+use Rattle.std.proofs.lemmas.List.{length-set}
 use Rattle.mad_layout.specs.Bits.{field, number, put_field}
 use Rattle.mad_layout.proofs.AlignedLemmas.{byte_is_set, bytes_stand, field_aligned}
-use Rattle.mad_layout.specs.Layout.{at}
 use Rattle.mad_layout.specs.MadStatus.{mad_status_code}
 use Rattle.mad_layout.specs.declared.status.MadStatus.{MadStatus}
 use Rattle.mad_layout.specs.declared.status.MadStatus.TheVariants.{BadVersion, MethodNotSupported, AttributeNotSupported, InvalidField, NoResources, RequestInvalid, NoRecords, TooManyRecords, InvalidGid, InsufficientComponents}
-use Rattle.mad_layout.proofs.LayoutLemmas.{field-put_apart, length-put_field}
+use Rattle.mad_layout.proofs.LayoutLemmas.{length-put_field}
 use Rattle.attr_tables.specs.AgentLaws.{IsAttribute}
 use Rattle.attr_tables.specs.Request.{attribute_asked, is_request, is_set, modifier_of}
-use Rattle.attr_tables.specs.Agent.{Getter, Setter, after, reply_of}
+use Rattle.attr_tables.specs.Agent.{Getter, Setter, reply_of}
 use Rattle.attr_tables.specs.Request.{reply_to}
 use Rattle.attr_tables.specs.SmpAttribute.{smp_attribute_code, smp_attribute_of}
 use Rattle.attr_tables.specs.declared.smp_attribute.SmpAttribute.{SmpAttribute}
 use Rattle.attr_tables.specs.declared.smp_attribute.SmpAttribute.TheVariants.{NodeDescription, NodeInfo, SwitchInfo, PortInfo, PKeyTable, LinearForwardingTable, MulticastForwardingTable}
 use Rattle.port_model.specs.AdapterState.{AdapterState}
-use Rattle.port_model.specs.Agent.{agent_after as adapter_after, agent_reply as adapter_reply, get as adapter_gives, set as adapter_set}
-use Rattle.switch_model.specs.Agent.{agent_after as switch_after, agent_reply as switch_reply, get as switch_gives, set as switch_set}
+use Rattle.port_model.specs.Agent.{agent_reply as adapter_reply, get as adapter_gives, set as adapter_set}
+use Rattle.switch_model.specs.Agent.{agent_reply as switch_reply, get as switch_gives, set as switch_set}
 use Rattle.attr_tables.proofs.CarryLemmas.{carries}
-use Rattle.fabric_wire.proofs.WalkLemmas.{path_length}
-use Rattle.smp_route.specs.Places.{count, pointer}
-use Rattle.switch_model.specs.SwitchState.{SwitchState}
+use Rattle.fabric_wire.proofs.WalkedLemmas.{carried, no_walk_after, no_walk_reply, walk_after, walk_reply}
 use Rattle.topo_file.specs.declared.cable.PortRef.{PortRef}
 use Rattle.fabric_wire.specs.declared.node.Node.{Node}
 use Rattle.fabric_wire.specs.declared.node.Node.TheVariants.{Switch, Adapter}
-use Rattle.fabric_wire.specs.FabricState.{FabricState, adapter_port, adapter_ports_after, node_after, node_reply, nodes_after}
+use Rattle.fabric_wire.specs.FabricState.{FabricState, adapter_port, node_reply}
 use Rattle.fabric_wire.specs.Get.{AsksFor, GetsTell, IsGiven, Tells, attribute_in, gives_along, gives_at, learned_by, node_gives}
 use Rattle.fabric_wire.specs.Good.{IsGood}
 use Rattle.fabric_wire.specs.Walk.{arrived, exchange_after, exchange_reply, last_of, returned, walk, walk_of}
 use Rattle.fabric_wire.proofs.HoldingLemmas.{AreAttributes, attributes_given, nothing_given}
+use Rattle.fabric_wire.proofs.ChangeLemmas.{nodes_stay, unset}
 use Rattle.fabric_wire.proofs.ReplyLemmas.{reply_below, reply_long, returned_field}
-use Rattle.fabric_wire.proofs.ArrivalLemmas.{IsCarrier, put_below, arrived_carries, both_of, walks_right}
+use Rattle.fabric_wire.proofs.ArrivalLemmas.{IsCarrier, put_below}
 
 -- ---- one agent: a Get changes nothing, and is answered by what is given
 pub record IsGetOf (attribute : SmpAttribute) (modifier : ℕ) (smp : List ℕ) : Type 0 where
@@ -47,9 +44,6 @@ pub record IsGetOf (attribute : SmpAttribute) (modifier : ℕ) (smp : List ℕ) 
 replied_by : {S : Type 0} (getter : Getter S) (setter : Setter S) (held : S) (attribute : SmpAttribute) (modifier : ℕ) (smp : List ℕ) → IsGetOf attribute modifier smp
     → reply_of getter setter held smp ≡ Some (reply_to smp (getter held attribute modifier))
 replied_by getter setter held attribute modifier smp asks = rw (asks.request, asks.asked_is, asks.set, asks.modifier_is) refl
-
-kept_by : {S : Type 0} (setter : Setter S) (held : S) (attribute : SmpAttribute) (modifier : ℕ) (smp : List ℕ) → IsGetOf attribute modifier smp → after setter held smp ≡ held
-kept_by setter held attribute modifier smp asks = rw (asks.request, asks.asked_is, asks.set) refl
 
 adapter_replied : (port : Option AdapterState) (attribute : SmpAttribute) (modifier : ℕ) (smp : List ℕ) → IsGetOf attribute modifier smp
     → option_and_then (λ one. adapter_reply one smp) port ≡ option_map (λ given. reply_to smp given) (option_map (λ one. adapter_gives one attribute modifier) port)
@@ -63,34 +57,11 @@ unfolding node_reply switch_reply
 node_replied (Switch held) n attribute modifier smp asks = replied_by (switch_gives n) switch_set held attribute modifier smp asks
 node_replied (Adapter ports) n attribute modifier smp asks = adapter_replied (adapter_port ports n) attribute modifier smp asks
 
-adapter_kept : (ports : List AdapterState) (n : ℕ) (attribute : SmpAttribute) (modifier : ℕ) (smp : List ℕ) (found : Option AdapterState) → IsGetOf attribute modifier smp
-    → ((port : AdapterState) → found ≡ Some port → slice_get ports (n - 1) ≡ Some port) → adapter_ports_after ports n smp found ≡ ports
-unfolding adapter_after
-adapter_kept ports n attribute modifier smp None asks there = refl
-adapter_kept ports n attribute modifier smp (Some port) asks there =
-    ap (slice_set ports (n - 1)) (kept_by adapter_set port attribute modifier smp asks ∙ sym (get_or_from_slice_get ports (n - 1) port port (there port refl))) ∙ set-get_or ports (n - 1) port
-
-is_there : (b : Bool) (found : Option AdapterState) (port : AdapterState) → (if b then None else found) ≡ Some port → found ≡ Some port
-is_there true found port h = cc
-is_there false found port h = h
-
-node_kept : (node : Node) (n : ℕ) (attribute : SmpAttribute) (modifier : ℕ) (smp : List ℕ) → IsGetOf attribute modifier smp → node_after node n smp ≡ node
-unfolding node_after switch_after
-node_kept (Switch held) n attribute modifier smp asks = ap (λ (one : SwitchState). Switch one) (kept_by switch_set held attribute modifier smp asks)
-node_kept (Adapter ports) n attribute modifier smp asks =
-    ap (λ (all : List AdapterState). Adapter all) (adapter_kept ports n attribute modifier smp (adapter_port ports n) asks (λ port h. is_there (n == 0) (slice_get ports (n - 1)) port h))
-
 -- ---- the fabric
 replied_at : (found : Option Node) (n : ℕ) (attribute : SmpAttribute) (modifier : ℕ) (smp : List ℕ) → IsGetOf attribute modifier smp
     → option_and_then (λ node. node_reply node n smp) found ≡ option_map (λ given. reply_to smp given) (option_and_then (λ node. node_gives node n attribute modifier) found)
 replied_at None n attribute modifier smp asks = refl
 replied_at (Some node) n attribute modifier smp asks = node_replied node n attribute modifier smp asks
-
-kept_at : (nodes : List Node) (at : PortRef) (attribute : SmpAttribute) (modifier : ℕ) (smp : List ℕ) (found : Option Node) → IsGetOf attribute modifier smp
-    → slice_get nodes at.node ≡ found → nodes_after nodes at smp found ≡ nodes
-kept_at nodes at attribute modifier smp None asks there = refl
-kept_at nodes at attribute modifier smp (Some node) asks there =
-    ap (slice_set nodes at.node) (node_kept node at.port attribute modifier smp asks ∙ sym (get_or_from_slice_get nodes at.node node node there)) ∙ set-get_or nodes at.node node
 
 -- ---- what an SMP asks that asks for an attribute
 code_named : (attribute : SmpAttribute) → smp_attribute_of (smp_attribute_code attribute) ≡ Some attribute
@@ -171,27 +142,20 @@ walk_is : (fabric : FabricState) (attribute : SmpAttribute) (modifier : ℕ) (pa
     → walk_of fabric smp ≡ walk fabric.nodes fabric.cables true fabric.manager path
 walk_is fabric attribute modifier path smp asks = rw (asks.sent, asks.path_is) refl
 
-few_hops : (out start : Bool) (hops : ℕ) → out && (start && nat_le hops 63) ≡ true → hops ≤ 63
-few_hops out start hops h = let few = (both_of start (nat_le hops 63) (both_of out (start && nat_le hops 63) h).1).1 in grind (arith, nat_tests, few)
-
 by_walk : (fabric : FabricState) (attribute : SmpAttribute) (modifier : ℕ) (path smp : List ℕ) (walked : Option (List PortRef)) → IsGood fabric → AsksFor attribute modifier path smp
     → AllBelowBase 256 smp → length smp ≡ 256 → walk fabric.nodes fabric.cables true fabric.manager path ≡ walked
     → Tells fabric smp (option_and_then (λ ends. gives_at fabric (last_of fabric.manager ends) attribute modifier) walked)
-unfolding exchange_after exchange_reply
 by_walk fabric attribute modifier path smp None good asks low long is =
     let no = walk_is fabric attribute modifier path smp asks ∙ is in
-    told_by fabric smp smp None long nothing_given (rw no refl) (rw no refl)
+    told_by fabric smp smp None long nothing_given (no_walk_after fabric smp no) (no_walk_reply fabric smp no)
 by_walk fabric attribute modifier path smp (Some ends) good asks low long is =
     let so = walk_is fabric attribute modifier path smp asks ∙ is in
-    let few = few_hops (field smp 32 1 == 0) (pointer smp == 0) (count smp) asks.sent in
-    let right = walks_right fabric true fabric.manager path ends good is in
-    let hops : length ends ≡ count smp = right.0 ∙ ap length (sym asks.path_is) ∙ path_length smp long few in
-    let carrier = arrived_carries smp ends low long hops few right.1 in
+    let carrier = carried fabric smp ends good long low so in
     let gets = carrier_gets attribute modifier path smp (arrived ends smp) asks carrier in
     let at = last_of fabric.manager ends in
     told_by fabric smp (arrived ends smp) (gives_at fabric at attribute modifier) carrier.long (attributes_given fabric at attribute modifier good.holdings)
-    (rw so (ap (λ (nodes : List Node). record fabric { nodes = nodes }) (kept_at fabric.nodes at attribute modifier (arrived ends smp) (slice_get fabric.nodes at.node) gets refl)))
-    (rw so (ap (option_map returned) (replied_at (slice_get fabric.nodes at.node) at.port attribute modifier (arrived ends smp) gets)))
+    (walk_after fabric smp ends so ∙ (ap (λ (nodes : List Node). record fabric { nodes = nodes }) (nodes_stay fabric.nodes at (arrived ends smp) (slice_get fabric.nodes at.node) (unset (arrived ends smp) gets.set) refl)))
+    (walk_reply fabric smp ends so ∙ (ap (option_map returned) (replied_at (slice_get fabric.nodes at.node) at.port attribute modifier (arrived ends smp) gets)))
 
 pub gets_tell : GetsTell
 gets_tell fabric attribute modifier path smp good asks = by_walk fabric attribute modifier path smp (walk fabric.nodes fabric.cables true fabric.manager path) good asks asks.bytes asks.long refl

@@ -1,16 +1,17 @@
 -- A walk followed hop by hop, with the ports by which the SMP comes in written as it goes.
-use Rattle.std.proofs.Common.{ℕ, suc, ◌≡◌, ◌+◌, ◌<◌, ◌≤◌, ◌==◌, ◌∙◌, ap, refl, sym, Bool, true, false, List, [], ◌∷◌, length, drop, get_or, slice_index, Option, Some, None, option_map, arith, add-one}
+use Rattle.std.proofs.Common.{ℕ, suc, ◌≡◌, ◌+◌, ◌<◌, ◌≤◌, ◌==◌, ◌∙◌, nat_le, ap, refl, sym, Bool, true, false, List, [], ◌∷◌, length, drop, get_or, slice_index, Option, Some, None, option_map, arith, add-one}
 use Rattle.std.proofs.Math.ListN.{drop_of_length-le}
 use Rattle.std.proofs.Math.Seq.{drop-cons}
+use Rattle.std.proofs.lemmas.Bool.{and_parts, eqb-true}
 use Rattle.std.proofs.lemmas.Bool.Decides.{nat_tests}
 use Rattle.std.proofs.lemmas.List.{get_or-drop, get_or-take, length-drop, length-take-le}
 use Rattle.std.specs.Option.{option_and_then}
-use Rattle.smp_route.specs.Places.{count, initial_port, with_pointer, with_return_port}
+use Rattle.smp_route.specs.Places.{count, initial_port, is_outgoing, pointer, with_pointer, with_return_port}
 use Rattle.topo_file.specs.declared.cable.Cable.{Cable}
 use Rattle.topo_file.specs.declared.cable.PortRef.{PortRef}
 use Rattle.fabric_wire.specs.declared.node.Node.{Node}
 use Rattle.fabric_wire.specs.declared.walking.Arrival.{Arrival}
-use Rattle.fabric_wire.specs.Walk.{arrival_of, hop, last_of, path_of, walk, with_return_ports}
+use Rattle.fabric_wire.specs.Walk.{arrival_of, hop, is_sent, last_of, path_of, walk, with_return_ports}
 
 abbrev pub follow : List Node → List Cable → Bool → PortRef → ℕ → List ℕ → List ℕ → Option (PortRef × List ℕ)
 follow nodes cables starts here k [] smp = Some (here, smp)
@@ -54,6 +55,13 @@ pub begins : (nodes : List Node) (cables : List Cable) (manager : PortRef) (sent
 begins nodes cables manager sent = record {
   gives = both manager sent (walk nodes cables true manager (path_of sent)) ∙ ap (option_map (there_with (count sent))) (follow_is_walk nodes cables true manager 1 (path_of sent) sent);
 }
+
+-- what is sent stands at the beginning of its path
+pub sent_parts : (sent : List ℕ) → is_sent sent ≡ true → (pointer sent ≡ 0) × (count sent ≤ 63)
+sent_parts sent is =
+    let start = and_parts (pointer sent == 0) (nat_le (count sent) 63) (and_parts (is_outgoing sent) _ is).1 in
+    let few = start.1 in
+    (eqb-true (pointer sent) 0 start.0, grind (arith, nat_tests, few))
 
 pub path_length : (sent : List ℕ) → length sent ≡ 256 → count sent ≤ 63 → length (path_of sent) ≡ count sent
 path_length sent long few = length-take-le (count sent) (drop 129 sent) (rw length-drop (omega (arith, long, few)))

@@ -24,8 +24,8 @@ mod wrappers;
 pub use crate::fabric::Fabric;
 pub use crate::getting::{get_request, read_attribute};
 pub use crate::laws::{
-    exchanges_change_what_they_name, exchanges_go_by_hops, exchanges_keep_the_fabric, gets_tell, the_two_switch_fabric_is_good,
-    topologies_give_good_fabrics,
+    exchanges_change_what_they_name, exchanges_go_by_hops, exchanges_keep_the_fabric, gets_tell,
+    the_two_switch_fabric_is_good, topologies_give_good_fabrics,
 };
 pub use crate::node::{AdapterPorts, Node};
 pub use crate::plain_wire::PlainWire;
