@@ -198,7 +198,3 @@ pub goes : (nodes : List Node) (cables : List Cable) (manager : ℕ) (home : Boo
     → IsComing nodes cables manager home reply (done + 1) there there.port (Turn nodes at entered smp).smp
 goes nodes cables manager home reply done at there entered smp number right way to is =
     rw (add-one done) (goes_by nodes cables manager home reply done at there entered smp _ number right way (returns nodes cables manager home reply done at entered smp right way) to is)
-
-pub too_far : (nodes : List Node) (cables : List Cable) (manager : ℕ) (home : Bool) (reply : List ℕ) (done : ℕ) (at : PortRef) (entered : ℕ) (smp : List ℕ)
-    → IsComing nodes cables manager home reply done at entered smp → done ≤ 63
-too_far nodes cables manager home reply done at entered smp way = omega (arith, way.hops, way.few)
