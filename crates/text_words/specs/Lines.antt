@@ -27,7 +27,7 @@ body line = if ends_in 10 line then without_last line else line
 abbrev pub uncommented : List ℕ → List ℕ
 uncommented line = before_first (λ byte. byte == 35) (body line)
 
--- a CR is white space where a comment or the LF follows it
+-- what counts of a line: a CR that a comment or the LF follows is white space, and is left out too
 abbrev pub content : List ℕ → List ℕ
 content line =
     if ends_in 13 (uncommented line) && nat_lt (length (uncommented line)) (length line) then without_last (uncommented line) else uncommented line

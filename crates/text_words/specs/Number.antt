@@ -13,7 +13,7 @@ digits_in radix digits =
 abbrev pub number_in : List ℕ → Option ℕ
 number_in word = if starts_with nat_eq word (codes "0x") then digits_in 16 (drop 2 word) else digits_in 10 word
 
--- the number that one more digit makes
+-- ---- a step of the code, on which no definition stands: the number that one more digit makes
 abbrev pub digit_step : ℕ → ℕ → ℕ → Option ℕ
 digit_step radix value byte =
     if is_digit byte radix && nat_lt (value * radix + digit_value byte) (2 ^ 128) then Some (value * radix + digit_value byte) else None
