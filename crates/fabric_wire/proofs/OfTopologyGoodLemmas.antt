@@ -1,10 +1,11 @@
 -- The fabric of a topology is good: its GUIDs, the ports of its nodes, and its cables.
 use Rattle.std.proofs.Common.{ℕ, zero, suc, ◌≡◌, ◌+◌, ◌==◌, ◌∙◌, refl, Bool, true, false, not, List, [], ◌∷◌, map, flat_map, ◌&&◌, ◌||◌, arith}
-use Rattle.std.specs.List.{list_all, list_any, range_with_len}
+use Rattle.std.specs.List.{list_all, list_any, range_with_len, IsDistinct}
 use Rattle.std.specs.Str.{bytes_eq}
 use Rattle.std.proofs.lemmas.Bool.{and_from, and_left, and_parts, eq-eqb, not_from_false, not-true, or_from}
 use Rattle.std.proofs.lemmas.Bool.Decides.{nat_tests}
 use Rattle.std.proofs.lemmas.List.FromFn.{length-map-range_with_len}
+use Rattle.std.proofs.lemmas.Map.Keys.{IsDistinct-tail}
 use Rattle.attr_tables.specs.declared.power_up.TheConstants.{LINEAR_TABLE}
 use Rattle.topo_file.specs.declared.cable.Cable.{Cable}
 use Rattle.topo_file.specs.declared.cable.PortRef.{PortRef}
@@ -13,11 +14,11 @@ use Rattle.topo_file.specs.declared.node.NodeKind.{NodeKind}
 use Rattle.topo_file.specs.declared.node.NodeKind.TheVariants as kind
 use Rattle.topo_file.specs.Cable.{is_cabled, is_same_port}
 use Rattle.topo_file.specs.Node.{is_switch_at as is_planned_at}
-use Rattle.topo_file.specs.Sound.{ends_at_ports, have_own_ports, is_named, is_sized, joins_right}
+use Rattle.topo_file.specs.Sound.{ends_at_ports, is_named, is_sized, joins_right, shares_port}
 use Rattle.fabric_wire.specs.Good.{all_differ, ends_of, has_a_right_count, holds_attributes, is_byte, is_description, is_in_order, is_of, is_right, node_guid}
 use Rattle.fabric_wire.specs.OfTopology.{TopologiesGiveGood, adapter_port_of, named, node_of, node_of_kind}
 use Rattle.fabric_wire.proofs.HoldingLemmas.{all_alike, name_described}
-use Rattle.fabric_wire.proofs.OfTopologyLemmas.{all_made, nodes_from, port_there, right_count, switch_there}
+use Rattle.fabric_wire.proofs.OfTopologyLemmas.{all_made, free_ends, nodes_from, port_there, right_count, switch_there}
 use Rattle.fabric_wire.proofs.OfTopologyGuidLemmas.{end_guids_differ, guid_of, node_guids_differ}
 
 -- ---- the ports of an adapter stand in order
@@ -63,7 +64,7 @@ right_there cables nodes cable ends joins =
     rw (port_there cables nodes cable.first, port_there cables nodes cable.second, switch_there cables nodes cable.first.node, switch_there cables nodes cable.second.node)
     (and_from _ _ both.0 (and_from _ _ both.1 joins))
 
-pub all_right : (built : List Cable) (nodes : List PlannedNode) (cables : List Cable) → list_all (λ cable. ends_at_ports nodes cable) cables ≡ true → list_all (joins_right nodes) cables ≡ true
+pub all_right : (built : List Cable) (nodes : List PlannedNode) (cables : List Cable) → list_all (ends_at_ports nodes) cables ≡ true → list_all (joins_right nodes) cables ≡ true
     → list_all (is_right (nodes_from built 0 nodes)) cables ≡ true
 all_right built nodes [] ends joins = refl
 all_right built nodes (cable ∷ cables) ends joins =
@@ -92,18 +93,17 @@ ends_apart : (nodes : List PlannedNode) (cable : Cable) → joins_right nodes ca
 ends_apart nodes cable joins =
     and_left (cable.first.node == cable.second.node) _ (not-true _ (and_parts (not (cable.first.node == cable.second.node)) _ joins).0)
 
-all_once : (nodes : List PlannedNode) (cables : List Cable) → list_all (joins_right nodes) cables ≡ true → have_own_ports cables ≡ true
+all_once : (nodes : List PlannedNode) (cables : List Cable) → list_all (joins_right nodes) cables ≡ true → IsDistinct shares_port cables
     → all_differ is_same_port (flat_map ends_of cables) ≡ true
 all_once nodes [] joins own = refl
 all_once nodes (cable ∷ cables) joins own =
     let join = and_parts (joins_right nodes cable) _ joins in
-    let one = and_parts (not (is_cabled cables cable.first)) _ own in
-    let two = and_parts (not (is_cabled cables cable.second)) _ one.1 in
+    let free = free_ends cable cables own in
     let rest = flat_map ends_of cables in
-    let first : list_any (is_same_port cable.first) (cable.second ∷ rest) ≡ false = or_from (is_same_port cable.first cable.second) _ (ends_apart nodes cable join.0) (ends_are cable.first cables ∙ not-true _ one.0) in
-    let second : list_any (is_same_port cable.second) rest ≡ false = ends_are cable.second cables ∙ not-true _ two.0 in
+    let first : list_any (is_same_port cable.first) (cable.second ∷ rest) ≡ false = or_from (is_same_port cable.first cable.second) _ (ends_apart nodes cable join.0) (ends_are cable.first cables ∙ free.0) in
+    let second : list_any (is_same_port cable.second) rest ≡ false = ends_are cable.second cables ∙ free.1 in
     and_from (not (list_any (is_same_port cable.first) (cable.second ∷ rest))) _ (not_from_false _ first)
-    (and_from (not (list_any (is_same_port cable.second) rest)) _ (not_from_false _ second) (all_once nodes cables join.1 two.1))
+    (and_from (not (list_any (is_same_port cable.second) rest)) _ (not_from_false _ second) (all_once nodes cables join.1 (IsDistinct-tail shares_port cable cables own)))
 
 -- ---- all of it
 pub good : TopologiesGiveGood

@@ -1,19 +1,20 @@
 -- The GUIDs of a topology's fabric are different, since its nodes have no GUID in common.
 use Rattle.std.proofs.Common.{ℕ, zero, suc, ◌≡◌, ◌⊎◌, ◌+◌, ◌<◌, ◌≤◌, ◌==◌, ◌∙◌, ap, refl, sym, inl, inr, Bool, true, false, not, List, [], ◌∷◌, ◌++◌, map, flat_map, nat_le, nat_lt, ◌&&◌, arith}
-use Rattle.std.specs.List.{enumerate_from, list_all, list_any, range_with_len}
+use Rattle.std.specs.List.{enumerate_from, list_all, list_any, range_with_len, IsDistinct}
 use Rattle.std.proofs.lemmas.Bool.{and_cases, and_from, and_parts, le-leb, leb-false, leb-true, lt-ltb, ne_eqb, not_from_false, not-true, or_from, or_parts}
 use Rattle.std.proofs.lemmas.List.Concat.{flat_map_single}
 use Rattle.std.proofs.lemmas.List.Folds.{flat_map-map, list_all-append, list_any-append}
+use Rattle.std.proofs.lemmas.Map.Keys.{IsDistinct-tail}
 use Rattle.topo_file.specs.declared.cable.Cable.{Cable}
 use Rattle.topo_file.specs.declared.node.Node.{Node as PlannedNode}
 use Rattle.topo_file.specs.declared.node.NodeKind.{NodeKind}
 use Rattle.topo_file.specs.declared.node.NodeKind.TheVariants as kind
 use Rattle.topo_file.specs.Node.{last_guid, port_guids, shares_guid}
-use Rattle.topo_file.specs.Sound.{have_own_guids, is_sized}
+use Rattle.topo_file.specs.Sound.{is_sized}
 use Rattle.fabric_wire.specs.declared.node.Node.TheVariants.{Adapter}
 use Rattle.fabric_wire.specs.Good.{all_differ, are_guids, end_port_guids, node_guid}
 use Rattle.fabric_wire.specs.OfTopology.{adapter_port_of, node_of, node_of_kind}
-use Rattle.fabric_wire.proofs.OfTopologyLemmas.{nodes_from, some_port}
+use Rattle.fabric_wire.proofs.OfTopologyLemmas.{nodes_from, none_shares, some_port}
 
 -- ---- lists of GUIDs from one to another
 abbrev pub is_in : ℕ → ℕ → ℕ → Bool
@@ -85,17 +86,16 @@ none_later of first (other ∷ nodes) node guid own sized apart is =
     (none_is guid other.guid (last_guid other) (of first other) (out_of node other guid parts.0 is) (own first other sizes.0).within)
     (none_later of (first + 1) nodes node guid own sizes.1 parts.1 is)
 
-all_different : (of : ℕ → PlannedNode → List ℕ) (first : ℕ) (nodes : List PlannedNode) → HaveOwn of → list_all is_sized nodes ≡ true → have_own_guids nodes ≡ true
+all_different : (of : ℕ → PlannedNode → List ℕ) (first : ℕ) (nodes : List PlannedNode) → HaveOwn of → list_all is_sized nodes ≡ true → IsDistinct shares_guid nodes
     → differ (all_guids of first nodes) ≡ true
 all_different of first [] own sized apart = refl
 all_different of first (node ∷ nodes) own sized apart =
     let sizes = and_parts (is_sized node) _ sized in
-    let parts = and_parts (not (list_any (λ other. shares_guid node other) nodes)) _ apart in
     let later = all_guids of (first + 1) nodes in
     let here = own first node sizes.0 in
-    differ_both (of first node) later here.different (all_different of (first + 1) nodes own sizes.1 parts.1)
+    differ_both (of first node) later here.different (all_different of (first + 1) nodes own sizes.1 (IsDistinct-tail shares_guid node nodes apart))
     (all_weaker (is_in node.guid (last_guid node)) (λ guid. not (list_any (λ other. guid == other) later)) (of first node)
-    (λ guid is. not_from_false _ (none_later of (first + 1) nodes node guid own sizes.1 (not-true _ parts.0) is)) here.within)
+    (λ guid is. not_from_false _ (none_later of (first + 1) nodes node guid own sizes.1 (none_shares shares_guid node nodes apart) is)) here.within)
 
 positive : (node : PlannedNode) (guid : ℕ) → is_sized node ≡ true → is_in node.guid (last_guid node) guid ≡ true → nat_lt 0 guid ≡ true
 positive node guid sized is =
@@ -113,7 +113,7 @@ all_positive of first (node ∷ nodes) own sized =
     (all_weaker (is_in node.guid (last_guid node)) (λ guid. nat_lt 0 guid) (of first node) (λ guid is. positive node guid sizes.0 is) (own first node sizes.0).within)
     (all_positive of (first + 1) nodes own sizes.1)
 
-guids_of : (of : ℕ → PlannedNode → List ℕ) (nodes : List PlannedNode) → HaveOwn of → list_all is_sized nodes ≡ true → have_own_guids nodes ≡ true
+guids_of : (of : ℕ → PlannedNode → List ℕ) (nodes : List PlannedNode) → HaveOwn of → list_all is_sized nodes ≡ true → IsDistinct shares_guid nodes
     → are_guids (all_guids of 0 nodes) ≡ true
 guids_of of nodes own sized apart =
     and_from (list_all (λ guid. nat_lt 0 guid) (all_guids of 0 nodes)) _ (all_positive of 0 nodes own sized) (all_different of 0 nodes own sized apart)
@@ -138,7 +138,7 @@ guid_of cables place node sized = guid_of_kind node.kind cables place node (some
 guid_own : (cables : List Cable) → HaveOwn (λ place node. node_guid (node_of cables place node) ∷ [])
 guid_own cables place node sized = rw (guid_of cables place node sized) (one_own node.guid (last_guid node) (omega arith))
 
-pub node_guids_differ : (cables : List Cable) (nodes : List PlannedNode) → list_all is_sized nodes ≡ true → have_own_guids nodes ≡ true
+pub node_guids_differ : (cables : List Cable) (nodes : List PlannedNode) → list_all is_sized nodes ≡ true → IsDistinct shares_guid nodes
     → are_guids (map node_guid (nodes_from cables 0 nodes)) ≡ true
 node_guids_differ cables nodes sized apart =
     let of : ℕ → PlannedNode → List ℕ = λ place node. node_guid (node_of cables place node) ∷ [] in
@@ -175,7 +175,7 @@ ends_of_kind kind.Adapter cables place node = record {
   different = ports_differ cables place node 1 node.ports;
 }
 
-pub end_guids_differ : (cables : List Cable) (nodes : List PlannedNode) → list_all is_sized nodes ≡ true → have_own_guids nodes ≡ true
+pub end_guids_differ : (cables : List Cable) (nodes : List PlannedNode) → list_all is_sized nodes ≡ true → IsDistinct shares_guid nodes
     → are_guids (flat_map end_port_guids (nodes_from cables 0 nodes)) ≡ true
 end_guids_differ cables nodes sized apart =
     let of : ℕ → PlannedNode → List ℕ = λ place node. end_port_guids (node_of cables place node) in

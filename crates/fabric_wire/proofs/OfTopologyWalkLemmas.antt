@@ -1,16 +1,16 @@
 -- A walk from switch to switch over a topology's cables is a walk of SMPs through its fabric.
-use Rattle.std.proofs.Common.{ℕ, ◌≡◌, ◌==◌, ◌∙◌, ap, refl, sym, inl, inr, subst, Bool, true, false, not, List, [], ◌∷◌, Some, ◌&&◌}
-use Rattle.std.specs.List.{list_all, list_any}
-use Rattle.std.proofs.lemmas.Bool.{and_left, and_parts, eq-eqb, eqb-true, false≢true, not-true, or_cases, or_from}
+use Rattle.std.proofs.Common.{ℕ, ◌≡◌, ◌==◌, ◌∙◌, ap, ap₂, refl, sym, inl, inr, subst, Bool, true, false, not, List, [], ◌∷◌, Some, ◌&&◌}
+use Rattle.std.specs.List.{list_all, list_any, IsDistinct}
+use Rattle.std.proofs.lemmas.Bool.{and_from, and_left, and_parts, eq-eqb, eqb-true, false≢true, not-true, or_cases, or_from}
+use Rattle.std.proofs.lemmas.Map.Keys.{IsDistinct-tail}
 use Rattle.topo_file.specs.declared.cable.Cable.{Cable}
 use Rattle.topo_file.specs.declared.cable.PortRef.{PortRef}
 use Rattle.topo_file.specs.declared.node.Node.{Node as PlannedNode}
 use Rattle.topo_file.specs.Cable.{ends_at, is_cabled, is_same_port}
 use Rattle.topo_file.specs.Connectivity.{is_walk, joins}
 use Rattle.topo_file.specs.Node.{is_switch_at as is_planned_at}
-use Rattle.topo_file.specs.Sound.{IsSound, have_own_ports, joins_right}
+use Rattle.topo_file.specs.Sound.{IsSound, joins_right, shares_port}
 use Rattle.topo_file.specs.Topology.{Plan}
-use Rattle.topo_file.proofs.WalkLemmas.{joined_if}
 use Rattle.fabric_wire.specs.declared.node.Node.{Node}
 use Rattle.fabric_wire.specs.FabricState.{far_end, is_switch_at, other_end}
 use Rattle.fabric_wire.specs.Good.{is_right, leads}
@@ -19,7 +19,7 @@ use Rattle.fabric_wire.specs.Walk.{last_of, walk}
 use Rattle.fabric_wire.proofs.HomeLemmas.{itself, same_port}
 use Rattle.fabric_wire.proofs.HopLemmas.{hop_is_far_end}
 use Rattle.fabric_wire.proofs.OfTopologyGoodLemmas.{all_right}
-use Rattle.fabric_wire.proofs.OfTopologyLemmas.{nodes_from, switch_there}
+use Rattle.fabric_wire.proofs.OfTopologyLemmas.{free_ends, nodes_from, switch_there}
 
 abbrev port : ℕ → ℕ → PortRef
 port node number = record { node = node; port = number }
@@ -65,14 +65,13 @@ by_later cable cables a next first second out =
     let other = not_end cable cables (port a out.number) first second out.cabled in
     record { number = out.number; there = out.there; far = rw other out.far; cabled = rw other out.cabled; node = out.node }
 
-out_by : (nodes : List PlannedNode) (cables : List Cable) (a next : ℕ) → list_all (joins_right nodes) cables ≡ true → have_own_ports cables ≡ true
+out_by : (nodes : List PlannedNode) (cables : List Cable) (a next : ℕ) → list_all (joins_right nodes) cables ≡ true → IsDistinct shares_port cables
     → list_any (λ cable. joins a next cable) cables ≡ true → GoesOut cables a next
 out_by nodes [] a next right own joined = absurd (false≢true joined)
 out_by nodes (cable ∷ cables) a next right own joined =
     let rights = and_parts (joins_right nodes cable) _ right in
     let apart = not-true _ (and_parts (not (cable.first.node == cable.second.node)) _ rights.0).0 in
-    let one = and_parts (not (is_cabled cables cable.first)) _ own in
-    let two = and_parts (not (is_cabled cables cable.second)) _ one.1 in
+    let free = free_ends cable cables own in
     elim (or_cases (joins a next cable) _ joined) [
       | inl here ↦ elim (or_cases ((cable.first.node == a) && (cable.second.node == next)) _ here) [
         | inl forth ↦ let ends = and_parts (cable.first.node == a) _ forth in
@@ -80,7 +79,7 @@ out_by nodes (cable ∷ cables) a next right own joined =
         | inr back ↦ let ends = and_parts (cable.first.node == next) _ back in
             by_second cable cables a next apart (eqb-true cable.second.node a ends.1) (eqb-true cable.first.node next ends.0)
       ]
-      | inr later ↦ by_later cable cables a next (not-true _ one.0) (not-true _ two.0) (out_by nodes cables a next rights.1 two.1 later)
+      | inr later ↦ by_later cable cables a next free.0 free.1 (out_by nodes cables a next rights.1 (IsDistinct-tail shares_port cable cables own) later)
     ]
 
 -- ---- a walk
@@ -112,6 +111,6 @@ leads_there plan a b way = rw way.walked (eq-eqb (last_of (port a 0) way.ends).n
 
 pub joined : TopologiesAreJoined
 joined plan sound a b is_a is_b =
-    let walks = joined_if plan.nodes plan.cables sound.connected a b (sym (switch_there plan.cables plan.nodes a) ∙ is_a) (sym (switch_there plan.cables plan.nodes b) ∙ is_b) in
+    let walks = sound.connected a b (sym (switch_there plan.cables plan.nodes a) ∙ is_a) (sym (switch_there plan.cables plan.nodes b) ∙ is_b) in
     let way = goes plan sound (port a 0) walks.0 b walks.1 in
     (way.numbers, leads_there plan a b way)

@@ -1,5 +1,5 @@
 -- What is so of a node and of a cable that a line may declare.
-use Rattle.std.proofs.Common.{◌≡◌, ℕ, Bool, true, false, ◌&&◌, ◌||◌, nat_le, List, [], ◌∷◌, Option, Some, None, Result, Ok, Err, if◌then◌else◌, is_some, refl, sym}
+use Rattle.std.proofs.Common.{◌≡◌, ℕ, ◌-◌, ◌^◌, Bool, true, false, ◌&&◌, ◌||◌, nat_le, List, [], ◌∷◌, Option, Some, None, Result, Ok, Err, if◌then◌else◌, is_some, refl, sym}
 use Rattle.std.specs.List.{list_any}
 use Rattle.std.specs.Option.{ok_or}
 use Rattle.std.specs.Str.{bytes_eq}
@@ -74,12 +74,12 @@ spelt_is : (kind : NodeKind) (nodes : List Node) (name guid ports : List ℕ) (m
 unfolding node_spelt
 spelt_is kind nodes name guid ports made h =
     let named = bound (name_of name) _ made h in
-    let numbered = bound (number_up_to 18446744073709551615 guid) _ made named.rest in
+    let numbered = bound (number_up_to (2 ^ 64 - 1) guid) _ made named.rest in
     let counted = bound (number_up_to (most_ports kind) ports) _ made numbered.rest in
     let is = let_in (is_name name) Malformed name named.value named.first in
     let node : Node = record { name = named.value; kind = kind; guid = numbered.value; ports = counted.value } in
     let new = new_is nodes node made counted.rest in
-    let guid_is = and_parts (nat_le 1 numbered.value) _ (in_range 18446744073709551615 numbered.value (number_in guid) numbered.first) in
+    let guid_is = and_parts (nat_le 1 numbered.value) _ (in_range (2 ^ 64 - 1) numbered.value (number_in guid) numbered.first) in
     let ports_are = in_range (most_ports kind) counted.value (number_in ports) counted.first in
     rw new.2 (record { named = rw is.1 is.0; own_name = new.0; sized = and_from (nat_le 1 numbered.value) _ guid_is.0 ports_are; own = none_of _ _ new.1 })
 

@@ -10,7 +10,7 @@ use Rattle.std.proofs.lemmas.List.FromFn.{length-enumerate_from}
 use Rattle.topo_file.specs.declared.cable.Cable.{Cable}
 use Rattle.topo_file.specs.declared.node.Node.{Node}
 use Rattle.topo_file.specs.Node.{is_switch, is_switch_at, switch_count}
-use Rattle.topo_file.specs.Connectivity.{is_marked, leads_to, spread, only, after_rounds}
+use Rattle.topo_file.specs.Rounds.{is_marked, leads_to, spread, only, after_rounds}
 
 -- ---- the mark at a place
 mark_from : (f : ℕ × Node → Bool) (m i : ℕ) (nodes : List Node) → is_marked (map f (enumerate_from m nodes)) i ≡ option_map_or (λ n. f (m + i, n)) (slice_get nodes i) false

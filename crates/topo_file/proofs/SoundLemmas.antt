@@ -1,17 +1,17 @@
 use Rattle.std.proofs.Common.{◌≡◌, ◌∙◌, ap₂, Bool, ◌||◌, ◌==◌, ℕ, zero, suc, ◌≤◌, true, false, not, ◌&&◌, nat_le, List, [], ◌∷◌, ◌++◌, Option, Some, None, refl, arith}
-use Rattle.std.specs.List.{list_all, list_any}
+use Rattle.std.specs.List.{list_all, list_any, AllByRecursion, IsDistinct}
 use Rattle.std.specs.Str.{bytes_eq}
 use Rattle.std.proofs.lemmas.Bool.{and_parts, and_from}
 use Rattle.std.proofs.lemmas.Bool.Decides.{nat_tests}
-use Rattle.std.proofs.lemmas.List.Elements.{All-push}
+use Rattle.std.proofs.lemmas.List.Elements.{All-nil, All-push}
 use Rattle.topo_file.specs.declared.cable.Cable.{Cable}
 use Rattle.topo_file.specs.declared.cable.PortRef.{PortRef}
 use Rattle.topo_file.specs.declared.node.Node.{Node}
 use Rattle.topo_file.specs.declared.draft.Manager.{Manager}
 use Rattle.topo_file.specs.Node.{HasGuids, is_one_too_many, is_switch_at, last_guid, ports_at, shares_guid}
 use Rattle.topo_file.specs.Cable.{ends_at, is_cabled, is_same_port}
-use Rattle.topo_file.specs.Sound.{is_named, is_port, is_sized, ends_at_ports, have_own_guids, have_own_names, have_own_ports, is_manager_port, joins_right, on_adapter, AreSound, IsSoundSoFar}
-use Rattle.topo_file.specs.Topology.{Declarations}
+use Rattle.topo_file.specs.Sound.{is_named, is_port, is_sized, ends_at_ports, is_manager_port, joins_right, on_adapter, shares_name, shares_port, AreSound, IsSoundSoFar}
+use Rattle.topo_file.specs.Topology.{Declarations, nothing}
 use Rattle.topo_file.proofs.AcceptedLemmas.{IsNewNode, IsNewCable}
 use Rattle.topo_file.proofs.LimitLemmas.{within_limits_more}
 
@@ -27,7 +27,7 @@ below_more number few many more h = grind (arith, nat_tests)
 is_port_still : (nodes : List Node) (node : Node) (port : PortRef) → is_port nodes port ≡ true → is_port (nodes ++ node ∷ []) port ≡ true
 is_port_still nodes node port h = below_more port.port (ports_at nodes port.node) (ports_at (nodes ++ node ∷ []) port.node) (ports_grow nodes port.node node) h
 
-ends_still : (nodes : List Node) (node : Node) (cables : List Cable) → list_all (λ cable. ends_at_ports nodes cable) cables ≡ true → list_all (λ cable. ends_at_ports (nodes ++ node ∷ []) cable) cables ≡ true
+ends_still : (nodes : List Node) (node : Node) (cables : List Cable) → list_all (ends_at_ports nodes) cables ≡ true → list_all (ends_at_ports (nodes ++ node ∷ [])) cables ≡ true
 ends_still nodes node [] h = refl
 ends_still nodes node (cable ∷ cables) h =
     let parts = and_parts (ends_at_ports nodes cable) _ h in
@@ -92,14 +92,16 @@ all_more p (y ∷ ys) x all one =
     let parts = and_parts (p y) (list_all p ys) all in
     and_from (p y) _ parts.0 (all_more p ys x parts.1 one)
 
-own_guids_more : (nodes : List Node) (node : Node) → have_own_guids nodes ≡ true → list_any (λ other. shares_guid node other) nodes ≡ false → have_own_guids (nodes ++ node ∷ []) ≡ true
-own_guids_more [] node own none = refl
-own_guids_more (first ∷ nodes) node own none =
-    let parts = and_parts (not (list_any (λ other. shares_guid first other) nodes)) (have_own_guids nodes) own in
-    let apart : shares_guid first node ≡ false = shares_turned first node ∙ or_first (shares_guid node first) _ none in
-    and_from (not (list_any (λ other. shares_guid first other) (nodes ++ node ∷ []))) _
-    (rw (none_more (λ other. shares_guid first other) nodes node (not_true _ parts.0) apart) refl)
-    (own_guids_more nodes node parts.1 (or_rest (shares_guid node first) _ none))
+apart_more : {X : Type 0} (same : X → X → Bool) (x y : X) (zs : List X) → same y x ≡ false → AllByRecursion (λ z. same y z ≡ false) zs → AllByRecursion (λ z. same y z ≡ false) (zs ++ x ∷ [])
+apart_more same x y [] apart h = (apart, tt)
+apart_more same x y (z ∷ zs) apart h = (h.0, apart_more same x y zs apart h.1)
+
+-- one more that the test finds in none of them, the test being the same both ways
+distinct_more : {X : Type 0} (same : X → X → Bool) → ((a b : X) → same a b ≡ same b a) → (xs : List X) (x : X) → IsDistinct same xs → list_any (same x) xs ≡ false → IsDistinct same (xs ++ x ∷ [])
+unfolding IsDistinct
+distinct_more same turned [] x own none = (tt, tt)
+distinct_more same turned (y ∷ ys) x own none =
+    (apart_more same x y ys (turned y x ∙ or_first (same x y) _ none) own.0, distinct_more same turned ys x own.1 (or_rest (same x y) _ none))
 
 -- ---- nodes with names of their own
 name_turned : (one other : List ℕ) → bytes_eq one other ≡ bytes_eq other one
@@ -108,14 +110,26 @@ name_turned [] (b ∷ other) = refl
 name_turned (a ∷ one) [] = refl
 name_turned (a ∷ one) (b ∷ other) = ap₂ (λ (x y : Bool). x && y) (eq_turned a b) (name_turned one other)
 
-own_names_more : (nodes : List Node) (node : Node) → have_own_names nodes ≡ true → list_any (λ other. bytes_eq node.name other.name) nodes ≡ false → have_own_names (nodes ++ node ∷ []) ≡ true
-own_names_more [] node own none = refl
-own_names_more (first ∷ nodes) node own none =
-    let parts = and_parts (not (list_any (λ other. bytes_eq first.name other.name) nodes)) (have_own_names nodes) own in
-    let apart : bytes_eq first.name node.name ≡ false = name_turned first.name node.name ∙ or_first (bytes_eq node.name first.name) _ none in
-    and_from (not (list_any (λ other. bytes_eq first.name other.name) (nodes ++ node ∷ []))) _
-    (rw (none_more (λ other. bytes_eq first.name other.name) nodes node (not_true _ parts.0) apart) refl)
-    (own_names_more nodes node parts.1 (or_rest (bytes_eq node.name first.name) _ none))
+none_distinct : {X : Type 0} (same : X → X → Bool) → IsDistinct same []
+unfolding IsDistinct
+none_distinct same = tt
+
+-- before the first line
+pub nothing_sound : IsSoundSoFar nothing
+nothing_sound = record {
+  lines = record {
+    names = refl;
+    own_names = none_distinct shares_name;
+    guids = All-nil HasGuids;
+    own_guids = none_distinct shares_guid;
+    sizes = refl;
+    limits = (omega arith, omega arith);
+    ends = refl;
+    joins = refl;
+    own_ports = none_distinct shares_port;
+  };
+  manager = refl;
+}
 
 -- ---- cables between nodes that are there
 join_still : (nodes : List Node) (node : Node) (cable : Cable) → ends_at_ports nodes cable ≡ true → joins_right nodes cable ≡ true → joins_right (nodes ++ node ∷ []) cable ≡ true
@@ -123,7 +137,7 @@ join_still nodes node cable ends joins =
     let parts = and_parts (is_port nodes cable.first) (is_port nodes cable.second) ends in
     rw (kind_still nodes node cable.first.node cable.first.port parts.0, kind_still nodes node cable.second.node cable.second.port parts.1) joins
 
-joins_still : (nodes : List Node) (node : Node) (cables : List Cable) → list_all (λ cable. ends_at_ports nodes cable) cables ≡ true → list_all (joins_right nodes) cables ≡ true
+joins_still : (nodes : List Node) (node : Node) (cables : List Cable) → list_all (ends_at_ports nodes) cables ≡ true → list_all (joins_right nodes) cables ≡ true
     → list_all (joins_right (nodes ++ node ∷ [])) cables ≡ true
 joins_still nodes node [] ends joins = refl
 joins_still nodes node (cable ∷ cables) ends joins =
@@ -134,9 +148,9 @@ joins_still nodes node (cable ∷ cables) ends joins =
 lines_still : (nodes : List Node) (node : Node) (cables : List Cable) → AreSound nodes cables → HasGuids node → is_one_too_many nodes node.kind node.ports ≡ false → IsNewNode nodes node → AreSound (nodes ++ node ∷ []) cables
 lines_still nodes node cables sound guids room new = record {
   names = all_more is_named nodes node sound.names new.named;
-  own_names = own_names_more nodes node sound.own_names new.own_name;
+  own_names = distinct_more shares_name (λ a b. name_turned a.name b.name) nodes node sound.own_names new.own_name;
   guids = All-push HasGuids nodes node sound.guids guids;
-  own_guids = own_guids_more nodes node sound.own_guids new.own;
+  own_guids = distinct_more shares_guid shares_turned nodes node sound.own_guids new.own;
   sizes = all_more is_sized nodes node sound.sizes new.sized;
   limits = within_limits_more nodes node sound.limits room;
   ends = ends_still nodes node cables sound.ends;
@@ -156,20 +170,24 @@ sound_still so_far node sound guids room new = record {
 same_turned : (a b : PortRef) → is_same_port a b ≡ is_same_port b a
 same_turned a b = ap₂ (λ (x y : Bool). x && y) (eq_turned a.node b.node) (eq_turned a.port b.port)
 
-own_ports_more : (cables : List Cable) (cable : Cable) → have_own_ports cables ≡ true → is_cabled cables cable.first ≡ false → is_cabled cables cable.second ≡ false → have_own_ports (cables ++ cable ∷ []) ≡ true
-own_ports_more [] cable own first second = refl
-own_ports_more (other ∷ cables) cable own first second =
-    let parts = and_parts (not (is_cabled cables other.first)) _ own in
-    let rest = and_parts (not (is_cabled cables other.second)) (have_own_ports cables) parts.1 in
-    let at_first = or_first (ends_at cable.first other) _ first in
-    let at_second = or_first (ends_at cable.second other) _ second in
-    let one : ends_at other.first cable ≡ false = or_false (is_same_port cable.first other.first) _ (same_turned cable.first other.first ∙ or_first _ _ at_first) (same_turned cable.second other.first ∙ or_first _ _ at_second) in
-    let two : ends_at other.second cable ≡ false = or_false (is_same_port cable.first other.second) _ (same_turned cable.first other.second ∙ or_rest _ _ at_first) (same_turned cable.second other.second ∙ or_rest _ _ at_second) in
-    and_from (not (is_cabled (cables ++ cable ∷ []) other.first)) _
-    (rw (none_more (λ one. ends_at other.first one) cables cable (not_true _ parts.0) one) refl)
-    (and_from (not (is_cabled (cables ++ cable ∷ []) other.second)) _
-    (rw (none_more (λ one. ends_at other.second one) cables cable (not_true _ rest.0) two) refl)
-    (own_ports_more cables cable rest.1 (or_rest (ends_at cable.first other) _ first) (or_rest (ends_at cable.second other) _ second)))
+ends_turned : (a b : Cable) → shares_port a b ≡ shares_port b a
+ends_turned a b =
+    rw (same_turned b.first a.first, same_turned b.second a.first, same_turned b.first a.second, same_turned b.second a.second)
+    (crossed (is_same_port a.first b.first) (is_same_port a.first b.second) (is_same_port a.second b.first) (is_same_port a.second b.second))
+  where
+    crossed : (one two three four : Bool) → ((one || two) || (three || four)) ≡ ((one || three) || (two || four))
+    crossed true two three four = refl
+    crossed false true true four = refl
+    crossed false true false four = refl
+    crossed false false true four = refl
+    crossed false false false four = refl
+
+-- neither end of the cable has a cable
+no_port_shared : (cables : List Cable) (cable : Cable) → is_cabled cables cable.first ≡ false → is_cabled cables cable.second ≡ false → list_any (shares_port cable) cables ≡ false
+no_port_shared [] cable first second = refl
+no_port_shared (other ∷ cables) cable first second =
+    or_false (shares_port cable other) _ (or_false (ends_at cable.first other) _ (or_first (ends_at cable.first other) _ first) (or_first (ends_at cable.second other) _ second))
+    (no_port_shared cables cable (or_rest (ends_at cable.first other) _ first) (or_rest (ends_at cable.second other) _ second))
 
 -- a cable between ports that are there and have none leaves all sound
 pub sound_with : (so_far : Declarations) (cable : Cable) → IsSoundSoFar so_far → ends_at_ports so_far.nodes cable ≡ true → IsNewCable so_far.nodes so_far.cables cable
@@ -182,9 +200,9 @@ sound_with so_far cable sound ends new = record {
     own_guids = sound.lines.own_guids;
     sizes = sound.lines.sizes;
     limits = sound.lines.limits;
-    ends = all_more (λ one. ends_at_ports so_far.nodes one) so_far.cables cable sound.lines.ends ends;
+    ends = all_more (ends_at_ports so_far.nodes) so_far.cables cable sound.lines.ends ends;
     joins = all_more (joins_right so_far.nodes) so_far.cables cable sound.lines.joins new.joins;
-    own_ports = own_ports_more so_far.cables cable sound.lines.own_ports new.first new.second;
+    own_ports = distinct_more shares_port ends_turned so_far.cables cable sound.lines.own_ports (no_port_shared so_far.cables cable new.first new.second);
   };
   manager = sound.manager;
 }

@@ -1,15 +1,19 @@
--- Walks over cables, and the law: the test is true exactly where walks join every two switches.
-use Rattle.std.proofs.Common.{◌≡◌, ℕ, zero, suc, ◌+◌, Bool, true, false, ◌==◌, ◌&&◌, ◌||◌, nat_lt, List, [], ◌∷◌, ◌++◌, length, slice_get, position, Option, Some, None, refl, sym, subst, ◌∙◌, inl, inr, arith, zero-add}
-use Rattle.std.specs.List.{list_any, position_or_len}
+-- Walks over cables: where the rounds reach all switches, and where the test of switches in turn is true, walks join
+-- every two of them, and the other way round.
+use Rattle.std.proofs.Common.{◌≡◌, ℕ, zero, suc, ◌+◌, ◌<◌, Bool, true, false, cond, not, ◌==◌, ◌&&◌, ◌||◌, nat_lt, List, [], ◌∷◌, ◌++◌, length, filter, get_or, slice_get, position, Option, Some, None, refl, sym, ap, subst, ◌∙◌, inl, inr, arith, zero-add}
+use Rattle.std.specs.List.{list_all, list_any, position_or_len, range_with_len}
 use Rattle.std.specs.Option.{option_map_or}
-use Rattle.std.proofs.lemmas.Bool.{and_parts, and_from, or_cases, or_left, or_right, eqb-true, eq-eqb}
+use Rattle.std.proofs.lemmas.Bool.{and_parts, and_from, or_cases, or_left, or_right, eqb-true, eq-eqb, false≢true}
+use Rattle.std.proofs.lemmas.List.Folds.{list_all_at, list_any_at}
+use Rattle.std.proofs.lemmas.List.FromFn.{get_or-range_with_len, length-range_with_len}
 use Rattle.std.proofs.lemmas.Option.{cond_some}
 use Rattle.topo_file.specs.declared.cable.Cable.{Cable}
 use Rattle.topo_file.specs.declared.node.Node.{Node}
 use Rattle.topo_file.specs.Node.{is_switch, is_switch_at, switch_count}
-use Rattle.topo_file.specs.Connectivity.{is_marked, leads_to, after_rounds, reaches_all, is_connected, joins, is_walk, Joined, AllJoined}
+use Rattle.topo_file.specs.Connectivity.{is_connected, is_joined_within, joins, is_walk, switches, Joined, AllJoined}
+use Rattle.topo_file.specs.Rounds.{is_marked, leads_to, after_rounds, reaches_all, reaches_all_from}
 use Rattle.topo_file.proofs.NodeLemmas.{one_more, not_there}
-use Rattle.topo_file.proofs.MarkLemmas.{mark-spread, mark-only, only_marks, stays, rests, all_marked, from_marked}
+use Rattle.topo_file.proofs.MarkLemmas.{mark-spread, mark-only, marked_switch, only_marks, stays, rests, all_marked, from_marked}
 
 -- what passes a test passes a weaker one
 weaker : {X : Type 0} (strong weak : X → Bool) → ((x : X) → strong x ≡ true → weak x ≡ true) → (xs : List X) → list_any strong xs ≡ true → list_any weak xs ≡ true
@@ -159,11 +163,11 @@ fails_at p [] i h = refl
 fails_at p (x ∷ xs) zero h = (neither (p x) _ h).0
 fails_at p (x ∷ xs) (suc i) h = fails_at p xs i (neither (p x) _ h).1
 
--- ---- the law
-pub joined_if : (nodes : List Node) (cables : List Cable) → is_connected nodes cables ≡ true → AllJoined nodes cables
-joined_if nodes cables h = by (position is_switch nodes) refl h
+-- ---- the rounds and the walks
+reached_joined : (nodes : List Node) (cables : List Cable) → reaches_all nodes cables ≡ true → AllJoined nodes cables
+reached_joined nodes cables h = by (position is_switch nodes) refl h
   where
-    by : (o : Option ℕ) → position is_switch nodes ≡ o → reaches_all nodes cables o ≡ true → AllJoined nodes cables
+    by : (o : Option ℕ) → position is_switch nodes ≡ o → reaches_all_from nodes cables o ≡ true → AllJoined nodes cables
     by None e told a b at bt = absurd (let never = fails_at is_switch nodes a (not_there is_switch nodes e) in cc)
     by (Some place) e told a b at bt =
         let start = first_is_switch nodes place e in
@@ -173,13 +177,139 @@ joined_if nodes cables h = by (position is_switch nodes) refl h
         let back : Joined nodes cables a place = walk_back nodes cables place to_a.0 a to_a.1 in
         walk_on nodes cables a back.0 place b back.1 to_b
 
-pub if_joined : (nodes : List Node) (cables : List Cable) → AllJoined nodes cables → is_connected nodes cables ≡ true
-if_joined nodes cables all = by (position is_switch nodes) refl
+joined_reached : (nodes : List Node) (cables : List Cable) → AllJoined nodes cables → reaches_all nodes cables ≡ true
+joined_reached nodes cables all = by (position is_switch nodes) refl
   where
-    by : (o : Option ℕ) → position is_switch nodes ≡ o → reaches_all nodes cables o ≡ true
+    by : (o : Option ℕ) → position is_switch nodes ≡ o → reaches_all_from nodes cables o ≡ true
     by None e = refl
     by (Some place) e =
         let start = first_is_switch nodes place e in
         let marks = after_rounds nodes cables place (switch_count nodes) in
         from_marked 0 nodes marks (λ i s. let walk = all place i start s in
         subst (λ (k : ℕ). is_marked marks k ≡ true) (sym (zero-add i)) (complete nodes cables place start place walk.0 i (start_marked nodes cables place (switch_count nodes) start) walk.1))
+
+-- ---- the switches, each at its place
+below : (nodes : List Node) (i : ℕ) → is_switch_at nodes i ≡ true → i < length nodes
+below [] i h = absurd cc
+below (n ∷ nodes) zero h = omega arith
+below (n ∷ nodes) (suc i) h = let less = below nodes i h in omega (arith, less)
+
+any_of : {X : Type 0} (p q : X → Bool) (xs : List X) → list_any q (filter p xs) ≡ list_any (λ x. p x && q x) xs
+any_of p q [] = refl
+any_of p q (x ∷ xs) = by (p x) (any_of p q xs)
+  where
+    by : (b : Bool) → list_any q (filter p xs) ≡ list_any (λ y. p y && q y) xs → list_any q (cond b (x ∷ filter p xs) (filter p xs)) ≡ ((b && q x) || list_any (λ y. p y && q y) xs)
+    by true later = ap (λ (o : Bool). q x || o) later
+    by false later = later
+
+all_of : {X : Type 0} (p q : X → Bool) (xs : List X) → list_all q (filter p xs) ≡ list_all (λ x. not (p x) || q x) xs
+all_of p q [] = refl
+all_of p q (x ∷ xs) = by (p x) (all_of p q xs)
+  where
+    by : (b : Bool) → list_all q (filter p xs) ≡ list_all (λ y. not (p y) || q y) xs → list_all q (cond b (x ∷ filter p xs) (filter p xs)) ≡ ((not b || q x) && list_all (λ y. not (p y) || q y) xs)
+    by true later = ap (λ (o : Bool). q x && o) later
+    by false later = later
+
+place_is : (nodes : List Node) (i : ℕ) → i < length nodes → get_or (range_with_len 0 (length nodes)) i 0 ≡ i
+place_is nodes i less = get_or-range_with_len 0 (length nodes) i 0 less ∙ zero-add i
+
+within_all : (nodes : List Node) (i : ℕ) → i < length nodes → i < length (range_with_len 0 (length nodes))
+within_all nodes i less = rw (length-range_with_len 0 (length nodes)) less
+
+-- a test that some switch passes
+this_switch : (nodes : List Node) (q : ℕ → Bool) (i : ℕ) → is_switch_at nodes i ≡ true → q i ≡ true → list_any q (switches nodes) ≡ true
+this_switch nodes q i is passes =
+    let less = below nodes i is in
+    any_of (is_switch_at nodes) q (range_with_len 0 (length nodes))
+    ∙ list_any_at (λ k. is_switch_at nodes k && q k) (range_with_len 0 (length nodes)) i 0 (within_all nodes i less) (rw (place_is nodes i less) (and_from (is_switch_at nodes i) _ is passes))
+
+some_switch : (nodes : List Node) (q : ℕ → Bool) → list_any q (switches nodes) ≡ true → (i : ℕ) × ((is_switch_at nodes i ≡ true) × (q i ≡ true))
+some_switch nodes q h = from (range_with_len 0 (length nodes)) (sym (any_of (is_switch_at nodes) q (range_with_len 0 (length nodes))) ∙ h)
+  where
+    from : (places : List ℕ) → list_any (λ k. is_switch_at nodes k && q k) places ≡ true → (i : ℕ) × ((is_switch_at nodes i ≡ true) × (q i ≡ true))
+    from [] told = absurd cc
+    from (i ∷ places) told =
+        elim (or_cases (is_switch_at nodes i && q i) _ told) [ inl here ↦ let parts = and_parts (is_switch_at nodes i) (q i) here in (i, (parts.0, parts.1)) | inr later ↦ from places later ]
+
+-- a test that each switch passes
+each_switch : (nodes : List Node) (q : ℕ → Bool) → list_all q (switches nodes) ≡ true → (i : ℕ) → is_switch_at nodes i ≡ true → q i ≡ true
+each_switch nodes q all i is = by (q i) refl
+  where
+    by : (b : Bool) → q i ≡ b → q i ≡ true
+    by true e = e
+    by false e =
+        let less = below nodes i is in
+        let fails = list_all_at (λ k. not (is_switch_at nodes k) || q k) (range_with_len 0 (length nodes)) i 0 (within_all nodes i less) (rw (place_is nodes i less, is) e) in
+        absurd (false≢true (sym fails ∙ (sym (all_of (is_switch_at nodes) q (range_with_len 0 (length nodes))) ∙ all)))
+
+all_switches : (nodes : List Node) (q : ℕ → Bool) → ((i : ℕ) → is_switch_at nodes i ≡ true → q i ≡ true) → list_all q (switches nodes) ≡ true
+all_switches nodes q each = from (range_with_len 0 (length nodes))
+  where
+    from : (places : List ℕ) → list_all q (filter (is_switch_at nodes) places) ≡ true
+    from [] = refl
+    from (i ∷ places) = by (is_switch_at nodes i) refl (from places)
+      where
+        by : (b : Bool) → is_switch_at nodes i ≡ b → list_all q (filter (is_switch_at nodes) places) ≡ true → list_all q (cond b (i ∷ filter (is_switch_at nodes) places) (filter (is_switch_at nodes) places)) ≡ true
+        by true e later = and_from (q i) _ (each i e) later
+        by false e later = later
+
+-- ---- walks of so many steps
+abbrev leads_on : List Node → List Cable → ℕ → ℕ → ℕ → ℕ → Bool
+leads_on nodes cables steps a b next = list_any (λ cable. joins a next cable) cables && is_joined_within nodes cables steps next b
+
+within_joined : (nodes : List Node) (cables : List Cable) (steps a b : ℕ) → is_switch_at nodes a ≡ true → is_joined_within nodes cables steps a b ≡ true → Joined nodes cables a b
+within_joined nodes cables zero a b s h = ([], and_from (is_switch_at nodes a) (a == b) s h)
+within_joined nodes cables (suc steps) a b s h =
+    elim (or_cases (a == b) (list_any (leads_on nodes cables steps a b) (switches nodes)) h) [
+      | inl here ↦ ([], and_from (is_switch_at nodes a) (a == b) s here)
+      | inr on ↦ let next = some_switch nodes (leads_on nodes cables steps a b) on in
+          let parts = and_parts (list_any (λ cable. joins a next.0 cable) cables) _ next.1.1 in
+          let rest : Joined nodes cables next.0 b = within_joined nodes cables steps next.0 b next.1.0 parts.1 in
+          (next.0 ∷ rest.0, and_from (is_switch_at nodes a) _ s (and_from (list_any (λ cable. joins a next.0 cable) cables) _ parts.0 rest.1))
+    ]
+
+within_more : (nodes : List Node) (cables : List Cable) (steps a b : ℕ) → is_joined_within nodes cables steps a b ≡ true → is_joined_within nodes cables (suc steps) a b ≡ true
+within_more nodes cables zero a b h = or_left (a == b) _ h
+within_more nodes cables (suc steps) a b h =
+    elim (or_cases (a == b) (list_any (leads_on nodes cables steps a b) (switches nodes)) h) [
+      | inl here ↦ or_left (a == b) _ here
+      | inr on ↦ or_right (a == b) (list_any (leads_on nodes cables (suc steps) a b) (switches nodes)) (weaker (leads_on nodes cables steps a b) (leads_on nodes cables (suc steps) a b)
+          (λ next led. let parts = and_parts (list_any (λ cable. joins a next cable) cables) _ led in
+          and_from (list_any (λ cable. joins a next cable) cables) _ parts.0 (within_more nodes cables steps next b parts.1)) (switches nodes) on)
+    ]
+
+-- what so many rounds mark is so many steps away at most
+marked_within : (nodes : List Node) (cables : List Cable) (place rounds i : ℕ) → is_switch_at nodes place ≡ true
+    → is_marked (after_rounds nodes cables place rounds) i ≡ true → is_joined_within nodes cables rounds i place ≡ true
+marked_within nodes cables place zero i start h = eq-eqb i place (mark-only nodes place i h)
+marked_within nodes cables place (suc rounds) i start h =
+    let marks = after_rounds nodes cables place rounds in
+    let parts = and_parts (is_switch_at nodes i) _ (sym (mark-spread nodes cables marks i) ∙ h) in
+    elim (or_cases (is_marked marks i) (list_any (λ cable. leads_to marks i cable) cables) parts.1) [
+      | inl before ↦ within_more nodes cables rounds i place (marked_within nodes cables place rounds i start before)
+      | inr now ↦ let found = led_from marks i cables now in
+          let back = weaker (λ cable. joins found.0 i cable) (λ cable. joins i found.0 cable) (λ cable j. joins-back found.0 i cable j) cables found.1.1 in
+          or_right (i == place) _ (this_switch nodes (leads_on nodes cables rounds i place) found.0 (marked_switch nodes cables place rounds found.0 start found.1.0)
+          (and_from (list_any (λ cable. joins i found.0 cable) cables) _ back (marked_within nodes cables place rounds found.0 start found.1.0)))
+    ]
+
+-- ---- the law
+pub joined_if : (nodes : List Node) (cables : List Cable) → is_connected nodes cables ≡ true → AllJoined nodes cables
+joined_if nodes cables h a b at bt =
+    within_joined nodes cables (switch_count nodes) a b at (each_switch nodes (λ to. is_joined_within nodes cables (switch_count nodes) a to)
+    (each_switch nodes (λ from. list_all (λ to. is_joined_within nodes cables (switch_count nodes) from to) (switches nodes)) h a at) b bt)
+
+pub if_joined : (nodes : List Node) (cables : List Cable) → AllJoined nodes cables → is_connected nodes cables ≡ true
+if_joined nodes cables all =
+    all_switches nodes _ (λ a at. all_switches nodes _ (λ b bt. let walk = all b a bt at in
+    marked_within nodes cables b (switch_count nodes) a bt (complete nodes cables b bt b walk.0 a (start_marked nodes cables b (switch_count nodes) bt) walk.1)))
+
+-- the rounds find what the test says
+pub tested : (nodes : List Node) (cables : List Cable) → reaches_all nodes cables ≡ is_connected nodes cables
+tested nodes cables =
+    by (reaches_all nodes cables) (is_connected nodes cables) (λ h. if_joined nodes cables (reached_joined nodes cables h)) (λ h. joined_reached nodes cables (joined_if nodes cables h))
+  where
+    by : (one other : Bool) → (one ≡ true → other ≡ true) → (other ≡ true → one ≡ true) → one ≡ other
+    by true other there back = sym (there refl)
+    by false true there back = back refl
+    by false false there back = refl

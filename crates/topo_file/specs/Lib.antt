@@ -3,6 +3,7 @@ pub mod Node
 pub mod NewNode
 pub mod Cable
 pub mod Connectivity
+pub mod Rounds
 pub mod Topology
 pub mod Sound
 pub mod Reading

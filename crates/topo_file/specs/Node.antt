@@ -14,7 +14,7 @@ is_switch_kind Adapter = false
 abbrev pub is_switch : Node → Bool
 is_switch node = is_switch_kind node.kind
 
--- where the node of this name stands
+-- where the node of this name stands among the nodes
 abbrev pub place_of : List ℕ → List Node → Option ℕ
 place_of name nodes = position (λ node. bytes_eq name node.name) nodes
 
@@ -30,7 +30,8 @@ ports_at nodes place = option_map_or (λ node. node.ports) (slice_get nodes plac
 abbrev pub guid_at : List Node → ℕ → ℕ
 guid_at nodes place = option_map_or (λ node. node.guid) (slice_get nodes place) 0
 
--- a switch has one GUID for itself and its port 0; port p of an adapter with GUID g has the GUID g + p
+-- a switch has one GUID for itself and its port 0; port p of an adapter with GUID g has the GUID g + p. So the GUIDs of
+-- a node follow one another, from its own to the last.
 abbrev pub port_guids : NodeKind → ℕ → ℕ
 port_guids Switch ports = 0
 port_guids Adapter ports = ports
@@ -46,9 +47,9 @@ HasGuids node = last_guid node < 2 ^ 64
 abbrev pub shares_guid : Node → Node → Bool
 shares_guid a b = nat_le a.guid (last_guid b) && nat_le b.guid (last_guid a)
 
--- GUIDs have 64 bits, and each is used once
+-- a GUID of the node is past 64 bits, or one of these nodes has it
 abbrev pub lacks_guids : List Node → Node → Bool
-lacks_guids nodes node = nat_lt 18446744073709551615 (last_guid node) || list_any (λ other. shares_guid node other) nodes
+lacks_guids nodes node = nat_le (2 ^ 64) (last_guid node) || list_any (λ other. shares_guid node other) nodes
 
 -- a switch has 1 to 36 ports, an adapter 1 to 8
 abbrev pub most_ports : NodeKind → ℕ
@@ -58,10 +59,11 @@ most_ports Adapter = 8
 abbrev pub switch_count : List Node → ℕ
 switch_count nodes = count_by is_switch nodes
 
+-- how many ports the adapters have, all together
 abbrev pub adapter_ports : List Node → ℕ
 adapter_ports nodes = sum_by (λ node. port_guids node.kind node.ports) nodes
 
--- a fabric has at most 64 switches, and 256 adapter ports in all
+-- a fabric has at most 64 switches, and 256 adapter ports in all, so that no such node may follow these
 abbrev pub is_one_too_many : List Node → NodeKind → ℕ → Bool
 is_one_too_many nodes Switch ports = nat_le 64 (switch_count nodes)
 is_one_too_many nodes Adapter ports = nat_lt 256 (adapter_ports nodes + ports)

@@ -1,6 +1,6 @@
 -- What is so of every topology that was read, whatever its text.
-use Rattle.std.specs.Prelude.{◌≡◌, Bool, true, not, ◌&&◌, nat_le, List, [], ◌∷◌, Option, Some, None, All}
-use Rattle.std.specs.List.{list_all, list_any}
+use Rattle.std.specs.Prelude.{◌≡◌, Bool, true, not, ◌&&◌, ◌||◌, nat_le, List, Option, Some, None, All}
+use Rattle.std.specs.List.{list_all, IsDistinct}
 use Rattle.std.specs.Str.{bytes_eq}
 use Rattle.text_words.specs.Words.{is_name}
 use Rattle.topo_file.specs.declared.cable.Cable.{Cable}
@@ -8,19 +8,19 @@ use Rattle.topo_file.specs.declared.cable.PortRef.{PortRef}
 use Rattle.topo_file.specs.declared.node.Node.{Node}
 use Rattle.topo_file.specs.declared.draft.Manager.{Manager}
 use Rattle.topo_file.specs.Node.{HasGuids, IsWithinLimits, is_switch_at, most_ports, ports_at, shares_guid}
-use Rattle.topo_file.specs.Cable.{is_cabled, may_join}
-use Rattle.topo_file.specs.Connectivity.{is_connected}
+use Rattle.topo_file.specs.Cable.{ends_at, is_cabled, may_join}
+use Rattle.topo_file.specs.Connectivity.{AllJoined}
 use Rattle.topo_file.specs.Topology.{Plan, Declarations}
 
 -- the node there has this port
 abbrev pub is_port : List Node → PortRef → Bool
 is_port nodes port = nat_le 1 port.port && nat_le port.port (ports_at nodes port.node)
 
--- the subnet manager runs on a port of an adapter
+-- the port is one of an adapter, as that of the subnet manager is
 abbrev pub is_manager_port : List Node → PortRef → Bool
 is_manager_port nodes port = not (is_switch_at nodes port.node) && is_port nodes port
 
--- the cable ends at ports
+-- both ends of the cable are ports of nodes
 abbrev pub ends_at_ports : List Node → Cable → Bool
 ends_at_ports nodes cable = is_port nodes cable.first && is_port nodes cable.second
 
@@ -29,7 +29,7 @@ abbrev pub on_adapter : List Node → Option Manager → Bool
 on_adapter nodes None = true
 on_adapter nodes (Some manager) = is_manager_port nodes manager.port
 
--- a GUID is not 0, and a switch has 1 to 36 ports, an adapter 1 to 8
+-- what is counted of a node is in its range: its GUID is not 0, and a switch has 1 to 36 ports, an adapter 1 to 8
 abbrev pub is_sized : Node → Bool
 is_sized node = nat_le 1 node.guid && (nat_le 1 node.ports && nat_le node.ports (most_ports node.kind))
 
@@ -37,44 +37,38 @@ is_sized node = nat_le 1 node.guid && (nat_le 1 node.ports && nat_le node.ports 
 abbrev pub is_named : Node → Bool
 is_named node = is_name node.name
 
--- no two nodes have the same name
-abbrev pub have_own_names : List Node → Bool
-have_own_names [] = true
-have_own_names (node ∷ nodes) = not (list_any (λ other. bytes_eq node.name other.name) nodes) && have_own_names nodes
-
--- no two nodes have a GUID in common
-abbrev pub have_own_guids : List Node → Bool
-have_own_guids [] = true
-have_own_guids (node ∷ nodes) = not (list_any (λ other. shares_guid node other) nodes) && have_own_guids nodes
+-- both nodes have the same name
+abbrev pub shares_name : Node → Node → Bool
+shares_name a b = bytes_eq a.name b.name
 
 -- the cable joins two different switches, or a switch and an adapter
 abbrev pub joins_right : List Node → Cable → Bool
 joins_right nodes cable = may_join nodes cable.first.node cable.second.node
 
--- no port has two cables
-abbrev pub have_own_ports : List Cable → Bool
-have_own_ports [] = true
-have_own_ports (cable ∷ cables) = not (is_cabled cables cable.first) && (not (is_cabled cables cable.second) && have_own_ports cables)
+-- some port is an end of both cables
+abbrev pub shares_port : Cable → Cable → Bool
+shares_port a b = ends_at a.first b || ends_at a.second b
 
--- what each line keeps, of the nodes and cables so far
+-- of the nodes and cables that lines declare: no two nodes share a name or a GUID, and no two cables a port.
 pub record AreSound (nodes : List Node) (cables : List Cable) : Type 0 where
   pub names : list_all is_named nodes ≡ true
-  pub own_names : have_own_names nodes ≡ true
+  pub own_names : IsDistinct shares_name nodes
   pub guids : All HasGuids nodes
-  pub own_guids : have_own_guids nodes ≡ true
+  pub own_guids : IsDistinct shares_guid nodes
   pub sizes : list_all is_sized nodes ≡ true
   pub limits : IsWithinLimits nodes
-  pub ends : list_all (λ cable. ends_at_ports nodes cable) cables ≡ true
+  pub ends : list_all (ends_at_ports nodes) cables ≡ true
   pub joins : list_all (joins_right nodes) cables ≡ true
-  pub own_ports : have_own_ports cables ≡ true
+  pub own_ports : IsDistinct shares_port cables
 
+-- what stands after each line
 pub record IsSoundSoFar (so_far : Declarations) : Type 0 where
   pub lines : AreSound so_far.nodes so_far.cables
   pub manager : on_adapter so_far.nodes so_far.manager ≡ true
 
--- what the whole text keeps
+-- what stands of the whole
 pub record IsSound (plan : Plan) : Type 0 where
   pub lines : AreSound plan.nodes plan.cables
-  pub connected : is_connected plan.nodes plan.cables ≡ true
+  pub connected : AllJoined plan.nodes plan.cables
   pub manager_port : is_manager_port plan.nodes plan.sm ≡ true
   pub manager_cabled : is_cabled plan.cables plan.sm ≡ true

@@ -1,5 +1,5 @@
 -- What a topology text describes, or the first line that is at fault.
-use Rattle.std.specs.Prelude.{ℕ, ◌+◌, not, ◌&&◌, ◌||◌, nat_le, List, [], ◌∷◌, ◌++◌, codes, Option, Some, None, is_some, Result, Ok, Err, if◌then◌else◌}
+use Rattle.std.specs.Prelude.{ℕ, ◌+◌, ◌-◌, ◌^◌, not, ◌&&◌, ◌||◌, nat_le, List, [], ◌∷◌, ◌++◌, codes, Option, Some, None, is_some, Result, Ok, Err, if◌then◌else◌}
 use Rattle.std.specs.Option.{ok_or}
 use Rattle.std.specs.Str.{bytes_eq}
 use Rattle.text_words.specs.Lines.{lines, has_bad_character, words}
@@ -29,11 +29,12 @@ pub record Declarations : Type 0 where
   pub cables : List Cable
   pub manager : Option Manager
 
--- a fault with the line that it is told for
+-- a fault with the line that it is told for, counted from 1; 0 where it is of no line, but of the text as a whole
 pub record LineFault : Type 0 where
   pub line : ℕ
   pub cause : TopologyFault
 
+-- the first of two steps that is refused decides; `do` chains steps so
 infixl 10 ◌>>=◌
 abbrev pub ◌>>=◌ : {A B E : Type 0} → Result A E → (A → Result B E) → Result B E
 (Ok x) >>= f = f x
@@ -43,18 +44,19 @@ abbrev pub ◌>>=◌ : {A B E : Type 0} → Result A E → (A → Result B E) �
 abbrev pub name_of : List ℕ → Result (List ℕ) TopologyFault
 name_of word = if is_name word then Ok word else Err Malformed
 
+-- the number that was found, which must be one from 1 to the top
 abbrev pub within : ℕ → Option ℕ → Result ℕ TopologyFault
 within top (Some n) = if nat_le 1 n && nat_le n top then Ok n else Err Malformed
 within top None = Err Malformed
 
--- a number from 1 to this one
 abbrev pub number_up_to : ℕ → List ℕ → Result ℕ TopologyFault
 number_up_to top word = within top (number_in word)
 
 abbrev pub port_of : List ℕ → Result Port TopologyFault
 port_of word = ok_or (port_in word) Malformed
 
--- ---- lines: `switch NAME GUID PORTS` and `adapter NAME GUID PORTS`
+-- ---- lines: `switch NAME GUID PORTS` and `adapter NAME GUID PORTS`.
+-- A node has a name that no node before it has, GUIDs that are free, and room below the limits.
 abbrev pub new_node : List Node → Node → Result Node TopologyFault
 new_node nodes node =
     if is_some (place_of node.name nodes) then Err DuplicateName else (if lacks_guids nodes node then Err DuplicateGuid else (if is_one_too_many nodes node.kind node.ports then Err OverLimit else Ok node))
@@ -62,7 +64,7 @@ new_node nodes node =
 unfoldable pub node_spelt : NodeKind → List Node → List ℕ → List ℕ → List ℕ → Result Node TopologyFault
 node_spelt kind nodes name guid ports = do
   named ← name_of name
-  number ← number_up_to 18446744073709551615 guid
+  number ← number_up_to (2 ^ 64 - 1) guid
   count ← number_up_to (most_ports kind) ports
   new_node nodes (record { name = named; kind = kind; guid = number; ports = count })
 
@@ -70,7 +72,7 @@ unfoldable pub node_of : NodeKind → List Node → List (List ℕ) → Result N
 node_of kind nodes (name ∷ guid ∷ ports ∷ []) = node_spelt kind nodes name guid ports
 node_of kind nodes _ = Err Malformed
 
--- `cable PORT PORT`
+-- `cable PORT PORT`, of two ports that have none yet
 abbrev pub new_cable : List Node → List Cable → PortRef → PortRef → Result Cable TopologyFault
 new_cable nodes cables first second =
     if is_cabled cables first || is_cabled cables second then Err PortTaken else (if may_join nodes first.node second.node then Ok (record { first = first; second = second }) else Err WrongCableEnds)
@@ -104,7 +106,7 @@ unfoldable pub manager_of : List Node → Option Manager → ℕ → List (List 
 manager_of nodes manager number (word ∷ []) = manager_spelt nodes manager number word
 manager_of nodes manager number _ = Err Malformed
 
--- ---- a line after those before it
+-- ---- a line after those before it: what is declared with what the line tells
 abbrev pub with_node : Declarations → Result Node TopologyFault → Result Declarations TopologyFault
 with_node so_far told = told >>= λ node. Ok (record so_far { nodes = so_far.nodes ++ node ∷ [] })
 
@@ -127,6 +129,7 @@ after_words number so_far (first ∷ rest) =
 abbrev pub after_line : ℕ → Declarations → List ℕ → Result Declarations TopologyFault
 after_line number so_far line = if has_bad_character line then Err Malformed else after_words number so_far (words line)
 
+-- the same, with the number of the line that is at fault
 abbrev pub on_line : {X : Type 0} → ℕ → Result X TopologyFault → Result X LineFault
 on_line number (Ok x) = Ok x
 on_line number (Err fault) = Err (record { line = number; cause = fault })
@@ -136,9 +139,10 @@ unfoldable pub after_lines : ℕ → Declarations → List (List ℕ) → Result
 after_lines number so_far [] = Ok so_far
 after_lines number so_far (line ∷ rest) = on_line number (after_line number so_far line) >>= λ next. after_lines (number + 1) next rest
 
--- ---- the whole text: after the last line, a manager, its cable, and switches that cables join
-abbrev pub sound : Declarations → Manager → Result Plan LineFault
-sound all manager =
+-- ---- the whole text: after the last line there must be a manager, its port must have a cable, and cables must join
+-- all switches
+abbrev pub plan_of : Declarations → Manager → Result Plan LineFault
+plan_of all manager =
     if not (is_cabled all.cables manager.port) then Err (record { line = manager.line; cause = ManagerUncabled })
     else (if not (is_connected all.nodes all.cables) then Err (record { line = 0; cause = Disconnected })
     else Ok (record { nodes = all.nodes; cables = all.cables; sm = manager.port }))
@@ -146,10 +150,12 @@ sound all manager =
 unfoldable pub whole : Declarations → Result Plan LineFault
 whole all = do
   manager ← on_line 0 (ok_or all.manager WrongManager)
-  sound all manager
+  plan_of all manager
 
+-- before the first line nothing is declared
 abbrev pub nothing : Declarations
 nothing = record { nodes = []; cables = []; manager = None }
 
+-- what the text describes, or its first fault
 unfoldable pub topology_of : List ℕ → Result Plan LineFault
 topology_of text = after_lines 1 nothing (lines text) >>= whole

@@ -1,14 +1,15 @@
 ghost use Rattle.std.specs.Prelude.{◌≡◌, ◌↔◌, ◌==◌, ◌||◌, true, IfOk, map, position};
 ghost use Rattle.std.specs.List.{enumerate_from, list_any};
 ghost use Rattle.topo_file.specs.Node.{is_switch, switch_count};
-ghost use Rattle.topo_file.specs.Connectivity.{AllJoined, after_rounds, is_connected, is_marked, leads_to, marks_all, only, reaches_all, spread};
+ghost use Rattle.topo_file.specs.Connectivity.{AllJoined, is_connected};
+ghost use Rattle.topo_file.specs.Rounds.{after_rounds, is_marked, leads_to, marks_all, only, reaches_all, spread};
 
 use crate::cable::Cable;
 use crate::node::{Node, switch_count};
 use std::alloc::{AllocError, Global};
 
 /// Whether cables between switches join all switches; an adapter with several ports joins none.
-#[tactic(auto, using(crate::proofs::WalkLemmas::joined_if, crate::proofs::WalkLemmas::if_joined))]
+#[tactic(auto, using(crate::proofs::WalkLemmas::tested, crate::proofs::WalkLemmas::joined_if, crate::proofs::WalkLemmas::if_joined))]
 pub fn is_connected(alloc: Global, nodes: &[Node], cables: &[Cable]) -> Result<bool, AllocError>
     ensures value { IfOk result (λ answer. answer ≡ is_connected nodes.now cables.now) }
     // Some walk over cables leads from each switch to each other.
@@ -17,9 +18,16 @@ pub fn is_connected(alloc: Global, nodes: &[Node], cables: &[Cable]) -> Result<b
     reaches_all(alloc, nodes, cables)
 }
 
+/// The law of the test that `specs/Connectivity.antt` computes: it is true exactly where walks over cables
+/// join every two switches. It does nothing.
+#[tactic(auto, using(crate::proofs::WalkLemmas::joined_if, crate::proofs::WalkLemmas::if_joined))]
+pub fn connected_means_joined(nodes: &[Node], cables: &[Cable])
+    ensures { is_connected nodes.now cables.now ≡ true ↔ AllJoined nodes.now cables.now }
+{}
+
 /// Whether each switch is reached from the first.
 fn reaches_all(alloc: Global, nodes: &[Node], cables: &[Cable]) -> Result<bool, AllocError>
-    ensures { IfOk result (λ answer. answer ≡ is_connected nodes.now cables.now) }
+    ensures { IfOk result (λ answer. answer ≡ reaches_all nodes.now cables.now) }
 {
     let Some(place) = first_switch(nodes) else {
         return Ok(true);

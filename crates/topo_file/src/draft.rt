@@ -41,6 +41,7 @@ impl Model for Draft {
 }
 
 impl Draft {
+    #[tactic(auto, using(crate::proofs::SoundLemmas::nothing_sound))]
     pub(crate) fn new(alloc: Global) -> Draft
         ensures { result ≡ nothing }
     {

@@ -2,7 +2,8 @@
 //!
 //! [`read`] gives the [`Topology`] that a text describes, or the first fault with its line. What a
 //! text describes is stated in `specs/Topology.antt`, line by line, over the words of `text_words`.
-//! [`is_connected`] is the last question that a text is asked: whether cables join all switches.
+//! [`is_connected`] is the last question that a text is asked: whether cables join all switches;
+//! [`connected_means_joined`] is the law that says what that means.
 #![tactic(auto)]
 
 mod cable;
@@ -14,7 +15,7 @@ mod reader;
 mod topology;
 
 pub use crate::cable::{Cable, PortRef};
-pub use crate::connectivity::is_connected;
+pub use crate::connectivity::{connected_means_joined, is_connected};
 pub use crate::fault::{TopoFault, TopologyFault};
 pub use crate::node::{Name, Node, NodeKind};
 pub use crate::reader::read;

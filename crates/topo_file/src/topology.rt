@@ -1,9 +1,9 @@
 ghost use Rattle.std.specs.Prelude.{◌≡◌, ◌+◌, ◌≤◌, true, false, All, IfSome};
-ghost use Rattle.std.specs.List.{list_all};
+ghost use Rattle.std.specs.List.{list_all, IsDistinct};
 ghost use Rattle.topo_file.specs.Cable.{is_cabled, port_at};
-ghost use Rattle.topo_file.specs.Connectivity.{is_connected};
-ghost use Rattle.topo_file.specs.Node.{HasGuids, IsWithinLimits, guid_at, is_switch_at, place_of, ports_at};
-ghost use Rattle.topo_file.specs.Sound.{IsSound, ends_at_ports, have_own_guids, have_own_names, have_own_ports, is_manager_port, is_named, is_sized, joins_right};
+ghost use Rattle.topo_file.specs.Connectivity.{AllJoined};
+ghost use Rattle.topo_file.specs.Node.{HasGuids, IsWithinLimits, guid_at, is_switch_at, place_of, ports_at, shares_guid};
+ghost use Rattle.topo_file.specs.Sound.{IsSound, ends_at_ports, is_manager_port, is_named, is_sized, joins_right, shares_name, shares_port};
 
 use crate::cable::{Cable, CableList, PortRef, port_at};
 use crate::node::{Node, NodeList, is_switch_at};
@@ -41,9 +41,9 @@ impl Topology {
     pub fn nodes(&self) -> &[Node]
         ensures value { result.now ≡ self.now.nodes }
         ensures names { list_all is_named result.now ≡ true }
-        ensures own_names { have_own_names result.now ≡ true }
+        ensures own_names { IsDistinct shares_name result.now }
         ensures guids { All HasGuids result.now }
-        ensures own_guids { have_own_guids result.now ≡ true }
+        ensures own_guids { IsDistinct shares_guid result.now }
         ensures sizes { list_all is_sized result.now ≡ true }
         ensures limits { IsWithinLimits result.now }
     {
@@ -53,10 +53,10 @@ impl Topology {
     /// The cables, in the order of their lines.
     pub fn cables(&self) -> &[Cable]
         ensures value { result.now ≡ self.now.cables }
-        ensures ends { list_all (λ cable. ends_at_ports self.now.nodes cable) result.now ≡ true }
+        ensures ends { list_all (ends_at_ports self.now.nodes) result.now ≡ true }
         ensures joins { list_all (joins_right self.now.nodes) result.now ≡ true }
-        ensures own_ports { have_own_ports result.now ≡ true }
-        ensures connected { is_connected self.now.nodes result.now ≡ true }
+        ensures own_ports { IsDistinct shares_port result.now }
+        ensures connected { AllJoined self.now.nodes result.now }
     {
         self.cables.as_slice()
     }
