@@ -1,7 +1,7 @@
 -- A walk from switch to switch over a topology's cables is a walk of SMPs through its fabric.
-use Rattle.std.proofs.Common.{ℕ, ◌≡◌, ◌==◌, ◌∙◌, ap, ap₂, refl, sym, inl, inr, subst, Bool, true, false, not, List, [], ◌∷◌, Some, ◌&&◌}
+use Rattle.std.proofs.Common.{ℕ, ◌≡◌, ◌==◌, ◌∙◌, ap, refl, sym, inl, inr, subst, Bool, true, false, not, List, [], ◌∷◌, Some, ◌&&◌}
 use Rattle.std.specs.List.{list_all, list_any, IsDistinct}
-use Rattle.std.proofs.lemmas.Bool.{and_from, and_left, and_parts, eq-eqb, eqb-true, false≢true, not-true, or_cases, or_from}
+use Rattle.std.proofs.lemmas.Bool.{and_left, and_parts, eq-eqb, eqb-true, false≢true, not-true, or_cases, or_from}
 use Rattle.std.proofs.lemmas.Map.Keys.{IsDistinct-tail}
 use Rattle.topo_file.specs.declared.cable.Cable.{Cable}
 use Rattle.topo_file.specs.declared.cable.PortRef.{PortRef}

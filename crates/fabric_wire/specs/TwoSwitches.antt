@@ -1,24 +1,16 @@
--- The fabric of our examples: two switches A and B, joined by a cable, and four channel adapters.
+-- The topology of our examples: two switches A and B, joined by a cable, and four channel adapters.
 use Rattle.std.specs.Prelude.{ℕ, List, [], ◌∷◌, codes}
-use Rattle.attr_tables.specs.declared.link.Link.TheVariants.{Cabled, Uncabled}
-use Rattle.attr_tables.specs.declared.power_up.TheConstants.{LINEAR_TABLE, MULTICAST_TABLE}
-use Rattle.port_model.specs.AdapterState.{at_power_up as adapter_at_power_up}
-use Rattle.switch_model.specs.SwitchState.{at_power_up as switch_at_power_up}
 use Rattle.topo_file.specs.declared.cable.Cable.{Cable}
 use Rattle.topo_file.specs.declared.cable.PortRef.{PortRef}
-use Rattle.fabric_wire.specs.declared.node.Node.{Node}
-use Rattle.fabric_wire.specs.declared.node.Node.TheVariants.{Switch, Adapter}
-use Rattle.fabric_wire.specs.FabricState.{FabricState}
-use Rattle.fabric_wire.specs.OfTopology.{named}
+use Rattle.topo_file.specs.declared.node.Node.{Node}
+use Rattle.topo_file.specs.declared.node.NodeKind.TheVariants as kind
+use Rattle.topo_file.specs.Topology.{Plan}
 
--- a switch of four ports, the last of them without a cable
-abbrev pub switch_of_four : ℕ → List ℕ → Node
-switch_of_four guid name =
-    Switch (switch_at_power_up guid (named name) (Cabled ∷ Cabled ∷ Cabled ∷ Uncabled ∷ []) LINEAR_TABLE MULTICAST_TABLE)
+abbrev pub switch_of_four : List ℕ → ℕ → Node
+switch_of_four name guid = record { name = name; kind = kind.Switch; guid = guid; ports = 4 }
 
--- a channel adapter of one port, with a cable
-abbrev pub adapter_of_one : ℕ → ℕ → List ℕ → Node
-adapter_of_one guid port_guid name = Adapter (adapter_at_power_up guid 1 1 port_guid (named name) Cabled ∷ [])
+abbrev pub adapter_of_one : List ℕ → ℕ → Node
+adapter_of_one name guid = record { name = name; kind = kind.Adapter; guid = guid; ports = 1 }
 
 abbrev pub port : ℕ → ℕ → PortRef
 port node number = record { node = node; port = number }
@@ -26,15 +18,16 @@ port node number = record { node = node; port = number }
 abbrev pub cable : PortRef → PortRef → Cable
 cable first second = record { first = first; second = second }
 
-abbrev pub two_switches : FabricState
+-- the subnet manager runs on h0
+abbrev pub two_switches : Plan
 two_switches = record {
   nodes =
-      switch_of_four 16 (codes "A")
-      ∷ switch_of_four 32 (codes "B")
-      ∷ adapter_of_one 256 257 (codes "h0")
-      ∷ adapter_of_one 272 273 (codes "h1")
-      ∷ adapter_of_one 288 289 (codes "h2")
-      ∷ adapter_of_one 304 305 (codes "h3")
+      switch_of_four (codes "A") 16
+      ∷ switch_of_four (codes "B") 32
+      ∷ adapter_of_one (codes "h0") 256
+      ∷ adapter_of_one (codes "h1") 272
+      ∷ adapter_of_one (codes "h2") 288
+      ∷ adapter_of_one (codes "h3") 304
       ∷ [];
   cables =
       cable (port 0 1) (port 2 1)
@@ -43,5 +36,5 @@ two_switches = record {
       ∷ cable (port 1 1) (port 4 1)
       ∷ cable (port 1 2) (port 5 1)
       ∷ [];
-  manager = port 2 1;
+  sm = port 2 1;
 }

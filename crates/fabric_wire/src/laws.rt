@@ -1,10 +1,11 @@
 //! The laws of fabrics and exchanges. Each function's contract is its law; it does nothing.
 
+ghost use Rattle.topo_file.specs.Sound.{IsSound};
 ghost use Rattle.fabric_wire.specs.Good.{ExchangesKeepGood, ExchangesKeepLinks, ExchangesKeepJoined, IsGood, ShowsLinks, SwitchesJoined};
 ghost use Rattle.fabric_wire.specs.Changes.{ExchangesChangeWhatTheyName};
 ghost use Rattle.fabric_wire.specs.Get.{GetsTell};
 ghost use Rattle.fabric_wire.specs.HopByHop.{ExchangesGoByHops};
-ghost use Rattle.fabric_wire.specs.OfTopology.{TopologiesAreJoined, TopologiesGiveGood, TopologiesShowLinks};
+ghost use Rattle.fabric_wire.specs.OfTopology.{TopologiesAreJoined, TopologiesGiveGood, TopologiesShowLinks, fabric_of};
 ghost use Rattle.fabric_wire.specs.TwoSwitches.{two_switches};
 
 /// Whatever SMP is sent, a good fabric stays good; one in which a port is Down exactly where it has no
@@ -15,12 +16,13 @@ pub fn exchanges_keep_the_fabric()
     ensures joined { ExchangesKeepJoined }
 {}
 
-/// The two-switch fabric of our examples is good, its links show, and its switches are joined: so what
-/// is proved under these premises is not proved of nothing.
+/// The two-switch topology of our examples is sound, and its fabric is good, its links show, and its
+/// switches are joined: so what is proved under these premises is not proved of nothing.
 pub fn the_two_switch_fabric_is_good()
-    ensures good { IsGood two_switches }
-    ensures links { ShowsLinks two_switches }
-    ensures joined { SwitchesJoined two_switches }
+    ensures sound { IsSound two_switches }
+    ensures good { IsGood (fabric_of two_switches) }
+    ensures links { ShowsLinks (fabric_of two_switches) }
+    ensures joined { SwitchesJoined (fabric_of two_switches) }
 {}
 
 /// Whatever SMP is sent, it changes at most one node of a good fabric, that at the end of its walk, and of
