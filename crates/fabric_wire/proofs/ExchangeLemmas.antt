@@ -25,6 +25,8 @@ use Rattle.fabric_wire.proofs.HopLemmas.{byte_kept, pointer_set}
 use Rattle.fabric_wire.proofs.KeptLemmas.{IsSame, after_found, stays_good, switch_same}
 use Rattle.fabric_wire.proofs.ArrivalLemmas.{arrived_carries, put_below, walks_right}
 use Rattle.fabric_wire.proofs.WalkLemmas.{path_length, sent_parts}
+use Rattle.fabric_wire.proofs.DistinctLemmas.{differ}
+use Rattle.topo_file.specs.Cable.{is_same_port}
 
 pub record IsReady (nodes : List Node) (cables : List Cable) (manager agent : PortRef) (smp : List ℕ) : Type 0 where
   pub right : list_all (is_right nodes) cables ≡ true
@@ -82,7 +84,7 @@ ready_before fabric sent reply ends good is low long walked low_reply long_reply
     let count_is : count turned ≡ count sent = byte 7 (omega arith) (omega arith, refl) ∙ byte_kept noted (count sent + 1) 7 (λ e. omega (arith, e)) ∙ count_noted 1 ends sent in
     let pointer_is : pointer turned ≡ count sent + 1 = byte 6 (omega arith) (omega arith, refl) ∙ pointer_set noted (count sent + 1) noted_long in
     let led : leads_home fabric.nodes fabric.cables fabric.manager.node noted (0 + length ends) agent.node ≡ true =
-    walk_leads_home fabric.nodes fabric.cables fabric.manager.node true fabric.manager 0 (path_of sent) sent ends good.once refl (omega (arith, path_long, few)) long (eq-eqb fabric.manager.node fabric.manager.node refl) walked in
+    walk_leads_home fabric.nodes fabric.cables fabric.manager.node true fabric.manager 0 (path_of sent) sent ends (differ is_same_port _ good.once) refl (omega (arith, path_long, few)) long (eq-eqb fabric.manager.node fabric.manager.node refl) walked in
     let hops_are : 0 + length ends ≡ count sent = omega (arith, hops) in
     let home : leads_home fabric.nodes fabric.cables fabric.manager.node turned (count sent) agent.node ≡ true =
     leads_alike fabric.nodes fabric.cables fabric.manager.node turned noted (count sent) agent.node

@@ -12,10 +12,11 @@ use Rattle.topo_file.specs.declared.cable.PortRef.{PortRef}
 use Rattle.topo_file.specs.Cable.{is_same_port}
 use Rattle.fabric_wire.specs.declared.node.Node.{Node}
 use Rattle.fabric_wire.specs.FabricState.{far_end, is_port, is_switch_at}
-use Rattle.fabric_wire.specs.Good.{all_differ, ends_of, is_right}
+use Rattle.fabric_wire.specs.Good.{ends_of, is_right}
 use Rattle.fabric_wire.specs.Hopping.{leads_home}
 use Rattle.fabric_wire.specs.Walk.{hands_on, hop, last_of, walk, with_return_ports}
 use Rattle.fabric_wire.proofs.CablingLemmas.{far_end_before}
+use Rattle.fabric_wire.proofs.DistinctLemmas.{all_differ}
 
 -- ---- ports
 pub same_port : (a b : PortRef) → is_same_port a b ≡ true → a ≡ b

@@ -12,7 +12,7 @@ use Rattle.topo_file.specs.Cable.{is_cabled}
 use Rattle.fabric_wire.specs.declared.node.Node.{Node}
 use Rattle.fabric_wire.specs.FabricState.{FabricState, is_port, is_switch, is_switch_at, nodes_after, port_count}
 use Rattle.fabric_wire.specs.Walk.{after_walk, exchange_after, hop, walk, walk_of}
-use Rattle.fabric_wire.specs.Good.{ExchangesKeepGood, ExchangesKeepLinks, ExchangesKeepJoined, IsGood, ShowsLinks, SwitchesJoined, are_guids, end_port_guids, has_a_right_count, holds_attributes, info_at, is_in_order, is_right, node_guid, port_info_at}
+use Rattle.fabric_wire.specs.Good.{ExchangesKeepGood, ExchangesKeepLinks, ExchangesKeepJoined, IsGood, ShowsLinks, SwitchesJoined, end_port_guids, has_a_right_count, holds_attributes, info_at, is_in_order, is_right, node_guid, port_info_at}
 use Rattle.fabric_wire.proofs.HoldingLemmas.{all_set, all_there}
 use Rattle.fabric_wire.proofs.GoodLemmas.{IsSameNode, all_same, down_at, get_same, or_same, read_same, same_node}
 
@@ -76,8 +76,8 @@ ends_same old new same =
 
 pub stays_good : (old new : FabricState) → IsSame old new → IsGood old → IsGood new
 stays_good old new same good = record {
-  node_guids = ap are_guids same.guids ∙ good.node_guids;
-  end_guids = ap are_guids (ends_same old new same) ∙ good.end_guids;
+  node_guids = rw same.guids good.node_guids;
+  end_guids = rw (ends_same old new same) good.end_guids;
   counts = all_same has_a_right_count old.nodes new.nodes same.right ∙ good.counts;
   order = all_same is_in_order old.nodes new.nodes same.order ∙ good.order;
   holdings = same.holdings good.holdings;

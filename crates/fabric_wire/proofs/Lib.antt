@@ -1,4 +1,5 @@
 pub mod CablingLemmas
+pub mod DistinctLemmas
 pub mod HomeLemmas
 pub mod HopLemmas
 pub mod OutwardLemmas

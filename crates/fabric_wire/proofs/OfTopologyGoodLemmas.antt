@@ -15,11 +15,12 @@ use Rattle.topo_file.specs.declared.node.NodeKind.TheVariants as kind
 use Rattle.topo_file.specs.Cable.{is_cabled, is_same_port}
 use Rattle.topo_file.specs.Node.{is_switch_at as is_planned_at}
 use Rattle.topo_file.specs.Sound.{ends_at_ports, is_named, is_sized, joins_right, shares_port}
-use Rattle.fabric_wire.specs.Good.{all_differ, ends_of, has_a_right_count, holds_attributes, is_byte, is_description, is_in_order, is_of, is_right, node_guid}
+use Rattle.fabric_wire.specs.Good.{ends_of, has_a_right_count, holds_attributes, is_byte, is_description, is_in_order, is_of, is_right, node_guid}
 use Rattle.fabric_wire.specs.OfTopology.{TopologiesGiveGood, adapter_port_of, named, node_of, node_of_kind}
 use Rattle.fabric_wire.proofs.HoldingLemmas.{all_alike, name_described}
 use Rattle.fabric_wire.proofs.OfTopologyLemmas.{all_made, free_ends, nodes_from, port_there, right_count, switch_there}
 use Rattle.fabric_wire.proofs.OfTopologyGuidLemmas.{end_guids_differ, guid_of, node_guids_differ}
+use Rattle.fabric_wire.proofs.DistinctLemmas.{all_differ, distinct}
 
 -- ---- the ports of an adapter stand in order
 all_of : (cables : List Cable) (place : ℕ) (node : PlannedNode) (number count : ℕ)
@@ -117,7 +118,7 @@ good plan sound =
       order = all_made is_in_order is_sized plan.cables 0 plan.nodes (λ place node sized. in_order plan.cables place node sized) lines.sizes;
       holdings = all_made holds_attributes is_named plan.cables 0 plan.nodes (λ place node is. holding node.kind plan.cables place node is) lines.names;
       cables = all_right plan.cables plan.nodes plan.cables lines.ends lines.joins;
-      once = all_once plan.nodes plan.cables lines.joins lines.own_ports;
+      once = distinct is_same_port (flat_map ends_of plan.cables) (all_once plan.nodes plan.cables lines.joins lines.own_ports);
       manager_port = port_there plan.cables plan.nodes plan.sm ∙ manager.1;
       manager_adapter = switch_there plan.cables plan.nodes plan.sm.node ∙ not-true _ manager.0;
       manager_cabled = sound.manager_cabled;

@@ -1,5 +1,5 @@
 -- The GUIDs of a topology's fabric are different, since its nodes have no GUID in common.
-use Rattle.std.proofs.Common.{ℕ, zero, suc, ◌≡◌, ◌⊎◌, ◌+◌, ◌<◌, ◌≤◌, ◌==◌, ◌∙◌, ap, refl, sym, inl, inr, Bool, true, false, not, List, [], ◌∷◌, ◌++◌, map, flat_map, nat_le, nat_lt, ◌&&◌, arith}
+use Rattle.std.proofs.Common.{ℕ, zero, suc, ◌≡◌, ◌⊎◌, ◌+◌, ◌<◌, ◌≤◌, ◌==◌, ◌∙◌, refl, sym, inl, inr, Bool, true, false, not, List, [], ◌∷◌, ◌++◌, map, flat_map, nat_le, nat_lt, ◌&&◌, arith}
 use Rattle.std.specs.List.{enumerate_from, list_all, list_any, range_with_len, IsDistinct}
 use Rattle.std.proofs.lemmas.Bool.{and_cases, and_from, and_parts, le-leb, leb-false, leb-true, lt-ltb, ne_eqb, not_from_false, not-true, or_from, or_parts}
 use Rattle.std.proofs.lemmas.List.Concat.{flat_map_single}
@@ -12,9 +12,10 @@ use Rattle.topo_file.specs.declared.node.NodeKind.TheVariants as kind
 use Rattle.topo_file.specs.Node.{last_guid, port_guids, shares_guid}
 use Rattle.topo_file.specs.Sound.{is_sized}
 use Rattle.fabric_wire.specs.declared.node.Node.TheVariants.{Adapter}
-use Rattle.fabric_wire.specs.Good.{all_differ, are_guids, end_port_guids, node_guid}
+use Rattle.fabric_wire.specs.Good.{AreGuids, end_port_guids, node_guid}
 use Rattle.fabric_wire.specs.OfTopology.{adapter_port_of, node_of, node_of_kind}
-use Rattle.fabric_wire.proofs.OfTopologyLemmas.{nodes_from, none_shares, some_port}
+use Rattle.fabric_wire.proofs.OfTopologyLemmas.{nodes_from, some_port}
+use Rattle.fabric_wire.proofs.DistinctLemmas.{all_differ, distinct, none_shares}
 
 -- ---- lists of GUIDs from one to another
 abbrev pub is_in : ℕ → ℕ → ℕ → Bool
@@ -114,9 +115,9 @@ all_positive of first (node ∷ nodes) own sized =
     (all_positive of (first + 1) nodes own sizes.1)
 
 guids_of : (of : ℕ → PlannedNode → List ℕ) (nodes : List PlannedNode) → HaveOwn of → list_all is_sized nodes ≡ true → IsDistinct shares_guid nodes
-    → are_guids (all_guids of 0 nodes) ≡ true
+    → AreGuids (all_guids of 0 nodes)
 guids_of of nodes own sized apart =
-    and_from (list_all (λ guid. nat_lt 0 guid) (all_guids of 0 nodes)) _ (all_positive of 0 nodes own sized) (all_different of 0 nodes own sized apart)
+    record { not_0 = all_positive of 0 nodes own sized; own = distinct (λ a b. a == b) (all_guids of 0 nodes) (all_different of 0 nodes own sized apart) }
 
 -- ---- a node's own GUID
 one_own : (guid last : ℕ) → guid ≤ last → AreOwn guid last (guid ∷ [])
@@ -139,12 +140,12 @@ guid_own : (cables : List Cable) → HaveOwn (λ place node. node_guid (node_of 
 guid_own cables place node sized = rw (guid_of cables place node sized) (one_own node.guid (last_guid node) (omega arith))
 
 pub node_guids_differ : (cables : List Cable) (nodes : List PlannedNode) → list_all is_sized nodes ≡ true → IsDistinct shares_guid nodes
-    → are_guids (map node_guid (nodes_from cables 0 nodes)) ≡ true
+    → AreGuids (map node_guid (nodes_from cables 0 nodes))
 node_guids_differ cables nodes sized apart =
     let of : ℕ → PlannedNode → List ℕ = λ place node. node_guid (node_of cables place node) ∷ [] in
     let same : map node_guid (nodes_from cables 0 nodes) ≡ all_guids of 0 nodes =
     sym (flat_map_single node_guid (nodes_from cables 0 nodes)) ∙ flat_map-map (λ node. node_guid node ∷ []) (λ p. node_of cables p.0 p.1) (enumerate_from 0 nodes) in
-    ap are_guids same ∙ guids_of of nodes (guid_own cables) sized apart
+    rw same (guids_of of nodes (guid_own cables) sized apart)
 
 -- ---- the GUIDs of its end ports
 abbrev port_guids_from : List Cable → ℕ → PlannedNode → ℕ → ℕ → List ℕ
@@ -176,8 +177,8 @@ ends_of_kind kind.Adapter cables place node = record {
 }
 
 pub end_guids_differ : (cables : List Cable) (nodes : List PlannedNode) → list_all is_sized nodes ≡ true → IsDistinct shares_guid nodes
-    → are_guids (flat_map end_port_guids (nodes_from cables 0 nodes)) ≡ true
+    → AreGuids (flat_map end_port_guids (nodes_from cables 0 nodes))
 end_guids_differ cables nodes sized apart =
     let of : ℕ → PlannedNode → List ℕ = λ place node. end_port_guids (node_of cables place node) in
-    ap are_guids (flat_map-map end_port_guids (λ p. node_of cables p.0 p.1) (enumerate_from 0 nodes))
-    ∙ guids_of of nodes (λ place node size. ends_of_kind node.kind cables place node) sized apart
+    rw (flat_map-map end_port_guids (λ p. node_of cables p.0 p.1) (enumerate_from 0 nodes))
+    (guids_of of nodes (λ place node size. ends_of_kind node.kind cables place node) sized apart)

@@ -1,10 +1,9 @@
 -- The nodes of a topology's fabric, each at the place of the node that it is made of.
 use Rattle.std.proofs.Common.{ℕ, zero, suc, ◌≡◌, ◌+◌, ◌≤◌, ◌∙◌, ap, refl, sym, Bool, true, false, List, [], ◌∷◌, map, length, slice_get, Option, Some, None, option_map, nat_le, ◌&&◌, arith, add-zero, zero-add, leb-true}
-use Rattle.std.specs.List.{enumerate_from, list_all, list_any, AllByRecursion, IsDistinct}
+use Rattle.std.specs.List.{enumerate_from, list_all, list_any, IsDistinct}
 use Rattle.std.specs.Option.{option_map_or}
 use Rattle.std.proofs.lemmas.Bool.{and_from, and_parts, or_from, or_parts}
 use Rattle.std.proofs.lemmas.List.FromFn.{length-map-range_with_len}
-use Rattle.std.proofs.lemmas.Map.Keys.{IsDistinct-head}
 use Rattle.attr_tables.specs.declared.link.Link.TheVariants.{Internal}
 use Rattle.switch_model.proofs.PortLemmas.{length-ports_from}
 use Rattle.topo_file.specs.declared.cable.Cable.{Cable}
@@ -19,6 +18,7 @@ use Rattle.fabric_wire.specs.declared.node.Node.{Node}
 use Rattle.fabric_wire.specs.FabricState.{is_port, is_switch, is_switch_at, port_count}
 use Rattle.fabric_wire.specs.Good.{has_a_right_count}
 use Rattle.fabric_wire.specs.OfTopology.{adapter_port_of, link_of, links_of, node_of, node_of_kind}
+use Rattle.fabric_wire.proofs.DistinctLemmas.{none_shares}
 
 -- ---- places
 abbrev pub nodes_from : List Cable → ℕ → List PlannedNode → List Node
@@ -90,14 +90,7 @@ pub some_port : (node : PlannedNode) → is_sized node ≡ true → 1 ≤ node.p
 some_port node sized =
     leb-true 1 node.ports (and_parts (nat_le 1 node.ports) _ (and_parts (nat_le 1 node.guid) _ sized).1).0
 
--- ---- what is the first's alone
-none_same : {X : Type 0} (same : X → X → Bool) (x : X) (xs : List X) → AllByRecursion (λ y. same x y ≡ false) xs → list_any (same x) xs ≡ false
-none_same same x [] h = refl
-none_same same x (y ∷ ys) h = or_from (same x y) _ h.0 (none_same same x ys h.1)
-
-pub none_shares : {X : Type 0} (same : X → X → Bool) (x : X) (xs : List X) → IsDistinct same (x ∷ xs) → list_any (same x) xs ≡ false
-none_shares same x xs own = none_same same x xs (IsDistinct-head same x xs own)
-
+-- ---- the ports of the first cable are its alone
 free_from : (cable : Cable) (cables : List Cable) → list_any (shares_port cable) cables ≡ false → (is_cabled cables cable.first ≡ false) × (is_cabled cables cable.second ≡ false)
 free_from cable [] h = (refl, refl)
 free_from cable (other ∷ cables) h =

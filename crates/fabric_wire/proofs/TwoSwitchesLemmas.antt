@@ -1,29 +1,15 @@
 -- The topology of our examples is sound.
-use Rattle.std.proofs.Common.{ℕ, zero, suc, ◌≡◌, refl, Bool, true, false, not, nat_lt, List, [], ◌∷◌, All, arith}
-use Rattle.std.specs.List.{AllByRecursion, IsDistinct, list_all, list_any}
-use Rattle.std.proofs.lemmas.Bool.{and_parts, false≢true, not-true, or_parts}
+use Rattle.std.proofs.Common.{ℕ, zero, suc, ◌≡◌, refl, true, nat_lt, List, [], ◌∷◌, All, arith}
+use Rattle.std.specs.List.{list_all}
+use Rattle.std.proofs.lemmas.Bool.{and_parts, false≢true}
 use Rattle.std.proofs.lemmas.Bool.Decides.{nat_tests}
 use Rattle.std.proofs.lemmas.List.Elements.{All-cons, All-nil}
-use Rattle.std.proofs.lemmas.Map.Keys.{IsDistinct-cons}
 use Rattle.topo_file.specs.declared.node.Node.{Node}
 use Rattle.topo_file.specs.Connectivity.{AllJoined}
 use Rattle.topo_file.specs.Node.{HasGuids, is_switch_at, last_guid, shares_guid}
 use Rattle.topo_file.specs.Sound.{IsSound, shares_name, shares_port}
-use Rattle.fabric_wire.specs.Good.{all_differ}
 use Rattle.fabric_wire.specs.TwoSwitches.{two_switches}
-
-apart : {X : Type 0} (same : X → X → Bool) (x : X) (xs : List X) → list_any (same x) xs ≡ false → AllByRecursion (λ y. same x y ≡ false) xs
-apart same x [] none = tt
-apart same x (y ∷ ys) none =
-    let parts = or_parts (same x y) (list_any (same x) ys) none in
-    (parts.0, apart same x ys parts.1)
-
-distinct : {X : Type 0} (same : X → X → Bool) (xs : List X) → all_differ same xs ≡ true → IsDistinct same xs
-unfolding IsDistinct
-distinct same [] differ = tt
-distinct same (x ∷ xs) differ =
-    let parts = and_parts (not (list_any (same x) xs)) (all_differ same xs) differ in
-    IsDistinct-cons same x xs (apart same x xs (not-true _ parts.0)) (distinct same xs parts.1)
+use Rattle.fabric_wire.proofs.DistinctLemmas.{distinct}
 
 no_switch : (k : ℕ) → is_switch_at two_switches.nodes (suc (suc k)) ≡ true → ⊥
 no_switch zero h = absurd (false≢true h)

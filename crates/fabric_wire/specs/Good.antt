@@ -1,7 +1,7 @@
 -- What every good fabric meets, whatever its agents were asked; and, apart from it, that links show and
 -- that switches are joined.
 use Rattle.std.specs.Prelude.{ℕ, ◌≡◌, ◌==◌, not, ◌&&◌, ◌||◌, nat_le, nat_lt, Bool, true, false, List, [], ◌∷◌, map, flat_map, length, slice_get, Option, Some, option_map}
-use Rattle.std.specs.List.{list_all, list_any, range_with_len}
+use Rattle.std.specs.List.{list_all, range_with_len, IsDistinct}
 use Rattle.std.specs.Str.{bytes_eq}
 use Rattle.std.specs.Option.{option_and_then, option_map_or}
 use Rattle.attr_tables.specs.PortSetting.{is_down}
@@ -28,13 +28,10 @@ abbrev pub end_port_guids : Node → List ℕ
 end_port_guids (Switch held) = held.node_guid ∷ []
 end_port_guids (Adapter ports) = map (λ port. port.port_guid) ports
 
--- no two are the same
-abbrev pub all_differ : {X : Type 0} → (X → X → Bool) → List X → Bool
-all_differ same [] = true
-all_differ same (x ∷ xs) = not (list_any (same x) xs) && all_differ same xs
-
-abbrev pub are_guids : List ℕ → Bool
-are_guids guids = list_all (λ guid. nat_lt 0 guid) guids && all_differ (λ a b. a == b) guids
+-- none of them is 0, and no two are the same
+pub record AreGuids (guids : List ℕ) : Type 0 where
+  pub not_0 : list_all (λ guid. nat_lt 0 guid) guids ≡ true
+  pub own : IsDistinct (λ a b. a == b) guids
 
 -- ---- ports
 -- a node has at least one, and no more than a topology gives to its kind
@@ -78,14 +75,14 @@ abbrev pub ends_of : Cable → List PortRef
 ends_of cable = cable.first ∷ cable.second ∷ []
 
 pub record IsGood (fabric : FabricState) : Type 0 where
-  pub node_guids : are_guids (map node_guid fabric.nodes) ≡ true
-  pub end_guids : are_guids (flat_map end_port_guids fabric.nodes) ≡ true
+  pub node_guids : AreGuids (map node_guid fabric.nodes)
+  pub end_guids : AreGuids (flat_map end_port_guids fabric.nodes)
   pub counts : list_all has_a_right_count fabric.nodes ≡ true
   pub order : list_all is_in_order fabric.nodes ≡ true
   pub holdings : list_all holds_attributes fabric.nodes ≡ true
   pub cables : list_all (is_right fabric.nodes) fabric.cables ≡ true
   -- no port has two cables
-  pub once : all_differ is_same_port (flat_map ends_of fabric.cables) ≡ true
+  pub once : IsDistinct is_same_port (flat_map ends_of fabric.cables)
   -- the subnet manager's port is a port of an adapter, and has a cable
   pub manager_port : is_port fabric.nodes fabric.manager ≡ true
   pub manager_adapter : is_switch_at fabric.nodes fabric.manager.node ≡ false

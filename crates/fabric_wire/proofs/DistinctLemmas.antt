@@ -1,0 +1,33 @@
+-- Lists of which no two elements are the same, by a test that computes.
+use Rattle.std.proofs.Common.{◌≡◌, refl, Bool, true, false, not, ◌&&◌, List, [], ◌∷◌}
+use Rattle.std.specs.List.{list_any, AllByRecursion, IsDistinct}
+use Rattle.std.proofs.lemmas.Bool.{and_from, and_parts, not_from_false, not-true, or_from, or_parts}
+use Rattle.std.proofs.lemmas.Map.Keys.{IsDistinct-cons, IsDistinct-head, IsDistinct-tail}
+
+abbrev pub all_differ : {X : Type 0} → (X → X → Bool) → List X → Bool
+all_differ same [] = true
+all_differ same (x ∷ xs) = not (list_any (same x) xs) && all_differ same xs
+
+none_same : {X : Type 0} (same : X → X → Bool) (x : X) (xs : List X) → AllByRecursion (λ y. same x y ≡ false) xs → list_any (same x) xs ≡ false
+none_same same x [] h = refl
+none_same same x (y ∷ ys) h = or_from (same x y) _ h.0 (none_same same x ys h.1)
+
+pub none_shares : {X : Type 0} (same : X → X → Bool) (x : X) (xs : List X) → IsDistinct same (x ∷ xs) → list_any (same x) xs ≡ false
+none_shares same x xs own = none_same same x xs (IsDistinct-head same x xs own)
+
+apart : {X : Type 0} (same : X → X → Bool) (x : X) (xs : List X) → list_any (same x) xs ≡ false → AllByRecursion (λ y. same x y ≡ false) xs
+apart same x [] none = tt
+apart same x (y ∷ ys) none =
+    let parts = or_parts (same x y) (list_any (same x) ys) none in
+    (parts.0, apart same x ys parts.1)
+
+pub distinct : {X : Type 0} (same : X → X → Bool) (xs : List X) → all_differ same xs ≡ true → IsDistinct same xs
+unfolding IsDistinct
+distinct same [] differ = tt
+distinct same (x ∷ xs) differ =
+    let parts = and_parts (not (list_any (same x) xs)) (all_differ same xs) differ in
+    IsDistinct-cons same x xs (apart same x xs (not-true _ parts.0)) (distinct same xs parts.1)
+
+pub differ : {X : Type 0} (same : X → X → Bool) (xs : List X) → IsDistinct same xs → all_differ same xs ≡ true
+differ same [] own = refl
+differ same (x ∷ xs) own = and_from (not (list_any (same x) xs)) _ (not_from_false _ (none_shares same x xs own)) (differ same xs (IsDistinct-tail same x xs own))
