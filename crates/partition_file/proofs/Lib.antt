@@ -6,3 +6,4 @@ pub mod SoundLemmas
 pub mod LawLemmas
 pub mod MemberLemmas
 pub mod GeneratedLemmas
+pub mod MembershipLemmas

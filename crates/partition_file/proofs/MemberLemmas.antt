@@ -80,7 +80,7 @@ key_by : (base : ℕ) (b full : Bool) → base < 32768 → KeyOf base (cond b (S
 key_by base true full h = base_of_key base full h
 key_by base false full h = tt
 
-key_of_partition : (port : EndPort) (partition : Partition) → is_base partition.base ≡ true → KeyOf partition.base (key_in port partition)
+pub key_of_partition : (port : EndPort) (partition : Partition) → is_base partition.base ≡ true → KeyOf partition.base (key_in port partition)
 key_of_partition port partition h = key_by partition.base (is_member port partition) (is_full_member port partition) (base_below partition.base h)
 
 free_by : (bases held : List ℕ) (base : ℕ) (o : Option ℕ) → KeyOf base o → AllByRecursion (λ other. nat_eq base other ≡ false) bases → AreFree bases held → AreFree bases (held ++ option_to_list o)

@@ -12,5 +12,6 @@ pub mod Reading
 pub mod Law
 pub mod Generated
 pub mod Members
+pub mod Keys
 pub use Rattle.text_words.specs.Lines
 pub use Rattle.text_words.specs.Number

@@ -1,4 +1,5 @@
 ghost use Rattle.partition_file.specs.Generated.{GeneratedBasesAreFree};
+ghost use Rattle.partition_file.specs.Keys.{KeysTellMembership};
 ghost use Rattle.partition_file.specs.Law.{CleanThroughout, CommentsByBeginning, EndRefuses, InsideRefuses, OnlySoRefused};
 
 /// Which fault a partition text is refused for, as a law over the definitions that [`read`] meets.
@@ -28,4 +29,13 @@ pub fn first_fault()
 /// there always is one. The function does nothing; its clause is the theorem.
 pub fn generated_bases()
     ensures { GeneratedBasesAreFree }
+{}
+
+/// The law of the keys that [`members`] gives: of each partition's base a port has the key that it has
+/// in that partition, and none where it is no member. So whoever lists members by the keys that ports
+/// hold lists the members. The function does nothing; its clause is the theorem.
+///
+/// [`members`]: crate::members
+pub fn keys_tell_membership()
+    ensures { KeysTellMembership }
 {}

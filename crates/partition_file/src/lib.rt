@@ -25,7 +25,7 @@ mod scan;
 pub use crate::definition::Name;
 pub use crate::fault::{PartFault, PartitionFault};
 pub use crate::item::{Item, ItemList, Ports};
-pub use crate::law::{first_fault, generated_bases};
+pub use crate::law::{first_fault, generated_bases, keys_tell_membership};
 pub use crate::membership::members;
 pub use crate::merge::no_file;
 pub use crate::partition::{Group, Partition, Partitions};
