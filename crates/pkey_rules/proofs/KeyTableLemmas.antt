@@ -25,7 +25,7 @@ distinct_push key keys free distinct =
     IsDistinct-push (on_equiv base_of nat_eq_equiv) keys key distinct (rw (← has_base-same_base key keys) free)
 
 -- what passes a test passes a weaker one
-list_any_weaker : {X : Type 0} (strong weak : X → Bool) → ((x : X) → strong x ≡ true → weak x ≡ true) → (xs : List X) → list_any strong xs ≡ true → list_any weak xs ≡ true
+pub list_any_weaker : {X : Type 0} (strong weak : X → Bool) → ((x : X) → strong x ≡ true → weak x ≡ true) → (xs : List X) → list_any strong xs ≡ true → list_any weak xs ≡ true
 list_any_weaker strong weak implies [] h = h
 list_any_weaker strong weak implies (x ∷ xs) h =
     elim (or_cases (strong x) (list_any strong xs) h) [

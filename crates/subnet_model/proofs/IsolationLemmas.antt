@@ -6,6 +6,7 @@ use Rattle.std.proofs.lemmas.Bool.{cases_Bool, both_ways, false_from_ne_true, an
 use Rattle.std.proofs.lemmas.Bool.Decides.{nat_tests}
 use Rattle.data_packet.specs.declared.refusal.Refusal.{Refusal}
 use Rattle.data_packet.specs.declared.refusal.Refusal.TheVariants.{KeyNotHeld}
+use Rattle.pkey_rules.proofs.KeyTableLemmas.{list_any_weaker}
 use Rattle.pkey_rules.specs.PKey.{matches}
 use Rattle.pkey_rules.specs.KeyTable.{accepts, holds, shares}
 use Rattle.subnet_model.specs.declared.subnet_port.SubnetPort.{SubnetPort}
@@ -34,14 +35,6 @@ isolated {step = step} {view = view} {is_near = is_near} {at = at} law (c ∷ cs
   | inr far ↦ rw far (law.joined (step s c).0 (events_from step (step s c).1 cs)
       ∙ (ap (λ first. first ++ at (events_from step (step s c).1 cs)) (law.far_events s c far)
       ∙ isolated law cs (step s c).1 t (law.far_state s c far ∙ same)))
-]
-
--- what passes a test passes a weaker one
-list_any_weaker : {X : Type 0} (strong weak : X → Bool) → ((x : X) → strong x ≡ true → weak x ≡ true) → (xs : List X) → list_any strong xs ≡ true → list_any weak xs ≡ true
-list_any_weaker strong weak implies [] h = h
-list_any_weaker strong weak implies (x ∷ xs) h = elim (or_cases (strong x) (list_any strong xs) h) [
-  | inl here ↦ or_left (weak x) (list_any weak xs) (implies x here)
-  | inr later ↦ or_right (weak x) (list_any weak xs) (list_any_weaker strong weak implies xs later)
 ]
 
 -- what is found by a test passes it, and is in the list
