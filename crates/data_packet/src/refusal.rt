@@ -15,8 +15,9 @@ pub enum Refusal {
     /// Queue pair 0 is for subnet management packets alone.
     #[error("data cannot go to queue pair 0")]
     QpZero,
-    /// LID 0 is nobody's, and 0xffff is for directed-route packets.
-    #[error("this LID is reserved")]
+    /// The destination LID is 0, which is nobody's, or 0xffff, the permissive LID, which is for
+    /// directed-route packets alone.
+    #[error("data cannot go to LID 0 or to the permissive LID")]
     ReservedDlid,
 }
 

@@ -12,11 +12,11 @@ use Rattle.subnet_model.specs.declared.command.SendCommand.{SendCommand}
 abbrev pub port_of : List SubnetPort → ℕ → Option SubnetPort
 port_of ports guid = find (λ port. port.guid == guid) ports
 
--- LID 0 is nobody's, and the greatest one is for directed-route packets alone
+-- LID 0 is nobody's, and 0xffff, the permissive LID, is for directed-route packets alone
 abbrev pub is_reserved : ℕ → Bool
 is_reserved lid = (lid == 0) || (lid == 0xffff)
 
--- why a port will not send: it holds no such key, or the queue pair is 0, or the LID is reserved
+-- why a port will not send: it holds no such key, or the queue pair is 0, or the LID is 0 or the permissive one
 abbrev pub refusal_of : SubnetPort → SendCommand → Option Refusal
 refusal_of sender command =
     if not (holds command.p_key sender.keys)

@@ -13,7 +13,7 @@ use data_packet::{Packet, Payload, Refusal};
 use pkey_rules::PKey;
 use std::alloc::{AllocError, Global};
 
-/// The LID that directed-route packets carry in place of an address.
+/// The permissive LID, which directed-route packets carry in place of an address.
 const PERMISSIVE_LID: u16 = 0xffff;
 
 /// What the commands bring about, one after another, in a subnet of these ports.
@@ -101,7 +101,7 @@ fn key_to_send(sender: &SubnetPort, command: &SendCommand) -> Result<PKey, Refus
     Ok(key)
 }
 
-/// LID 0 is nobody's, and the greatest one is for directed-route packets alone.
+/// LID 0 is nobody's, and the permissive LID is for directed-route packets alone.
 fn is_reserved(dlid: u16) -> bool
     ensures { result ≡ is_reserved dlid }
 {
