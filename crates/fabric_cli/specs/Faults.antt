@@ -56,12 +56,6 @@ status_of (Unread name) = 3
 status_of Unwritten = 3
 status_of (Run fault) = run_status fault
 
--- reading a file of this name ends only in these
-abbrev pub IsOfReading : List ℕ → Stop → Type 0
-IsOfReading name NoMemory = Unit {0}
-IsOfReading name (Unread unread) = unread.now ≡ name
-IsOfReading name _ = ⊥
-
 -- the words are refused with a text, unless memory was refused
 abbrev pub IsRefusalOf : Error → Stop → Type 0
 IsRefusalOf error (Words text) = kind_of error ≢ OutOfMemory

@@ -2,7 +2,7 @@
 
 ghost use Rattle.std.specs.Prelude.{◌≡◌, IfOk, string_bytes};
 ghost use Rattle.fabric_cli.specs.Faults.{line_of, run_line, run_status, status_of};
-ghost use Rattle.fabric_cli.specs.declared.faults.Stop.TheVariants.{NoMemory, Run};
+ghost use Rattle.fabric_cli.specs.declared.faults.Stop.TheVariants.{NoMemory};
 
 use std::alloc::{AllocError, AllocFailed, Global};
 use subnet_core::RunFault;
@@ -99,13 +99,5 @@ impl<'a, T: Drop> From<AllocFailed<T>> for Stop<'a> {
 
     fn from(_error: AllocFailed<T>) -> Stop<'a> {
         Stop::NoMemory
-    }
-}
-
-impl<'a> From<RunFault> for Stop<'a> {
-    ghost from_gives = { λ fault stop. stop ≡ Run fault };
-
-    fn from(fault: RunFault) -> Stop<'a> {
-        Stop::Run(fault)
     }
 }
