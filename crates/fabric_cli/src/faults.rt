@@ -16,6 +16,9 @@ pub const USAGE: u8 = 2;
 /// The exit status where the machine refuses: memory, a file, or the output.
 pub const REFUSED: u8 = 3;
 
+/// What standard error is told where memory was refused.
+pub const MEMORY_LINE: &str = "fault memory\n";
+
 /// Why a call does not complete.
 #[derive(Drop)]
 pub enum Stop<'a> {
@@ -49,7 +52,7 @@ impl<'a> Stop<'a> {
     {
         match self {
             Stop::Words(text) => text.clone(),
-            Stop::NoMemory => String::from_str(alloc, "fault memory\n"),
+            Stop::NoMemory => String::from_str(alloc, MEMORY_LINE),
             Stop::Unread(name) => format!(in alloc; "fault read {name}\n"),
             Stop::Unwritten => String::from_str(alloc, "fault write\n"),
             Stop::Run(fault) => run_line(alloc, *fault),
@@ -70,7 +73,7 @@ fn run_line(alloc: Global, fault: RunFault) -> Result<String, AllocError>
     ensures { IfOk result (λ text. string_bytes text ≡ run_line fault) }
 {
     match fault {
-        RunFault::NoMemory => String::from_str(alloc, "fault memory\n"),
+        RunFault::NoMemory => String::from_str(alloc, MEMORY_LINE),
         RunFault::Topology { line, cause } => {
             let code = cause.code();
             format!(in alloc; "fault {code} topology line {line}\n")

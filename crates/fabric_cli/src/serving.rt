@@ -9,7 +9,7 @@ ghost use Rattle.std.specs.Option.{option_to_list};
 ghost use Rattle.fabric_cli.specs.Words.{asked_of, named_work, names, opened_for, script_names};
 ghost use Rattle.fabric_cli.specs.Writing.{AppendsPart, Tells};
 
-use crate::faults::{COMPLETE, REFUSED, Stop};
+use crate::faults::{COMPLETE, MEMORY_LINE, REFUSED, Stop};
 use crate::files::Files;
 use crate::reading::read_file;
 use crate::words::{Asked, Work, read_words};
@@ -76,7 +76,7 @@ pub fn told_stop<E: Output>(alloc: Global, stop: &Stop<'_>, err: &mut E) -> u8
             }
         }
         Err(_) => {
-            let _ = write_whole(err, b"fault memory\n");
+            let _ = write_whole(err, MEMORY_LINE.as_bytes());
             REFUSED
         }
     }
