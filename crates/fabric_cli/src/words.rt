@@ -38,20 +38,38 @@ const ABOUT_CHECK: &str =
 
 const ABOUT_RUN: &str = "Runs a script in a subnet, and prints what its ports receive";
 
-const STATUSES: &str = "Exit statuses:
+/// The help `$before`, then the exit statuses, of which 2 is also that of a call that asks for `$asked`,
+/// then `$after`.
+macro_rules! with_statuses {
+    ($before:literal, $asked:literal, $after:literal) => {
+        concat!(
+            $before,
+            "Exit statuses:
   0  complete
   1  a fault in a file, told on standard error by one line
-  2  the words are refused, or help or the version is asked for
-  3  want of memory, a file that is not read, or output that is not written
+  2  the words are refused, or ",
+            $asked,
+            " is asked for
+  3  want of memory, a file that is not read, or output that is not written",
+            $after
+        )
+    };
+}
+
+const STATUSES: &str = with_statuses!(
+    "",
+    "help or the version",
+    "
 
 A fault is told as `fault CODE topology line L`, `fault CODE partitions line L`,
-`fault CODE script line L`, `fault memory`, `fault read NAME` or `fault write`.";
+`fault CODE script line L`, `fault memory`, `fault read NAME` or `fault write`."
+);
 
 const NOT_TEXT: &str = "error: a word is not text\n";
 
 const USAGE: &str = "Usage: fabric <COMMAND>\n";
 
-const LISTING: &str =
+const LISTING: &str = with_statuses!(
     "The listing has a line for each end port by LID, then for each partition its line and one for
 each of its members by LID:
   port LID GUID PORT            an end port; port 0 of switch A is A/0
@@ -64,13 +82,13 @@ For example, for `P1=0x0001: 0x111=full, 0x121;` in PARTS:
   member 0x8001 h1/1
   member 0x0001 h2/1
 
-Exit statuses:
-  0  complete
-  1  a fault in a file, told on standard error by one line
-  2  the words are refused, or help is asked for
-  3  want of memory, a file that is not read, or output that is not written";
+",
+    "help",
+    ""
+);
 
-const REPORT: &str = "The report has one line for each event, in order:
+const REPORT: &str = with_statuses!(
+    "The report has one line for each event, in order:
   PORT recv SLID DLID PKEY QP N:HEX     the port receives a packet
   PORT refused CODE                     the port refuses to send one
 
@@ -79,11 +97,10 @@ For example, after the line `send h1/1 5 0xffff 7 2:beef` of a script:
 
 HEX leaves out the zero bytes at the end of the N bytes.
 
-Exit statuses:
-  0  complete
-  1  a fault in a file, told on standard error by one line
-  2  the words are refused, or help is asked for
-  3  want of memory, a file that is not read, or output that is not written";
+",
+    "help",
+    ""
+);
 
 fn wanted<'a>(alloc: Global, name: &'a str, help: &'a str) -> Arg<'a>
     ensures global { result.global ≡ false }
