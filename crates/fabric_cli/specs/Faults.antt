@@ -41,7 +41,7 @@ abbrev pub run_status : RunFault → ℕ
 run_status run.NoMemory = 3
 run_status _ = 1
 
--- what standard error is told: one line, or where the words are refused, clap's text
+-- what standard error is told: one line, or where the words are refused, the text that goes with that
 abbrev pub line_of : Stop → List ℕ
 line_of (Words text) = string_bytes text
 line_of NoMemory = memory_line

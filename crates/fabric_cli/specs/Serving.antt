@@ -18,7 +18,7 @@ use Rattle.fabric_cli.specs.Files.{Contents, StopsAt}
 use Rattle.fabric_cli.specs.Words.{Names, asked_of}
 use Rattle.fabric_cli.specs.Writing.{Tells}
 
--- how a call ends: clap's text, a fault's status and line, or a whole output
+-- how a call ends: the words are refused, or a fault's status and line, or a whole output
 pub data Ending : Type 0 where
   refused : Ending
   faulted : ℕ → List ℕ → Ending
@@ -95,7 +95,7 @@ ending_for file (Some names) = ending_with (texts_of file names)
 abbrev pub ending_of : Contents → List (List ℕ) → Ending
 ending_of file words = ending_for file (asked_of words)
 
--- the exit status, and how the two outputs grow; of a text of clap's nothing is said
+-- the exit status, and how the two outputs grow; of the text by which words are refused nothing is said
 abbrev pub Ends : Ending → ℕ → Option (List ℕ) → Option (List ℕ) → Option (List ℕ) → Option (List ℕ) → Type 0
 Ends refused status out out' err err' = (status ≡ 2) × Keeps out out'
 Ends (faulted fault line) status out out' err err' = (status ≡ fault) × Keeps out out' × Appends err err' line
@@ -109,7 +109,7 @@ output_in (complete output) = output
 
 -- the line that is told, whole or in part, where a call could not end so: that an output that may refuse
 -- did not go out, or the line of the fault itself, at which standard error refused (after all of it was
--- written too: a flush that fails looks so); of a text of clap's only that standard error may refuse
+-- written too: a flush that fails looks so); where the words are refused, only that standard error may refuse
 abbrev pub IsLineOf : (out_is_sure err_is_sure : Bool) → Ending → List ℕ → Type 0
 IsLineOf out_is_sure err_is_sure refused line = err_is_sure ≢ true
 IsLineOf out_is_sure err_is_sure (faulted status fault) line = (line ≡ fault) × (err_is_sure ≢ true)
