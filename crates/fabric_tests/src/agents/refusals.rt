@@ -1,0 +1,107 @@
+//! What agents refuse, in order, and what they leave without a reply.
+
+use crate::agents::fixtures::{
+    adapter_port, adapter_port_info, attribute_with, get, reply, set, switch, with_byte,
+};
+use attr_tables::SmpAttribute;
+use mad_layout::DrSmp;
+
+#[test]
+fn an_adapter_port_refuses_in_order(rt: HostRuntime) {
+    let lmc_1 = attribute_with(34, &[0x01]);
+    let class_version_2 = with_byte(get(SmpAttribute::NodeInfo, 0), 2, 2);
+    let method_3 = with_byte(get(SmpAttribute::NodeInfo, 0), 3, 0x03);
+    let vectors = [
+        (class_version_2, 0x81, 0x04),
+        (with_byte(get(SmpAttribute::NodeInfo, 0), 0, 2), 0x81, 0x04),
+        (with_byte(class_version_2, 3, 0x03), 0x83, 0x04),
+        (method_3, 0x83, 0x08),
+        (with_byte(method_3, 17, 0x13), 0x83, 0x08),
+        (
+            with_byte(get(SmpAttribute::NodeInfo, 0), 17, 0x13),
+            0x81,
+            0x0c,
+        ),
+        (get(SmpAttribute::SwitchInfo, 0), 0x81, 0x0c),
+        (get(SmpAttribute::LinearForwardingTable, 0), 0x81, 0x0c),
+        (get(SmpAttribute::MulticastForwardingTable, 0), 0x81, 0x0c),
+        (set(SmpAttribute::NodeInfo, 1, [0; 64]), 0x81, 0x0c),
+        (set(SmpAttribute::NodeDescription, 0, [0; 64]), 0x81, 0x0c),
+        (get(SmpAttribute::NodeInfo, 1), 0x81, 0x1c),
+        (get(SmpAttribute::PortInfo, 2), 0x81, 0x1c),
+        (get(SmpAttribute::PKeyTable, 1), 0x81, 0x1c),
+        (get(SmpAttribute::PKeyTable, 0x0001_0000), 0x81, 0x1c),
+        (set(SmpAttribute::PortInfo, 0, lmc_1), 0x81, 0x1c),
+    ];
+    for (sent, method, status) in vectors {
+        let mut port = adapter_port();
+        let mut smp = sent;
+        assert!(rt; port.agent(&mut smp));
+        assert_eq!(rt; smp, reply(sent, method, status, None));
+        // and nothing has changed
+        let mut after = get(SmpAttribute::PortInfo, 0);
+        assert!(rt; port.agent(&mut after));
+        assert_eq!(rt; DrSmp::read(&after).data, adapter_port_info(2));
+    }
+}
+
+#[test]
+fn a_switch_refuses_what_it_does_not_have(rt: HostRuntime) {
+    // LinearFDBTop 512
+    let top = attribute_with(6, &[0x02, 0x00]);
+    let vectors = [
+        (set(SmpAttribute::NodeInfo, 0, [0; 64]), 0x0c),
+        (set(SmpAttribute::SwitchInfo, 0, top), 0x1c),
+        (set(SmpAttribute::SwitchInfo, 1, [0; 64]), 0x1c),
+        (get(SmpAttribute::PortInfo, 5), 0x1c),
+        (get(SmpAttribute::PKeyTable, 0x0005_0000), 0x1c),
+        (get(SmpAttribute::PKeyTable, 0x0004_0001), 0x1c),
+        (get(SmpAttribute::LinearForwardingTable, 8), 0x1c),
+        (
+            set(SmpAttribute::LinearForwardingTable, 0x0001_0000, [1; 64]),
+            0x1c,
+        ),
+        (get(SmpAttribute::MulticastForwardingTable, 32), 0x1c),
+        (
+            get(SmpAttribute::MulticastForwardingTable, 0x3000_0000),
+            0x1c,
+        ),
+        (
+            get(SmpAttribute::MulticastForwardingTable, 0x0000_0200),
+            0x1c,
+        ),
+        (
+            get(SmpAttribute::MulticastForwardingTable, 0x0800_0000),
+            0x1c,
+        ),
+    ];
+    for (sent, status) in vectors {
+        let mut node = switch();
+        let mut smp = sent;
+        assert!(rt; node.agent(1, &mut smp));
+        assert_eq!(rt; smp, reply(sent, 0x81, status, None));
+    }
+}
+
+#[test]
+fn what_asks_no_agent_gets_no_reply(rt: HostRuntime) {
+    let sent = set(SmpAttribute::PKeyTable, 0, [0x11; 64]);
+    for smp in [
+        with_byte(sent, 1, 0x01),
+        with_byte(sent, 1, 0x03),
+        with_byte(sent, 3, 0x81),
+        with_byte(sent, 3, 0x82),
+    ] {
+        let mut port = adapter_port();
+        let mut node = switch();
+        let mut at_port = smp;
+        let mut at_node = smp;
+        assert!(rt; !port.agent(&mut at_port));
+        assert!(rt; !node.agent(1, &mut at_node));
+        assert_eq!(rt; at_port, smp);
+        assert_eq!(rt; at_node, smp);
+        let mut after = get(SmpAttribute::PKeyTable, 0);
+        assert!(rt; port.agent(&mut after));
+        assert_eq!(rt; DrSmp::read(&after).data, attribute_with(0, &[0xff, 0xff]));
+    }
+}

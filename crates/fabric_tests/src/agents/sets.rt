@@ -1,0 +1,155 @@
+//! What a Set changes, and what comes back.
+
+use crate::agents::fixtures::{
+    adapter_port, adapter_port_info, attribute_with, get, reply, set, switch, with_byte,
+};
+use attr_tables::{Link, NodeInfo, NodeType, PortInfo, PortState, SmpAttribute, SwitchInfo};
+use mad_layout::{DrSmp, Header, MadStatus};
+use port_model::AdapterPort;
+
+#[test]
+fn a_port_goes_from_initialize_over_armed_to_active(rt: HostRuntime) {
+    let mut port = adapter_port();
+    // the state that is asked for, the status, the state afterwards
+    let steps = [
+        (4, 0x1c, 2),
+        (1, 0x1c, 2),
+        (2, 0x1c, 2),
+        (0, 0x00, 2),
+        (3, 0x00, 3),
+        (3, 0x00, 3),
+        (0, 0x00, 3),
+        (2, 0x1c, 3),
+        (4, 0x00, 4),
+        (4, 0x00, 4),
+        (3, 0x1c, 4),
+        (5, 0x1c, 4),
+        (0, 0x00, 4),
+    ];
+    for (asked, status, state) in steps {
+        let sent = set(SmpAttribute::PortInfo, 1, adapter_port_info(asked));
+        let mut smp = sent;
+        assert!(rt; port.agent(&mut smp));
+        let given = if status == 0 {
+            Some(adapter_port_info(state))
+        } else {
+            None
+        };
+        assert_eq!(rt; smp, reply(sent, 0x81, status, given));
+        let mut after = get(SmpAttribute::PortInfo, 0);
+        assert!(rt; port.agent(&mut after));
+        assert_eq!(rt; DrSmp::read(&after).data, adapter_port_info(state));
+    }
+}
+
+#[test]
+fn a_port_without_a_cable_stays_down(rt: HostRuntime) {
+    let mut port = AdapterPort::new(0x100, 1, 1, 0x101, b"h0", Link::Uncabled);
+    for asked in [1, 2, 3, 4] {
+        let mut smp = set(SmpAttribute::PortInfo, 0, adapter_port_info(asked));
+        assert!(rt; port.agent(&mut smp));
+        assert_eq!(rt; Header::read(&smp).status(), Some(MadStatus::InvalidField));
+    }
+    let mut smp = get(SmpAttribute::PortInfo, 0);
+    assert!(rt; port.agent(&mut smp));
+    let info = PortInfo::read(&DrSmp::read(&smp).data);
+    assert_eq!(rt; info.port_state(), Some(PortState::Down));
+}
+
+#[test]
+fn a_set_of_port_info_takes_what_it_may(rt: HostRuntime) {
+    let mut node = switch();
+    // every bit is asked for, but for LMC 0, LID 0x1234, NeighborMTU 1 and PortState 3
+    let mut asked = [0xff; 64];
+    asked[16] = 0x12;
+    asked[17] = 0x34;
+    asked[32] = 0xf3;
+    asked[34] = 0xf8;
+    asked[36] = 0x1f;
+    let mut smp = set(SmpAttribute::PortInfo, 1, asked);
+    assert!(rt; node.agent(4, &mut smp));
+    assert_eq!(rt; Header::read(&smp).status, 0);
+    let info = PortInfo::read(&DrSmp::read(&smp).data);
+    let before = attr_tables::port_info_at_power_up(NodeType::Switch, 4, Link::Cabled);
+    let after = PortInfo {
+        gid_prefix: 0xffffffffffffffff,
+        lid: 0x1234,
+        master_sm_lid: 0xffff,
+        port_state: 3,
+        neighbor_mtu: 1,
+        master_sm_sl: 15,
+        partition_enforcement_inbound: true,
+        partition_enforcement_outbound: true,
+        ..before
+    };
+    assert_eq!(rt; info, after);
+    // LIDs from 0xc000 on are no port's
+    asked[16] = 0xc0;
+    let mut refused = set(SmpAttribute::PortInfo, 2, asked);
+    assert!(rt; node.agent(4, &mut refused));
+    assert_eq!(rt;
+        Header::read(&refused).status(),
+        Some(MadStatus::InvalidField)
+    );
+}
+
+#[test]
+fn tables_of_a_switch_are_set_by_blocks(rt: HostRuntime) {
+    let mut node = switch();
+    let vectors = [
+        (
+            SmpAttribute::PKeyTable,
+            0x0002_0000,
+            0x0001_0000,
+            attribute_with(0, &[0xff, 0xff]),
+        ),
+        (SmpAttribute::LinearForwardingTable, 1, 0, [0xff; 64]),
+        (
+            SmpAttribute::MulticastForwardingTable,
+            0x1000_0001,
+            0x0000_0001,
+            [0; 64],
+        ),
+    ];
+    for (attribute, there, elsewhere, before) in vectors {
+        let bytes = attribute_with(0, &[0x7f, 0xff, 0x80, 0x01]);
+        let sent = set(attribute, there, bytes);
+        let mut smp = sent;
+        assert!(rt; node.agent(1, &mut smp));
+        assert_eq!(rt; smp, reply(sent, 0x81, 0, Some(bytes)));
+        let mut after = get(attribute, there);
+        assert!(rt; node.agent(1, &mut after));
+        assert_eq!(rt; DrSmp::read(&after).data, bytes);
+        let mut other = get(attribute, elsewhere);
+        assert!(rt; node.agent(1, &mut other));
+        assert_eq!(rt; DrSmp::read(&other).data, before);
+    }
+}
+
+#[test]
+fn only_linear_fdb_top_of_switch_info_is_taken(rt: HostRuntime) {
+    let mut node = switch();
+    let mut asked = [0xff; 64];
+    asked[6] = 0x01;
+    let mut smp = set(SmpAttribute::SwitchInfo, 0, asked);
+    assert!(rt; node.agent(1, &mut smp));
+    assert_eq!(rt; Header::read(&smp).status, 0);
+    let after = SwitchInfo {
+        linear_fdb_top: 511,
+        ..attr_tables::switch_info_at_power_up()
+    };
+    assert_eq!(rt; SwitchInfo::read(&DrSmp::read(&smp).data), after);
+}
+
+#[test]
+fn a_reply_keeps_the_direction_bit(rt: HostRuntime) {
+    let mut node = switch();
+    let mut smp = with_byte(get(SmpAttribute::NodeInfo, 0), 4, 0x80);
+    assert!(rt; node.agent(0, &mut smp));
+    assert_eq!(rt; smp[4], 0x80);
+    assert_eq!(rt; NodeInfo::read(&DrSmp::read(&smp).data).local_port_num, 0);
+    let mut refused = with_byte(get(SmpAttribute::NodeInfo, 1), 4, 0x80);
+    assert!(rt; node.agent(0, &mut refused));
+    assert_eq!(rt; refused[4], 0x80);
+    assert_eq!(rt; refused[5], 0x1c);
+}
