@@ -3,6 +3,7 @@ pub mod CountLemmas
 pub mod CaseLemmas
 pub mod ReadLemmas
 pub mod SoundLemmas
+pub mod TurnLemmas
 pub mod LawLemmas
 pub mod MemberLemmas
 pub mod GeneratedLemmas

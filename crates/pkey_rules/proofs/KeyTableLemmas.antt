@@ -1,10 +1,10 @@
-use Rattle.std.proofs.Common.{◌≡◌, ℕ, Bool, true, false, ◌==◌, ◌&&◌, ◌||◌, not, List, find, is_some, IfSome, [], ◌∷◌, ◌++◌, refl, inl, inr, ◌∙◌, sym, arith}
+use Rattle.std.proofs.Common.{◌≡◌, ℕ, Bool, true, false, ◌==◌, ◌&&◌, List, find, is_some, IfSome, [], ◌∷◌, ◌++◌, refl, inl, inr, arith}
 use Rattle.std.specs.List.{IsDistinct, list_any}
 use Rattle.std.proofs.lemmas.Map.Keys.{IsDistinct-push}
 use Rattle.std.proofs.lemmas.Cmp.{nat_eq_equiv, on_equiv}
 use Rattle.std.proofs.lemmas.Bool.{and_parts, and_from, or_cases, or_left, or_right, eq-eqb, eqb-true, cases_Bool}
 use Rattle.std.proofs.lemmas.Bool.Decides.{nat_tests}
-use Rattle.pkey_rules.specs.PKey.{base_of, is_full, matches}
+use Rattle.pkey_rules.specs.PKey.{base_of, matches}
 use Rattle.pkey_rules.specs.KeyTable.{accepts, holds, has_base, same_base, shares, shares_base, SomeSharedBase}
 
 pub distinct_nil : IsDistinct same_base []
