@@ -62,6 +62,12 @@ IsRefusalOf error (Words text) = kind_of error ≢ OutOfMemory
 IsRefusalOf error NoMemory = Unit {0}
 IsRefusalOf error _ = ⊥
 
+-- the words of a call are not given only in these: a word is not text, which is told, or memory was refused
+abbrev pub IsOfGiven : Stop → Type 0
+IsOfGiven (Words text) = string_bytes text ≡ codes "error: a word is not text\n"
+IsOfGiven NoMemory = Unit {0}
+IsOfGiven _ = ⊥
+
 -- words that ask for nothing are refused, and no others
 abbrev pub IsOfWords : {X : Type 0} → Option X → Stop → Type 0
 IsOfWords asked (Words text) = asked ≡ None

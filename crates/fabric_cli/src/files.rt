@@ -68,7 +68,9 @@ pub struct MachineFiles<'a, R: rt::Files> {
 
 impl<'a, R: rt::Files> MachineFiles<'a, R> {
     /// The files that a runtime opens.
-    pub fn new(rt: &'a R) -> Self {
+    pub fn new(rt: &'a R) -> Self
+        ensures { result.rt ≡ rt.entry }
+    {
         MachineFiles { rt }
     }
 }

@@ -2,7 +2,8 @@
 
 ghost use Rattle.std.specs.Prelude.{◌≡◌, false, Some, map, string_bytes, option_map, IfOk, IfErr};
 ghost use Rattle.clap.specs.Words.{app_of, rule_of, subcommand_rows_of};
-ghost use Rattle.fabric_cli.specs.Faults.{IsOfWords, IsRefusalOf};
+ghost use Rattle.clap.specs.declared.builder.command.Command.TheViews.{out-Command as fields_of};
+ghost use Rattle.fabric_cli.specs.Faults.{IsOfGiven, IsOfWords, IsRefusalOf};
 ghost use Rattle.fabric_cli.specs.Words.{asked_by, asked_in, asked_of, fabric_command, file_in, named_work, names, subnet_command, wanted, work_in};
 
 use crate::faults::Stop;
@@ -105,6 +106,7 @@ HEX leaves out the zero bytes at the end of the N bytes.
 fn wanted<'a>(alloc: Global, name: &'a str, help: &'a str) -> Arg<'a>
     ensures global { result.global ≡ false }
     ensures rule { rule_of result ≡ wanted name.entry.now }
+    ensures help { result.help ≡ Some help.entry }
 {
     Arg::new(alloc, name)
         .required(true)
@@ -112,14 +114,16 @@ fn wanted<'a>(alloc: Global, name: &'a str, help: &'a str) -> Arg<'a>
         .help(help)
 }
 
-/// A command that names a subnet by its topology and its partitions.
+/// A command that names a subnet by its topology and its partitions, with the texts of its help.
 fn subnet_command<'a>(
     alloc: Global,
     name: &'a str,
     about: &'a str,
     help: &'a str,
 ) -> Result<Command<'a>, AllocError>
-    ensures { IfOk result (λ command. app_of command ≡ subnet_command name.entry.now) }
+    ensures words { IfOk result (λ command. app_of command ≡ subnet_command name.entry.now) }
+    ensures about { IfOk result (λ command. (fields_of command).about ≡ Some about.entry) }
+    ensures help { IfOk result (λ command. (fields_of command).after_help ≡ Some help.entry) }
 {
     let topology = wanted(
         alloc,
@@ -131,12 +135,8 @@ fn subnet_command<'a>(
         "PARTS",
         "The partitions and their members, or `-` for the default one alone",
     );
-    let command = Command::new(alloc, name)
-        .about(about)
-        .after_help(help)
-        .arg(topology)?
-        .arg(partitions)?;
-    Ok(command)
+    let command = Command::new(alloc, name).arg(topology)?.arg(partitions)?;
+    Ok(command.about(about).after_help(help))
 }
 
 /// The program's command line.
@@ -157,7 +157,9 @@ fn fabric_command<'a>(alloc: Global) -> Result<Command<'a>, AllocError>
 }
 
 /// The words of a program, its own name first. Words that are not text are refused.
-pub fn given_words(rt: &HostRuntime) -> Result<Vec<String>, Stop<'static>> {
+pub fn given_words(rt: &HostRuntime) -> Result<Vec<String>, Stop<'static>>
+    ensures { IfErr result IsOfGiven }
+{
     let alloc = rt.alloc();
     match env::args(rt) {
         Ok(words) => Ok(words.collect(alloc)?),
