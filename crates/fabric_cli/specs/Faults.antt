@@ -62,7 +62,7 @@ IsRefusalOf error (Words text) = kind_of error ≢ OutOfMemory
 IsRefusalOf error NoMemory = Unit {0}
 IsRefusalOf error _ = ⊥
 
--- the words of a call are not given only in these: a word is not text, which is told, or memory was refused
+-- where the words of a call are not given, this text is told, or memory was refused
 abbrev pub IsOfGiven : Stop → Type 0
 IsOfGiven (Words text) = string_bytes text ≡ codes "error: a word is not text\n"
 IsOfGiven NoMemory = Unit {0}

@@ -12,7 +12,7 @@ pub const COMPLETE: u8 = 0;
 /// The exit status of a fault in a file.
 pub const FAULT: u8 = 1;
 /// The exit status where the words are refused.
-pub const USAGE: u8 = 2;
+pub const WORDS_REFUSED: u8 = 2;
 /// The exit status where the machine refuses: memory, a file, or the output.
 pub const REFUSED: u8 = 3;
 
@@ -40,7 +40,7 @@ impl<'a> Stop<'a> {
         ensures { result ≡ status_of self.now }
     {
         match self {
-            Stop::Words(_) => USAGE,
+            Stop::Words(_) => WORDS_REFUSED,
             Stop::NoMemory | Stop::Unread(_) | Stop::Unwritten => REFUSED,
             Stop::Run(fault) => run_status(*fault),
         }

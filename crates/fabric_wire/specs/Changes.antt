@@ -1,4 +1,5 @@
--- What an exchange may change of a fabric: the node at the end of its walk, and of that what the SMP names.
+-- What an exchange may change of a fabric: at most the node at the end of its walk, and of that at most what the
+-- SMP names.
 use Rattle.std.specs.Prelude.{ℕ, ◌≡◌, ◌≢◌, false, List, length, slice_get, Some, None}
 use Rattle.std.specs.Int.Digits.{AllBelowBase}
 use Rattle.mad_layout.specs.Bits.{field}
@@ -13,7 +14,7 @@ use Rattle.fabric_wire.specs.FabricState.{FabricState, adapter_port}
 use Rattle.fabric_wire.specs.Good.{IsGood}
 use Rattle.fabric_wire.specs.Walk.{exchange_after, exchange_reply, last_of, walk_of}
 
--- the ports of a channel adapter: the one that was asked changes in what the SMP names, the others stay
+-- the ports of a channel adapter: the one that was asked changes at most in what the SMP names, the others stay
 pub record AdapterChangesAtMost (number : ℕ) (smp : List ℕ) (old new : List AdapterState) : Type 0 where
   pub count : length new ≡ length old
   pub others : (k : ℕ) → k ≢ number → adapter_port new k ≡ adapter_port old k
@@ -36,7 +37,7 @@ pub record ChangesAtMost (fabric next : FabricState) (smp : List ℕ) : Type 0 w
   pub manager : next.manager ≡ fabric.manager
   -- nothing where there is no walk
   pub no_walk : walk_of fabric smp ≡ None → next ≡ fabric
-  -- only the node at its end, and of that only what the SMP names
+  -- at most the node at its end, and of that at most what the SMP names
   pub nodes : (ends : List PortRef) → walk_of fabric smp ≡ Some ends → NodesChangeAtMost (last_of fabric.manager ends) smp fabric.nodes next.nodes
   -- and nothing if no reply comes, or a refusal, or if it sets nothing
   pub unanswered : exchange_reply fabric smp ≡ None → next ≡ fabric

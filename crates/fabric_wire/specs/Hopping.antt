@@ -9,7 +9,7 @@ use Rattle.topo_file.specs.declared.cable.Cable.{Cable}
 use Rattle.fabric_wire.specs.declared.node.Node.{Node}
 use Rattle.fabric_wire.specs.FabricState.{far_end, is_switch_at}
 
--- the kind of the node there; where there is none, nothing is handed on
+-- the kind of the node there; a place without a node counts as a channel adapter
 abbrev pub node_type_at : List Node → ℕ → NodeType
 node_type_at nodes place = if is_switch_at nodes place then Switch else ChannelAdapter
 

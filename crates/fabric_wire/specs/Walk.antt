@@ -15,7 +15,7 @@ hands_on nodes starts here = starts || is_switch_at nodes here.node
 
 -- one hop: out of a port of the node, to the other end of its cable
 abbrev pub hop_by : List Node → List Cable → Bool → PortRef → Option PortRef
-hop_by nodes cables hands out = if hands && is_port nodes out then far_end cables out else None
+hop_by nodes cables may_hand_on out = if may_hand_on && is_port nodes out then far_end cables out else None
 
 unfoldable pub hop : List Node → List Cable → Bool → PortRef → ℕ → Option PortRef
 hop nodes cables starts here number = hop_by nodes cables (hands_on nodes starts here) (record { node = here.node; port = number })

@@ -26,14 +26,15 @@ pub fn the_two_switch_fabric_is_good()
 {}
 
 /// Whatever SMP is sent, it changes at most one node of a good fabric, that at the end of its walk, and of
-/// that what it names; and where no reply comes, or a refusal, or it sets nothing, all stays as it was.
+/// that at most what it names; and where no reply comes, or a refusal, or it sets nothing, all stays as it was.
 pub fn exchanges_change_what_they_name()
     ensures { ExchangesChangeWhatTheyName }
 {}
 
-/// The walk that answers an SMP is the way that the hop rules take it: in a good fabric a reply comes
-/// exactly where each node on the way out hands the SMP on over a cable until one gives it to its agent,
-/// and each on the way back hands on what that answers until it is at the subnet manager's node.
+/// The walk that answers an SMP is the way that the hop rules take it. In a good fabric the replies that
+/// come are those that the rules bring, and no others: each node on the way out hands the SMP on over a
+/// cable until one gives it to its agent, and each on the way back hands on its answer until it is at the
+/// subnet manager's node. The agent that is reached alone may have changed.
 pub fn exchanges_go_by_hops()
     ensures { ExchangesGoByHops }
 {}

@@ -32,8 +32,8 @@ pub fn generated_bases()
 {}
 
 /// The law of the keys that [`members`] gives: of each partition's base a port has the key that it has
-/// in that partition, and none where it is no member. So whoever lists members by the keys that ports
-/// hold lists the members. The function does nothing; its clause is the theorem.
+/// in that partition, and none where it is no member. The function does nothing; its clause is the
+/// theorem.
 ///
 /// [`members`]: crate::members
 pub fn keys_tell_membership()

@@ -49,7 +49,8 @@ joins_right nodes cable = may_join nodes cable.first.node cable.second.node
 abbrev pub shares_port : Cable → Cable → Bool
 shares_port a b = ends_at a.first b || ends_at a.second b
 
--- of the nodes and cables that lines declare: no two nodes share a name or a GUID, and no two cables a port.
+-- of the nodes and cables that lines declare: each is in range, and no two nodes share a name or a GUID, no two
+-- cables a port
 pub record AreSound (nodes : List Node) (cables : List Cable) : Type 0 where
   pub names : list_all is_named nodes ≡ true
   pub own_names : IsDistinct shares_name nodes
