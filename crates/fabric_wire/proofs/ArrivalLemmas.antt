@@ -99,7 +99,7 @@ few_at : (nodes : List Node) (found : Option Node) → ((node : Node) → found 
 few_at nodes None right = omega arith
 few_at nodes (Some node) right = few_ports node (right node refl)
 
-port_small : (nodes : List Node) (at : PortRef) → list_all has_a_right_count nodes ≡ true → is_port nodes at ≡ true → at.port < 256
+pub port_small : (nodes : List Node) (at : PortRef) → list_all has_a_right_count nodes ≡ true → is_port nodes at ≡ true → at.port < 256
 port_small nodes at right is =
     let few = few_at nodes (slice_get nodes at.node) (λ node there. all_there has_a_right_count nodes at.node node right there) in
     let within = below at.port (option_map_or port_count (slice_get nodes at.node) 0) is in
@@ -118,13 +118,16 @@ far_small fabric here there (Some cable) good right is =
     let small = other_small fabric here cable (is_same_port cable.first here) good (right cable refl) in
     rw (sym (same_Some _ _ is)) small
 
+pub end_small : (fabric : FabricState) (out there : PortRef) → IsGood fabric → far_end fabric.cables out ≡ Some there → there.port < 256
+end_small fabric out there good is =
+    far_small fabric out there (find (λ cable. ends_at out cable) fabric.cables) good (λ cable found. find_all (is_right fabric.nodes) (λ one. ends_at out one) fabric.cables cable good.cables found) is
+
 hop_small : (fabric : FabricState) (starts : Bool) (here there : PortRef) (number : ℕ) → IsGood fabric → hop fabric.nodes fabric.cables starts here number ≡ Some there → there.port < 256
 unfolding hop
 hop_small fabric starts here there number good is = if_small (hands_on fabric.nodes starts here && is_port fabric.nodes (record { node = here.node; port = number })) is
   where
     if_small : (b : Bool) → (if b then far_end fabric.cables (record { node = here.node; port = number }) else None) ≡ Some there → there.port < 256
-    if_small true h = far_small fabric (record { node = here.node; port = number }) there (find (λ cable. ends_at (record { node = here.node; port = number }) cable) fabric.cables) good
-        (λ cable found. find_all (is_right fabric.nodes) (λ one. ends_at (record { node = here.node; port = number }) one) fabric.cables cable good.cables found) h
+    if_small true h = end_small fabric (record { node = here.node; port = number }) there good h
     if_small false h = cc
 
 -- ---- the ends of a walk

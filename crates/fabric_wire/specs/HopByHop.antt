@@ -5,7 +5,6 @@ use Rattle.std.specs.Int.Digits.{AllBelowBase}
 use Rattle.smp_route.specs.declared.hop.Hop.TheVariants.{Forward, ToAgent, ToManager}
 use Rattle.smp_route.specs.Hops.{Step, outgoing, returning}
 use Rattle.smp_route.specs.Places.{is_outgoing, turned_round}
-use Rattle.topo_file.specs.declared.cable.Cable.{Cable}
 use Rattle.topo_file.specs.declared.cable.PortRef.{PortRef}
 use Rattle.fabric_wire.specs.declared.node.Node.{Node}
 use Rattle.fabric_wire.specs.FabricState.{FabricState, after_at, far_end, reply_at}
@@ -19,48 +18,46 @@ pub record Visit : Type 0 where
   pub entered : ℕ
   pub smp : List ℕ
 
--- what the hop rules say there, on the way out and on the way back
-abbrev pub out_from : List Node → Visit → Step
-out_from nodes here = outgoing (node_type_at nodes here.node) here.entered here.smp
+-- what the hop rules say there: those of the way out where its direction bit is 0, else those of the way back
+abbrev pub hop_rules : List Node → Visit → Step
+hop_rules nodes here =
+    if is_outgoing here.smp then outgoing (node_type_at nodes here.node) here.entered here.smp else returning (node_type_at nodes here.node) here.entered here.smp
 
-abbrev pub back_from : List Node → Visit → Step
-back_from nodes here = returning (node_type_at nodes here.node) here.entered here.smp
-
--- by these rules the SMP leaves by a port, and the cable there leads to where it is next
-pub record Passes (cables : List Cable) (rules : Visit → Step) (here next : Visit) : Type 0 where
+-- by the rules the SMP leaves by a port, and the cable there leads to where it is next
+pub record Passes (fabric : FabricState) (here next : Visit) : Type 0 where
   pub port : ℕ
-  pub leaves : (rules here).hop ≡ Forward port
-  pub cable : far_end cables (record { node = here.node; port = port }) ≡ Some (record { node = next.node; port = next.entered })
-  pub as_left : next.smp ≡ (rules here).smp
+  pub leaves : (hop_rules fabric.nodes here).hop ≡ Forward port
+  pub cable : far_end fabric.cables (record { node = here.node; port = port }) ≡ Some (record { node = next.node; port = next.entered })
+  pub as_left : next.smp ≡ (hop_rules fabric.nodes here).smp
 
 -- from node to node
-abbrev pub Goes : List Cable → (Visit → Step) → Visit → List Visit → Visit → Type 0
-Goes cables rules here [] last = here ≡ last
-Goes cables rules here (next ∷ later) last = Passes cables rules here next × Goes cables rules next later last
+abbrev pub Goes : FabricState → Visit → List Visit → Visit → Type 0
+Goes fabric here [] last = here ≡ last
+Goes fabric here (next ∷ later) last = Passes fabric here next × Goes fabric next later last
 
 -- whose agent it is given to there: that of the port by which it came, and of the subnet manager's port
 -- where it never left the node
 abbrev pub agent_port : PortRef → Visit → PortRef
 agent_port manager here = if here.entered == 0 then manager else record { node = here.node; port = here.entered }
 
--- an outgoing SMP of the subnet manager comes to the agent at that port, as this request
+-- an SMP that the subnet manager sends out comes to the agent at that port, as this request
 pub record Reaches (fabric : FabricState) (smp : List ℕ) (at : PortRef) (request : List ℕ) : Type 0 where
   pub outgoing : is_outgoing smp ≡ true
   pub way : List Visit
   pub last : Visit
-  pub goes : Goes fabric.cables (out_from fabric.nodes) (record { node = fabric.manager.node; entered = 0; smp = smp }) way last
-  pub to_agent : (out_from fabric.nodes last).hop ≡ ToAgent
+  pub goes : Goes fabric (record { node = fabric.manager.node; entered = 0; smp = smp }) way last
+  pub to_agent : (hop_rules fabric.nodes last).hop ≡ ToAgent
   pub at_is : at ≡ agent_port fabric.manager last
-  pub request_is : request ≡ (out_from fabric.nodes last).smp
+  pub request_is : request ≡ (hop_rules fabric.nodes last).smp
 
--- what an agent of that node answers, its direction turned, comes to the subnet manager as this reply
+-- what an agent of that node answers, its direction bit set, comes to the subnet manager as this reply
 pub record ComesHome (fabric : FabricState) (node : ℕ) (answer reply : List ℕ) : Type 0 where
   pub way : List Visit
   pub last : Visit
-  pub goes : Goes fabric.cables (back_from fabric.nodes) (record { node = node; entered = 0; smp = turned_round answer }) way last
-  pub to_manager : (back_from fabric.nodes last).hop ≡ ToManager
+  pub goes : Goes fabric (record { node = node; entered = 0; smp = turned_round answer }) way last
+  pub to_manager : (hop_rules fabric.nodes last).hop ≡ ToManager
   pub home : last.node ≡ fabric.manager.node
-  pub reply_is : reply ≡ (back_from fabric.nodes last).smp
+  pub reply_is : reply ≡ (hop_rules fabric.nodes last).smp
 
 pub record IsAnswered (fabric : FabricState) (smp reply : List ℕ) : Type 0 where
   pub at : PortRef
