@@ -5,8 +5,8 @@ use Rattle.std.proofs.lemmas.Bool.Decides.{nat_tests}
 use Rattle.std.proofs.Math.Nat.{mod-lt}
 use Rattle.pkey_rules.specs.declared.key_table.TheConstants.{PARTITIONS}
 use Rattle.partition_file.specs.declared.definition.Definition.{Definition}
-use Rattle.partition_file.specs.declared.fault.PartitionFault.{PartitionFault}
-use Rattle.partition_file.specs.declared.fault.PartitionFault.TheVariants.{BadCharacter, BadNumber, ReservedKey, UnknownFlag, BothMembership, MgidItem, TooManyPartitions, Unfinished, BadFlagValue}
+use Rattle.partition_file.specs.declared.fault.PartitionCause.{PartitionCause}
+use Rattle.partition_file.specs.declared.fault.PartitionCause.TheVariants.{BadCharacter, BadNumber, ReservedKey, UnknownFlag, BothMembership, MgidItem, TooManyPartitions, Unfinished, BadFlagValue}
 use Rattle.text_words.specs.Number.{number_in}
 use Rattle.partition_file.specs.declared.flag.Flag.{Flag}
 use Rattle.partition_file.specs.declared.flag.Flag.TheVariants.{Ipoib, Indx0, Rate, Mtu, ServiceLevel, Scope, QKey, DefaultMembership}
@@ -28,21 +28,21 @@ passed_over : {X : Type 0} (b : Bool) (x : X) (o : Option X) → cond b (Some x)
 passed_over true x o h = absurd cc
 passed_over false x o h = (refl, h)
 
-abbrev pub NoneOf : (PartitionFault → Bool) → List PartitionFault → Type 0
+abbrev pub NoneOf : (PartitionCause → Bool) → List PartitionCause → Type 0
 NoneOf holds [] = Unit {0}
 NoneOf holds (fault ∷ rest) = (holds fault ≡ false) × NoneOf holds rest
 
-none_of : (holds : PartitionFault → Bool) (faults : List PartitionFault) → find holds faults ≡ None → NoneOf holds faults
+none_of : (holds : PartitionCause → Bool) (faults : List PartitionCause) → find holds faults ≡ None → NoneOf holds faults
 none_of holds [] h = tt
 none_of holds (fault ∷ rest) h =
     let parts = passed_over (holds fault) fault (find holds rest) h in
     (parts.0, none_of holds rest parts.1)
 
-pub none_there : (p : Place) (delimiter : Delimiter) (piece : List ℕ) → fault_of p delimiter piece ≡ None → (fault : PartitionFault) → has_fault p delimiter piece fault ≡ false
+pub none_there : (p : Place) (delimiter : Delimiter) (piece : List ℕ) → fault_of p delimiter piece ≡ None → (fault : PartitionCause) → has_fault p delimiter piece fault ≡ false
 unfolding fault_of
 none_there p delimiter piece h fault = by fault (none_of (has_fault p delimiter piece) in_turn h)
   where
-    by : (f : PartitionFault) → NoneOf (has_fault p delimiter piece) in_turn → has_fault p delimiter piece f ≡ false
+    by : (f : PartitionCause) → NoneOf (has_fault p delimiter piece) in_turn → has_fault p delimiter piece f ≡ false
     by BothMembership none = none.0
     by MgidItem none = none.1.0
     by BadCharacter none = none.1.1.0

@@ -2,8 +2,8 @@
 use Rattle.std.proofs.Common.{◌≡◌, ℕ, zero, suc, ◌⊎◌, inl, inr, Bool, true, false, cond, List, [], ◌∷◌, ◌++◌, take, Result, Ok, Err, refl, sym, ap, subst, ◌∙◌, arith, append_assoc}
 use Rattle.std.proofs.lemmas.List.{append-nil}
 use Rattle.partition_file.specs.declared.definition.Definition.{Definition}
-use Rattle.partition_file.specs.declared.fault.PartitionFault.{PartitionFault}
-use Rattle.partition_file.specs.declared.fault.PartitionFault.TheVariants.{Unfinished}
+use Rattle.partition_file.specs.declared.fault.PartitionCause.{PartitionCause}
+use Rattle.partition_file.specs.declared.fault.PartitionCause.TheVariants.{Unfinished}
 use Rattle.partition_file.specs.declared.partition.Partition.{Partition}
 use Rattle.partition_file.specs.Fault.{TextFault, ◌>>=◌, at_line}
 use Rattle.partition_file.specs.Pieces.{blanked, is_commented, line_after, piece_after, without_comments}
@@ -52,7 +52,7 @@ refused_text : (text : List ℕ) (e : TextFault) → whole (without_comments fal
 unfolding partitions_of
 refused_text text e h = passes_on (whole (without_comments false text)) e h
 
-same_fault : (e : TextFault) (line : ℕ) (cause : PartitionFault) → e.line ≡ line → e.cause ≡ cause → record { line = line; cause = cause } ≡ e
+same_fault : (e : TextFault) (line : ℕ) (cause : PartitionCause) → e.line ≡ line → e.cause ≡ cause → record { line = line; cause = cause } ≡ e
 same_fault e line cause h k = rw (sym h, sym k) refl
 
 whole_inside : (shown : List ℕ) (e : TextFault) → HasFaultInside shown e → whole shown ≡ Err e
@@ -61,7 +61,7 @@ whole_inside shown e h =
     let refused : after_byte h.state (piece_after h.before) h.byte ≡ Err e.cause = refused_here h.state h.before h.byte e.cause h.there h.first in
     let stopped : after [] start shown ≡ Err e =
     ap (after [] start) h.cut ∙ after_clean h.before h.rest h.byte h.state h.clean
-    ∙ ap (λ (given : Result Scanned PartitionFault). at_line (line_after h.before) given >>= λ t. after (h.before ++ h.byte ∷ []) t h.rest) refused
+    ∙ ap (λ (given : Result Scanned PartitionCause). at_line (line_after h.before) given >>= λ t. after (h.before ++ h.byte ∷ []) t h.rest) refused
     ∙ ap (λ (line : ℕ). Err (record { line = line; cause = e.cause })) (sym h.line) in
     ap (λ (given : Result Scanned TextFault). given >>= λ s. at_line (line_after shown) (at_end s (piece_after shown))) stopped
 
@@ -75,7 +75,7 @@ whole_at_end shown e h =
     ap (λ (given : Result Scanned TextFault). given >>= λ s. at_line (line_after shown) (at_end s (piece_after shown))) h.clean
     ∙ ap (at_line (line_after shown)) (end_by h.state (piece_after shown) (is_inside h.state.at (piece_after shown)) refl h.inside)
     ∙ ap (λ (line : ℕ). Err (record { line = line; cause = Unfinished })) (sym h.line)
-    ∙ ap (λ (cause : PartitionFault). Err (record { line = e.line; cause = cause })) (sym h.cause)
+    ∙ ap (λ (cause : PartitionCause). Err (record { line = e.line; cause = cause })) (sym h.cause)
 
 pub inside_refuses : InsideRefuses
 inside_refuses text e h = refused_text text e (whole_inside (without_comments false text) e h)
@@ -97,7 +97,7 @@ pub record IsFound (so_far : List ℕ) (s : Scanned) (text : List ℕ) (e : Text
   pub told : IsToldFor (is_fault_at state (so_far ++ before) byte) e.cause
   pub line : e.line ≡ line_after (so_far ++ before)
 
-found_first : (so_far rest : List ℕ) (s : Scanned) (byte : ℕ) (f : PartitionFault) (e : TextFault) → after_byte s (piece_after so_far) byte ≡ Err f → record { line = line_after so_far; cause = f } ≡ e
+found_first : (so_far rest : List ℕ) (s : Scanned) (byte : ℕ) (f : PartitionCause) (e : TextFault) → after_byte s (piece_after so_far) byte ≡ Err f → record { line = line_after so_far; cause = f } ≡ e
     → IsFound so_far s (byte ∷ rest) e
 unfolding after
 found_first so_far rest s byte f e h same = record {
@@ -121,7 +121,7 @@ found_later so_far rest s t byte e h found =
       rest = found.rest;
       state = found.state;
       cut = ap (λ (xs : List ℕ). byte ∷ xs) found.cut;
-      clean = ap (λ (given : Result Scanned PartitionFault). at_line (line_after so_far) given >>= λ u. after (so_far ++ byte ∷ []) u found.before) h ∙ found.clean;
+      clean = ap (λ (given : Result Scanned PartitionCause). at_line (line_after so_far) given >>= λ u. after (so_far ++ byte ∷ []) u found.before) h ∙ found.clean;
       told = subst (λ (xs : List ℕ). IsToldFor (is_fault_at found.state xs found.byte) e.cause) front found.told;
       line = found.line ∙ ap line_after front;
     }
@@ -131,7 +131,7 @@ unfolding after
 found [] so_far s e h = absurd cc
 found (byte ∷ rest) so_far s e h = by (after_byte s (piece_after so_far) byte) refl h (λ t there. found rest (so_far ++ byte ∷ []) t e there)
   where
-    by : (given : Result Scanned PartitionFault) → after_byte s (piece_after so_far) byte ≡ given → (at_line (line_after so_far) given >>= λ t. after (so_far ++ byte ∷ []) t rest) ≡ Err e
+    by : (given : Result Scanned PartitionCause) → after_byte s (piece_after so_far) byte ≡ given → (at_line (line_after so_far) given >>= λ t. after (so_far ++ byte ∷ []) t rest) ≡ Err e
         → ((t : Scanned) → after (so_far ++ byte ∷ []) t rest ≡ Err e → IsFound (so_far ++ byte ∷ []) t rest e) → IsFound so_far s (byte ∷ rest) e
     by (Ok t) k there later = found_later so_far rest s t byte e k (later t there)
     by (Err f) k there later = found_first so_far rest s byte f e k (same_err (record { line = line_after so_far; cause = f }) e there)
@@ -167,17 +167,17 @@ unfolding partitions_of
 only_so_refused text e h = whole_only_so (without_comments false text) e (from_definitions (whole (without_comments false text)) e h)
 
 -- ---- clean
-clean_next : (before rest : List ℕ) (byte : ℕ) (s t : Scanned) → after before t (byte ∷ rest) ≡ Ok s → (fault : PartitionFault) → is_fault_at t before byte fault ≡ false
+clean_next : (before rest : List ℕ) (byte : ℕ) (s t : Scanned) → after before t (byte ∷ rest) ≡ Ok s → (fault : PartitionCause) → is_fault_at t before byte fault ≡ false
 unfolding after
 clean_next before rest byte s t h fault = by (after_byte t (piece_after before) byte) refl h
   where
-    by : (given : Result Scanned PartitionFault) → after_byte t (piece_after before) byte ≡ given → (at_line (line_after before) given >>= λ u. after (before ++ byte ∷ []) u rest) ≡ Ok s → is_fault_at t before byte fault ≡ false
+    by : (given : Result Scanned PartitionCause) → after_byte t (piece_after before) byte ≡ given → (at_line (line_after before) given >>= λ u. after (before ++ byte ∷ []) u rest) ≡ Ok s → is_fault_at t before byte fault ≡ false
     by (Ok u) k there = clean_here t u before byte k fault
     by (Err f) k there = absurd cc
 
 pub clean_throughout : CleanThroughout
 clean_throughout before rest byte s h = by (after [] start before) refl (sym (after_both before (byte ∷ rest) [] start) ∙ h)
   where
-    by : (given : Result Scanned TextFault) → after [] start before ≡ given → (given >>= λ t. after before t (byte ∷ rest)) ≡ Ok s → (t : Scanned) × (IsClean before t × ((fault : PartitionFault) → is_fault_at t before byte fault ≡ false))
+    by : (given : Result Scanned TextFault) → after [] start before ≡ given → (given >>= λ t. after before t (byte ∷ rest)) ≡ Ok s → (t : Scanned) × (IsClean before t × ((fault : PartitionCause) → is_fault_at t before byte fault ≡ false))
     by (Ok t) k there = (t, (k, λ fault. clean_next before rest byte s t there fault))
     by (Err e) k there = absurd cc

@@ -2,8 +2,8 @@
 use Rattle.std.proofs.Common.{◌≡◌, ℕ, zero, suc, ◌+◌, ◌<◌, ◌≤◌, Bool, true, false, cond, ◌==◌, List, [], ◌∷◌, Option, Some, None, Ok, Err, refl, sym, ap, subst, ◌∙◌, arith}
 use Rattle.std.specs.List.{find}
 use Rattle.std.proofs.lemmas.Bool.Decides.{nat_tests}
-use Rattle.partition_file.specs.declared.fault.PartitionFault.{PartitionFault}
-use Rattle.partition_file.specs.declared.fault.PartitionFault.TheVariants.{BadCharacter, BadNumber, ReservedKey, UnknownFlag, BothMembership, MgidItem, TooManyPartitions, Unfinished, BadFlagValue}
+use Rattle.partition_file.specs.declared.fault.PartitionCause.{PartitionCause}
+use Rattle.partition_file.specs.declared.fault.PartitionCause.TheVariants.{BadCharacter, BadNumber, ReservedKey, UnknownFlag, BothMembership, MgidItem, TooManyPartitions, Unfinished, BadFlagValue}
 use Rattle.partition_file.specs.declared.piece.Delimiter.{Delimiter}
 use Rattle.partition_file.specs.Fault.{unless}
 use Rattle.partition_file.specs.Pieces.{delimiter_of, is_allowed, piece_after}
@@ -13,7 +13,7 @@ use Rattle.partition_file.specs.Law.{faults_of, is_fault_at, turn}
 use Rattle.partition_file.proofs.CaseLemmas.{none_there}
 
 -- ---- the first fault in turn
-abbrev told_at : ℕ → PartitionFault
+abbrev told_at : ℕ → PartitionCause
 told_at zero = BothMembership
 told_at (suc zero) = MgidItem
 told_at (suc (suc zero)) = BadCharacter
@@ -24,7 +24,7 @@ told_at (suc (suc (suc (suc (suc (suc zero)))))) = TooManyPartitions
 told_at (suc (suc (suc (suc (suc (suc (suc zero))))))) = Unfinished
 told_at (suc (suc (suc (suc (suc (suc (suc (suc n)))))))) = BadFlagValue
 
-by_turn : (fault : PartitionFault) → told_at (turn fault) ≡ fault
+by_turn : (fault : PartitionCause) → told_at (turn fault) ≡ fault
 by_turn BothMembership = refl
 by_turn MgidItem = refl
 by_turn BadCharacter = refl
@@ -35,10 +35,10 @@ by_turn TooManyPartitions = refl
 by_turn Unfinished = refl
 by_turn BadFlagValue = refl
 
-same_turn : (f g : PartitionFault) → turn f ≡ turn g → f ≡ g
+same_turn : (f g : PartitionCause) → turn f ≡ turn g → f ≡ g
 same_turn f g h = sym (by_turn f) ∙ ap told_at h ∙ by_turn g
 
-turn_below : (fault : PartitionFault) → turn fault < 9
+turn_below : (fault : PartitionCause) → turn fault < 9
 turn_below BothMembership = omega arith
 turn_below MgidItem = omega arith
 turn_below BadCharacter = omega arith
@@ -49,19 +49,19 @@ turn_below TooManyPartitions = omega arith
 turn_below Unfinished = omega arith
 turn_below BadFlagValue = omega arith
 
-abbrev InOrder : ℕ → List PartitionFault → Type 0
+abbrev InOrder : ℕ → List PartitionCause → Type 0
 InOrder n [] = Unit {0}
 InOrder n (fault ∷ rest) = (turn fault ≡ n) × InOrder (n + 1) rest
 
 all_in_order : InOrder 0 in_turn
 all_in_order = (refl, (refl, (refl, (refl, (refl, (refl, (refl, (refl, (refl, tt)))))))))
 
-found_there : (holds : PartitionFault → Bool) (faults : List PartitionFault) (f : PartitionFault) → find holds faults ≡ Some f → holds f ≡ true
+found_there : (holds : PartitionCause → Bool) (faults : List PartitionCause) (f : PartitionCause) → find holds faults ≡ Some f → holds f ≡ true
 found_there holds [] f h = absurd cc
 found_there holds (fault ∷ rest) f h = by (holds fault) refl h (λ k. found_there holds rest f k)
   where
     by : (b : Bool) → holds fault ≡ b → cond b (Some fault) (find holds rest) ≡ Some f → (find holds rest ≡ Some f → holds f ≡ true) → holds f ≡ true
-    by true e k later = (let same : fault ≡ f = grind arith in subst (λ (g : PartitionFault). holds g ≡ true) same e)
+    by true e k later = (let same : fault ≡ f = grind arith in subst (λ (g : PartitionCause). holds g ≡ true) same e)
     by false e k later = later k
 
 above : (n m : ℕ) (b : Bool) → (m == n) ≡ b → b ≡ false → n ≤ m → n + 1 ≤ m
@@ -70,46 +70,46 @@ above n m b e k h = grind (arith, nat_tests)
 equal_by : (m n : ℕ) → (m == n) ≡ true → m ≡ n
 equal_by m n h = grind (arith, nat_tests)
 
-first_found : (holds : PartitionFault → Bool) (faults : List PartitionFault) (n : ℕ) (f g : PartitionFault) → InOrder n faults → find holds faults ≡ Some f → holds g ≡ true → n ≤ turn g → turn f ≤ turn g
+first_found : (holds : PartitionCause → Bool) (faults : List PartitionCause) (n : ℕ) (f g : PartitionCause) → InOrder n faults → find holds faults ≡ Some f → holds g ≡ true → n ≤ turn g → turn f ≤ turn g
 first_found holds [] n f g order h k low = absurd cc
 first_found holds (fault ∷ rest) n f g order h k low = by (holds fault) refl h (λ there next. first_found holds rest (n + 1) f g order.1 there k next)
   where
     later : (b : Bool) → (turn g == n) ≡ b → holds fault ≡ false → (n + 1 ≤ turn g → turn f ≤ turn g) → turn f ≤ turn g
-    later true e none goes_on = absurd (let same : g ≡ fault = same_turn g fault (equal_by (turn g) n e ∙ sym order.0) in let gone : holds g ≡ false = subst (λ (x : PartitionFault). holds x ≡ false) (sym same) none in cc)
+    later true e none goes_on = absurd (let same : g ≡ fault = same_turn g fault (equal_by (turn g) n e ∙ sym order.0) in let gone : holds g ≡ false = subst (λ (x : PartitionCause). holds x ≡ false) (sym same) none in cc)
     later false e none goes_on = goes_on (above n (turn g) false e refl low)
 
     by : (b : Bool) → holds fault ≡ b → cond b (Some fault) (find holds rest) ≡ Some f → (find holds rest ≡ Some f → n + 1 ≤ turn g → turn f ≤ turn g) → turn f ≤ turn g
     by true e there goes_on = (let same : fault ≡ f = grind arith in let turned : turn f ≡ n = ap turn (sym same) ∙ order.0 in omega (arith, turned, low))
     by false e there goes_on = later (turn g == n) refl e (goes_on there)
 
-both_ways : (f g : PartitionFault) → turn f ≤ turn g → turn g ≤ turn f → f ≡ g
+both_ways : (f g : PartitionCause) → turn f ≤ turn g → turn g ≤ turn f → f ≡ g
 both_ways f g h k = same_turn f g (omega (arith, h, k))
 
 -- what is found, if this one is there and none before it
-found_so : (holds : PartitionFault → Bool) (o : Option PartitionFault) (f : PartitionFault) → find holds in_turn ≡ o → (o ≡ None → holds f ≡ false) → holds f ≡ true
-    → ((g : PartitionFault) → holds g ≡ true → turn f ≤ turn g) → o ≡ Some f
+found_so : (holds : PartitionCause → Bool) (o : Option PartitionCause) (f : PartitionCause) → find holds in_turn ≡ o → (o ≡ None → holds f ≡ false) → holds f ≡ true
+    → ((g : PartitionCause) → holds g ≡ true → turn f ≤ turn g) → o ≡ Some f
 found_so holds None f h none k first = absurd (let gone = none refl in cc)
 found_so holds (Some g) f h none k first =
-    ap (λ (x : PartitionFault). Some x) (both_ways g f (first_found holds in_turn 0 g f all_in_order h k (omega arith)) (first g (found_there holds in_turn g h)))
+    ap (λ (x : PartitionCause). Some x) (both_ways g f (first_found holds in_turn 0 g f all_in_order h k (omega arith)) (first g (found_there holds in_turn g h)))
 
-told_so : (s : Scanned) (delimiter : Delimiter) (piece : List ℕ) (f : PartitionFault) → has_fault (place_of s) delimiter piece f ≡ true
-    → ((g : PartitionFault) → has_fault (place_of s) delimiter piece g ≡ true → turn f ≤ turn g) → fault_of (place_of s) delimiter piece ≡ Some f
+told_so : (s : Scanned) (delimiter : Delimiter) (piece : List ℕ) (f : PartitionCause) → has_fault (place_of s) delimiter piece f ≡ true
+    → ((g : PartitionCause) → has_fault (place_of s) delimiter piece g ≡ true → turn f ≤ turn g) → fault_of (place_of s) delimiter piece ≡ Some f
 unfolding fault_of
 told_so s delimiter piece f h first =
     found_so (has_fault (place_of s) delimiter piece) (find (has_fault (place_of s) delimiter piece) in_turn) f refl (λ none. none_there (place_of s) delimiter piece none f) h first
 
-told_there : (s : Scanned) (delimiter : Delimiter) (piece : List ℕ) (f : PartitionFault) → fault_of (place_of s) delimiter piece ≡ Some f → has_fault (place_of s) delimiter piece f ≡ true
+told_there : (s : Scanned) (delimiter : Delimiter) (piece : List ℕ) (f : PartitionCause) → fault_of (place_of s) delimiter piece ≡ Some f → has_fault (place_of s) delimiter piece f ≡ true
 unfolding fault_of
 told_there s delimiter piece f h = found_there (has_fault (place_of s) delimiter piece) in_turn f h
 
-told_first : (s : Scanned) (delimiter : Delimiter) (piece : List ℕ) (f g : PartitionFault) → fault_of (place_of s) delimiter piece ≡ Some f → has_fault (place_of s) delimiter piece g ≡ true → turn f ≤ turn g
+told_first : (s : Scanned) (delimiter : Delimiter) (piece : List ℕ) (f g : PartitionCause) → fault_of (place_of s) delimiter piece ≡ Some f → has_fault (place_of s) delimiter piece g ≡ true → turn f ≤ turn g
 unfolding fault_of
 told_first s delimiter piece f g h k = first_found (has_fault (place_of s) delimiter piece) in_turn 0 f g all_in_order h k (omega arith)
 
 -- ---- one byte
-refused_at : (s : Scanned) (o : Option Delimiter) (allowed : Bool) (piece : List ℕ) (f : PartitionFault) → faults_of s o allowed piece f ≡ true
-    → ((g : PartitionFault) → faults_of s o allowed piece g ≡ true → turn f ≤ turn g) → judged_at s o allowed piece ≡ Err f
-refused_at s (Some delimiter) allowed piece f h first = ap (λ (o : Option PartitionFault). unless o (next s delimiter piece)) (told_so s delimiter piece f h first)
+refused_at : (s : Scanned) (o : Option Delimiter) (allowed : Bool) (piece : List ℕ) (f : PartitionCause) → faults_of s o allowed piece f ≡ true
+    → ((g : PartitionCause) → faults_of s o allowed piece g ≡ true → turn f ≤ turn g) → judged_at s o allowed piece ≡ Err f
+refused_at s (Some delimiter) allowed piece f h first = ap (λ (o : Option PartitionCause). unless o (next s delimiter piece)) (told_so s delimiter piece f h first)
 refused_at s None true piece BadCharacter h first = absurd cc
 refused_at s None false piece BadCharacter h first = refl
 refused_at s None allowed piece BadNumber h first = absurd cc
@@ -121,25 +121,25 @@ refused_at s None allowed piece TooManyPartitions h first = absurd cc
 refused_at s None allowed piece Unfinished h first = absurd cc
 refused_at s None allowed piece BadFlagValue h first = absurd cc
 
-pub refused_here : (s : Scanned) (before : List ℕ) (byte : ℕ) (f : PartitionFault) → is_fault_at s before byte f ≡ true → ((g : PartitionFault) → is_fault_at s before byte g ≡ true → turn f ≤ turn g)
+pub refused_here : (s : Scanned) (before : List ℕ) (byte : ℕ) (f : PartitionCause) → is_fault_at s before byte f ≡ true → ((g : PartitionCause) → is_fault_at s before byte g ≡ true → turn f ≤ turn g)
     → after_byte s (piece_after before) byte ≡ Err f
 unfolding after_byte is_fault_at
 refused_here s before byte f h first = refused_at s (delimiter_of byte) (is_allowed byte) (piece_after before) f h first
 
 -- a byte that was refused has the fault, and none before it in turn
-pub record IsToldFor (holds : PartitionFault → Bool) (f : PartitionFault) : Type 0 where
+pub record IsToldFor (holds : PartitionCause → Bool) (f : PartitionCause) : Type 0 where
   pub there : holds f ≡ true
-  pub first : (g : PartitionFault) → holds g ≡ true → turn f ≤ turn g
+  pub first : (g : PartitionCause) → holds g ≡ true → turn f ≤ turn g
 
-told_by : (s : Scanned) (delimiter : Delimiter) (piece : List ℕ) (o : Option PartitionFault) (f : PartitionFault) → fault_of (place_of s) delimiter piece ≡ o → unless o (next s delimiter piece) ≡ Err f
+told_by : (s : Scanned) (delimiter : Delimiter) (piece : List ℕ) (o : Option PartitionCause) (f : PartitionCause) → fault_of (place_of s) delimiter piece ≡ o → unless o (next s delimiter piece) ≡ Err f
     → IsToldFor (has_fault (place_of s) delimiter piece) f
 told_by s delimiter piece None f h k = absurd cc
 told_by s delimiter piece (Some g) f h k =
     let same : g ≡ f = grind arith in
-    let told : fault_of (place_of s) delimiter piece ≡ Some f = h ∙ ap (λ (x : PartitionFault). Some x) same in
+    let told : fault_of (place_of s) delimiter piece ≡ Some f = h ∙ ap (λ (x : PartitionCause). Some x) same in
     record { there = told_there s delimiter piece f told; first = λ other k. told_first s delimiter piece f other told k }
 
-only_character : (s : Scanned) (piece : List ℕ) (g : PartitionFault) → faults_of s None false piece g ≡ true → turn BadCharacter ≤ turn g
+only_character : (s : Scanned) (piece : List ℕ) (g : PartitionCause) → faults_of s None false piece g ≡ true → turn BadCharacter ≤ turn g
 only_character s piece BadCharacter h = omega arith
 only_character s piece BadNumber h = absurd cc
 only_character s piece ReservedKey h = absurd cc
@@ -150,24 +150,24 @@ only_character s piece TooManyPartitions h = absurd cc
 only_character s piece Unfinished h = absurd cc
 only_character s piece BadFlagValue h = absurd cc
 
-told_at_byte : (s : Scanned) (o : Option Delimiter) (allowed : Bool) (piece : List ℕ) (f : PartitionFault) → judged_at s o allowed piece ≡ Err f → IsToldFor (faults_of s o allowed piece) f
+told_at_byte : (s : Scanned) (o : Option Delimiter) (allowed : Bool) (piece : List ℕ) (f : PartitionCause) → judged_at s o allowed piece ≡ Err f → IsToldFor (faults_of s o allowed piece) f
 told_at_byte s (Some delimiter) allowed piece f h = told_by s delimiter piece (fault_of (place_of s) delimiter piece) f refl h
 told_at_byte s None true piece f h = absurd cc
 told_at_byte s None false piece f h =
     let same : BadCharacter ≡ f = grind arith in
-    subst (λ (g : PartitionFault). IsToldFor (faults_of s None false piece) g) same (record { there = refl; first = λ g k. only_character s piece g k })
+    subst (λ (g : PartitionCause). IsToldFor (faults_of s None false piece) g) same (record { there = refl; first = λ g k. only_character s piece g k })
 
-pub told_here : (s : Scanned) (before : List ℕ) (byte : ℕ) (f : PartitionFault) → after_byte s (piece_after before) byte ≡ Err f → IsToldFor (is_fault_at s before byte) f
+pub told_here : (s : Scanned) (before : List ℕ) (byte : ℕ) (f : PartitionCause) → after_byte s (piece_after before) byte ≡ Err f → IsToldFor (is_fault_at s before byte) f
 unfolding after_byte is_fault_at
 told_here s before byte f h =
     let told = told_at_byte s (delimiter_of byte) (is_allowed byte) (piece_after before) f h in
     record { there = told.there; first = told.first }
 
-clean_by : (s t : Scanned) (delimiter : Delimiter) (piece : List ℕ) (o : Option PartitionFault) → fault_of (place_of s) delimiter piece ≡ o → unless o (next s delimiter piece) ≡ Ok t → fault_of (place_of s) delimiter piece ≡ None
+clean_by : (s t : Scanned) (delimiter : Delimiter) (piece : List ℕ) (o : Option PartitionCause) → fault_of (place_of s) delimiter piece ≡ o → unless o (next s delimiter piece) ≡ Ok t → fault_of (place_of s) delimiter piece ≡ None
 clean_by s t delimiter piece None h k = h
 clean_by s t delimiter piece (Some f) h k = absurd cc
 
-no_character : (s : Scanned) (piece : List ℕ) (g : PartitionFault) → faults_of s None true piece g ≡ false
+no_character : (s : Scanned) (piece : List ℕ) (g : PartitionCause) → faults_of s None true piece g ≡ false
 no_character s piece BadCharacter = refl
 no_character s piece BadNumber = refl
 no_character s piece ReservedKey = refl
@@ -178,11 +178,11 @@ no_character s piece TooManyPartitions = refl
 no_character s piece Unfinished = refl
 no_character s piece BadFlagValue = refl
 
-clean_at_byte : (s t : Scanned) (o : Option Delimiter) (allowed : Bool) (piece : List ℕ) → judged_at s o allowed piece ≡ Ok t → (g : PartitionFault) → faults_of s o allowed piece g ≡ false
+clean_at_byte : (s t : Scanned) (o : Option Delimiter) (allowed : Bool) (piece : List ℕ) → judged_at s o allowed piece ≡ Ok t → (g : PartitionCause) → faults_of s o allowed piece g ≡ false
 clean_at_byte s t (Some delimiter) allowed piece h g = none_there (place_of s) delimiter piece (clean_by s t delimiter piece (fault_of (place_of s) delimiter piece) refl h) g
 clean_at_byte s t None true piece h g = no_character s piece g
 clean_at_byte s t None false piece h g = absurd cc
 
-pub clean_here : (s t : Scanned) (before : List ℕ) (byte : ℕ) → after_byte s (piece_after before) byte ≡ Ok t → (g : PartitionFault) → is_fault_at s before byte g ≡ false
+pub clean_here : (s t : Scanned) (before : List ℕ) (byte : ℕ) → after_byte s (piece_after before) byte ≡ Ok t → (g : PartitionCause) → is_fault_at s before byte g ≡ false
 unfolding after_byte is_fault_at
 clean_here s t before byte h g = clean_at_byte s t (delimiter_of byte) (is_allowed byte) (piece_after before) h g

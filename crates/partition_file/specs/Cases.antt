@@ -2,8 +2,8 @@
 use Rattle.std.specs.Prelude.{ℕ, ◌%◌, Bool, true, false, not, ◌==◌, ◌&&◌, ◌||◌, nat_lt, is_none, if◌then◌else◌, List, [], ◌∷◌, ◌++◌, length, find, codes, Option, Some, None, option_map, bytes_eq}
 use Rattle.std.specs.Char.{is_ascii_digit}
 use Rattle.pkey_rules.specs.declared.key_table.TheConstants.{PARTITIONS}
-use Rattle.partition_file.specs.declared.fault.PartitionFault.{PartitionFault}
-use Rattle.partition_file.specs.declared.fault.PartitionFault.TheVariants.{BadCharacter, BadNumber, ReservedKey, UnknownFlag, BothMembership, MgidItem, TooManyPartitions, Unfinished, BadFlagValue}
+use Rattle.partition_file.specs.declared.fault.PartitionCause.{PartitionCause}
+use Rattle.partition_file.specs.declared.fault.PartitionCause.TheVariants.{BadCharacter, BadNumber, ReservedKey, UnknownFlag, BothMembership, MgidItem, TooManyPartitions, Unfinished, BadFlagValue}
 use Rattle.partition_file.specs.declared.piece.Delimiter.{Delimiter}
 use Rattle.partition_file.specs.declared.part.Part.{Part}
 use Rattle.partition_file.specs.declared.part.Part.TheVariants as part
@@ -117,7 +117,7 @@ pub record Place : Type 0 where
   pub before : List (Option ℕ)
 
 -- the fault is one of this piece, which ends at this delimiter
-unfoldable pub has_fault : Place → Delimiter → List ℕ → PartitionFault → Bool
+unfoldable pub has_fault : Place → Delimiter → List ℕ → PartitionCause → Bool
 has_fault p delimiter piece BadCharacter = is_bad_character p.at delimiter piece
 has_fault p delimiter piece BadNumber = is_bad_number p.at delimiter piece
 has_fault p delimiter piece ReservedKey = is_reserved_key p.at delimiter piece
@@ -129,8 +129,8 @@ has_fault p delimiter piece Unfinished = is_unfinished p.at delimiter
 has_fault p delimiter piece BadFlagValue = is_bad_flag_value p.at delimiter p.flags piece
 
 -- of several, the first in this order is told
-abbrev pub in_turn : List PartitionFault
+abbrev pub in_turn : List PartitionCause
 in_turn = BothMembership ∷ MgidItem ∷ BadCharacter ∷ BadNumber ∷ ReservedKey ∷ UnknownFlag ∷ TooManyPartitions ∷ Unfinished ∷ BadFlagValue ∷ []
 
-unfoldable pub fault_of : Place → Delimiter → List ℕ → Option PartitionFault
+unfoldable pub fault_of : Place → Delimiter → List ℕ → Option PartitionCause
 fault_of p delimiter piece = find (has_fault p delimiter piece) in_turn

@@ -1,7 +1,7 @@
 -- What definitions a partition text has, or its first fault: the text is gone through once, and each byte is a place.
 use Rattle.std.specs.Prelude.{ℕ, Bool, true, false, not, ◌||◌, if◌then◌else◌, List, [], ◌∷◌, ◌++◌, Option, Some, None, Result, Ok, Err}
-use Rattle.partition_file.specs.declared.fault.PartitionFault.{PartitionFault}
-use Rattle.partition_file.specs.declared.fault.PartitionFault.TheVariants.{BadCharacter, Unfinished}
+use Rattle.partition_file.specs.declared.fault.PartitionCause.{PartitionCause}
+use Rattle.partition_file.specs.declared.fault.PartitionCause.TheVariants.{BadCharacter, Unfinished}
 use Rattle.partition_file.specs.declared.piece.Delimiter.{Delimiter}
 use Rattle.partition_file.specs.declared.piece.Delimiter.TheVariants.{Equals, Comma, Colon, Semicolon}
 use Rattle.partition_file.specs.declared.part.Part.{Part}
@@ -74,19 +74,19 @@ next s delimiter piece = moved s delimiter piece (with_piece s.current s.at deli
 abbrev pub place_of : Scanned → Place
 place_of s = record { at = s.at; flags = s.current.flags; key = s.current.key; before = keys_of s.done }
 
-abbrev pub judged : Scanned → Delimiter → List ℕ → Result Scanned PartitionFault
+abbrev pub judged : Scanned → Delimiter → List ℕ → Result Scanned PartitionCause
 judged s delimiter piece = unless (fault_of (place_of s) delimiter piece) (next s delimiter piece)
 
-abbrev pub passed : Scanned → Bool → Result Scanned PartitionFault
+abbrev pub passed : Scanned → Bool → Result Scanned PartitionCause
 passed s true = Ok s
 passed s false = Err BadCharacter
 
 -- a delimiter ends the piece before it; any other byte is white space, printable, or a bad character
-abbrev pub judged_at : Scanned → Option Delimiter → Bool → List ℕ → Result Scanned PartitionFault
+abbrev pub judged_at : Scanned → Option Delimiter → Bool → List ℕ → Result Scanned PartitionCause
 judged_at s (Some delimiter) allowed piece = judged s delimiter piece
 judged_at s None allowed piece = passed s allowed
 
-unfoldable pub after_byte : Scanned → List ℕ → ℕ → Result Scanned PartitionFault
+unfoldable pub after_byte : Scanned → List ℕ → ℕ → Result Scanned PartitionCause
 after_byte s piece byte = judged_at s (delimiter_of byte) (is_allowed byte) piece
 
 -- the state after the bytes that follow the text so far, or their first fault
@@ -102,7 +102,7 @@ is_name _ = false
 abbrev pub is_inside : Part → List ℕ → Bool
 is_inside at piece = not (is_name at) || not (is_empty piece)
 
-abbrev pub at_end : Scanned → List ℕ → Result (List Definition) PartitionFault
+abbrev pub at_end : Scanned → List ℕ → Result (List Definition) PartitionCause
 at_end s piece = if is_inside s.at piece then Err Unfinished else Ok s.done
 
 -- a text whose comments are blanked

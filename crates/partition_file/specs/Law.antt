@@ -1,7 +1,7 @@
 -- Which fault a partition text is refused for: that of its shortest beginning at whose last place a fault is. The end is a place of the whole text alone; of several faults at one place the first in turn is told.
 use Rattle.std.specs.Prelude.{ℕ, ◌≡◌, ◌≤◌, ◌⊎◌, Bool, true, false, not, List, [], ◌∷◌, ◌++◌, take, Option, Some, None, Ok, Err}
-use Rattle.partition_file.specs.declared.fault.PartitionFault.{PartitionFault}
-use Rattle.partition_file.specs.declared.fault.PartitionFault.TheVariants.{BadCharacter, BadNumber, ReservedKey, UnknownFlag, BothMembership, MgidItem, TooManyPartitions, Unfinished, BadFlagValue}
+use Rattle.partition_file.specs.declared.fault.PartitionCause.{PartitionCause}
+use Rattle.partition_file.specs.declared.fault.PartitionCause.TheVariants.{BadCharacter, BadNumber, ReservedKey, UnknownFlag, BothMembership, MgidItem, TooManyPartitions, Unfinished, BadFlagValue}
 use Rattle.partition_file.specs.declared.piece.Delimiter.{Delimiter}
 use Rattle.partition_file.specs.Fault.{TextFault}
 use Rattle.partition_file.specs.Pieces.{delimiter_of, is_allowed, line_after, piece_after, without_comments}
@@ -10,7 +10,7 @@ use Rattle.partition_file.specs.Definitions.{Scanned, after, is_inside, place_of
 use Rattle.partition_file.specs.Partitions.{partitions_of}
 
 -- the turn of a fault: the membership `both`, then the item `mgid`, then by code
-abbrev pub turn : PartitionFault → ℕ
+abbrev pub turn : PartitionCause → ℕ
 turn BothMembership = 0
 turn MgidItem = 1
 turn BadCharacter = 2
@@ -22,13 +22,13 @@ turn Unfinished = 7
 turn BadFlagValue = 8
 
 -- a delimiter has the faults of the piece that it ends; another byte has one if it may not stand outside comments
-abbrev pub faults_of : Scanned → Option Delimiter → Bool → List ℕ → PartitionFault → Bool
+abbrev pub faults_of : Scanned → Option Delimiter → Bool → List ℕ → PartitionCause → Bool
 faults_of s (Some delimiter) allowed piece fault = has_fault (place_of s) delimiter piece fault
 faults_of s None allowed piece BadCharacter = not allowed
 faults_of s None allowed piece _ = false
 
 -- the byte that follows this beginning of a text has the fault
-unfoldable pub is_fault_at : Scanned → List ℕ → ℕ → PartitionFault → Bool
+unfoldable pub is_fault_at : Scanned → List ℕ → ℕ → PartitionCause → Bool
 is_fault_at s before byte fault = faults_of s (delimiter_of byte) (is_allowed byte) (piece_after before) fault
 
 -- this beginning of a text was gone through without a fault, and this is the state after it
@@ -38,7 +38,7 @@ IsClean text s = after [] start text ≡ Ok s
 -- no byte of a clean beginning has a fault: each follows a clean beginning of its own, and has none after it
 abbrev pub CleanThroughout : Type 0
 CleanThroughout = (before rest : List ℕ) (byte : ℕ) (s : Scanned) → IsClean (before ++ byte ∷ rest) s
-    → (t : Scanned) × (IsClean before t × ((fault : PartitionFault) → is_fault_at t before byte fault ≡ false))
+    → (t : Scanned) × (IsClean before t × ((fault : PartitionCause) → is_fault_at t before byte fault ≡ false))
 
 -- the byte after a clean beginning has this fault, and none before it in turn; its line is that of the byte
 pub record HasFaultInside (shown : List ℕ) (e : TextFault) : Type 0 where
@@ -49,7 +49,7 @@ pub record HasFaultInside (shown : List ℕ) (e : TextFault) : Type 0 where
   pub cut : shown ≡ before ++ byte ∷ rest
   pub clean : IsClean before state
   pub there : is_fault_at state before byte e.cause ≡ true
-  pub first : (other : PartitionFault) → is_fault_at state before byte other ≡ true → turn e.cause ≤ turn other
+  pub first : (other : PartitionCause) → is_fault_at state before byte other ≡ true → turn e.cause ≤ turn other
   pub line : e.line ≡ line_after before
 
 -- all of a text is clean, and it ends inside a definition

@@ -8,7 +8,7 @@ use thiserror::Error;
 
 /// What is wrong at a place of the text.
 #[derive(Clone, Copy, Debug, PartialEq, Eq, Error)]
-pub enum PartitionFault {
+pub enum PartitionCause {
     /// A byte that is neither printable ASCII nor white space, a second `=` in a piece, a `:` in a
     /// list, or a name that begins with a digit.
     #[error("a character may not stand here")]
@@ -39,21 +39,21 @@ pub enum PartitionFault {
     BadFlagValue,
 }
 
-impl PartitionFault {
+impl PartitionCause {
     /// The code that is printed for the fault.
     pub fn code(self) -> &'static str
         ensures { result.now ≡ code_of self }
     {
         match self {
-            PartitionFault::BadCharacter => "PF1",
-            PartitionFault::BadNumber => "PF2",
-            PartitionFault::ReservedKey => "PF3",
-            PartitionFault::UnknownFlag => "PF4",
-            PartitionFault::BothMembership => "PF5",
-            PartitionFault::MgidItem => "PF6",
-            PartitionFault::TooManyPartitions => "PF7",
-            PartitionFault::Unfinished => "PF8",
-            PartitionFault::BadFlagValue => "PF9",
+            PartitionCause::BadCharacter => "PF1",
+            PartitionCause::BadNumber => "PF2",
+            PartitionCause::ReservedKey => "PF3",
+            PartitionCause::UnknownFlag => "PF4",
+            PartitionCause::BothMembership => "PF5",
+            PartitionCause::MgidItem => "PF6",
+            PartitionCause::TooManyPartitions => "PF7",
+            PartitionCause::Unfinished => "PF8",
+            PartitionCause::BadFlagValue => "PF9",
         }
     }
 }
@@ -70,7 +70,7 @@ pub enum PartFault {
         /// The line of the fault's place, counted from 1.
         line: usize,
         /// What is wrong there.
-        cause: PartitionFault,
+        cause: PartitionCause,
     },
 }
 

@@ -23,7 +23,7 @@ mod reader;
 mod scan;
 
 pub use crate::definition::Name;
-pub use crate::fault::{PartFault, PartitionFault};
+pub use crate::fault::{PartFault, PartitionCause};
 pub use crate::item::{Item, ItemList, Ports};
 pub use crate::law::{first_fault, generated_bases, keys_tell_membership};
 pub use crate::membership::members;

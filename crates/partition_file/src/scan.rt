@@ -9,7 +9,7 @@ ghost use Rattle.partition_file.specs.Definitions.{after_byte, at_end, next, pla
 ghost use Rattle.partition_file.specs.Reading.{Gives};
 
 use crate::definition::{Definition, DefinitionList, Name};
-use crate::fault::{PartFault, PartitionFault};
+use crate::fault::{PartFault, PartitionCause};
 use crate::flag::{flag_of, is_full};
 use crate::item::{Item, Ports, ports_of};
 use crate::part::{Part, base_in};
@@ -110,38 +110,38 @@ impl Scan {
 
     /// The first fault in turn of a piece that ends at this delimiter.
     #[tactic(auto, unfolding(crate::specs::Cases::fault_of, crate::specs::Cases::has_fault))]
-    fn fault_of(&self, delimiter: Delimiter, piece: &[u8]) -> Option<PartitionFault>
+    fn fault_of(&self, delimiter: Delimiter, piece: &[u8]) -> Option<PartitionCause>
         ensures { result ≡ fault_of (place_of self.now) delimiter piece.now }
     {
         if self.part.is_both_membership(piece) {
-            return Some(PartitionFault::BothMembership);
+            return Some(PartitionCause::BothMembership);
         }
         if self.part.is_mgid_item(piece) {
-            return Some(PartitionFault::MgidItem);
+            return Some(PartitionCause::MgidItem);
         }
         if self.part.is_bad_character(delimiter, piece) {
-            return Some(PartitionFault::BadCharacter);
+            return Some(PartitionCause::BadCharacter);
         }
         if self.part.is_bad_number(delimiter, piece) {
-            return Some(PartitionFault::BadNumber);
+            return Some(PartitionCause::BadNumber);
         }
         if self.part.is_reserved_key(delimiter, piece) {
-            return Some(PartitionFault::ReservedKey);
+            return Some(PartitionCause::ReservedKey);
         }
         if self.part.is_unknown_flag(delimiter, piece) {
-            return Some(PartitionFault::UnknownFlag);
+            return Some(PartitionCause::UnknownFlag);
         }
         if self.is_one_too_many(delimiter, piece) {
-            return Some(PartitionFault::TooManyPartitions);
+            return Some(PartitionCause::TooManyPartitions);
         }
         if self.part.is_unfinished(delimiter) {
-            return Some(PartitionFault::Unfinished);
+            return Some(PartitionCause::Unfinished);
         }
         if self
             .part
             .is_bad_flag_value(delimiter, self.current.flags, piece)
         {
-            return Some(PartitionFault::BadFlagValue);
+            return Some(PartitionCause::BadFlagValue);
         }
         None
     }
@@ -185,7 +185,7 @@ impl Scan {
             }
             return Err(PartFault::At {
                 line,
-                cause: PartitionFault::BadCharacter,
+                cause: PartitionCause::BadCharacter,
             });
         };
         let piece = folded(alloc, raw)?;
@@ -209,7 +209,7 @@ impl Scan {
         if self.part.is_inside(&piece) {
             return Err(PartFault::At {
                 line,
-                cause: PartitionFault::Unfinished,
+                cause: PartitionCause::Unfinished,
             });
         }
         Ok(self.done)

@@ -4,7 +4,7 @@ use Rattle.topo_file.specs.Topology.{Plan}
 use Rattle.subnet_model.specs.declared.command.Command.{Command}
 use Rattle.subnet_core.specs.declared.fault.RunFault.{RunFault}
 use Rattle.subnet_core.specs.declared.fault.RunFault.TheVariants.{NoMemory, Topology, Partitions, Script}
-use Rattle.subnet_core.specs.declared.fault.ScriptFault.{ScriptFault}
+use Rattle.subnet_core.specs.declared.fault.ScriptCause.{ScriptCause}
 use Rattle.subnet_core.specs.Run.{RunFails, of_script, with_line}
 use Rattle.subnet_core.specs.Script.{LineFault, after_lines, command_of, commands_of, on_line, ◌>>=◌}
 
@@ -13,7 +13,7 @@ pub record IsLeft (plan : Plan) (number : ℕ) (so_far : List Command) (left : L
   pub count : number + length left ≤ length script
   pub same : after_lines plan (number + 1) so_far left ≡ commands_of plan script
 
-one_line : (plan : Plan) (number : ℕ) (so_far : List Command) (line : List ℕ) (rest : List (List ℕ)) (read : Result (Option Command) ScriptFault)
+one_line : (plan : Plan) (number : ℕ) (so_far : List Command) (line : List ℕ) (rest : List (List ℕ)) (read : Result (Option Command) ScriptCause)
     → command_of plan line ≡ read
     → after_lines plan number so_far (line ∷ rest) ≡ ((on_line number read >>= λ command. Ok (so_far ++ option_to_list command)) >>= λ next. after_lines plan (number + 1) next rest)
 unfolding after_lines

@@ -1,9 +1,9 @@
 -- The codes that are printed for faults of a script.
 use Rattle.std.specs.Prelude.{ℕ, List, codes}
-use Rattle.subnet_core.specs.declared.fault.ScriptFault.{ScriptFault}
-use Rattle.subnet_core.specs.declared.fault.ScriptFault.TheVariants.{Malformed, UnknownPort, ManagerPort, UncabledPort, PayloadTooLong, BadField}
+use Rattle.subnet_core.specs.declared.fault.ScriptCause.{ScriptCause}
+use Rattle.subnet_core.specs.declared.fault.ScriptCause.TheVariants.{Malformed, UnknownPort, ManagerPort, UncabledPort, PayloadTooLong, BadField}
 
-abbrev pub code_of : ScriptFault → List ℕ
+abbrev pub code_of : ScriptCause → List ℕ
 code_of Malformed = codes "SF1"
 code_of UnknownPort = codes "SF2"
 code_of ManagerPort = codes "SF3"

@@ -13,13 +13,13 @@ use Rattle.topo_file.specs.Cable.{port_at, is_cabled, is_same_port}
 use Rattle.topo_file.specs.Topology.{Plan}
 use Rattle.subnet_model.specs.declared.command.Command.{Command}
 use Rattle.subnet_model.specs.declared.command.Command.TheVariants.{Send}
-use Rattle.subnet_core.specs.declared.fault.ScriptFault.{ScriptFault}
-use Rattle.subnet_core.specs.declared.fault.ScriptFault.TheVariants.{Malformed, UnknownPort, ManagerPort, UncabledPort, PayloadTooLong, BadField}
+use Rattle.subnet_core.specs.declared.fault.ScriptCause.{ScriptCause}
+use Rattle.subnet_core.specs.declared.fault.ScriptCause.TheVariants.{Malformed, UnknownPort, ManagerPort, UncabledPort, PayloadTooLong, BadField}
 
 -- a fault with its line
 pub record LineFault : Type 0 where
   pub line : ℕ
-  pub cause : ScriptFault
+  pub cause : ScriptCause
 
 infixl 10 ◌>>=◌
 abbrev pub ◌>>=◌ : {A B E : Type 0} → Result A E → (A → Result B E) → Result B E
@@ -28,14 +28,14 @@ abbrev pub ◌>>=◌ : {A B E : Type 0} → Result A E → (A → Result B E) �
 
 -- ---- the port that sends
 -- an adapter's port that is not the subnet manager's and has a cable
-abbrev pub sender_at : Plan → PortRef → Result ℕ ScriptFault
+abbrev pub sender_at : Plan → PortRef → Result ℕ ScriptCause
 sender_at plan at =
     if is_switch_at plan.nodes at.node then Err UnknownPort
     else if is_same_port at plan.sm then Err ManagerPort
     else if not (is_cabled plan.cables at) then Err UncabledPort
     else Ok (guid_at plan.nodes at.node + at.port)
 
-unfoldable pub sender_of : Plan → List ℕ → Result ℕ ScriptFault
+unfoldable pub sender_of : Plan → List ℕ → Result ℕ ScriptCause
 sender_of plan word = do
   port ← ok_or (port_in word) UnknownPort
   place ← ok_or (place_of port.name plan.nodes) UnknownPort
@@ -43,12 +43,12 @@ sender_of plan word = do
   sender_at plan at
 
 -- ---- fields
-abbrev pub below : ℕ → Option ℕ → Result ℕ ScriptFault
+abbrev pub below : ℕ → Option ℕ → Result ℕ ScriptCause
 below top (Some n) = if nat_lt n top then Ok n else Err BadField
 below top None = Err BadField
 
 -- a number under this one
-abbrev pub field_of : ℕ → List ℕ → Result ℕ ScriptFault
+abbrev pub field_of : ℕ → List ℕ → Result ℕ ScriptCause
 field_of top word = below top (number_in word)
 
 -- ---- the payload, `N:HEX`
@@ -64,18 +64,18 @@ is_over top (Some n) = nat_lt top n
 is_over top None = false
 
 -- a packet carries at most 256 bytes
-abbrev pub carried : List ℕ → Result (Option ℕ) ScriptFault
+abbrev pub carried : List ℕ → Result (Option ℕ) ScriptCause
 carried word = if is_over 256 (size_of word) then Err PayloadTooLong else Ok (size_of word)
 
-abbrev pub bytes_or_fault : {E : Type 0} → Result (List ℕ) E → Result (List ℕ) ScriptFault
+abbrev pub bytes_or_fault : {E : Type 0} → Result (List ℕ) E → Result (List ℕ) ScriptCause
 bytes_or_fault (Ok bytes) = Ok bytes
 bytes_or_fault (Err error) = Err BadField
 
 -- N bytes: those that HEX spells, then zero bytes
-abbrev pub filled : ℕ → List ℕ → Result (List ℕ) ScriptFault
+abbrev pub filled : ℕ → List ℕ → Result (List ℕ) ScriptCause
 filled n bytes = if nat_le (length bytes) n then Ok (bytes ++ replicate (n - length bytes) 0) else Err BadField
 
-unfoldable pub payload_of : Option ℕ → List ℕ → Result (List ℕ) ScriptFault
+unfoldable pub payload_of : Option ℕ → List ℕ → Result (List ℕ) ScriptCause
 payload_of size word = do
   n ← ok_or size BadField
   parts ← ok_or (cut_at is_colon word) BadField
@@ -83,7 +83,7 @@ payload_of size word = do
   filled n bytes
 
 -- ---- `send PORT DLID PKEY QP PAYLOAD`
-unfoldable pub send_spelt : Plan → List ℕ → List ℕ → List ℕ → List ℕ → List ℕ → Result Command ScriptFault
+unfoldable pub send_spelt : Plan → List ℕ → List ℕ → List ℕ → List ℕ → List ℕ → Result Command ScriptCause
 send_spelt plan port dlid p_key qp payload = do
   sender ← sender_of plan port
   size ← carried payload
@@ -93,20 +93,20 @@ send_spelt plan port dlid p_key qp payload = do
   bytes ← payload_of size payload
   Ok (Send (record { port = sender; dlid = lid; p_key = key; destination_qp = number; payload = bytes }))
 
-unfoldable pub send_of : Plan → List (List ℕ) → Result Command ScriptFault
+unfoldable pub send_of : Plan → List (List ℕ) → Result Command ScriptCause
 send_of plan (port ∷ dlid ∷ p_key ∷ qp ∷ payload ∷ []) = send_spelt plan port dlid p_key qp payload
 send_of plan _ = Err Malformed
 
 -- ---- a line: a command, or nothing
-unfoldable pub command_in : Plan → List (List ℕ) → Result (Option Command) ScriptFault
+unfoldable pub command_in : Plan → List (List ℕ) → Result (Option Command) ScriptCause
 command_in plan [] = Ok None
 command_in plan (first ∷ rest) =
     if bytes_eq first (codes "send") then (send_of plan rest >>= λ command. Ok (Some command)) else Err Malformed
 
-abbrev pub command_of : Plan → List ℕ → Result (Option Command) ScriptFault
+abbrev pub command_of : Plan → List ℕ → Result (Option Command) ScriptCause
 command_of plan line = if has_bad_character line then Err Malformed else command_in plan (words line)
 
-abbrev pub on_line : {X : Type 0} → ℕ → Result X ScriptFault → Result X LineFault
+abbrev pub on_line : {X : Type 0} → ℕ → Result X ScriptCause → Result X LineFault
 on_line number (Ok x) = Ok x
 on_line number (Err fault) = Err (record { line = number; cause = fault })
 

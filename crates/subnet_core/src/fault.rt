@@ -4,14 +4,14 @@ ghost use Rattle.std.specs.Prelude.{◌≡◌};
 ghost use Rattle.subnet_core.specs.Fault.{code_of};
 ghost use Rattle.subnet_core.specs.declared.fault.ScriptError.TheVariants.{NoMemory, Fault};
 
-use partition_file::PartitionFault;
+use partition_file::PartitionCause;
 use std::alloc::{AllocError, AllocFailed};
 use thiserror::Error;
-use topo_file::TopologyFault;
+use topo_file::TopologyCause;
 
 /// What is wrong with a line of a script, in the order in which it is asked.
 #[derive(Clone, Copy, Debug, PartialEq, Eq, Error)]
-pub enum ScriptFault {
+pub enum ScriptCause {
     /// The line has a bad character, an unknown command, or too few or too many words.
     #[error("the line is malformed")]
     Malformed,
@@ -32,18 +32,18 @@ pub enum ScriptFault {
     BadField,
 }
 
-impl ScriptFault {
+impl ScriptCause {
     /// The code that is printed for the fault.
     pub fn code(self) -> &'static str
         ensures { result.now ≡ code_of self }
     {
         match self {
-            ScriptFault::Malformed => "SF1",
-            ScriptFault::UnknownPort => "SF2",
-            ScriptFault::ManagerPort => "SF3",
-            ScriptFault::UncabledPort => "SF4",
-            ScriptFault::PayloadTooLong => "SF5",
-            ScriptFault::BadField => "SF6",
+            ScriptCause::Malformed => "SF1",
+            ScriptCause::UnknownPort => "SF2",
+            ScriptCause::ManagerPort => "SF3",
+            ScriptCause::UncabledPort => "SF4",
+            ScriptCause::PayloadTooLong => "SF5",
+            ScriptCause::BadField => "SF6",
         }
     }
 }
@@ -52,7 +52,7 @@ impl ScriptFault {
 #[derive(Clone, Copy, Debug, PartialEq, Eq)]
 pub(crate) enum ScriptError {
     NoMemory,
-    Fault(ScriptFault),
+    Fault(ScriptCause),
 }
 
 impl From<AllocError> for ScriptError {
@@ -63,10 +63,10 @@ impl From<AllocError> for ScriptError {
     }
 }
 
-impl From<ScriptFault> for ScriptError {
+impl From<ScriptCause> for ScriptError {
     ghost from_gives = { λ fault e. e ≡ Fault fault };
 
-    fn from(fault: ScriptFault) -> ScriptError {
+    fn from(fault: ScriptCause) -> ScriptError {
         ScriptError::Fault(fault)
     }
 }
@@ -83,7 +83,7 @@ pub enum RunFault {
         /// The line, counted from 1; 0 where the fault is of the text as a whole.
         line: usize,
         /// What is wrong.
-        cause: TopologyFault,
+        cause: TopologyCause,
     },
     /// The first fault of the partition file.
     #[error("partitions line {line}: {cause}")]
@@ -91,7 +91,7 @@ pub enum RunFault {
         /// The line of the fault's place, counted from 1.
         line: usize,
         /// What is wrong there.
-        cause: PartitionFault,
+        cause: PartitionCause,
     },
     /// The first fault of the script.
     #[error("script line {line}: {cause}")]
@@ -99,7 +99,7 @@ pub enum RunFault {
         /// The line, counted from 1.
         line: usize,
         /// What is wrong.
-        cause: ScriptFault,
+        cause: ScriptCause,
     },
 }
 

@@ -18,7 +18,7 @@ mod subnet;
 mod text;
 
 pub use crate::end_ports::ports_of;
-pub use crate::fault::{RunFault, ScriptFault, StepFault};
+pub use crate::fault::{RunFault, ScriptCause, StepFault};
 pub use crate::report::Report;
 pub use crate::running::run;
 pub use crate::subnet::{Subnet, bring_up};

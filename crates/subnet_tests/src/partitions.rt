@@ -1,9 +1,9 @@
 use crate::fixtures::{GUIDS, ONE_PARTITION, ONE_PARTITION_FILE, TWO_SWITCHES};
-use partition_file::PartitionFault;
+use partition_file::PartitionCause;
 use std::alloc::Global;
 use std::test::Fail;
-use subnet_core::{RunFault, ScriptFault, bring_up, ports_of, run};
-use topo_file::TopologyFault;
+use subnet_core::{RunFault, ScriptCause, bring_up, ports_of, run};
+use topo_file::TopologyCause;
 
 /// The listing of the two-switch fabric under a partition file.
 fn listed(alloc: Global, partitions: Option<&str>) -> Result<String, Fail> {
@@ -153,10 +153,10 @@ fn faults_are_told_in_the_order_of_the_files(rt: HostRuntime) {
     let good = TWO_SWITCHES.as_bytes();
     let bad_script = b"send h9/1 5 0x8001 7 0:";
     let answer = run(rt.alloc(), b"swich", Some(b"1P"), bad_script);
-    let cause = TopologyFault::Malformed;
+    let cause = TopologyCause::Malformed;
     assert!(rt; matches!(answer, Err(RunFault::Topology { line: 1, cause: why }) if why == cause));
     let answer = run(rt.alloc(), good, Some(b"# tenants\nP=1:0x12g;"), bad_script);
-    let cause = PartitionFault::BadNumber;
+    let cause = PartitionCause::BadNumber;
     assert!(rt;
         matches!(answer, Err(RunFault::Partitions { line: 2, cause: why }) if why == cause)
     );
@@ -164,11 +164,11 @@ fn faults_are_told_in_the_order_of_the_files(rt: HostRuntime) {
     for (script, cause) in [
         (
             b"send h9/1 5 0x8001 7 0:".as_slice(),
-            ScriptFault::UnknownPort,
+            ScriptCause::UnknownPort,
         ),
         (
             b"send h1/1 5 0x8001 7 1:0102".as_slice(),
-            ScriptFault::BadField,
+            ScriptCause::BadField,
         ),
     ] {
         let answer = run(rt.alloc(), good, Some(file), script);

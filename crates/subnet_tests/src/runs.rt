@@ -1,7 +1,7 @@
 use crate::fixtures::TWO_SWITCHES;
 use std::alloc::Global;
 use std::test::Fail;
-use subnet_core::{RunFault, ScriptFault, StepFault, bring_up, run};
+use subnet_core::{RunFault, ScriptCause, StepFault, bring_up, run};
 
 /// The report of a script on the two-switch fabric without a partition file.
 fn told(alloc: Global, script: &str) -> Result<String, Fail> {
@@ -68,48 +68,48 @@ fn a_port_refuses_what_it_may_not_send(rt: HostRuntime) -> Result<(), Fail> {
 #[test]
 fn a_script_is_refused_at_its_first_faulty_line(rt: HostRuntime) {
     let table = [
-        ("frob h1/1\n", 1, ScriptFault::Malformed),
-        ("send h1/1 5 0xffff 7 0: 1\n", 1, ScriptFault::Malformed),
-        ("send h9/1 5 0x8001 7\n", 1, ScriptFault::Malformed),
-        ("send h1/1 5 0xffff 7 0:\r", 1, ScriptFault::Malformed),
-        ("ask h1/1 get node tid=1\n", 1, ScriptFault::Malformed),
+        ("frob h1/1\n", 1, ScriptCause::Malformed),
+        ("send h1/1 5 0xffff 7 0: 1\n", 1, ScriptCause::Malformed),
+        ("send h9/1 5 0x8001 7\n", 1, ScriptCause::Malformed),
+        ("send h1/1 5 0xffff 7 0:\r", 1, ScriptCause::Malformed),
+        ("ask h1/1 get node tid=1\n", 1, ScriptCause::Malformed),
         (
             "send h1/1 5 0xffff 7 0:\n\nSEND h1/1 5 0xffff 7 0:\n",
             3,
-            ScriptFault::Malformed,
+            ScriptCause::Malformed,
         ),
-        ("send A/1 5 0x8001 7 0:\n", 1, ScriptFault::UnknownPort),
-        ("send h9/1 5 0x8001 7 257:\n", 1, ScriptFault::UnknownPort),
-        ("send h1/2 5 0x8001 7 0:\n", 1, ScriptFault::UnknownPort),
-        ("send h1 5 0x8001 7 0:\n", 1, ScriptFault::UnknownPort),
-        ("send h0/1 5 0x8001 7 257:\n", 1, ScriptFault::ManagerPort),
+        ("send A/1 5 0x8001 7 0:\n", 1, ScriptCause::UnknownPort),
+        ("send h9/1 5 0x8001 7 257:\n", 1, ScriptCause::UnknownPort),
+        ("send h1/2 5 0x8001 7 0:\n", 1, ScriptCause::UnknownPort),
+        ("send h1 5 0x8001 7 0:\n", 1, ScriptCause::UnknownPort),
+        ("send h0/1 5 0x8001 7 257:\n", 1, ScriptCause::ManagerPort),
         (
             "send h4/1 65536 0x8001 7 257:\n",
             1,
-            ScriptFault::UncabledPort,
+            ScriptCause::UncabledPort,
         ),
         (
             "send h1/1 65536 0x8001 7 257:\n",
             1,
-            ScriptFault::PayloadTooLong,
+            ScriptCause::PayloadTooLong,
         ),
         (
             "send h1/1 5 0x8001 7 0x101:zz\n",
             1,
-            ScriptFault::PayloadTooLong,
+            ScriptCause::PayloadTooLong,
         ),
-        ("send h1/1 65536 0x8001 7 0:\n", 1, ScriptFault::BadField),
-        ("send h1/1 5 0x10000 7 0:\n", 1, ScriptFault::BadField),
+        ("send h1/1 65536 0x8001 7 0:\n", 1, ScriptCause::BadField),
+        ("send h1/1 5 0x10000 7 0:\n", 1, ScriptCause::BadField),
         (
             "send h1/1 5 0x8001 0x1000000 0:\n",
             1,
-            ScriptFault::BadField,
+            ScriptCause::BadField,
         ),
-        ("send h1/1 5 0x8001 7 1:0102\n", 1, ScriptFault::BadField),
-        ("send h1/1 5 0x8001 7 2:012\n", 1, ScriptFault::BadField),
-        ("send h1/1 5 0x8001 7 2:0g\n", 1, ScriptFault::BadField),
-        ("send h1/1 5 0x8001 7 2\n", 1, ScriptFault::BadField),
-        ("send h1/1 5 0x8001 7 :00\n", 1, ScriptFault::BadField),
+        ("send h1/1 5 0x8001 7 1:0102\n", 1, ScriptCause::BadField),
+        ("send h1/1 5 0x8001 7 2:012\n", 1, ScriptCause::BadField),
+        ("send h1/1 5 0x8001 7 2:0g\n", 1, ScriptCause::BadField),
+        ("send h1/1 5 0x8001 7 2\n", 1, ScriptCause::BadField),
+        ("send h1/1 5 0x8001 7 :00\n", 1, ScriptCause::BadField),
     ];
     for (script, line, cause) in table {
         let answer = run(rt.alloc(), TWO_SWITCHES.as_bytes(), None, script.as_bytes());

@@ -1,7 +1,7 @@
 use partition_file::{Members, PartFault};
 use pkey_rules::EndPort;
 use std::alloc::{AllocError, Global};
-use topo_file::{TopoFault, Topology, TopologyFault, read};
+use topo_file::{TopoFault, Topology, TopologyCause, read};
 
 /// Two switches, each with two adapters, and the subnet manager on the first adapter.
 pub const TWO_SWITCHES: &str = "\
@@ -51,7 +51,7 @@ pub fn fault_of(alloc: Global, text: &[u8]) -> Option<TopoFault> {
     }
 }
 
-pub fn at(line: usize, cause: TopologyFault) -> Option<TopoFault> {
+pub fn at(line: usize, cause: TopologyCause) -> Option<TopoFault> {
     Some(TopoFault::At { line, cause })
 }
 

@@ -1,5 +1,5 @@
 use crate::fixtures::{end_ports, partition_fault};
-use partition_file::{Group, Item, PartFault, PartitionFault, Partitions, Ports, members, read};
+use partition_file::{Group, Item, PartFault, PartitionCause, Partitions, Ports, members, read};
 use std::alloc::{AllocError, Global};
 use std::test::Fail;
 
@@ -23,7 +23,7 @@ fn every_beginning_of_a_definition_is_unfinished(rt: HostRuntime) {
             partition_fault(rt.alloc(), &text[..end]),
             Some(PartFault::At {
                 line: 1,
-                cause: PartitionFault::Unfinished
+                cause: PartitionCause::Unfinished
             }),
             "{end}"
         );
@@ -153,7 +153,7 @@ fn definitions(alloc: Global, count: u16) -> Result<String, AllocError> {
 fn the_33rd_partition_is_told_at_its_colon(rt: HostRuntime) -> Result<(), Fail> {
     let too_many = Some(PartFault::At {
         line: 1,
-        cause: PartitionFault::TooManyPartitions,
+        cause: PartitionCause::TooManyPartitions,
     });
     let most = definitions(rt.alloc(), 31)?;
     let partitions = read(rt.alloc(), most.as_bytes())?;
@@ -162,16 +162,16 @@ fn the_33rd_partition_is_told_at_its_colon(rt: HostRuntime) -> Result<(), Fail> 
     let one_more = definitions(rt.alloc(), 32)?;
     assert_eq!(rt; partition_fault(rt.alloc(), one_more.as_bytes()), too_many);
     // What follows the 31 definitions; those of a base that is there, or of the default one, make none.
-    let ends: [(&str, Option<PartitionFault>); 8] = [
+    let ends: [(&str, Option<PartitionCause>); 8] = [
         ("Q=5:ALL;Default=0x7fff:ALL;", None),
-        ("Q:ALL;", Some(PartitionFault::TooManyPartitions)),
-        ("Q=40:", Some(PartitionFault::TooManyPartitions)),
-        ("Q=40", Some(PartitionFault::Unfinished)),
-        ("Q=40;", Some(PartitionFault::Unfinished)),
+        ("Q:ALL;", Some(PartitionCause::TooManyPartitions)),
+        ("Q=40:", Some(PartitionCause::TooManyPartitions)),
+        ("Q=40", Some(PartitionCause::Unfinished)),
+        ("Q=40;", Some(PartitionCause::Unfinished)),
         // With a bad flag value at the `:` the number of partitions comes first, with a bad number last.
-        ("Q=40,sl=99:ALL;", Some(PartitionFault::TooManyPartitions)),
-        ("Q=40,sl=x:ALL;", Some(PartitionFault::BadNumber)),
-        ("Q=40,rate:ALL;", Some(PartitionFault::TooManyPartitions)),
+        ("Q=40,sl=99:ALL;", Some(PartitionCause::TooManyPartitions)),
+        ("Q=40,sl=x:ALL;", Some(PartitionCause::BadNumber)),
+        ("Q=40,rate:ALL;", Some(PartitionCause::TooManyPartitions)),
     ];
     for (end, cause) in ends {
         let mut text = definitions(rt.alloc(), 31)?;

@@ -8,8 +8,8 @@ use Rattle.text_words.specs.Number.{number_in}
 use Rattle.text_words.specs.Words.{is_name}
 use Rattle.topo_file.specs.declared.cable.Cable.{Cable}
 use Rattle.topo_file.specs.declared.cable.PortRef.{PortRef}
-use Rattle.topo_file.specs.declared.fault.TopologyFault.{TopologyFault}
-use Rattle.topo_file.specs.declared.fault.TopologyFault.TheVariants.{Malformed, DuplicateName, DuplicateGuid, OverLimit, PortTaken, WrongCableEnds}
+use Rattle.topo_file.specs.declared.fault.TopologyCause.{TopologyCause}
+use Rattle.topo_file.specs.declared.fault.TopologyCause.TheVariants.{Malformed, DuplicateName, DuplicateGuid, OverLimit, PortTaken, WrongCableEnds}
 use Rattle.topo_file.specs.declared.node.Node.{Node}
 use Rattle.topo_file.specs.declared.node.NodeKind.{NodeKind}
 use Rattle.topo_file.specs.Cable.{is_cabled, may_join, port_at}
@@ -68,7 +68,7 @@ new_is nodes node made h =
     let named = passed (is_some (place_of node.name nodes)) DuplicateName _ made h in
     let guids = passed (lacks_guids nodes node) DuplicateGuid _ made named.1 in
     let room = passed (is_one_too_many nodes node.kind node.ports) OverLimit _ made guids.1 in
-    (not_there (λ other. bytes_eq node.name other.name) nodes (is_none (place_of node.name nodes) named.0), guids.0, sym (same_ok TopologyFault node made room.1))
+    (not_there (λ other. bytes_eq node.name other.name) nodes (is_none (place_of node.name nodes) named.0), guids.0, sym (same_ok TopologyCause node made room.1))
 
 spelt_is : (kind : NodeKind) (nodes : List Node) (name guid ports : List ℕ) (made : Node) → node_spelt kind nodes name guid ports ≡ Ok made → IsNewNode nodes made
 unfolding node_spelt

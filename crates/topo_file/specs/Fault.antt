@@ -1,9 +1,9 @@
 -- The codes that are printed for faults of a topology.
 use Rattle.std.specs.Prelude.{ℕ, List, codes}
-use Rattle.topo_file.specs.declared.fault.TopologyFault.{TopologyFault}
-use Rattle.topo_file.specs.declared.fault.TopologyFault.TheVariants.{Malformed, DuplicateName, DuplicateGuid, UnknownNode, NoSuchPort, PortTaken, WrongCableEnds, WrongManager, Disconnected, OverLimit, ManagerUncabled}
+use Rattle.topo_file.specs.declared.fault.TopologyCause.{TopologyCause}
+use Rattle.topo_file.specs.declared.fault.TopologyCause.TheVariants.{Malformed, DuplicateName, DuplicateGuid, UnknownNode, NoSuchPort, PortTaken, WrongCableEnds, WrongManager, Disconnected, OverLimit, ManagerUncabled}
 
-abbrev pub code_of : TopologyFault → List ℕ
+abbrev pub code_of : TopologyCause → List ℕ
 code_of Malformed = codes "TF1"
 code_of DuplicateName = codes "TF2"
 code_of DuplicateGuid = codes "TF3"

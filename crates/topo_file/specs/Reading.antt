@@ -4,15 +4,15 @@ use Rattle.topo_file.specs.declared.fault.LineError.{LineError}
 use Rattle.topo_file.specs.declared.fault.LineError.TheVariants as line
 use Rattle.topo_file.specs.declared.fault.TopoFault.{TopoFault}
 use Rattle.topo_file.specs.declared.fault.TopoFault.TheVariants as text
-use Rattle.topo_file.specs.declared.fault.TopologyFault.{TopologyFault}
+use Rattle.topo_file.specs.declared.fault.TopologyCause.{TopologyCause}
 use Rattle.topo_file.specs.Topology.{LineFault}
 
-abbrev pub Fails : {Y : Type 0} → LineError → Result Y TopologyFault → Type 0
+abbrev pub Fails : {Y : Type 0} → LineError → Result Y TopologyCause → Type 0
 Fails line.NoMemory given = Unit {0}
 Fails (line.Fault fault) given = given ≡ Err fault
 
 -- a line's reader returned what is given, seen by view, or memory was refused
-abbrev pub Gives : {X Y : Type 0} → (X → Y) → Result X LineError → Result Y TopologyFault → Type 0
+abbrev pub Gives : {X Y : Type 0} → (X → Y) → Result X LineError → Result Y TopologyCause → Type 0
 Gives view (Ok x) given = given ≡ Ok (view x)
 Gives view (Err error) given = Fails error given
 

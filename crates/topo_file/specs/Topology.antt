@@ -7,8 +7,8 @@ use Rattle.text_words.specs.Number.{number_in}
 use Rattle.text_words.specs.Words.{Port, is_name, port_in}
 use Rattle.topo_file.specs.declared.cable.Cable.{Cable}
 use Rattle.topo_file.specs.declared.cable.PortRef.{PortRef}
-use Rattle.topo_file.specs.declared.fault.TopologyFault.{TopologyFault}
-use Rattle.topo_file.specs.declared.fault.TopologyFault.TheVariants.{Malformed, DuplicateName, DuplicateGuid, UnknownNode, NoSuchPort, PortTaken, WrongCableEnds, WrongManager, Disconnected, OverLimit, ManagerUncabled}
+use Rattle.topo_file.specs.declared.fault.TopologyCause.{TopologyCause}
+use Rattle.topo_file.specs.declared.fault.TopologyCause.TheVariants.{Malformed, DuplicateName, DuplicateGuid, UnknownNode, NoSuchPort, PortTaken, WrongCableEnds, WrongManager, Disconnected, OverLimit, ManagerUncabled}
 use Rattle.topo_file.specs.declared.node.Node.{Node}
 use Rattle.topo_file.specs.declared.node.NodeKind.{NodeKind}
 use Rattle.topo_file.specs.declared.node.NodeKind.TheVariants.{Switch, Adapter}
@@ -32,7 +32,7 @@ pub record Declarations : Type 0 where
 -- a fault with the line that it is told for, counted from 1; 0 where it is of no line, but of the text as a whole
 pub record LineFault : Type 0 where
   pub line : ℕ
-  pub cause : TopologyFault
+  pub cause : TopologyCause
 
 -- the first of two steps that is refused decides; `do` chains steps so
 infixl 10 ◌>>=◌
@@ -41,43 +41,43 @@ abbrev pub ◌>>=◌ : {A B E : Type 0} → Result A E → (A → Result B E) �
 (Err e) >>= f = Err e
 
 -- ---- words
-abbrev pub name_of : List ℕ → Result (List ℕ) TopologyFault
+abbrev pub name_of : List ℕ → Result (List ℕ) TopologyCause
 name_of word = if is_name word then Ok word else Err Malformed
 
 -- the number that was found, which must be one from 1 to the top
-abbrev pub within : ℕ → Option ℕ → Result ℕ TopologyFault
+abbrev pub within : ℕ → Option ℕ → Result ℕ TopologyCause
 within top (Some n) = if nat_le 1 n && nat_le n top then Ok n else Err Malformed
 within top None = Err Malformed
 
-abbrev pub number_up_to : ℕ → List ℕ → Result ℕ TopologyFault
+abbrev pub number_up_to : ℕ → List ℕ → Result ℕ TopologyCause
 number_up_to top word = within top (number_in word)
 
-abbrev pub port_of : List ℕ → Result Port TopologyFault
+abbrev pub port_of : List ℕ → Result Port TopologyCause
 port_of word = ok_or (port_in word) Malformed
 
 -- ---- lines: `switch NAME GUID PORTS` and `adapter NAME GUID PORTS`.
 -- A node has a name that no node before it has, GUIDs that are free, and room below the limits.
-abbrev pub new_node : List Node → Node → Result Node TopologyFault
+abbrev pub new_node : List Node → Node → Result Node TopologyCause
 new_node nodes node =
     if is_some (place_of node.name nodes) then Err DuplicateName else (if lacks_guids nodes node then Err DuplicateGuid else (if is_one_too_many nodes node.kind node.ports then Err OverLimit else Ok node))
 
-unfoldable pub node_spelt : NodeKind → List Node → List ℕ → List ℕ → List ℕ → Result Node TopologyFault
+unfoldable pub node_spelt : NodeKind → List Node → List ℕ → List ℕ → List ℕ → Result Node TopologyCause
 node_spelt kind nodes name guid ports = do
   named ← name_of name
   number ← number_up_to (2 ^ 64 - 1) guid
   count ← number_up_to (most_ports kind) ports
   new_node nodes (record { name = named; kind = kind; guid = number; ports = count })
 
-unfoldable pub node_of : NodeKind → List Node → List (List ℕ) → Result Node TopologyFault
+unfoldable pub node_of : NodeKind → List Node → List (List ℕ) → Result Node TopologyCause
 node_of kind nodes (name ∷ guid ∷ ports ∷ []) = node_spelt kind nodes name guid ports
 node_of kind nodes _ = Err Malformed
 
 -- `cable PORT PORT`, of two ports that have none yet
-abbrev pub new_cable : List Node → List Cable → PortRef → PortRef → Result Cable TopologyFault
+abbrev pub new_cable : List Node → List Cable → PortRef → PortRef → Result Cable TopologyCause
 new_cable nodes cables first second =
     if is_cabled cables first || is_cabled cables second then Err PortTaken else (if may_join nodes first.node second.node then Ok (record { first = first; second = second }) else Err WrongCableEnds)
 
-unfoldable pub cable_spelt : List Node → List Cable → List ℕ → List ℕ → Result Cable TopologyFault
+unfoldable pub cable_spelt : List Node → List Cable → List ℕ → List ℕ → Result Cable TopologyCause
 cable_spelt nodes cables one other = do
   a ← port_of one
   b ← port_of other
@@ -87,37 +87,37 @@ cable_spelt nodes cables one other = do
   second ← ok_or (port_at nodes j b.number) NoSuchPort
   new_cable nodes cables first second
 
-unfoldable pub cable_of : List Node → List Cable → List (List ℕ) → Result Cable TopologyFault
+unfoldable pub cable_of : List Node → List Cable → List (List ℕ) → Result Cable TopologyCause
 cable_of nodes cables (one ∷ other ∷ []) = cable_spelt nodes cables one other
 cable_of nodes cables _ = Err Malformed
 
 -- `sm PORT`, which stands once and names a port of an adapter
-abbrev pub new_manager : List Node → Option Manager → ℕ → PortRef → Result Manager TopologyFault
+abbrev pub new_manager : List Node → Option Manager → ℕ → PortRef → Result Manager TopologyCause
 new_manager nodes manager number port = if is_some manager || is_switch_at nodes port.node then Err WrongManager else Ok (record { port = port; line = number })
 
-unfoldable pub manager_spelt : List Node → Option Manager → ℕ → List ℕ → Result Manager TopologyFault
+unfoldable pub manager_spelt : List Node → Option Manager → ℕ → List ℕ → Result Manager TopologyCause
 manager_spelt nodes manager number word = do
   a ← port_of word
   i ← ok_or (place_of a.name nodes) UnknownNode
   port ← ok_or (port_at nodes i a.number) NoSuchPort
   new_manager nodes manager number port
 
-unfoldable pub manager_of : List Node → Option Manager → ℕ → List (List ℕ) → Result Manager TopologyFault
+unfoldable pub manager_of : List Node → Option Manager → ℕ → List (List ℕ) → Result Manager TopologyCause
 manager_of nodes manager number (word ∷ []) = manager_spelt nodes manager number word
 manager_of nodes manager number _ = Err Malformed
 
 -- ---- a line after those before it: what is declared with what the line tells
-abbrev pub with_node : Declarations → Result Node TopologyFault → Result Declarations TopologyFault
+abbrev pub with_node : Declarations → Result Node TopologyCause → Result Declarations TopologyCause
 with_node so_far told = told >>= λ node. Ok (record so_far { nodes = so_far.nodes ++ node ∷ [] })
 
-abbrev pub with_cable : Declarations → Result Cable TopologyFault → Result Declarations TopologyFault
+abbrev pub with_cable : Declarations → Result Cable TopologyCause → Result Declarations TopologyCause
 with_cable so_far told = told >>= λ cable. Ok (record so_far { cables = so_far.cables ++ cable ∷ [] })
 
-abbrev pub with_manager : Declarations → Result Manager TopologyFault → Result Declarations TopologyFault
+abbrev pub with_manager : Declarations → Result Manager TopologyCause → Result Declarations TopologyCause
 with_manager so_far told = told >>= λ manager. Ok (record so_far { manager = Some manager })
 
 -- the first word says what the line declares; a line without words declares nothing
-unfoldable pub after_words : ℕ → Declarations → List (List ℕ) → Result Declarations TopologyFault
+unfoldable pub after_words : ℕ → Declarations → List (List ℕ) → Result Declarations TopologyCause
 after_words number so_far [] = Ok so_far
 after_words number so_far (first ∷ rest) =
     if bytes_eq first (codes "switch") then with_node so_far (node_of Switch so_far.nodes rest)
@@ -126,11 +126,11 @@ after_words number so_far (first ∷ rest) =
     else (if bytes_eq first (codes "sm") then with_manager so_far (manager_of so_far.nodes so_far.manager number rest)
     else Err Malformed)))
 
-abbrev pub after_line : ℕ → Declarations → List ℕ → Result Declarations TopologyFault
+abbrev pub after_line : ℕ → Declarations → List ℕ → Result Declarations TopologyCause
 after_line number so_far line = if has_bad_character line then Err Malformed else after_words number so_far (words line)
 
 -- the same, with the number of the line that is at fault
-abbrev pub on_line : {X : Type 0} → ℕ → Result X TopologyFault → Result X LineFault
+abbrev pub on_line : {X : Type 0} → ℕ → Result X TopologyCause → Result X LineFault
 on_line number (Ok x) = Ok x
 on_line number (Err fault) = Err (record { line = number; cause = fault })
 

@@ -1,6 +1,6 @@
 ghost use Rattle.std.specs.Prelude.{◌≡◌, true, false, None, IfOk, OnOk};
 ghost use Rattle.std.specs.Option.{ok_or};
-ghost use Rattle.topo_file.specs.declared.fault.TopologyFault.TheVariants.{UnknownNode, NoSuchPort};
+ghost use Rattle.topo_file.specs.declared.fault.TopologyCause.TheVariants.{UnknownNode, NoSuchPort};
 ghost use Rattle.topo_file.specs.Node.{HasGuids, is_one_too_many, is_switch_at, place_of};
 ghost use Rattle.topo_file.specs.NewNode.{seen};
 ghost use Rattle.topo_file.specs.Cable.{port_at};
@@ -9,7 +9,7 @@ ghost use Rattle.topo_file.specs.Reading.{seen_by};
 ghost use Rattle.topo_file.specs.Topology.{new_node, new_cable, new_manager, nothing};
 
 use crate::cable::{Cable, CableList, PortRef, may_join, port_at};
-use crate::fault::TopologyFault;
+use crate::fault::TopologyCause;
 use crate::node::{NewNode, NodeList, is_one_too_many, is_switch_at, lacks_guids};
 use std::alloc::Global;
 use std::marker::Model;
@@ -53,7 +53,7 @@ impl Draft {
     }
 
     /// Judges a node against those before it.
-    pub(crate) fn new_node(&self, node: &NewNode) -> Result<(), TopologyFault>
+    pub(crate) fn new_node(&self, node: &NewNode) -> Result<(), TopologyCause>
         ensures value { seen_by (λ _. seen node.now) result ≡ new_node self.now.nodes (seen node.now) }
         ensures new { IfOk result (λ _. place_of node.now.name.now self.now.nodes ≡ None) }
         ensures guids { OnOk result (HasGuids (seen node.now)) }
@@ -61,53 +61,53 @@ impl Draft {
     {
         let nodes = self.nodes.as_slice();
         if self.nodes.place_of(node.name).is_some() {
-            return Err(TopologyFault::DuplicateName);
+            return Err(TopologyCause::DuplicateName);
         }
         if lacks_guids(nodes, node) {
-            return Err(TopologyFault::DuplicateGuid);
+            return Err(TopologyCause::DuplicateGuid);
         }
         if is_one_too_many(nodes, node.kind, node.ports) {
-            return Err(TopologyFault::OverLimit);
+            return Err(TopologyCause::OverLimit);
         }
         Ok(())
     }
 
     /// The cable between two ports, judged against what was declared before it.
-    pub(crate) fn new_cable(&self, first: PortRef, second: PortRef) -> Result<Cable, TopologyFault>
+    pub(crate) fn new_cable(&self, first: PortRef, second: PortRef) -> Result<Cable, TopologyCause>
         ensures value { result ≡ new_cable self.now.nodes self.now.cables first second }
         ensures same { IfOk result (λ cable. cable ≡ record { first = first; second = second }) }
     {
         if self.cables.is_cabled(first) || self.cables.is_cabled(second) {
-            return Err(TopologyFault::PortTaken);
+            return Err(TopologyCause::PortTaken);
         }
         if !may_join(self.nodes.as_slice(), first.node, second.node) {
-            return Err(TopologyFault::WrongCableEnds);
+            return Err(TopologyCause::WrongCableEnds);
         }
         Ok(Cable { first, second })
     }
 
     /// The manager on this port, judged against what was declared before it.
-    pub(crate) fn new_manager(&self, number: usize, port: PortRef) -> Result<Manager, TopologyFault>
+    pub(crate) fn new_manager(&self, number: usize, port: PortRef) -> Result<Manager, TopologyCause>
         ensures value { result ≡ new_manager self.now.nodes self.now.manager number port }
         ensures same { IfOk result (λ manager. manager.port ≡ port) }
         ensures on_adapter { IfOk result (λ _. is_switch_at self.now.nodes port.node ≡ false) }
     {
         if self.manager.is_some() || is_switch_at(self.nodes.as_slice(), port.node) {
-            return Err(TopologyFault::WrongManager);
+            return Err(TopologyCause::WrongManager);
         }
         Ok(Manager { port, line: number })
     }
 
-    pub(crate) fn node_named(&self, name: &[u8]) -> Result<usize, TopologyFault>
+    pub(crate) fn node_named(&self, name: &[u8]) -> Result<usize, TopologyCause>
         ensures { result ≡ ok_or (place_of name.now self.now.nodes) UnknownNode }
     {
-        self.nodes.place_of(name).ok_or(TopologyFault::UnknownNode)
+        self.nodes.place_of(name).ok_or(TopologyCause::UnknownNode)
     }
 
-    pub(crate) fn port_at(&self, place: usize, number: u128) -> Result<PortRef, TopologyFault>
+    pub(crate) fn port_at(&self, place: usize, number: u128) -> Result<PortRef, TopologyCause>
         ensures value { result ≡ ok_or (port_at self.now.nodes place number) NoSuchPort }
         ensures is_port { IfOk result (λ port. is_port self.now.nodes port ≡ true) }
     {
-        port_at(self.nodes.as_slice(), place, number).ok_or(TopologyFault::NoSuchPort)
+        port_at(self.nodes.as_slice(), place, number).ok_or(TopologyCause::NoSuchPort)
     }
 }

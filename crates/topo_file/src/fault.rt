@@ -9,7 +9,7 @@ use thiserror::Error;
 
 /// What is wrong with a line, or with the text as a whole.
 #[derive(Clone, Copy, Debug, PartialEq, Eq, Error)]
-pub enum TopologyFault {
+pub enum TopologyCause {
     /// The line has a bad character, an unknown first word, too few or too many words, or a word
     /// that is misspelt or out of its range.
     #[error("the line is malformed")]
@@ -46,23 +46,23 @@ pub enum TopologyFault {
     ManagerUncabled,
 }
 
-impl TopologyFault {
+impl TopologyCause {
     /// The code that is printed for the fault.
     pub fn code(self) -> &'static str
         ensures { result.now ≡ code_of self }
     {
         match self {
-            TopologyFault::Malformed => "TF1",
-            TopologyFault::DuplicateName => "TF2",
-            TopologyFault::DuplicateGuid => "TF3",
-            TopologyFault::UnknownNode => "TF4",
-            TopologyFault::NoSuchPort => "TF5",
-            TopologyFault::PortTaken => "TF6",
-            TopologyFault::WrongCableEnds => "TF7",
-            TopologyFault::WrongManager => "TF8",
-            TopologyFault::Disconnected => "TF9",
-            TopologyFault::OverLimit => "TF10",
-            TopologyFault::ManagerUncabled => "TF11",
+            TopologyCause::Malformed => "TF1",
+            TopologyCause::DuplicateName => "TF2",
+            TopologyCause::DuplicateGuid => "TF3",
+            TopologyCause::UnknownNode => "TF4",
+            TopologyCause::NoSuchPort => "TF5",
+            TopologyCause::PortTaken => "TF6",
+            TopologyCause::WrongCableEnds => "TF7",
+            TopologyCause::WrongManager => "TF8",
+            TopologyCause::Disconnected => "TF9",
+            TopologyCause::OverLimit => "TF10",
+            TopologyCause::ManagerUncabled => "TF11",
         }
     }
 }
@@ -79,7 +79,7 @@ pub enum TopoFault {
         /// The line, counted from 1; 0 where the fault is of no line, but of the text as a whole.
         line: usize,
         /// What is wrong.
-        cause: TopologyFault,
+        cause: TopologyCause,
     },
 }
 
@@ -87,7 +87,7 @@ pub enum TopoFault {
 #[derive(Clone, Copy, Debug, PartialEq, Eq)]
 pub(crate) enum LineError {
     NoMemory,
-    Fault(TopologyFault),
+    Fault(TopologyCause),
 }
 
 impl From<AllocError> for LineError {
@@ -106,10 +106,10 @@ impl<T: Drop> From<AllocFailed<T>> for LineError {
     }
 }
 
-impl From<TopologyFault> for LineError {
+impl From<TopologyCause> for LineError {
     ghost from_gives = { λ fault e. e ≡ Fault fault };
 
-    fn from(fault: TopologyFault) -> LineError {
+    fn from(fault: TopologyCause) -> LineError {
         LineError::Fault(fault)
     }
 }

@@ -16,7 +16,7 @@ mod topology;
 
 pub use crate::cable::{Cable, PortRef};
 pub use crate::connectivity::{connected_means_joined, is_connected};
-pub use crate::fault::{TopoFault, TopologyFault};
+pub use crate::fault::{TopoFault, TopologyCause};
 pub use crate::node::{Name, Node, NodeKind};
 pub use crate::reader::read;
 pub use crate::topology::Topology;

@@ -11,7 +11,7 @@ ghost use Rattle.topo_file.specs.Topology.{name_of, port_of, number_up_to, node_
 use crate::cable::Cable;
 use crate::connectivity::is_connected;
 use crate::draft::{Draft, Manager};
-use crate::fault::{LineError, TopoFault, TopologyFault};
+use crate::fault::{LineError, TopoFault, TopologyCause};
 use crate::node::{NewNode, NodeKind};
 use crate::topology::Topology;
 use std::alloc::Global;
@@ -20,7 +20,7 @@ use text_words::{Lines, PortWord, has_bad_character, is_name, number_in, port_in
 impl Draft {
     /// The node that a line declares, by the words after the first.
     #[tactic(auto, unfolding(crate::specs::Topology::node_of))]
-    fn node_of<'a>(&self, kind: NodeKind, words: &[&'a [u8]]) -> Result<NewNode<'a>, TopologyFault>
+    fn node_of<'a>(&self, kind: NodeKind, words: &[&'a [u8]]) -> Result<NewNode<'a>, TopologyCause>
         ensures value { seen_by seen result ≡ node_of kind self.now.nodes (map (λ word. word.now) words.now) }
         ensures new { IfOk result (λ node. place_of node.name.now self.now.nodes ≡ None) }
         ensures short { IfOk result (λ node. length node.name.now ≤ NAME_LENGTH) }
@@ -28,7 +28,7 @@ impl Draft {
         ensures room { IfOk result (λ node. is_one_too_many self.now.nodes node.kind node.ports ≡ false) }
     {
         let [name, guid, ports] = words else {
-            return Err(TopologyFault::Malformed);
+            return Err(TopologyCause::Malformed);
         };
         self.node_spelt(kind, *name, *guid, *ports)
     }
@@ -40,7 +40,7 @@ impl Draft {
         name: &'a [u8],
         guid: &[u8],
         ports: &[u8],
-    ) -> Result<NewNode<'a>, TopologyFault>
+    ) -> Result<NewNode<'a>, TopologyCause>
         ensures value { seen_by seen result ≡ node_spelt kind self.now.nodes name.now guid.now ports.now }
         ensures new { IfOk result (λ node. place_of node.name.now self.now.nodes ≡ None) }
         ensures short { IfOk result (λ node. length node.name.now ≤ NAME_LENGTH) }
@@ -62,18 +62,18 @@ impl Draft {
 
     /// The cable that a line declares, by the words after the first.
     #[tactic(auto, unfolding(crate::specs::Topology::cable_of))]
-    fn cable_of(&self, words: &[&[u8]]) -> Result<Cable, TopologyFault>
+    fn cable_of(&self, words: &[&[u8]]) -> Result<Cable, TopologyCause>
         ensures value { result ≡ cable_of self.now.nodes self.now.cables (map (λ word. word.now) words.now) }
         ensures ends { IfOk result (λ cable. ends_at_ports self.now.nodes cable ≡ true) }
     {
         let [one, other] = words else {
-            return Err(TopologyFault::Malformed);
+            return Err(TopologyCause::Malformed);
         };
         self.cable_spelt(*one, *other)
     }
 
     #[tactic(auto, unfolding(crate::specs::Topology::cable_spelt))]
-    fn cable_spelt(&self, one: &[u8], other: &[u8]) -> Result<Cable, TopologyFault>
+    fn cable_spelt(&self, one: &[u8], other: &[u8]) -> Result<Cable, TopologyCause>
         ensures value { result ≡ cable_spelt self.now.nodes self.now.cables one.now other.now }
         ensures ends { IfOk result (λ cable. ends_at_ports self.now.nodes cable ≡ true) }
     {
@@ -88,18 +88,18 @@ impl Draft {
 
     /// The port that a line places the subnet manager on, by the words after the first.
     #[tactic(auto, unfolding(crate::specs::Topology::manager_of))]
-    fn manager_of(&self, number: usize, words: &[&[u8]]) -> Result<Manager, TopologyFault>
+    fn manager_of(&self, number: usize, words: &[&[u8]]) -> Result<Manager, TopologyCause>
         ensures value { result ≡ manager_of self.now.nodes self.now.manager number (map (λ word. word.now) words.now) }
         ensures on_adapter { IfOk result (λ manager. is_manager_port self.now.nodes manager.port ≡ true) }
     {
         let [word] = words else {
-            return Err(TopologyFault::Malformed);
+            return Err(TopologyCause::Malformed);
         };
         self.manager_spelt(number, *word)
     }
 
     #[tactic(auto, unfolding(crate::specs::Topology::manager_spelt))]
-    fn manager_spelt(&self, number: usize, word: &[u8]) -> Result<Manager, TopologyFault>
+    fn manager_spelt(&self, number: usize, word: &[u8]) -> Result<Manager, TopologyCause>
         ensures value { result ≡ manager_spelt self.now.nodes self.now.manager number word.now }
         ensures on_adapter { IfOk result (λ manager. is_manager_port self.now.nodes manager.port ≡ true) }
     {
@@ -152,14 +152,14 @@ impl Draft {
         if *first == b"sm".as_slice() {
             return self.take_manager(number, rest);
         }
-        Err(LineError::Fault(TopologyFault::Malformed))
+        Err(LineError::Fault(TopologyCause::Malformed))
     }
 
     fn take_line(&mut self, alloc: Global, number: usize, line: &[u8]) -> Result<(), LineError>
         ensures { Gives (λ _. self.new) result (after_line number self.old line.now) }
     {
         if has_bad_character(line) {
-            return Err(LineError::Fault(TopologyFault::Malformed));
+            return Err(LineError::Fault(TopologyCause::Malformed));
         }
         let words = words(alloc, line)?;
         self.take_words(alloc, number, &words)
@@ -187,19 +187,19 @@ impl Draft {
         let Some(manager) = self.manager else {
             return Err(TopoFault::At {
                 line: 0,
-                cause: TopologyFault::WrongManager,
+                cause: TopologyCause::WrongManager,
             });
         };
         if !self.cables.is_cabled(manager.port) {
             return Err(TopoFault::At {
                 line: manager.line,
-                cause: TopologyFault::ManagerUncabled,
+                cause: TopologyCause::ManagerUncabled,
             });
         }
         if !is_connected(alloc, self.nodes.as_slice(), self.cables.as_slice())? {
             return Err(TopoFault::At {
                 line: 0,
-                cause: TopologyFault::Disconnected,
+                cause: TopologyCause::Disconnected,
             });
         }
         Ok(Topology {
@@ -210,30 +210,30 @@ impl Draft {
     }
 }
 
-fn name_of(word: &[u8]) -> Result<&[u8], TopologyFault>
+fn name_of(word: &[u8]) -> Result<&[u8], TopologyCause>
     ensures value { seen_by (λ name. name.now) result ≡ name_of word.now }
     ensures short { IfOk result (λ name. length name.now ≤ NAME_LENGTH) }
 {
     if !is_name(word) {
-        return Err(TopologyFault::Malformed);
+        return Err(TopologyCause::Malformed);
     }
     Ok(word)
 }
 
-fn port_of(word: &[u8]) -> Result<PortWord<'_>, TopologyFault>
+fn port_of(word: &[u8]) -> Result<PortWord<'_>, TopologyCause>
     ensures { seen_by port_seen result ≡ port_of word.now }
 {
-    port_in(word).ok_or(TopologyFault::Malformed)
+    port_in(word).ok_or(TopologyCause::Malformed)
 }
 
 /// The number that a word spells, if it is one from 1 to `top`.
-fn number_up_to(top: u64, word: &[u8]) -> Result<u64, TopologyFault>
+fn number_up_to(top: u64, word: &[u8]) -> Result<u64, TopologyCause>
     ensures value { result ≡ number_up_to top word.now }
     ensures within { IfOk result (λ number. number ≤ top) }
 {
     match number_in(word) {
         Some(number) if number >= 1 && number <= u128::from(top) => Ok(number as u64),
-        _ => Err(TopologyFault::Malformed),
+        _ => Err(TopologyCause::Malformed),
     }
 }
 
