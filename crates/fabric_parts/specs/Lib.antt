@@ -1,0 +1,3 @@
+pub mod NodeType
+pub mod Cable
+pub mod Lid

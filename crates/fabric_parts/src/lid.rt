@@ -1,0 +1,18 @@
+ghost use Rattle.std.specs.Prelude.{◌≡◌};
+ghost use Rattle.fabric_parts.specs.Lid.{is_reserved};
+
+/// The greatest LID that a port may have; those above it are for multicast groups.
+pub const LAST_UNICAST_LID: u16 = 0xbfff;
+
+/// The permissive LID: directed-route packets have it where no LID is meant.
+pub const PERMISSIVE_LID: u16 = 0xffff;
+
+/// Whether no data packet may be sent to this LID: 0 is nobody's, and the permissive LID is for
+/// directed-route packets alone.
+///
+/// Source: IBA volume 1, chapter 14.
+pub fn is_reserved(lid: u16) -> bool
+    ensures { result ≡ is_reserved lid }
+{
+    lid == 0 || lid == PERMISSIVE_LID
+}
