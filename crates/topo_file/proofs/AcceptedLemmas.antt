@@ -6,14 +6,16 @@ use Rattle.std.specs.Str.{bytes_eq}
 use Rattle.std.proofs.lemmas.Bool.{and_from, and_parts}
 use Rattle.text_words.specs.Number.{number_in}
 use Rattle.text_words.specs.Words.{is_name}
-use Rattle.topo_file.specs.declared.cable.Cable.{Cable}
-use Rattle.topo_file.specs.declared.cable.PortRef.{PortRef}
+use Rattle.fabric_parts.specs.declared.cable.Cable.{Cable}
+use Rattle.fabric_parts.specs.declared.cable.PortRef.{PortRef}
 use Rattle.topo_file.specs.declared.fault.TopologyCause.{TopologyCause}
 use Rattle.topo_file.specs.declared.fault.TopologyCause.TheVariants.{Malformed, DuplicateName, DuplicateGuid, OverLimit, PortTaken, WrongCableEnds}
 use Rattle.topo_file.specs.declared.node.Node.{Node}
-use Rattle.topo_file.specs.declared.node.NodeKind.{NodeKind}
-use Rattle.topo_file.specs.Cable.{is_cabled, may_join, port_at}
-use Rattle.topo_file.specs.Node.{is_one_too_many, lacks_guids, most_ports, place_of, shares_guid}
+use Rattle.fabric_parts.specs.declared.node_type.NodeType.{NodeType}
+use Rattle.fabric_parts.specs.Cable.{is_cabled}
+use Rattle.fabric_parts.specs.NodeType.{most_ports}
+use Rattle.topo_file.specs.Cable.{may_join, port_at}
+use Rattle.topo_file.specs.Node.{is_one_too_many, lacks_guids, place_of, shares_guid}
 use Rattle.topo_file.specs.Sound.{is_named, is_sized, joins_right}
 use Rattle.topo_file.specs.Topology.{◌>>=◌, cable_of, cable_spelt, name_of, new_cable, new_node, node_of, node_spelt, number_up_to, port_of, within}
 use Rattle.topo_file.proofs.NodeLemmas.{not_there}
@@ -67,29 +69,29 @@ new_is : (nodes : List Node) (node made : Node) → new_node nodes node ≡ Ok m
 new_is nodes node made h =
     let named = passed (is_some (place_of node.name nodes)) DuplicateName _ made h in
     let guids = passed (lacks_guids nodes node) DuplicateGuid _ made named.1 in
-    let room = passed (is_one_too_many nodes node.kind node.ports) OverLimit _ made guids.1 in
+    let room = passed (is_one_too_many nodes node.node_type node.ports) OverLimit _ made guids.1 in
     (not_there (λ other. bytes_eq node.name other.name) nodes (is_none (place_of node.name nodes) named.0), guids.0, sym (same_ok TopologyCause node made room.1))
 
-spelt_is : (kind : NodeKind) (nodes : List Node) (name guid ports : List ℕ) (made : Node) → node_spelt kind nodes name guid ports ≡ Ok made → IsNewNode nodes made
+spelt_is : (node_type : NodeType) (nodes : List Node) (name guid ports : List ℕ) (made : Node) → node_spelt node_type nodes name guid ports ≡ Ok made → IsNewNode nodes made
 unfolding node_spelt
-spelt_is kind nodes name guid ports made h =
+spelt_is node_type nodes name guid ports made h =
     let named = bound (name_of name) _ made h in
     let numbered = bound (number_up_to (2 ^ 64 - 1) guid) _ made named.rest in
-    let counted = bound (number_up_to (most_ports kind) ports) _ made numbered.rest in
+    let counted = bound (number_up_to (most_ports node_type) ports) _ made numbered.rest in
     let is = let_in (is_name name) Malformed name named.value named.first in
-    let node : Node = record { name = named.value; kind = kind; guid = numbered.value; ports = counted.value } in
+    let node : Node = record { name = named.value; node_type = node_type; guid = numbered.value; ports = counted.value } in
     let new = new_is nodes node made counted.rest in
     let guid_is = and_parts (nat_le 1 numbered.value) _ (in_range (2 ^ 64 - 1) numbered.value (number_in guid) numbered.first) in
-    let ports_are = in_range (most_ports kind) counted.value (number_in ports) counted.first in
+    let ports_are = in_range (most_ports node_type) counted.value (number_in ports) counted.first in
     rw new.2 (record { named = rw is.1 is.0; own_name = new.0; sized = and_from (nat_le 1 numbered.value) _ guid_is.0 ports_are; own = none_of _ _ new.1 })
 
-pub new_node_is : (kind : NodeKind) (nodes : List Node) (words : List (List ℕ)) (made : Node) → node_of kind nodes words ≡ Ok made → IsNewNode nodes made
+pub new_node_is : (node_type : NodeType) (nodes : List Node) (words : List (List ℕ)) (made : Node) → node_of node_type nodes words ≡ Ok made → IsNewNode nodes made
 unfolding node_of
-new_node_is kind nodes [] made h = cc
-new_node_is kind nodes (a ∷ []) made h = cc
-new_node_is kind nodes (a ∷ b ∷ []) made h = cc
-new_node_is kind nodes (a ∷ b ∷ c ∷ []) made h = spelt_is kind nodes a b c made h
-new_node_is kind nodes (a ∷ b ∷ c ∷ d ∷ rest) made h = cc
+new_node_is node_type nodes [] made h = cc
+new_node_is node_type nodes (a ∷ []) made h = cc
+new_node_is node_type nodes (a ∷ b ∷ []) made h = cc
+new_node_is node_type nodes (a ∷ b ∷ c ∷ []) made h = spelt_is node_type nodes a b c made h
+new_node_is node_type nodes (a ∷ b ∷ c ∷ d ∷ rest) made h = cc
 
 pub record IsNewCable (nodes : List Node) (cables : List Cable) (cable : Cable) : Type 0 where
   pub first : is_cabled cables cable.first ≡ false

@@ -5,16 +5,18 @@ use Rattle.std.specs.Str.{bytes_eq}
 use Rattle.text_words.specs.Lines.{lines, has_bad_character, words}
 use Rattle.text_words.specs.Number.{number_in}
 use Rattle.text_words.specs.Words.{Port, is_name, port_in}
-use Rattle.topo_file.specs.declared.cable.Cable.{Cable}
-use Rattle.topo_file.specs.declared.cable.PortRef.{PortRef}
+use Rattle.fabric_parts.specs.declared.cable.Cable.{Cable}
+use Rattle.fabric_parts.specs.declared.cable.PortRef.{PortRef}
+use Rattle.fabric_parts.specs.Cable.{is_cabled}
+use Rattle.fabric_parts.specs.NodeType.{most_ports}
 use Rattle.topo_file.specs.declared.fault.TopologyCause.{TopologyCause}
 use Rattle.topo_file.specs.declared.fault.TopologyCause.TheVariants.{Malformed, DuplicateName, DuplicateGuid, UnknownNode, NoSuchPort, PortTaken, WrongCableEnds, WrongManager, Disconnected, OverLimit, ManagerUncabled}
 use Rattle.topo_file.specs.declared.node.Node.{Node}
-use Rattle.topo_file.specs.declared.node.NodeKind.{NodeKind}
-use Rattle.topo_file.specs.declared.node.NodeKind.TheVariants.{Switch, Adapter}
+use Rattle.fabric_parts.specs.declared.node_type.NodeType.{NodeType}
+use Rattle.fabric_parts.specs.declared.node_type.NodeType.TheVariants.{Switch, ChannelAdapter}
 use Rattle.topo_file.specs.declared.draft.Manager.{Manager}
-use Rattle.topo_file.specs.Node.{place_of, is_switch_at, lacks_guids, is_one_too_many, most_ports}
-use Rattle.topo_file.specs.Cable.{port_at, is_cabled, may_join}
+use Rattle.topo_file.specs.Node.{place_of, is_switch_at, lacks_guids, is_one_too_many}
+use Rattle.topo_file.specs.Cable.{port_at, may_join}
 use Rattle.topo_file.specs.Connectivity.{is_connected}
 
 -- a topology: its nodes and cables in the order of their lines, and the subnet manager's port
@@ -59,18 +61,18 @@ port_of word = ok_or (port_in word) Malformed
 -- A node has a name that no node before it has, GUIDs that are free, and room below the limits.
 abbrev pub new_node : List Node → Node → Result Node TopologyCause
 new_node nodes node =
-    if is_some (place_of node.name nodes) then Err DuplicateName else (if lacks_guids nodes node then Err DuplicateGuid else (if is_one_too_many nodes node.kind node.ports then Err OverLimit else Ok node))
+    if is_some (place_of node.name nodes) then Err DuplicateName else (if lacks_guids nodes node then Err DuplicateGuid else (if is_one_too_many nodes node.node_type node.ports then Err OverLimit else Ok node))
 
-unfoldable pub node_spelt : NodeKind → List Node → List ℕ → List ℕ → List ℕ → Result Node TopologyCause
-node_spelt kind nodes name guid ports = do
+unfoldable pub node_spelt : NodeType → List Node → List ℕ → List ℕ → List ℕ → Result Node TopologyCause
+node_spelt node_type nodes name guid ports = do
   named ← name_of name
   number ← number_up_to (2 ^ 64 - 1) guid
-  count ← number_up_to (most_ports kind) ports
-  new_node nodes (record { name = named; kind = kind; guid = number; ports = count })
+  count ← number_up_to (most_ports node_type) ports
+  new_node nodes (record { name = named; node_type = node_type; guid = number; ports = count })
 
-unfoldable pub node_of : NodeKind → List Node → List (List ℕ) → Result Node TopologyCause
-node_of kind nodes (name ∷ guid ∷ ports ∷ []) = node_spelt kind nodes name guid ports
-node_of kind nodes _ = Err Malformed
+unfoldable pub node_of : NodeType → List Node → List (List ℕ) → Result Node TopologyCause
+node_of node_type nodes (name ∷ guid ∷ ports ∷ []) = node_spelt node_type nodes name guid ports
+node_of node_type nodes _ = Err Malformed
 
 -- `cable PORT PORT`, of two ports that have none yet
 abbrev pub new_cable : List Node → List Cable → PortRef → PortRef → Result Cable TopologyCause
@@ -121,7 +123,7 @@ unfoldable pub after_words : ℕ → Declarations → List (List ℕ) → Result
 after_words number so_far [] = Ok so_far
 after_words number so_far (first ∷ rest) =
     if bytes_eq first (codes "switch") then with_node so_far (node_of Switch so_far.nodes rest)
-    else (if bytes_eq first (codes "adapter") then with_node so_far (node_of Adapter so_far.nodes rest)
+    else (if bytes_eq first (codes "adapter") then with_node so_far (node_of ChannelAdapter so_far.nodes rest)
     else (if bytes_eq first (codes "cable") then with_cable so_far (cable_of so_far.nodes so_far.cables rest)
     else (if bytes_eq first (codes "sm") then with_manager so_far (manager_of so_far.nodes so_far.manager number rest)
     else Err Malformed)))

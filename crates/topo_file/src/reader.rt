@@ -8,51 +8,55 @@ ghost use Rattle.topo_file.specs.Sound.{ends_at_ports, is_manager_port};
 ghost use Rattle.topo_file.specs.Reading.{Gives, TextGives, seen_by};
 ghost use Rattle.topo_file.specs.Topology.{name_of, port_of, number_up_to, node_spelt, node_of, cable_spelt, cable_of, manager_spelt, manager_of, with_node, with_cable, with_manager, after_words, after_line, after_lines, whole, on_line, nothing, topology_of};
 
-use crate::cable::Cable;
 use crate::connectivity::is_connected;
 use crate::draft::{Draft, Manager};
 use crate::fault::{LineError, TopoFault, TopologyCause};
-use crate::node::{NewNode, NodeKind};
+use crate::node::NewNode;
 use crate::topology::Topology;
+use fabric_parts::{Cable, NodeType};
 use std::alloc::Global;
 use text_words::{Lines, PortWord, has_bad_character, is_name, number_in, port_in, words};
 
 impl Draft {
     /// The node that a line declares, by the words after the first.
     #[tactic(auto, unfolding(crate::specs::Topology::node_of))]
-    fn node_of<'a>(&self, kind: NodeKind, words: &[&'a [u8]]) -> Result<NewNode<'a>, TopologyCause>
-        ensures value { seen_by seen result ≡ node_of kind self.now.nodes (map (λ word. word.now) words.now) }
+    fn node_of<'a>(
+        &self,
+        node_type: NodeType,
+        words: &[&'a [u8]],
+    ) -> Result<NewNode<'a>, TopologyCause>
+        ensures value { seen_by seen result ≡ node_of node_type self.now.nodes (map (λ word. word.now) words.now) }
         ensures new { IfOk result (λ node. place_of node.name.now self.now.nodes ≡ None) }
         ensures short { IfOk result (λ node. length node.name.now ≤ NAME_LENGTH) }
         ensures guids { IfOk result (λ node. HasGuids (seen node)) }
-        ensures room { IfOk result (λ node. is_one_too_many self.now.nodes node.kind node.ports ≡ false) }
+        ensures room { IfOk result (λ node. is_one_too_many self.now.nodes node.node_type node.ports ≡ false) }
     {
         let [name, guid, ports] = words else {
             return Err(TopologyCause::Malformed);
         };
-        self.node_spelt(kind, *name, *guid, *ports)
+        self.node_spelt(node_type, *name, *guid, *ports)
     }
 
     #[tactic(auto, unfolding(crate::specs::Topology::node_spelt))]
     fn node_spelt<'a>(
         &self,
-        kind: NodeKind,
+        node_type: NodeType,
         name: &'a [u8],
         guid: &[u8],
         ports: &[u8],
     ) -> Result<NewNode<'a>, TopologyCause>
-        ensures value { seen_by seen result ≡ node_spelt kind self.now.nodes name.now guid.now ports.now }
+        ensures value { seen_by seen result ≡ node_spelt node_type self.now.nodes name.now guid.now ports.now }
         ensures new { IfOk result (λ node. place_of node.name.now self.now.nodes ≡ None) }
         ensures short { IfOk result (λ node. length node.name.now ≤ NAME_LENGTH) }
         ensures guids { IfOk result (λ node. HasGuids (seen node)) }
-        ensures room { IfOk result (λ node. is_one_too_many self.now.nodes node.kind node.ports ≡ false) }
+        ensures room { IfOk result (λ node. is_one_too_many self.now.nodes node.node_type node.ports ≡ false) }
     {
         let name = name_of(name)?;
         let guid = number_up_to(u64::MAX, guid)?;
-        let ports = number_up_to(kind.most_ports(), ports)? as u8;
+        let ports = number_up_to(u64::from(node_type.most_ports()), ports)? as u8;
         let node = NewNode {
             name,
-            kind,
+            node_type,
             guid,
             ports,
         };
@@ -109,10 +113,15 @@ impl Draft {
         self.new_manager(number, port)
     }
 
-    fn take_node(&mut self, alloc: Global, kind: NodeKind, words: &[&[u8]]) -> Result<(), LineError>
-        ensures { Gives (λ _. self.new) result (with_node self.old (node_of kind self.old.nodes (map (λ word. word.now) words.now))) }
+    fn take_node(
+        &mut self,
+        alloc: Global,
+        node_type: NodeType,
+        words: &[&[u8]],
+    ) -> Result<(), LineError>
+        ensures { Gives (λ _. self.new) result (with_node self.old (node_of node_type self.old.nodes (map (λ word. word.now) words.now))) }
     {
-        let node = self.node_of(kind, words)?;
+        let node = self.node_of(node_type, words)?;
         self.nodes.push(alloc, &node)?;
         Ok(())
     }
@@ -141,10 +150,10 @@ impl Draft {
             return Ok(());
         };
         if *first == b"switch".as_slice() {
-            return self.take_node(alloc, NodeKind::Switch, rest);
+            return self.take_node(alloc, NodeType::Switch, rest);
         }
         if *first == b"adapter".as_slice() {
-            return self.take_node(alloc, NodeKind::Adapter, rest);
+            return self.take_node(alloc, NodeType::ChannelAdapter, rest);
         }
         if *first == b"cable".as_slice() {
             return self.take_cable(rest);
