@@ -1,7 +1,9 @@
 -- What a topology text describes, or the first line that is at fault.
-use Rattle.std.specs.Prelude.{ℕ, ◌+◌, ◌-◌, ◌^◌, not, ◌&&◌, ◌||◌, nat_le, List, [], ◌∷◌, ◌++◌, codes, Option, Some, None, is_some, Result, Ok, Err, if◌then◌else◌}
+use Rattle.std.specs.Prelude.{ℕ, ◌-◌, ◌^◌, not, ◌&&◌, ◌||◌, nat_le, List, [], ◌∷◌, ◌++◌, codes, Option, Some, None, is_some, Result, Ok, Err, if◌then◌else◌}
 use Rattle.std.specs.Option.{ok_or}
 use Rattle.std.specs.Str.{bytes_eq}
+use Rattle.result_words.specs.AtLine.{AtLine, after_lines, on_line}
+use Rattle.result_words.specs.Steps.{◌>>=◌}
 use Rattle.text_words.specs.Lines.{lines, has_bad_character, words}
 use Rattle.text_words.specs.Number.{number_in}
 use Rattle.text_words.specs.Words.{Port, is_name, port_in}
@@ -30,17 +32,6 @@ pub record Declarations : Type 0 where
   pub nodes : List Node
   pub cables : List Cable
   pub manager : Option Manager
-
--- a fault with the line that it is told for, counted from 1; 0 where it is of no line, but of the text as a whole
-pub record LineFault : Type 0 where
-  pub line : ℕ
-  pub cause : TopologyCause
-
--- the first of two steps that is refused decides; `do` chains steps so
-infixl 10 ◌>>=◌
-abbrev pub ◌>>=◌ : {A B E : Type 0} → Result A E → (A → Result B E) → Result B E
-(Ok x) >>= f = f x
-(Err e) >>= f = Err e
 
 -- ---- words
 abbrev pub name_of : List ℕ → Result (List ℕ) TopologyCause
@@ -131,25 +122,15 @@ after_words number so_far (first ∷ rest) =
 abbrev pub after_line : ℕ → Declarations → List ℕ → Result Declarations TopologyCause
 after_line number so_far line = if has_bad_character line then Err Malformed else after_words number so_far (words line)
 
--- the same, with the number of the line that is at fault
-abbrev pub on_line : {X : Type 0} → ℕ → Result X TopologyCause → Result X LineFault
-on_line number (Ok x) = Ok x
-on_line number (Err fault) = Err (record { line = number; cause = fault })
-
--- the lines one after the other, counted from this number
-unfoldable pub after_lines : ℕ → Declarations → List (List ℕ) → Result Declarations LineFault
-after_lines number so_far [] = Ok so_far
-after_lines number so_far (line ∷ rest) = on_line number (after_line number so_far line) >>= λ next. after_lines (number + 1) next rest
-
 -- ---- the whole text: after the last line there must be a manager, its port must have a cable, and cables must join
 -- all switches
-abbrev pub plan_of : Declarations → Manager → Result Plan LineFault
+abbrev pub plan_of : Declarations → Manager → Result Plan (AtLine TopologyCause)
 plan_of all manager =
     if not (is_cabled all.cables manager.port) then Err (record { line = manager.line; cause = ManagerUncabled })
     else (if not (is_connected all.nodes all.cables) then Err (record { line = 0; cause = Disconnected })
     else Ok (record { nodes = all.nodes; cables = all.cables; sm = manager.port }))
 
-unfoldable pub whole : Declarations → Result Plan LineFault
+unfoldable pub whole : Declarations → Result Plan (AtLine TopologyCause)
 whole all = do
   manager ← on_line 0 (ok_or all.manager WrongManager)
   plan_of all manager
@@ -158,6 +139,10 @@ whole all = do
 abbrev pub nothing : Declarations
 nothing = record { nodes = []; cables = []; manager = None }
 
+-- what all lines declare
+abbrev pub declarations_of : List ℕ → Result Declarations (AtLine TopologyCause)
+declarations_of text = after_lines after_line 1 nothing (lines text)
+
 -- what the text describes, or its first fault
-unfoldable pub topology_of : List ℕ → Result Plan LineFault
-topology_of text = after_lines 1 nothing (lines text) >>= whole
+unfoldable pub topology_of : List ℕ → Result Plan (AtLine TopologyCause)
+topology_of text = declarations_of text >>= whole
