@@ -13,6 +13,11 @@ abbrev pub Gives : {X Y Error Fault : Type 0} → (Error → Option Fault) → (
 Gives told view (Ok x) given = given ≡ Ok (view x)
 Gives told view (Err error) given = Fails (told error) given
 
+-- what was returned, with its value as `view` sees it, where memory is not asked for
+abbrev pub seen_by : {X Y E : Type 0} → (X → Y) → Result X E → Result Y E
+seen_by view (Ok x) = Ok (view x)
+seen_by view (Err error) = Err error
+
 -- what the reader of a line fails by
 abbrev pub fault_in : {Cause : Type 0} → LineError Cause → Option Cause
 fault_in NoMemory = None

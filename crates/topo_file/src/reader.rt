@@ -6,8 +6,8 @@ ghost use Rattle.topo_file.specs.Node.{HasGuids, is_one_too_many, place_of};
 ghost use Rattle.topo_file.specs.NewNode.{seen};
 ghost use Rattle.topo_file.specs.Sound.{ends_at_ports, is_manager_port};
 ghost use Rattle.result_words.specs.AtLine.{on_line};
-ghost use Rattle.result_words.specs.Gives.{Gives, LineGives};
-ghost use Rattle.topo_file.specs.Reading.{fault_in, seen_by};
+ghost use Rattle.result_words.specs.Gives.{Gives, LineGives, seen_by};
+ghost use Rattle.topo_file.specs.Fault.{fault_in};
 ghost use Rattle.topo_file.specs.Topology.{name_of, port_of, number_up_to, node_spelt, node_of, cable_spelt, cable_of, manager_spelt, manager_of, with_node, with_cable, with_manager, after_words, after_line, whole, declarations_of, topology_of};
 
 use crate::connectivity::is_connected;
