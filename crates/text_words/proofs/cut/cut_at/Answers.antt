@@ -3,7 +3,7 @@ use Rattle.std.specs.List.{position_or_len}
 use Rattle.std.proofs.lemmas.Bool.{lt-ltb}
 use Rattle.std.proofs.lemmas.List.{take_rest}
 use Rattle.text_words.proofs.LineLemmas.{list_any_place}
-use Rattle.text_words.proofs.line.cut_at.Goals as goal
+use Rattle.text_words.proofs.cut.cut_at.Goals as goal
 
 pub returns : goal.returns
 returns c =
