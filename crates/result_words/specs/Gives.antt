@@ -13,11 +13,6 @@ abbrev pub Gives : {X Y Error Fault : Type 0} → (Error → Option Fault) → (
 Gives told view (Ok x) given = given ≡ Ok (view x)
 Gives told view (Err error) given = Fails (told error) given
 
--- what was returned, with its value as `view` sees it, where memory is not asked for
-abbrev pub seen_by : {X Y E : Type 0} → (X → Y) → Result X E → Result Y E
-seen_by view (Ok x) = Ok (view x)
-seen_by view (Err error) = Err error
-
 -- what the reader of a line fails by
 abbrev pub fault_in : {Cause : Type 0} → LineError Cause → Option Cause
 fault_in NoMemory = None
@@ -26,3 +21,8 @@ fault_in (Fault cause) = Some cause
 -- a line's reader returned what is given
 abbrev pub LineGives : {X Y Cause : Type 0} → (X → Y) → Result X (LineError Cause) → Result Y Cause → Type 0
 LineGives view read given = Gives fault_in view read given
+
+-- what was returned, its value as `view` sees it
+abbrev pub seen_by : {X Y Error : Type 0} → (X → Y) → Result X Error → Result Y Error
+seen_by view (Ok x) = Ok (view x)
+seen_by view (Err error) = Err error
