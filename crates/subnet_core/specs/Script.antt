@@ -1,5 +1,5 @@
 -- What a script stands for over a topology: a list of commands, or the first line that is at fault.
-use Rattle.std.specs.Prelude.{ℕ, ◌+◌, ◌-◌, ◌^◌, Bool, false, not, ◌==◌, nat_le, nat_lt, List, [], ◌∷◌, ◌++◌, length, replicate, codes, Option, Some, None, Result, Ok, Err, if◌then◌else◌}
+use Rattle.std.specs.Prelude.{ℕ, ◌-◌, ◌^◌, Bool, not, ◌==◌, nat_le, nat_lt, List, [], ◌∷◌, ◌++◌, length, replicate, codes, Option, Some, None, Result, Ok, Err, if◌then◌else◌}
 use Rattle.std.specs.Option.{ok_or, option_and_then, option_map, option_to_list}
 use Rattle.std.specs.Str.{bytes_eq}
 use Rattle.hex.specs.Hex.{decode_of}
@@ -70,8 +70,11 @@ bytes_or_fault (Err error) = Err BadField
 abbrev pub filled : ℕ → List ℕ → Result (List ℕ) ScriptCause
 filled n bytes = if nat_le (length bytes) n then Ok (bytes ++ replicate (n - length bytes) 0) else Err BadField
 
-unfoldable pub payload_of : Option Written → Result (List ℕ) ScriptCause
-payload_of (Some written) = bytes_or_fault (decode_of written.digits) >>= λ bytes. filled written.size bytes
+unfoldable pub spelt : ℕ → List ℕ → Result (List ℕ) ScriptCause
+spelt n digits = bytes_or_fault (decode_of digits) >>= λ bytes. filled n bytes
+
+abbrev pub payload_of : Option Written → Result (List ℕ) ScriptCause
+payload_of (Some written) = spelt written.size written.digits
 payload_of None = Err BadField
 
 -- ---- `send PORT DLID PKEY QP PAYLOAD`

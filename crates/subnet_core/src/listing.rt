@@ -73,11 +73,7 @@ fn push_partition(
     push_members(text, heading.base, ports)
 }
 
-fn push_heading_line(
-    text: &mut Vec<u8>,
-    number: usize,
-    heading: &Heading,
-) -> Result<(), AllocError>
+fn push_heading_line(text: &mut Vec<u8>, number: usize, heading: &Heading) -> Result<(), AllocError>
     ensures { OnOk result (text.new.items ≡ text.old.items ++ heading_line number heading.now) }
 {
     text.extend_from_slice(b"partition ")?;
@@ -97,11 +93,7 @@ fn shown_name(name: &[u8]) -> &[u8]
     if name.is_empty() { b"-" } else { name }
 }
 
-fn push_members(
-    text: &mut Vec<u8>,
-    base: u16,
-    ports: &[SubnetPort],
-) -> Result<(), AllocError>
+fn push_members(text: &mut Vec<u8>, base: u16, ports: &[SubnetPort]) -> Result<(), AllocError>
     ensures { OnOk result (text.new.items ≡ text.old.items ++ flat_map (member_text base) ports.now) }
 {
     for port in ports {
@@ -110,11 +102,7 @@ fn push_members(
     Ok(())
 }
 
-fn push_member(
-    text: &mut Vec<u8>,
-    base: u16,
-    port: &SubnetPort,
-) -> Result<(), AllocError>
+fn push_member(text: &mut Vec<u8>, base: u16, port: &SubnetPort) -> Result<(), AllocError>
     ensures { OnOk result (text.new.items ≡ text.old.items ++ member_text base port.now) }
 {
     match port.keys.find_base(base) {
@@ -123,11 +111,7 @@ fn push_member(
     }
 }
 
-fn push_member_line(
-    text: &mut Vec<u8>,
-    port: &SubnetPort,
-    key: PKey,
-) -> Result<(), AllocError>
+fn push_member_line(text: &mut Vec<u8>, port: &SubnetPort, key: PKey) -> Result<(), AllocError>
     ensures { OnOk result (text.new.items ≡ text.old.items ++ member_line port.now key) }
 {
     text.extend_from_slice(b"member ")?;

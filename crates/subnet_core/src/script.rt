@@ -4,7 +4,7 @@ ghost use Rattle.result_words.specs.Gives.{seen_by};
 ghost use Rattle.topo_file.specs.Node.{ports_at};
 ghost use Rattle.data_packet.specs.declared.payload.TheConstants.{PAYLOAD_BYTES};
 ghost use Rattle.subnet_core.specs.Seen.{written};
-ghost use Rattle.subnet_core.specs.Script.{command_of, field_of, fitting, payload_of, send_of, send_spelt, sender_at, sender_of, written_in};
+ghost use Rattle.subnet_core.specs.Script.{command_of, field_of, fitting, payload_of, send_of, send_spelt, sender_at, sender_of, spelt, written_in};
 
 use crate::fault::ScriptCause;
 use data_packet::{PAYLOAD_BYTES, Payload, QueuePair};
@@ -33,7 +33,7 @@ pub(crate) fn command_of(topology: &Topology, line: &[u8]) -> Result<Option<Comm
 
 #[tactic(auto, unfolding(crate::specs::Script::send_of))]
 fn send_of(topology: &Topology, words: Words<'_>) -> Result<Command, ScriptCause>
-    ensures { result ≡ send_of topology.now words }
+    ensures { result ≡ send_of topology.now words.entry }
 {
     let mut words = words;
     let (Some(port), Some(dlid), Some(p_key), Some(qp), Some(payload), None) = (
@@ -147,7 +147,7 @@ fn written_in(word: &[u8]) -> Option<Written<'_>>
 
 /// The same, unless it is more than a packet carries.
 fn fitting(shown: Option<Written<'_>>) -> Result<Option<Written<'_>>, ScriptCause>
-    ensures value { seen_by (option_map written) result ≡ fitting (option_map written shown) }
+    ensures value { seen_by (option_map written) result ≡ fitting (option_map written shown.entry) }
     ensures fits { IfOk result (λ it. ForSome it (λ w. w.size ≤ PAYLOAD_BYTES)) }
 {
     match shown {
@@ -156,23 +156,28 @@ fn fitting(shown: Option<Written<'_>>) -> Result<Option<Written<'_>>, ScriptCaus
     }
 }
 
-/// The bytes that the digits spell, and zero bytes behind them.
-#[tactic(auto, unfolding(crate::specs::Script::payload_of))]
 fn payload_of(shown: Option<Written<'_>>) -> Result<Payload, ScriptCause>
     requires { ForSome shown (λ w. w.size ≤ PAYLOAD_BYTES) }
-    ensures { result ≡ payload_of (option_map written shown) }
+    ensures { result ≡ payload_of (option_map written shown.entry) }
 {
-    let Some(Written { size, digits }) = shown else {
-        return Err(ScriptCause::BadField);
-    };
-    let size = size as usize;
-    let spelt = digits.len() / 2;
-    if spelt > size {
+    match shown {
+        Some(shown) => spelt(shown.size as usize, shown.digits),
+        None => Err(ScriptCause::BadField),
+    }
+}
+
+/// So many bytes: those that the digits spell, and zero bytes behind them.
+fn spelt(size: usize, digits: &[u8]) -> Result<Payload, ScriptCause>
+    requires { size ≤ PAYLOAD_BYTES }
+    ensures { result ≡ spelt size digits.now }
+{
+    let count = digits.len() / 2;
+    if count > size {
         return Err(ScriptCause::BadField);
     }
     let mut bytes = [0; PAYLOAD_BYTES];
-    if decode_to_slice(digits, &mut bytes[..spelt]).is_err() {
-        return Err(ScriptCause::BadField);
+    match decode_to_slice(digits, &mut bytes[..count]) {
+        Ok(()) => Ok(Payload::new(&bytes[..size])),
+        Err(_) => Err(ScriptCause::BadField),
     }
-    Ok(Payload::new(&bytes[..size]))
 }

@@ -26,11 +26,7 @@ pub(crate) fn report_text(
     Ok(text)
 }
 
-fn push_line(
-    text: &mut Vec<u8>,
-    ports: &[SubnetPort],
-    event: &Event,
-) -> Result<(), AllocError>
+fn push_line(text: &mut Vec<u8>, ports: &[SubnetPort], event: &Event) -> Result<(), AllocError>
     ensures { OnOk result (text.new.items ≡ text.old.items ++ line_text ports.now event.now) }
 {
     push_name(text, ports, event.port)?;
@@ -124,7 +120,8 @@ pub(crate) fn push_decimal(text: &mut Vec<u8>, number: usize) -> Result<(), Allo
 
 /// The bytes without the zero bytes at their end.
 fn trimmed(bytes: &[u8]) -> &[u8]
-    ensures { result.now ≡ trimmed bytes.now }
+    ensures value { result.now ≡ trimmed bytes.now }
+    ensures short { length result.now ≤ length bytes.now }
 {
     let mut end = bytes.len();
     while end > 0 && bytes[end - 1] == 0 {
