@@ -4,6 +4,7 @@ use Rattle.std.proofs.lemmas.Bool.{and_from, and_parts, ltb-false}
 use Rattle.std.proofs.lemmas.Bool.Decides.{nat_tests}
 use Rattle.std.proofs.Math.Nat.{mod-lt}
 use Rattle.pkey_rules.specs.declared.key_table.TheConstants.{PARTITIONS}
+use Rattle.pkey_rules.specs.PKey.{is_base}
 use Rattle.partition_file.specs.declared.definition.Definition.{Definition}
 use Rattle.partition_file.specs.declared.fault.PartitionCause.{PartitionCause}
 use Rattle.partition_file.specs.declared.fault.PartitionCause.TheVariants.{BadCharacter, BadNumber, ReservedKey, UnknownFlag, BothMembership, MgidItem, TooManyPartitions, Unfinished, BadFlagValue}
@@ -21,7 +22,7 @@ use Rattle.partition_file.specs.Flags.{flag_of, greatest, if_offered, is_offered
 use Rattle.partition_file.specs.Counting.{keys_of, partition_count}
 use Rattle.partition_file.specs.Cases.{Place, fault_of, has_fault, in_turn, is_in_list, is_one_too_many, is_reserved_key, is_unfinished, is_zero, key_here}
 use Rattle.partition_file.specs.Definitions.{Scanned, after_equals, part_after, place_of, value_of, with_piece}
-use Rattle.partition_file.specs.Sound.{IsSoundSoFar, are_within, is_base, is_sound_key, is_within}
+use Rattle.partition_file.specs.Sound.{IsSoundSoFar, are_within, is_sound_key, is_within}
 
 -- ---- where no fault is told, none is there
 passed_over : {X : Type 0} (b : Bool) (x : X) (o : Option X) → cond b (Some x) o ≡ None → (b ≡ false) × (o ≡ None)

@@ -9,7 +9,7 @@ use Rattle.result_words.specs.Steps.{unless}
 use Rattle.partition_file.specs.Pieces.{delimiter_of, is_allowed, piece_after}
 use Rattle.partition_file.specs.Cases.{fault_of, has_fault, in_turn}
 use Rattle.partition_file.specs.Definitions.{Scanned, after_byte, judged_at, next, place_of}
-use Rattle.partition_file.specs.Law.{faults_of, is_fault_at, turn}
+use Rattle.partition_file.specs.FirstFault.{faults_of, is_fault_at, turn}
 use Rattle.partition_file.proofs.CaseLemmas.{none_there}
 
 -- ---- the first fault in turn

@@ -1,7 +1,8 @@
 -- The faults, one by one: when a piece that ends at a delimiter is one.
-use Rattle.std.specs.Prelude.{ℕ, ◌%◌, Bool, true, false, not, ◌==◌, ◌&&◌, ◌||◌, nat_lt, is_none, if◌then◌else◌, List, [], ◌∷◌, ◌++◌, length, find, codes, Option, Some, None, option_map, bytes_eq}
+use Rattle.std.specs.Prelude.{ℕ, Bool, true, false, not, ◌==◌, ◌&&◌, ◌||◌, nat_lt, is_none, if◌then◌else◌, List, [], ◌∷◌, ◌++◌, length, find, codes, Option, Some, None, option_map, bytes_eq}
 use Rattle.std.specs.Char.{is_ascii_digit}
 use Rattle.pkey_rules.specs.declared.key_table.TheConstants.{PARTITIONS}
+use Rattle.pkey_rules.specs.PKey.{base_of}
 use Rattle.partition_file.specs.declared.fault.PartitionCause.{PartitionCause}
 use Rattle.partition_file.specs.declared.fault.PartitionCause.TheVariants.{BadCharacter, BadNumber, ReservedKey, UnknownFlag, BothMembership, MgidItem, TooManyPartitions, Unfinished, BadFlagValue}
 use Rattle.partition_file.specs.declared.piece.Delimiter.{Delimiter}
@@ -13,12 +14,12 @@ use Rattle.partition_file.specs.declared.flag.Flags.{Flags}
 use Rattle.partition_file.specs.Pieces.{is_equals, is_colon, is_semicolon}
 use Rattle.partition_file.specs.Numbers.{is_number, number_up_to}
 use Rattle.partition_file.specs.Flags.{flag_of, takes_value, value_in, is_given, is_full, is_limited}
-use Rattle.partition_file.specs.Ports.{ports_of}
+use Rattle.partition_file.specs.Ports.{ports_named}
 use Rattle.partition_file.specs.Counting.{partition_count}
 
 -- a PKey is a number of 16 bits, of which the low 15 name the partition
 abbrev pub base_in : List ℕ → Option ℕ
-base_in piece = option_map (λ key. key % 32768) (number_up_to 65535 piece)
+base_in piece = option_map base_of (number_up_to 65535 piece)
 
 abbrev pub begins_with_digit : List ℕ → Bool
 begins_with_digit [] = false
@@ -47,7 +48,7 @@ is_bad_number part.Name delimiter piece = false
 is_bad_number part.Key delimiter piece = is_none (base_in piece)
 is_bad_number part.FlagWord delimiter piece = false
 is_bad_number (part.FlagValue flag) delimiter piece = is_misspelt_value flag piece
-is_bad_number part.ListWord delimiter piece = if is_empty piece then is_equals delimiter else is_none (ports_of piece)
+is_bad_number part.ListWord delimiter piece = if is_empty piece then is_equals delimiter else is_none (ports_named piece)
 is_bad_number (part.Membership ports) delimiter piece = false
 
 abbrev pub is_zero : Option ℕ → Bool

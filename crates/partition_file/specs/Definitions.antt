@@ -14,7 +14,7 @@ use Rattle.result_words.specs.AtLine.{AtLine, on_line}
 use Rattle.result_words.specs.Steps.{◌>>=◌, unless}
 use Rattle.partition_file.specs.Pieces.{without_comments, is_allowed, delimiter_of, is_equals, is_semicolon, piece_after, line_after}
 use Rattle.partition_file.specs.Flags.{flag_of, with_flag, with_value, is_full, is_full_by_default, no_flags}
-use Rattle.partition_file.specs.Ports.{ports_of}
+use Rattle.partition_file.specs.Ports.{ports_named}
 use Rattle.partition_file.specs.Counting.{keys_of}
 use Rattle.partition_file.specs.Cases.{Place, base_in, fault_of, is_empty, is_in_list}
 
@@ -41,7 +41,7 @@ membership_of None = part.ListWord
 
 abbrev pub after_equals : Part → List ℕ → Part
 after_equals part.FlagWord piece = value_of (flag_of piece)
-after_equals part.ListWord piece = membership_of (ports_of piece)
+after_equals part.ListWord piece = membership_of (ports_named piece)
 after_equals _ piece = part.Key
 
 abbrev pub part_after : Part → Delimiter → List ℕ → Part
@@ -60,7 +60,7 @@ with_piece d part.Name delimiter piece = record d { name = piece }
 with_piece d part.Key delimiter piece = record d { key = base_in piece }
 with_piece d part.FlagWord delimiter piece = if is_equals delimiter then d else record d { flags = with_flag (flag_of piece) d.flags }
 with_piece d (part.FlagValue flag) delimiter piece = record d { flags = with_value flag piece d.flags }
-with_piece d part.ListWord delimiter piece = if is_equals delimiter then d else record d { items = with_item d.items (ports_of piece) (is_full_by_default d.flags) }
+with_piece d part.ListWord delimiter piece = if is_equals delimiter then d else record d { items = with_item d.items (ports_named piece) (is_full_by_default d.flags) }
 with_piece d (part.Membership ports) delimiter piece = record d { items = d.items ++ record { ports = ports; full = is_full piece } ∷ [] }
 
 -- ---- the state after a piece that has no fault; `;` ends the definition

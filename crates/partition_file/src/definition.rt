@@ -6,11 +6,9 @@ ghost use Rattle.partition_file.specs.Sound.{AreSound, are_within, is_sound_key}
 
 use crate::flag::Flags;
 use crate::item::ItemList;
+use pkey_rules::DEFAULT_BASE;
 use std::alloc::{AllocError, Global};
 use std::marker::Model;
-
-/// The base of the default partition, in which every port starts.
-pub(crate) const DEFAULT_BASE: u16 = 0x7fff;
 
 /// The name of a partition, which may be empty.
 #[derive(Debug, Drop)]

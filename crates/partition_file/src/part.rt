@@ -5,12 +5,10 @@ ghost use Rattle.partition_file.specs.Cases.{base_in, begins_with_digit, is_bad_
 ghost use Rattle.partition_file.specs.Definitions.{after_equals, is_inside, is_name, membership_of, part_after, value_of};
 
 use crate::flag::{Flag, Flags, flag_of, is_full, is_limited};
-use crate::item::{Ports, ports_of};
+use crate::item::{Ports, ports_named};
 use crate::number::{is_number, number_up_to};
 use crate::piece::Delimiter;
-
-/// How many bases the low 15 bits of a PKey spell.
-const BASES: u64 = 0x8000;
+use pkey_rules::base_of;
 
 /// What the next delimiter ends.
 #[derive(Clone, Copy, Debug, PartialEq, Eq)]
@@ -32,7 +30,7 @@ pub(crate) fn base_in(piece: &[u8]) -> Option<u16>
     ensures within { IfSome result (λ base. base < 32768) }
 {
     match number_up_to(0xffff, piece) {
-        Some(key) => Some((key % BASES) as u16),
+        Some(key) => Some(base_of(key as u16)),
         None => None,
     }
 }
@@ -112,7 +110,7 @@ impl Part {
             Part::Key => base_in(piece).is_none(),
             Part::FlagValue(flag) => is_misspelt_value(flag, piece),
             Part::ListWord if piece.is_empty() => delimiter.is_equals(),
-            Part::ListWord => ports_of(piece).is_none(),
+            Part::ListWord => ports_named(piece).is_none(),
             Part::Name | Part::FlagWord | Part::Membership(_) => false,
         }
     }
@@ -214,7 +212,7 @@ impl Part {
     {
         match self {
             Part::FlagWord => value_of(flag_of(piece)),
-            Part::ListWord => membership_of(ports_of(piece)),
+            Part::ListWord => membership_of(ports_named(piece)),
             _ => Part::Key,
         }
     }

@@ -12,7 +12,7 @@ ghost use Rattle.result_words.specs.Gives.{Gives};
 use crate::definition::{Definition, DefinitionList, Name};
 use crate::fault::{PartFault, PartitionCause};
 use crate::flag::{flag_of, is_full};
-use crate::item::{Item, Ports, ports_of};
+use crate::item::{Item, Ports, ports_named};
 use crate::part::{Part, base_in};
 use crate::piece::{Delimiter, delimiter_of, folded, is_allowed};
 use pkey_rules::PARTITIONS;
@@ -52,7 +52,7 @@ impl Definition {
                 Ok(())
             }
             Part::ListWord if delimiter.is_equals() => Ok(()),
-            Part::ListWord => self.push_item(ports_of(&piece), self.flags.is_full_by_default()),
+            Part::ListWord => self.push_item(ports_named(&piece), self.flags.is_full_by_default()),
             Part::Membership(ports) => self.push_item(Some(ports), is_full(&piece)),
         }
     }
