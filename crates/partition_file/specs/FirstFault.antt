@@ -7,7 +7,9 @@ use Rattle.partition_file.specs.declared.piece.Delimiter.{Delimiter}
 use Rattle.result_words.specs.AtLine.{AtLine}
 use Rattle.partition_file.specs.Pieces.{delimiter_of, is_allowed, line_after, piece_after}
 use Rattle.partition_file.specs.Cases.{has_fault}
-use Rattle.partition_file.specs.Definitions.{Scanned, after, is_inside, place_of, start}
+use Rattle.partition_file.specs.Definitions.{after, is_inside}
+use Rattle.partition_file.specs.Scanned.{Scanned, start}
+use Rattle.partition_file.specs.Tokens.{token_of}
 
 -- the turn of a fault: the membership `both`, then the item `mgid`, then by code
 abbrev pub turn : PartitionCause → ℕ
@@ -23,7 +25,7 @@ turn BadFlagValue = 8
 
 -- a delimiter has the faults of the piece that it ends; another byte has one if it may not stand outside comments
 abbrev pub faults_of : Scanned → Option Delimiter → Bool → List ℕ → PartitionCause → Bool
-faults_of s (Some delimiter) allowed piece fault = has_fault (place_of s) delimiter piece fault
+faults_of s (Some delimiter) allowed piece fault = has_fault s delimiter (token_of s.at piece) fault
 faults_of s None allowed piece BadCharacter = not allowed
 faults_of s None allowed piece _ = false
 

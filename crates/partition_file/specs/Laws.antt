@@ -7,7 +7,7 @@ use Rattle.partition_file.specs.declared.definition.Definition.{Definition}
 use Rattle.partition_file.specs.declared.fault.PartitionCause.{PartitionCause}
 use Rattle.partition_file.specs.declared.partition.Partition.{Partition}
 use Rattle.partition_file.specs.Pieces.{without_comments}
-use Rattle.partition_file.specs.Definitions.{Scanned}
+use Rattle.partition_file.specs.Scanned.{Scanned}
 use Rattle.partition_file.specs.FirstFault.{HasFaultAtEnd, HasFaultInside, IsClean, is_fault_at}
 use Rattle.partition_file.specs.Generated.{AllGetFree}
 use Rattle.partition_file.specs.Members.{key_in, keys_in}

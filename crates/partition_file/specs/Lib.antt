@@ -4,6 +4,8 @@ pub mod Numbers
 pub mod Flags
 pub mod Ports
 pub mod Counting
+pub mod Scanned
+pub mod Tokens
 pub mod Cases
 pub mod Definitions
 pub mod Partitions

@@ -10,8 +10,7 @@ use Rattle.partition_file.specs.declared.broadcast_group.BroadcastGroup.{Broadca
 use Rattle.partition_file.specs.declared.partition.Partition.{Partition}
 use Rattle.partition_file.specs.Flags.{greatest}
 use Rattle.partition_file.specs.Counting.{keys_of, named, partition_count, with_base}
-use Rattle.partition_file.specs.Cases.{is_in_list}
-use Rattle.partition_file.specs.Definitions.{Scanned}
+use Rattle.partition_file.specs.Scanned.{Scanned, is_in_list}
 
 abbrev pub is_sound_key : Option ℕ → Bool
 is_sound_key (Some base) = is_base base

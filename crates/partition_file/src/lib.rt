@@ -2,12 +2,13 @@
 //!
 //! [`read`] gives the [`Partitions`] that a text describes, or its first fault with the line; a text
 //! is never read in part. What definitions a text has is stated in `specs/Definitions.antt`, what is
-//! refused in `specs/Cases.antt`, and what partitions definitions make in `specs/Partitions.antt`.
+//! refused in `specs/Cases.antt`, asked of what each piece says (`specs/Tokens.antt`), and what partitions definitions make in `specs/Partitions.antt`.
 //! The text is that of OpenSM's partition files, read strictly.
 #![tactic(auto)]
 
 mod broadcast_group;
 mod definition;
+mod definition_part;
 mod fault;
 mod flag;
 mod heading;
@@ -17,12 +18,13 @@ mod member_keys;
 mod membership;
 mod merge;
 mod number;
-mod part;
 mod partition;
 mod piece;
+mod piece_faults;
 mod reader;
 mod rules;
 mod scan;
+mod token;
 
 pub use crate::broadcast_group::BroadcastGroup;
 pub use crate::definition::Name;
