@@ -1,6 +1,6 @@
 use Rattle.std.proofs.Common.{false}
 use Rattle.partition_file.proofs.LawLemmas.{clean_throughout, comments_by_beginning, inside_refuses, end_refuses, only_so_refused}
-use Rattle.partition_file.proofs.law.first_fault.Goals as goal
+use Rattle.partition_file.proofs.laws.texts_are_refused_for_their_first_fault.Goals as goal
 
 pub returns-clause-inside : goal.returns-clause-inside
 returns-clause-inside c = inside_refuses

@@ -1,6 +1,9 @@
-ghost use Rattle.partition_file.specs.Generated.{GeneratedBasesAreFree};
-ghost use Rattle.partition_file.specs.Keys.{KeysTellMembership};
-ghost use Rattle.partition_file.specs.Law.{CleanThroughout, CommentsByBeginning, EndRefuses, InsideRefuses, OnlySoRefused};
+//! What is so of every partition text and of all partitions. The functions do nothing; their clauses are the
+//! theorems.
+
+ghost use Rattle.partition_file.specs.Laws.{GeneratedBasesAreFree};
+ghost use Rattle.partition_file.specs.Laws.{KeysTellMembership};
+ghost use Rattle.partition_file.specs.Laws.{CleanThroughout, CommentsByBeginning, EndRefuses, InsideRefuses, OnlySoRefused};
 
 /// Which fault a partition text is refused for, as a law over the definitions that [`read`] meets.
 /// The function does nothing; its clauses are the theorem.
@@ -11,7 +14,7 @@ ghost use Rattle.partition_file.specs.Law.{CleanThroughout, CommentsByBeginning,
 /// line of that byte or of the end.
 ///
 /// [`read`]: crate::read
-pub fn first_fault()
+pub fn texts_are_refused_for_their_first_fault()
     // The fault of a byte after a clean beginning is told, whatever follows.
     ensures inside { InsideRefuses }
     // So is the fault of the end.
@@ -27,7 +30,7 @@ pub fn first_fault()
 /// The law of the bases of definitions that name none: each is one that no definition of the file
 /// names and none got before, and is the least such. With no more partitions than there may be,
 /// there always is one. The function does nothing; its clause is the theorem.
-pub fn generated_bases()
+pub fn generated_bases_are_free()
     ensures { GeneratedBasesAreFree }
 {}
 

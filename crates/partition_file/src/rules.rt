@@ -4,9 +4,10 @@ ghost use Rattle.std.specs.Prelude.{◌≡◌, IfOk, OnOk, filter_map};
 ghost use Rattle.partition_file.specs.Counting.{has_base};
 ghost use Rattle.partition_file.specs.Partitions.{base_for, first_free, group_by, is_of, least_free, listed_by, makes_group, rules_of, taken_after};
 
+use crate::broadcast_group::BroadcastGroup;
 use crate::definition::{Definition, has_base};
 use crate::item::Item;
-use crate::partition::Group;
+use pkey_rules::BASES;
 use std::alloc::{AllocError, Global};
 use std::marker::Model;
 
@@ -44,10 +45,10 @@ impl Rule<'_> {
         self.base == base && self.definition.flags.ipoib
     }
 
-    pub(crate) fn group(&self) -> Group
+    pub(crate) fn group(&self) -> BroadcastGroup
         ensures { result ≡ group_by self.now.definition.flags }
     {
-        Group::new(self.definition.flags)
+        BroadcastGroup::new(self.definition.flags)
     }
 
     pub(crate) fn name(&self) -> &[u8]
@@ -79,7 +80,7 @@ fn least_free(taken: &[u16]) -> u16
 fn first_free(taken: &[u16]) -> Option<u16>
     ensures { result ≡ first_free taken.now }
 {
-    (1..0x8000).find(|base| !has_base(*base, taken))
+    (1..BASES).find(|base| !has_base(*base, taken))
 }
 
 /// The base of a definition, which is taken from then on.
