@@ -10,7 +10,8 @@ use Rattle.byteorder.specs.Endian.{big_from}
 use Rattle.mad_layout.specs.Bits.{number, field}
 use Rattle.mad_layout.proofs.NumberLemmas.{number_of_big, number_bytes}
 use Rattle.mad_layout.proofs.AlignedLemmas.{field_aligned}
-use Rattle.attr_tables.specs.Blocks.{HoldsEntries, IsBlockCount, Tiles}
+use Rattle.attr_tables.specs.Blocks.{HoldsEntries}
+use Rattle.attr_tables.specs.Laws.{BlocksTile}
 
 pub word_is_field : (xs : List ℕ) (k : ℕ) → AllBelowBase 256 xs → 2 * k + 2 ≤ length xs → big_from 0 2 (drop (2 * k) xs) ≡ field xs (16 * k) 16
 word_is_field xs k below h =
@@ -33,7 +34,7 @@ written_word bytes words k below e h within small =
     ∙ ap (λ (ys : List ℕ). number (take 2 (drop (2 * k) ys))) (sym e)
     ∙ field_aligned bytes (2 * k) 2 (16 * k) 16 below within (omega arith) refl
 
-pub blocks_tile : (size entries blocks index : ℕ) → IsBlockCount size entries blocks → index < entries → Tiles size blocks index
+pub blocks_tile : BlocksTile
 blocks_tile size entries blocks index count h =
     let some : 0 < size = omega (arith, count.no_more, count.enough) in
     let whole = div-add-mod' index size in

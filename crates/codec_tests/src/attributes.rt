@@ -1,10 +1,11 @@
 ghost use Rattle.std.specs.Prelude.{◌+◌, ◌≤◌, length};
 
+use agent_rules::{Link, node_info_of, port_info_at_power_up, switch_info_at_power_up};
 use attr_tables::{
-    BlockPlace, Link, Mtu, NodeDescription, NodeInfo, NodeType, PortBlock, PortInfo,
-    PortPhysicalState, PortState, SwitchInfo, WordBlock, block_count, block_place, node_info_of,
-    port_info_at_power_up, switch_info_at_power_up,
+    BlockPlace, Mtu, NodeDescription, NodeInfo, PortBlock, PortInfo, PortPhysicalState, PortState,
+    SwitchInfo, WordBlock, block_count, block_place,
 };
+use fabric_parts::NodeType;
 
 /// An attribute of zero bytes but for these, from that byte on.
 fn attribute_with(first: usize, bytes: &[u8]) -> [u8; 64]

@@ -2,7 +2,8 @@
 
 ghost use Rattle.std.specs.Prelude.{◌<◌};
 
-use attr_tables::{LINEAR_TABLE, Link, MULTICAST_TABLE, SmpAttribute};
+use agent_rules::{LINEAR_TABLE, Link, MULTICAST_TABLE};
+use attr_tables::SmpAttribute;
 use fabric_wire::{AdapterPorts, Fabric, Node, PlainWire, SmpWire, get_request};
 use mad_layout::{DrSmp, Mad};
 use port_model::AdapterPort;

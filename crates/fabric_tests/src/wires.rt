@@ -2,7 +2,8 @@
 
 ghost use Rattle.std.specs.Prelude.{◌≤◌, ◌<◌, ◌*◌, length};
 
-use attr_tables::{LINEAR_TABLE, Link, MULTICAST_TABLE, SmpAttribute, SwitchInfo};
+use agent_rules::{LINEAR_TABLE, Link, MULTICAST_TABLE};
+use attr_tables::{SmpAttribute, SwitchInfo};
 use fabric_wire::{
     AdapterPorts, CountingWire, Fabric, Node, PlainWire, SilencedWire, SmpWire, get_request,
     read_attribute,

@@ -11,8 +11,8 @@ use Rattle.mad_layout.proofs.AlignedLemmas.{byte_is_set}
 use Rattle.mad_layout.specs.Layout.{at}
 use Rattle.mad_layout.proofs.LayoutLemmas.{length-put_field}
 use Rattle.mad_layout.proofs.NumberLemmas.{below_bytes}
-use Rattle.attr_tables.specs.AgentLaws.{AsksSame, is_unseen}
-use Rattle.attr_tables.proofs.UnseenLemmas.{unseen_passes}
+use Rattle.agent_rules.specs.Laws.{AsksSame, is_unseen}
+use Rattle.agent_rules.proofs.UnseenLemmas.{unseen_passes}
 use Rattle.smp_route.specs.Places.{count, with_return_port}
 use Rattle.switch_model.specs.SwitchState.{num_ports}
 use Rattle.topo_file.specs.declared.cable.Cable.{Cable}

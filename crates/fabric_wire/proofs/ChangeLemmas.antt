@@ -5,9 +5,9 @@ use Rattle.std.specs.Option.{option_and_then}
 use Rattle.std.proofs.lemmas.Bool.Decides.{nat_tests}
 use Rattle.std.proofs.lemmas.List.{length-set}
 use Rattle.mad_layout.specs.Bits.{field}
-use Rattle.attr_tables.specs.AgentLaws.{AsksSame}
-use Rattle.attr_tables.specs.Request.{is_request, is_set}
-use Rattle.attr_tables.proofs.AgentLemmas.{reads_alike, settled}
+use Rattle.agent_rules.specs.Laws.{AsksSame}
+use Rattle.agent_rules.specs.Request.{is_request, is_set}
+use Rattle.agent_rules.proofs.AgentLemmas.{reads_alike, settled}
 use Rattle.port_model.specs.AdapterState.{AdapterState}
 use Rattle.port_model.specs.Agent.{agent_reply as adapter_reply, agent_after as adapter_after, get as adapter_gives, set as adapter_set}
 use Rattle.port_model.specs.Laws.{ChangesAtMost as PortChangesAtMost}

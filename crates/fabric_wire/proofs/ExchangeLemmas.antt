@@ -10,7 +10,7 @@ use Rattle.mad_layout.specs.Bits.{put_field}
 use Rattle.mad_layout.specs.Layout.{at, is_free}
 use Rattle.mad_layout.proofs.AlignedLemmas.{byte_is_field}
 use Rattle.mad_layout.proofs.LayoutLemmas.{field-put_apart, length-put_field}
-use Rattle.attr_tables.specs.Request.{KeepsRest}
+use Rattle.agent_rules.specs.Request.{KeepsRest}
 use Rattle.smp_route.specs.Places.{count, pointer, return_port, turned_round, with_return_port}
 use Rattle.topo_file.specs.declared.cable.Cable.{Cable}
 use Rattle.topo_file.specs.declared.cable.PortRef.{PortRef}

@@ -16,7 +16,7 @@ use Rattle.fabric_wire.specs.Get.{AsksFor, path_entries, plain_get}
 use Rattle.mad_layout.proofs.AlignedLemmas.{byte_is_field}
 use Rattle.mad_layout.proofs.LayoutLemmas.{field_zeros, number_zeros}
 use Rattle.smp_route.specs.Places.{count, pointer}
-use Rattle.attr_tables.specs.Request.{is_request, is_version_1, is_get}
+use Rattle.agent_rules.specs.Request.{is_request, is_version_1, is_get}
 use Rattle.fabric_wire.specs.Walk.{is_sent, path_of}
 
 pub requests : (smp : List ℕ) → field smp 8 8 ≡ 129 → field smp 24 8 ≡ 1 → is_request smp ≡ true

@@ -7,7 +7,7 @@ use Rattle.std.proofs.lemmas.List.{length-set}
 use Rattle.std.proofs.lemmas.List.Folds.{list_all-map}
 use Rattle.std.proofs.Math.Seq.{map-set_same}
 use Rattle.std.proofs.lemmas.Option.{slice_get_cases, get_or_from_slice_get, slice_get-get_or, slice_get-map, slice_get_past}
-use Rattle.attr_tables.specs.PortSetting.{is_down}
+use Rattle.agent_rules.specs.PortSetting.{is_down}
 use Rattle.port_model.specs.AdapterState.{AdapterState}
 use Rattle.port_model.specs.Agent.{agent_after as adapter_after}
 use Rattle.port_model.proofs.AgentLemmas.{changes_at_most as adapter_changes}

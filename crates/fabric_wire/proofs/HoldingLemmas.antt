@@ -11,17 +11,17 @@ use Rattle.std.proofs.lemmas.Nat.{mod_below}
 use Rattle.mad_layout.specs.Bits.{field}
 use Rattle.mad_layout.specs.declared.status.MadStatus.{MadStatus}
 use Rattle.mad_layout.specs.declared.status.MadStatus.TheVariants.{InvalidField}
-use Rattle.attr_tables.specs.Agent.{shown_at, whole, word_block}
-use Rattle.attr_tables.specs.AgentLaws.{IsAttribute}
+use Rattle.agent_rules.specs.Agent.{shown_at, whole, word_block}
+use Rattle.attr_tables.specs.Attribute.{IsAttribute}
 use Rattle.attr_tables.specs.Blocks.{block_of, has_block, with_block, word_bytes}
 use Rattle.attr_tables.specs.PortInfo.{port_info_bytes}
-use Rattle.attr_tables.specs.Request.{asked, asked_ports, modifier_of}
+use Rattle.agent_rules.specs.Request.{asked, asked_ports, modifier_of}
 use Rattle.attr_tables.specs.declared.smp_attribute.SmpAttribute.{SmpAttribute}
 use Rattle.attr_tables.specs.declared.smp_attribute.SmpAttribute.TheVariants.{NodeDescription, NodeInfo, SwitchInfo, PortInfo, PKeyTable, LinearForwardingTable, MulticastForwardingTable}
-use Rattle.attr_tables.proofs.AgentLemmas.{after_cases, bind_done, bind_ok}
-use Rattle.attr_tables.proofs.CarryLemmas.{attributes}
-use Rattle.attr_tables.proofs.PortSettingLemmas.{taken_ok}
-use Rattle.attr_tables.proofs.TableLemmas.{block_within}
+use Rattle.agent_rules.proofs.AgentLemmas.{after_cases, bind_done, bind_ok}
+use Rattle.attr_tables.proofs.AttributeLemmas.{attributes}
+use Rattle.agent_rules.proofs.PortSettingLemmas.{taken_ok}
+use Rattle.agent_rules.proofs.TableLemmas.{block_within}
 use Rattle.port_model.specs.AdapterState.{AdapterState}
 use Rattle.port_model.specs.Agent.{get as adapter_gives, is_own}
 use Rattle.switch_model.specs.Agent.{agent_after as switch_after, get as switch_gives, key_block, key_port, mask_block, masks_at, part_at, set as switch_set}

@@ -4,7 +4,7 @@ use Rattle.std.specs.List.{list_all}
 use Rattle.std.proofs.lemmas.Bool.{eqb-true, false≢true}
 use Rattle.std.proofs.lemmas.Bool.Decides.{nat_tests}
 use Rattle.std.proofs.lemmas.List.{get_or-set_other, get_or-set_same, set-set, set_comm}
-use Rattle.attr_tables.specs.declared.node_type.NodeType.{NodeType}
+use Rattle.fabric_parts.specs.declared.node_type.NodeType.{NodeType}
 use Rattle.smp_route.specs.declared.hop.Hop.TheVariants.{Forward, ToAgent}
 use Rattle.smp_route.specs.Hops.{Step, by_port, discarded, handed_on, noted, outgoing}
 use Rattle.smp_route.specs.Places.{count, initial_port, pointer, with_pointer, with_return_port}

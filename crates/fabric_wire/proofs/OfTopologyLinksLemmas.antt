@@ -5,12 +5,12 @@ use Rattle.std.specs.Option.{option_and_then}
 use Rattle.std.proofs.lemmas.Bool.{and_parts, leb-true, ne_eqb}
 use Rattle.std.proofs.lemmas.Option.{slice_get-map}
 use Rattle.std.proofs.lemmas.Option.{same_Some}
-use Rattle.attr_tables.specs.declared.link.Link.TheVariants.{Cabled, Uncabled, Internal}
-use Rattle.attr_tables.specs.declared.node_type.NodeType.{NodeType}
-use Rattle.attr_tables.specs.declared.node_type.NodeType.TheVariants as type
+use Rattle.agent_rules.specs.declared.link.Link.TheVariants.{Cabled, Uncabled, Internal}
+use Rattle.fabric_parts.specs.declared.node_type.NodeType.{NodeType}
+use Rattle.fabric_parts.specs.declared.node_type.NodeType.TheVariants as type
 use Rattle.attr_tables.specs.declared.port_info.PortInfo.{PortInfo}
-use Rattle.attr_tables.specs.PortSetting.{is_down}
-use Rattle.attr_tables.specs.PowerUp.{port_info_at_power_up}
+use Rattle.agent_rules.specs.PortSetting.{is_down}
+use Rattle.agent_rules.specs.PowerUp.{port_info_at_power_up}
 use Rattle.port_model.specs.AdapterState.{AdapterState}
 use Rattle.switch_model.specs.SwitchState.{port_at_power_up, ports_from}
 use Rattle.switch_model.proofs.PortLemmas.{ports_have_links}

@@ -11,12 +11,13 @@ use Rattle.mad_layout.specs.MadStatus.{mad_status_code}
 use Rattle.mad_layout.specs.declared.status.MadStatus.{MadStatus}
 use Rattle.mad_layout.proofs.AlignedLemmas.{byte_is_set}
 use Rattle.mad_layout.proofs.LayoutLemmas.{field-put_apart, length-put_all, length-put_field}
-use Rattle.attr_tables.specs.Agent.{◌>>=◌, Getter, Setter, after, answer, changed, reply_of}
-use Rattle.attr_tables.specs.AgentLaws.{IsAttribute}
-use Rattle.attr_tables.specs.Request.{KeepsRest, attribute_asked, is_request, modifier_of, reply_method, reply_to}
+use Rattle.result_words.specs.Steps.{◌>>=◌}
+use Rattle.agent_rules.specs.Agent.{Getter, Setter, after, answer, changed, reply_of}
+use Rattle.attr_tables.specs.Attribute.{IsAttribute}
+use Rattle.agent_rules.specs.Request.{KeepsRest, attribute_asked, is_request, modifier_of, reply_method, reply_to}
 use Rattle.attr_tables.specs.declared.smp_attribute.SmpAttribute.{SmpAttribute}
-use Rattle.attr_tables.proofs.AgentLemmas.{Shows, bind_ok, settled}
-use Rattle.attr_tables.proofs.CarryLemmas.{carries}
+use Rattle.agent_rules.proofs.AgentLemmas.{Shows, bind_ok, settled}
+use Rattle.agent_rules.proofs.CarryLemmas.{carries}
 use Rattle.port_model.specs.AdapterState.{AdapterState}
 use Rattle.port_model.specs.Agent.{agent_reply as adapter_reply, agent_after as adapter_after, get as adapter_gives, set as adapter_set}
 use Rattle.switch_model.specs.Agent.{agent_reply as switch_reply, agent_after as switch_after, get as switch_gives, set as switch_set}
@@ -66,9 +67,9 @@ so_stays request reply so is = record { keeps = is.keeps; long = is.long; below 
 is_reply : (smp : List ℕ) (given : Result (List ℕ) MadStatus) (Stays : Type 0) → length smp ≡ 256 → ((bytes : List ℕ) → given ≡ Ok bytes → IsAttribute bytes) → ((status : MadStatus) → given ≡ Err status → Stays)
     → IsReply smp (reply_to smp given) Stays
 is_reply smp (Ok bytes) Stays long are stays =
-    record { keeps = carries.rest smp bytes long (are bytes refl); long = reply_long smp (Ok bytes) long; below = reply_below smp (Ok bytes); refused = λ status. absurd (status (carries.status smp bytes long (are bytes refl))) }
+    record { keeps = (carries.attribute smp bytes long (are bytes refl)).rest; long = reply_long smp (Ok bytes) long; below = reply_below smp (Ok bytes); refused = λ status. absurd (status ((carries.attribute smp bytes long (are bytes refl)).status)) }
 is_reply smp (Err status) Stays long are stays =
-    record { keeps = carries.rest_of_refused smp status long; long = reply_long smp (Err status) long; below = reply_below smp (Err status); refused = λ not_0. stays status refl }
+    record { keeps = (carries.refusal smp status long).rest; long = reply_long smp (Err status) long; below = reply_below smp (Err status); refused = λ not_0. stays status refl }
 
 -- ---- one agent: what answers fills an attribute, where what is held afterwards does
 after_is : {S : Type 0} (setter : Setter S) (held next : S) (attribute : SmpAttribute) (smp : List ℕ) → is_request smp ≡ true → attribute_asked smp ≡ Ok attribute → changed setter held attribute smp ≡ Ok next

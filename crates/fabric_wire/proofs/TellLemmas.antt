@@ -10,17 +10,17 @@ use Rattle.mad_layout.specs.MadStatus.{mad_status_code}
 use Rattle.mad_layout.specs.declared.status.MadStatus.{MadStatus}
 use Rattle.mad_layout.specs.declared.status.MadStatus.TheVariants.{BadVersion, MethodNotSupported, AttributeNotSupported, InvalidField, NoResources, RequestInvalid, NoRecords, TooManyRecords, InvalidGid, InsufficientComponents}
 use Rattle.mad_layout.proofs.LayoutLemmas.{length-put_field}
-use Rattle.attr_tables.specs.AgentLaws.{IsAttribute}
-use Rattle.attr_tables.specs.Request.{attribute_asked, is_request, is_set, modifier_of}
-use Rattle.attr_tables.specs.Agent.{Getter, Setter, reply_of}
-use Rattle.attr_tables.specs.Request.{reply_to}
+use Rattle.attr_tables.specs.Attribute.{IsAttribute}
+use Rattle.agent_rules.specs.Request.{attribute_asked, is_request, is_set, modifier_of}
+use Rattle.agent_rules.specs.Agent.{Getter, Setter, reply_of}
+use Rattle.agent_rules.specs.Request.{reply_to}
 use Rattle.attr_tables.specs.SmpAttribute.{smp_attribute_code, smp_attribute_of}
 use Rattle.attr_tables.specs.declared.smp_attribute.SmpAttribute.{SmpAttribute}
 use Rattle.attr_tables.specs.declared.smp_attribute.SmpAttribute.TheVariants.{NodeDescription, NodeInfo, SwitchInfo, PortInfo, PKeyTable, LinearForwardingTable, MulticastForwardingTable}
 use Rattle.port_model.specs.AdapterState.{AdapterState}
 use Rattle.port_model.specs.Agent.{agent_reply as adapter_reply, get as adapter_gives, set as adapter_set}
 use Rattle.switch_model.specs.Agent.{agent_reply as switch_reply, get as switch_gives, set as switch_set}
-use Rattle.attr_tables.proofs.CarryLemmas.{carries}
+use Rattle.agent_rules.proofs.CarryLemmas.{carries}
 use Rattle.fabric_wire.proofs.WalkedLemmas.{carried, no_walk_after, no_walk_reply, walk_after, walk_reply}
 use Rattle.topo_file.specs.declared.cable.PortRef.{PortRef}
 use Rattle.fabric_wire.specs.declared.node.Node.{Node}
@@ -102,8 +102,8 @@ read_given smp bytes long is =
     let reply = reply_to smp (Ok bytes) in
     let wide : length reply ≡ 256 = reply_long smp (Ok bytes) long in
     let low : AllBelowBase 256 reply = reply_below smp (Ok bytes) in
-    let status : field (returned reply) 33 15 ≡ 0 = returned_field reply 33 15 low wide (omega arith) (inr (omega arith)) (inl (omega arith)) ∙ carries.status smp bytes long is in
-    let spelled : number bytes ≡ field reply 512 512 = ap number (sym (carries.attribute smp bytes long is)) ∙ field_aligned reply 64 64 512 512 low (omega (arith, wide)) refl refl in
+    let status : field (returned reply) 33 15 ≡ 0 = returned_field reply 33 15 low wide (omega arith) (inr (omega arith)) (inl (omega arith)) ∙ (carries.attribute smp bytes long is).status in
+    let spelled : number bytes ≡ field reply 512 512 = ap number (sym (carries.attribute smp bytes long is).attribute) ∙ field_aligned reply 64 64 512 512 low (omega (arith, wide)) refl refl in
     let there : number bytes ≡ field (returned reply) 512 512 = spelled ∙ sym (returned_field reply 512 512 low wide (omega arith) (inr (omega arith)) (inr (omega arith))) in
     let carried : take 64 (drop 64 (returned reply)) ≡ bytes = bytes_stand (returned reply) bytes 64 64 (returned_below reply wide) is.small (omega (arith, returned_long reply wide)) is.count there in
     rw status (ap (λ (xs : List ℕ). Some xs) carried)
@@ -124,7 +124,7 @@ read_refused : (smp : List ℕ) (status : MadStatus) → length smp ≡ 256 → 
 read_refused smp status long =
     let reply = reply_to smp (Err status) in
     let wide : length reply ≡ 256 = reply_long smp (Err status) long in
-    let code : field (returned reply) 33 15 ≡ mad_status_code status = returned_field reply 33 15 (reply_below smp (Err status)) wide (omega arith) (inr (omega arith)) (inl (omega arith)) ∙ carries.refusal smp status long in
+    let code : field (returned reply) 33 15 ≡ mad_status_code status = returned_field reply 33 15 (reply_below smp (Err status)) wide (omega arith) (inr (omega arith)) (inl (omega arith)) ∙ (carries.refusal smp status long).code in
     rw (code, never_0 status) refl
 
 -- ---- all of it

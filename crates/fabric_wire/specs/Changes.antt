@@ -3,7 +3,7 @@
 use Rattle.std.specs.Prelude.{ℕ, ◌≡◌, ◌≢◌, false, List, length, slice_get, Some, None}
 use Rattle.std.specs.Int.Digits.{AllBelowBase}
 use Rattle.mad_layout.specs.Bits.{field}
-use Rattle.attr_tables.specs.Request.{is_set}
+use Rattle.agent_rules.specs.Request.{is_set}
 use Rattle.port_model.specs.AdapterState.{AdapterState}
 use Rattle.port_model.specs.Laws.{ChangesAtMost as PortChangesAtMost}
 use Rattle.switch_model.specs.Laws.{ChangesAtMost as SwitchChangesAtMost}

@@ -8,7 +8,7 @@ use Rattle.mad_layout.specs.Method.{method_code}
 use Rattle.mad_layout.specs.declared.method.Method.TheVariants as method
 use Rattle.attr_tables.specs.declared.smp_attribute.SmpAttribute.{SmpAttribute}
 use Rattle.attr_tables.specs.SmpAttribute.{smp_attribute_code}
-use Rattle.attr_tables.specs.Request.{is_request, is_version_1, is_get, modifier_of}
+use Rattle.agent_rules.specs.Request.{is_request, is_version_1, is_get, modifier_of}
 use Rattle.mad_layout.specs.declared.status.MadStatus.{MadStatus}
 use Rattle.port_model.specs.Agent.{get as adapter_gives}
 use Rattle.switch_model.specs.Agent.{get as switch_gives}

@@ -4,7 +4,7 @@ use Rattle.std.specs.Prelude.{ℕ, ◌≡◌, ◌==◌, not, ◌&&◌, ◌||◌,
 use Rattle.std.specs.List.{list_all, range_with_len, IsDistinct}
 use Rattle.std.specs.Str.{bytes_eq}
 use Rattle.std.specs.Option.{option_and_then, option_map_or}
-use Rattle.attr_tables.specs.PortSetting.{is_down}
+use Rattle.agent_rules.specs.PortSetting.{is_down}
 use Rattle.attr_tables.specs.declared.port_info.PortInfo.{PortInfo}
 use Rattle.port_model.specs.AdapterState.{AdapterState}
 use Rattle.topo_file.specs.declared.cable.Cable.{Cable}

@@ -2,8 +2,8 @@
 -- the port by which the request came in (InfiniBand volume 1, chapter 14).
 use Rattle.std.specs.Prelude.{ℕ, zero, suc, ◌==◌, ◌&&◌, ◌||◌, Bool, false, if◌then◌else◌, List}
 use Rattle.std.specs.Option.{option_map_or}
-use Rattle.attr_tables.specs.declared.node_type.NodeType.{NodeType}
-use Rattle.attr_tables.specs.declared.node_type.NodeType.TheVariants.{ChannelAdapter, Switch}
+use Rattle.fabric_parts.specs.declared.node_type.NodeType.{NodeType}
+use Rattle.fabric_parts.specs.declared.node_type.NodeType.TheVariants.{ChannelAdapter, Switch}
 use Rattle.smp_route.specs.Places.{return_port}
 use Rattle.topo_file.specs.declared.cable.Cable.{Cable}
 use Rattle.fabric_wire.specs.declared.node.Node.{Node}

@@ -1,9 +1,9 @@
 -- The fabric that a topology describes, at power-up.
 use Rattle.std.specs.Prelude.{ℕ, ◌+◌, ◌-◌, ◌++◌, if◌then◌else◌, List, map, length, replicate}
 use Rattle.std.specs.List.{enumerate_from, range_with_len}
-use Rattle.attr_tables.specs.declared.link.Link.{Link}
-use Rattle.attr_tables.specs.declared.link.Link.TheVariants.{Cabled, Uncabled}
-use Rattle.attr_tables.specs.declared.power_up.TheConstants.{LINEAR_TABLE, MULTICAST_TABLE}
+use Rattle.agent_rules.specs.declared.link.Link.{Link}
+use Rattle.agent_rules.specs.declared.link.Link.TheVariants.{Cabled, Uncabled}
+use Rattle.agent_rules.specs.declared.power_up.TheConstants.{LINEAR_TABLE, MULTICAST_TABLE}
 use Rattle.port_model.specs.AdapterState.{AdapterState, at_power_up as adapter_at_power_up}
 use Rattle.switch_model.specs.SwitchState.{at_power_up as switch_at_power_up}
 use Rattle.topo_file.specs.declared.cable.Cable.{Cable}

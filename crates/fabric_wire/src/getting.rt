@@ -8,14 +8,15 @@ ghost use Rattle.fabric_wire.specs.Good.{IsGood};
 ghost use Rattle.fabric_wire.specs.Walk.{exchange_after};
 
 use crate::smp_wire::SmpWire;
-use attr_tables::{DIRECTED_ROUTE_CLASS, SMP_VERSION, SmpAttribute};
+use agent_rules::{DIRECTED_ROUTE_CLASS, SMP_VERSION};
+use attr_tables::SmpAttribute;
 use mad_layout::{DrSmp, Header, Mad, Method, known_bytes};
 
 /// The LID at either end of a path that goes by ports alone.
 const PERMISSIVE_LID: u16 = 0xffff;
 
 /// The SMP that asks for that part of an attribute, at the end of that path.
-#[tactic(auto, unfolding(attr_tables::specs::Request::is_request))]
+#[tactic(auto, unfolding(agent_rules::specs::Request::is_request))]
 pub fn get_request(attribute: SmpAttribute, modifier: u32, path: &[u8]) -> Mad
     requires { length path.now ≤ 63 }
     ensures asks { AsksFor attribute modifier path.now result }

@@ -10,7 +10,7 @@ ghost use Rattle.fabric_wire.specs.Walk.{arrival_of, is_sent, path_of, walk};
 use crate::cabling::Cabling;
 use crate::node::Node;
 use crate::walking::{Arrival, is_switch_at};
-use attr_tables::NodeType;
+use fabric_parts::NodeType;
 use mad_layout::Mad;
 use smp_route::{Hop, MAX_HOPS, back, outward};
 use topo_file::PortRef;

@@ -1,10 +1,10 @@
 ghost use Rattle.std.specs.Prelude.{◌≡◌, is_some, unwrap_or, slice_get};
 ghost use Rattle.fabric_wire.specs.FabricState.{adapter_port, adapter_ports_after, node_after, node_reply, port_count};
-ghost use Rattle.attr_tables.specs.Request.{KeepsRest};
+ghost use Rattle.agent_rules.specs.Request.{KeepsRest};
 ghost use Rattle.port_model.specs.Agent.{agent_reply};
 ghost use Rattle.std.specs.Option.{option_and_then};
 
-use attr_tables::{LINEAR_TABLE, MULTICAST_TABLE};
+use agent_rules::{LINEAR_TABLE, MULTICAST_TABLE};
 use mad_layout::Mad;
 use port_model::AdapterPort;
 use std::marker::Model;

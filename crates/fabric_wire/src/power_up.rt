@@ -8,7 +8,7 @@ ghost use Rattle.topo_file.specs.Sound.{is_sized};
 ghost use Rattle.fabric_wire.specs.OfTopology.{adapter_port_of, fabric_of, link_of, links_of, node_of, node_of_kind};
 
 use crate::node::{AdapterPorts, Node};
-use attr_tables::{LINEAR_TABLE, Link, MULTICAST_TABLE};
+use agent_rules::{LINEAR_TABLE, Link, MULTICAST_TABLE};
 use port_model::AdapterPort;
 use std::alloc::{AllocError, Global};
 use switch_model::Switch;

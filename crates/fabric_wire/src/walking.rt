@@ -2,7 +2,7 @@
 
 ghost use Rattle.std.specs.Prelude.{◌≡◌, ◌≤◌, true, option_map, is_some, unwrap_or, slice_get};
 ghost use Rattle.std.specs.Option.{option_and_then};
-ghost use Rattle.attr_tables.specs.Request.{KeepsRest};
+ghost use Rattle.agent_rules.specs.Request.{KeepsRest};
 ghost use Rattle.smp_route.specs.Places.{count};
 ghost use Rattle.topo_file.specs.Cable.{ends_at, is_same_port};
 ghost use Rattle.fabric_wire.specs.FabricState.{far_end, is_port, is_switch, is_switch_at, node_reply, nodes_after, other_end};

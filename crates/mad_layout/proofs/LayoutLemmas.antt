@@ -1,6 +1,7 @@
 -- The laws of layouts, over any list of places.
 use Rattle.std.proofs.Common.{◌≡◌, ℕ, zero, suc, ◌+◌, ◌*◌, ◌-◌, ◌/◌, ◌%◌, ◌^◌, ◌<◌, ◌≤◌, true, ◌&&◌, ◌⊎◌, inl, inr, nat_le, List, [], ◌∷◌, length, replicate, refl, sym, ◌∙◌, ap, subst, arith}
 use Rattle.std.specs.Int.{bytes_high_first}
+use Rattle.std.specs.Int.Digits.{AllBelowBase}
 use Rattle.std.proofs.lemmas.Nat.{shr-shr, shr_high, mod_low, field_of, pow_pos, mod_below}
 use Rattle.std.proofs.lemmas.List.{length-replicate}
 use Rattle.std.proofs.lemmas.Bool.{and_parts, or_cases}
@@ -10,11 +11,15 @@ use Rattle.std.proofs.Math.Nat.{div-eq_of_lt, mod-eq_of_lt}
 use Rattle.byteorder.specs.Numbers.{length-bytes_high_first}
 use Rattle.mad_layout.specs.Bits.{number, digits, field, replaced, put_field}
 use Rattle.mad_layout.specs.Layout.{Place, Holds, Fits, put_all, is_apart, is_free, is_layout, Spells, Sets}
-use Rattle.mad_layout.proofs.NumberLemmas.{number_bytes, number_cons}
+use Rattle.mad_layout.proofs.NumberLemmas.{below_bytes, number_bytes, number_cons}
 
 pub length-put_field : (xs : List ℕ) (off len v : ℕ) → length (put_field xs off len v) ≡ length xs
 unfolding put_field
 length-put_field xs off len v = length-bytes_high_first (length xs) (replaced (number xs) (8 * length xs - (off + len)) len v)
+
+pub put_below : (xs : List ℕ) (off len v : ℕ) → AllBelowBase 256 (put_field xs off len v)
+unfolding put_field
+put_below xs off len v = below_bytes (length xs) (replaced (number xs) (8 * length xs - (off + len)) len v)
 
 -- digits of a number that is cut to more digits than they reach
 digits_of_cut : (n k low len : ℕ) → low + len ≤ k → digits (n % 2 ^ k) low len ≡ digits n low len

@@ -4,15 +4,16 @@ use Rattle.mad_layout.specs.declared.status.MadStatus.TheVariants.{InvalidField}
 use Rattle.attr_tables.specs.declared.port_info.PortInfo.{PortInfo as Info}
 use Rattle.attr_tables.specs.declared.smp_attribute.SmpAttribute.{SmpAttribute}
 use Rattle.attr_tables.specs.declared.smp_attribute.SmpAttribute.TheVariants.{NodeDescription, NodeInfo, SwitchInfo, PortInfo, PKeyTable, LinearForwardingTable, MulticastForwardingTable}
-use Rattle.attr_tables.specs.Agent.{◌>>=◌, shown_at, word_block_set}
+use Rattle.result_words.specs.Steps.{◌>>=◌}
+use Rattle.agent_rules.specs.Agent.{shown_at, set_word_block}
 use Rattle.attr_tables.specs.Blocks.{has_block, with_block}
 use Rattle.attr_tables.specs.PortInfo.{port_info_bytes}
-use Rattle.attr_tables.specs.AgentLaws.{AsksSame}
-use Rattle.attr_tables.specs.PortSetting.{port_info_after, port_setting}
-use Rattle.attr_tables.specs.Request.{attribute_asked, modifier_of}
-use Rattle.attr_tables.proofs.AgentLemmas.{Shows, after_cases, bind_done, guard_ok}
-use Rattle.attr_tables.proofs.PortSettingLemmas.{down_stays, unsettable_stays}
-use Rattle.attr_tables.proofs.TableLemmas.{no_difference, words_differ, words_shown}
+use Rattle.agent_rules.specs.Laws.{AsksSame}
+use Rattle.agent_rules.specs.PortSetting.{port_info_after, port_setting}
+use Rattle.agent_rules.specs.Request.{attribute_asked, modifier_of}
+use Rattle.agent_rules.proofs.AgentLemmas.{Shows, after_cases, bind_done, guard_ok}
+use Rattle.agent_rules.proofs.PortSettingLemmas.{down_stays, unsettable_stays}
+use Rattle.agent_rules.proofs.TableLemmas.{no_difference, words_differ, words_shown}
 use Rattle.port_model.specs.AdapterState.{AdapterState}
 use Rattle.port_model.specs.Agent.{agent_after, get, is_own, set, set_port_info}
 use Rattle.port_model.specs.Laws.{ChangesAtMost}
@@ -34,13 +35,13 @@ info_set held next smp h =
 -- what a Set of the key table leads to
 record KeysSet (held next : AdapterState) (smp : List ℕ) : Type 0 where
   after : List ℕ
-  taken : word_block_set (modifier_of smp) smp held.keys ≡ Ok after
+  taken : set_word_block (modifier_of smp) smp held.keys ≡ Ok after
   same : record held { keys = after } ≡ next
 
 keys_set : (held next : AdapterState) (smp : List ℕ) → set held PKeyTable smp ≡ Ok next → KeysSet held next smp
 unfolding set
 keys_set held next smp h =
-    let b = bind_done (word_block_set (modifier_of smp) smp held.keys) (λ keys. record held { keys = keys }) next h in
+    let b = bind_done (set_word_block (modifier_of smp) smp held.keys) (λ keys. record held { keys = keys }) next h in
     record { after = b.0; taken = b.1; same = b.2 }
 
 -- ---- what is set can be asked for
@@ -54,7 +55,7 @@ info_shown held info modifier own =
     let bytes = port_info_bytes (shown_at held.number info) in
     (bytes, own_given (is_own held modifier) bytes own)
 
-keys_shown : (held : AdapterState) (keys smp : List ℕ) → word_block_set (modifier_of smp) smp held.keys ≡ Ok keys → (bytes : List ℕ) × (get (record held { keys = keys }) PKeyTable (modifier_of smp) ≡ Ok bytes)
+keys_shown : (held : AdapterState) (keys smp : List ℕ) → set_word_block (modifier_of smp) smp held.keys ≡ Ok keys → (bytes : List ℕ) × (get (record held { keys = keys }) PKeyTable (modifier_of smp) ≡ Ok bytes)
 unfolding get
 keys_shown held keys smp h = words_shown (modifier_of smp) smp held.keys keys h
 
@@ -105,7 +106,7 @@ info_changes held info smp asked taken =
       key_block = no_difference 32 (modifier_of smp) held.keys;
     }
 
-keys_change : (held : AdapterState) (keys smp : List ℕ) → attribute_asked smp ≡ Ok PKeyTable → word_block_set (modifier_of smp) smp held.keys ≡ Ok keys → ChangesAtMost held (record held { keys = keys }) smp
+keys_change : (held : AdapterState) (keys smp : List ℕ) → attribute_asked smp ≡ Ok PKeyTable → set_word_block (modifier_of smp) smp held.keys ≡ Ok keys → ChangesAtMost held (record held { keys = keys }) smp
 keys_change held keys smp asked taken =
     record {
       node_guid = refl;

@@ -1,11 +1,12 @@
 -- What an SMP changes of a port: at most what it names.
 use Rattle.std.specs.Prelude.{◌≡◌, ◌≢◌, false, List, ℕ, Ok, IfOk, option_map}
 use Rattle.mad_layout.specs.Bits.{put_field}
-use Rattle.attr_tables.specs.Agent.{answer}
+use Rattle.agent_rules.specs.Agent.{answer}
 use Rattle.attr_tables.specs.declared.smp_attribute.SmpAttribute.TheVariants.{PortInfo, PKeyTable}
-use Rattle.attr_tables.specs.AgentLaws.{DiffersInBlock, IsAttribute, IsSettled, IsUnseenPut, ReadsAlike, unsettable}
-use Rattle.attr_tables.specs.PortSetting.{is_down}
-use Rattle.attr_tables.specs.Request.{attribute_asked, modifier_of}
+use Rattle.agent_rules.specs.Laws.{DiffersInBlock, IsSettled, IsUnseenPut, ReadsAlike, unsettable}
+use Rattle.attr_tables.specs.Attribute.{IsAttribute}
+use Rattle.agent_rules.specs.PortSetting.{is_down}
+use Rattle.agent_rules.specs.Request.{attribute_asked, modifier_of}
 use Rattle.port_model.specs.AdapterState.{AdapterState}
 use Rattle.port_model.specs.Agent.{agent_after, agent_reply, get, set}
 

@@ -1,8 +1,8 @@
 -- The hops of directed-route SMPs (InfiniBand volume 1, chapter 14), at one node: where the SMP goes from
 -- there, and what it is then. A discarded SMP is left as it came.
 use Rattle.std.specs.Prelude.{ℕ, ◌+◌, ◌-◌, ◌==◌, ◌||◌, ◌&&◌, nat_lt, nat_le, if◌then◌else◌, Bool, true, not, List}
-use Rattle.attr_tables.specs.declared.node_type.NodeType.{NodeType}
-use Rattle.attr_tables.specs.declared.node_type.NodeType.TheVariants.{ChannelAdapter, Switch}
+use Rattle.fabric_parts.specs.declared.node_type.NodeType.{NodeType}
+use Rattle.fabric_parts.specs.declared.node_type.NodeType.TheVariants.{ChannelAdapter, Switch}
 use Rattle.smp_route.specs.declared.hop.Hop.{Hop}
 use Rattle.smp_route.specs.declared.hop.Hop.TheVariants.{Forward, ToAgent, ToManager, Discard}
 use Rattle.smp_route.specs.Places.{pointer, count, initial_port, return_port, with_pointer, with_return_port}

@@ -7,18 +7,19 @@ use Rattle.attr_tables.specs.declared.port_info.PortInfo.{PortInfo as Port}
 use Rattle.attr_tables.specs.declared.switch_info.SwitchInfo.{SwitchInfo as Info}
 use Rattle.attr_tables.specs.declared.smp_attribute.SmpAttribute.{SmpAttribute}
 use Rattle.attr_tables.specs.declared.smp_attribute.SmpAttribute.TheVariants.{NodeDescription, NodeInfo, SwitchInfo, PortInfo, PKeyTable, LinearForwardingTable, MulticastForwardingTable}
-use Rattle.attr_tables.specs.Agent.{◌>>=◌, shown_at, word_block, word_block_set}
-use Rattle.attr_tables.specs.AgentLaws.{AsksSame, DiffersInBlock}
+use Rattle.result_words.specs.Steps.{◌>>=◌}
+use Rattle.agent_rules.specs.Agent.{shown_at, word_block, set_word_block}
+use Rattle.agent_rules.specs.Laws.{AsksSame, DiffersInBlock}
 use Rattle.attr_tables.specs.Blocks.{block_of, has_block, with_block}
 use Rattle.attr_tables.specs.PortInfo.{port_info_bytes}
-use Rattle.attr_tables.specs.PortSetting.{port_info_after, port_setting}
-use Rattle.attr_tables.specs.Request.{asked, asked_ports, modifier_of}
+use Rattle.agent_rules.specs.PortSetting.{port_info_after, port_setting}
+use Rattle.agent_rules.specs.Request.{asked, asked_ports, modifier_of}
 use Rattle.attr_tables.specs.SwitchInfo.{switch_info_bytes}
-use Rattle.attr_tables.proofs.AgentLemmas.{Shows, bind_done, bind_ok, guard_ok, passed}
-use Rattle.attr_tables.proofs.PortSettingLemmas.{taken_ok}
-use Rattle.attr_tables.proofs.TableLemmas.{block_differs, given, length-asked_ports, same_blocks, words_shown}
+use Rattle.agent_rules.proofs.AgentLemmas.{Shows, bind_done, bind_ok, guard_ok, passed}
+use Rattle.agent_rules.proofs.PortSettingLemmas.{taken_ok}
+use Rattle.agent_rules.proofs.TableLemmas.{block_differs, given, length-asked_ports, same_blocks, words_shown}
 use Rattle.switch_model.specs.declared.switch_port.SwitchPort.{SwitchPort}
-use Rattle.switch_model.specs.Agent.{get, is_mask_modifier, key_block, key_port, keys_set, linear_set, linear_top_set, mask_block, mask_position, masks_at, masks_set, part_at, port_info_set, set}
+use Rattle.switch_model.specs.Agent.{get, is_mask_modifier, key_block, key_port, set_keys, set_linear, set_linear_top, mask_block, mask_position, masks_at, set_masks, part_at, set_port_info, set}
 use Rattle.switch_model.specs.SwitchState.{SwitchState}
 
 -- a part that is there, and the list with another in its place
@@ -43,7 +44,7 @@ pub record PortSet (held next : SwitchState) (smp : List ℕ) : Type 0 where
 pub port_set : (held next : SwitchState) (smp : List ℕ) → set held PortInfo smp ≡ Ok next → PortSet held next smp
 unfolding set
 port_set held next smp h =
-    let a = bind_done (port_info_set smp held.ports) (λ ports. record held { ports = ports }) next h in
+    let a = bind_done (set_port_info smp held.ports) (λ ports. record held { ports = ports }) next h in
     let b = bind_ok (part_at (modifier_of smp) held.ports) (λ port. port_info_after (nat_lt 0 (modifier_of smp)) port.info (port_setting smp) >>= λ info. Ok (slice_set held.ports (modifier_of smp) (record port { info = info }))) a.0 a.1 in
     let c = bind_done (port_info_after (nat_lt 0 (modifier_of smp)) b.0.info (port_setting smp)) (λ info. slice_set held.ports (modifier_of smp) (record b.0 { info = info })) a.0 b.2 in
     record {
@@ -58,16 +59,16 @@ pub record KeysSet (held next : SwitchState) (smp : List ℕ) : Type 0 where
   pub port : SwitchPort
   pub there : part_at (key_port (modifier_of smp)) held.ports ≡ Ok port
   pub after : List ℕ
-  pub taken : word_block_set (key_block (modifier_of smp)) smp port.keys ≡ Ok after
+  pub taken : set_word_block (key_block (modifier_of smp)) smp port.keys ≡ Ok after
   pub same : record held { ports = slice_set held.ports (key_port (modifier_of smp)) (record port { keys = after }) } ≡ next
 
 pub keys_are_set : (held next : SwitchState) (smp : List ℕ) → set held PKeyTable smp ≡ Ok next → KeysSet held next smp
 unfolding set
 keys_are_set held next smp h =
     let n = key_port (modifier_of smp) in
-    let a = bind_done (keys_set smp held.ports) (λ ports. record held { ports = ports }) next h in
-    let b = bind_ok (part_at n held.ports) (λ port. word_block_set (key_block (modifier_of smp)) smp port.keys >>= λ keys. Ok (slice_set held.ports n (record port { keys = keys }))) a.0 a.1 in
-    let c = bind_done (word_block_set (key_block (modifier_of smp)) smp b.0.keys) (λ keys. slice_set held.ports n (record b.0 { keys = keys })) a.0 b.2 in
+    let a = bind_done (set_keys smp held.ports) (λ ports. record held { ports = ports }) next h in
+    let b = bind_ok (part_at n held.ports) (λ port. set_word_block (key_block (modifier_of smp)) smp port.keys >>= λ keys. Ok (slice_set held.ports n (record port { keys = keys }))) a.0 a.1 in
+    let c = bind_done (set_word_block (key_block (modifier_of smp)) smp b.0.keys) (λ keys. slice_set held.ports n (record b.0 { keys = keys })) a.0 b.2 in
     record {
       port = b.0;
       there = b.1;
@@ -83,7 +84,7 @@ pub record TopSet (held next : SwitchState) (smp : List ℕ) : Type 0 where
 pub top_set : (held next : SwitchState) (smp : List ℕ) → set held SwitchInfo smp ≡ Ok next → TopSet held next smp
 unfolding set
 top_set held next smp h =
-    let a = bind_done (linear_top_set smp (length held.linear) held.info) (λ info. record held { info = info }) next h in
+    let a = bind_done (set_linear_top smp (length held.linear) held.info) (λ info. record held { info = info }) next h in
     let t = taken_ok ((modifier_of smp == 0) && nat_lt (asked smp 48 16) (length held.linear)) (record held.info { linear_fdb_top = asked smp 48 16 }) a.0 InvalidField a.1 in
     record {
       whole = (and_parts (modifier_of smp == 0) (nat_lt (asked smp 48 16) (length held.linear)) t.0).0;
@@ -97,7 +98,7 @@ pub record LinearSet (held next : SwitchState) (smp : List ℕ) : Type 0 where
 pub linear_is_set : (held next : SwitchState) (smp : List ℕ) → set held LinearForwardingTable smp ≡ Ok next → LinearSet held next smp
 unfolding set
 linear_is_set held next smp h =
-    let a = bind_done (linear_set smp held.linear) (λ linear. record held { linear = linear }) next h in
+    let a = bind_done (set_linear smp held.linear) (λ linear. record held { linear = linear }) next h in
     let t = taken_ok (has_block 64 (modifier_of smp) held.linear) (with_block 64 (modifier_of smp) (asked_ports smp) held.linear) a.0 InvalidField a.1 in
     record { there = t.0; same = ap (λ (linear : List ℕ). record held { linear = linear }) t.1 ∙ a.2 }
 
@@ -106,17 +107,17 @@ pub record MasksSet (held next : SwitchState) (smp : List ℕ) : Type 0 where
   pub words : List ℕ
   pub there : part_at (mask_position (modifier_of smp)) held.masks ≡ Ok words
   pub after : List ℕ
-  pub taken : word_block_set (mask_block (modifier_of smp)) smp words ≡ Ok after
+  pub taken : set_word_block (mask_block (modifier_of smp)) smp words ≡ Ok after
   pub same : record held { masks = slice_set held.masks (mask_position (modifier_of smp)) after } ≡ next
 
 pub masks_are_set : (held next : SwitchState) (smp : List ℕ) → set held MulticastForwardingTable smp ≡ Ok next → MasksSet held next smp
 unfolding set
 masks_are_set held next smp h =
     let p = mask_position (modifier_of smp) in
-    let a = bind_done (masks_set smp held.masks) (λ masks. record held { masks = masks }) next h in
-    let b = bind_ok (masks_at (modifier_of smp) held.masks) (λ words. word_block_set (mask_block (modifier_of smp)) smp words >>= λ after. Ok (slice_set held.masks p after)) a.0 a.1 in
+    let a = bind_done (set_masks smp held.masks) (λ masks. record held { masks = masks }) next h in
+    let b = bind_ok (masks_at (modifier_of smp) held.masks) (λ words. set_word_block (mask_block (modifier_of smp)) smp words >>= λ after. Ok (slice_set held.masks p after)) a.0 a.1 in
     let g = guard_ok (is_mask_modifier (modifier_of smp)) (part_at p held.masks) InvalidField b.0 b.1 in
-    let c = bind_done (word_block_set (mask_block (modifier_of smp)) smp b.0) (λ after. slice_set held.masks p after) a.0 b.2 in
+    let c = bind_done (set_word_block (mask_block (modifier_of smp)) smp b.0) (λ after. slice_set held.masks p after) a.0 b.2 in
     record {
       is_modifier = g.0;
       words = b.0;

@@ -4,12 +4,12 @@ use Rattle.std.proofs.Math.ListN.{length-set}
 use Rattle.attr_tables.specs.declared.port_info.PortInfo.{PortInfo as Port}
 use Rattle.attr_tables.specs.declared.smp_attribute.SmpAttribute.{SmpAttribute}
 use Rattle.attr_tables.specs.declared.smp_attribute.SmpAttribute.TheVariants.{NodeDescription, NodeInfo, SwitchInfo, PortInfo, PKeyTable, LinearForwardingTable, MulticastForwardingTable}
-use Rattle.attr_tables.specs.Agent.{word_block_set}
-use Rattle.attr_tables.specs.PortSetting.{port_info_after, port_setting}
-use Rattle.attr_tables.specs.Request.{attribute_asked, modifier_of}
-use Rattle.attr_tables.proofs.AgentLemmas.{after_cases}
-use Rattle.attr_tables.proofs.PortSettingLemmas.{down_stays, unsettable_stays}
-use Rattle.attr_tables.proofs.TableLemmas.{no_difference, words_differ}
+use Rattle.agent_rules.specs.Agent.{set_word_block}
+use Rattle.agent_rules.specs.PortSetting.{port_info_after, port_setting}
+use Rattle.agent_rules.specs.Request.{attribute_asked, modifier_of}
+use Rattle.agent_rules.proofs.AgentLemmas.{after_cases}
+use Rattle.agent_rules.proofs.PortSettingLemmas.{down_stays, unsettable_stays}
+use Rattle.agent_rules.proofs.TableLemmas.{no_difference, words_differ}
 use Rattle.switch_model.specs.declared.switch_port.SwitchPort.{SwitchPort}
 use Rattle.switch_model.specs.Agent.{agent_after, key_block, key_port, mask_block, mask_position, part_at, set}
 use Rattle.switch_model.specs.Laws.{ChangesAtMost, MasksChangeAtMost, PortChangesAtMost}
@@ -57,7 +57,7 @@ info_changes smp port info is taken =
       key_block = no_difference 32 (key_block (modifier_of smp)) port.keys;
     }
 
-keys_change : (smp : List ℕ) (port : SwitchPort) (keys : List ℕ) → attribute_asked smp ≡ Ok PKeyTable → word_block_set (key_block (modifier_of smp)) smp port.keys ≡ Ok keys → PortChangesAtMost smp (key_port (modifier_of smp)) port (record port { keys = keys })
+keys_change : (smp : List ℕ) (port : SwitchPort) (keys : List ℕ) → attribute_asked smp ≡ Ok PKeyTable → set_word_block (key_block (modifier_of smp)) smp port.keys ≡ Ok keys → PortChangesAtMost smp (key_port (modifier_of smp)) port (record port { keys = keys })
 keys_change smp port keys is taken =
     record {
       info = λ other. refl;
@@ -67,7 +67,7 @@ keys_change smp port keys is taken =
       key_block = words_differ (key_block (modifier_of smp)) smp port.keys keys taken;
     }
 
-masks_change : (smp words masks : List ℕ) → attribute_asked smp ≡ Ok MulticastForwardingTable → word_block_set (mask_block (modifier_of smp)) smp words ≡ Ok masks → MasksChangeAtMost smp (mask_position (modifier_of smp)) words masks
+masks_change : (smp words masks : List ℕ) → attribute_asked smp ≡ Ok MulticastForwardingTable → set_word_block (mask_block (modifier_of smp)) smp words ≡ Ok masks → MasksChangeAtMost smp (mask_position (modifier_of smp)) words masks
 masks_change smp words masks is taken =
     record { masks = λ other. neither is refl other; block = words_differ (mask_block (modifier_of smp)) smp words masks taken }
 

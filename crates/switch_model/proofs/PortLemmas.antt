@@ -2,8 +2,8 @@
 use Rattle.std.proofs.Common.{◌≡◌, ℕ, zero, suc, ◌+◌, ◌<◌, List, [], ◌∷◌, ◌++◌, length, get_or, refl, ◌∙◌, ap, arith, slice_set, slice_get, option_map, Some}
 use Rattle.std.proofs.lemmas.List.Elements.{All-set, All-append, All-from_get_or}
 use Rattle.mad_layout.specs.Layout.{Fits}
-use Rattle.attr_tables.specs.declared.link.Link.{Link}
-use Rattle.attr_tables.specs.declared.link.Link.TheVariants.{Internal}
+use Rattle.agent_rules.specs.declared.link.Link.{Link}
+use Rattle.agent_rules.specs.declared.link.Link.TheVariants.{Internal}
 use Rattle.attr_tables.specs.PortInfo.{port_info}
 use Rattle.switch_model.specs.declared.switch_port.SwitchPort.{SwitchPort}
 use Rattle.switch_model.specs.SwitchState.{AllFit, port_at_power_up, ports_from}

@@ -1,14 +1,15 @@
 -- What an SMP changes of a switch: at most what it names.
 use Rattle.std.specs.Prelude.{ℕ, ◌≡◌, ◌≢◌, ◌⊎◌, nat_lt, List, [], ◌∷◌, length, get_or, slice_get, option_map, Ok, IfOk}
 use Rattle.mad_layout.specs.Bits.{put_field}
-use Rattle.attr_tables.specs.Agent.{answer}
-use Rattle.attr_tables.specs.declared.link.Link.{Link}
-use Rattle.attr_tables.specs.declared.link.Link.TheVariants.{Internal}
+use Rattle.agent_rules.specs.Agent.{answer}
+use Rattle.agent_rules.specs.declared.link.Link.{Link}
+use Rattle.agent_rules.specs.declared.link.Link.TheVariants.{Internal}
 use Rattle.attr_tables.specs.declared.smp_attribute.SmpAttribute.TheVariants.{SwitchInfo, PortInfo, PKeyTable, LinearForwardingTable, MulticastForwardingTable}
 use Rattle.attr_tables.specs.declared.switch_info.SwitchInfo.{SwitchInfo as Info}
-use Rattle.attr_tables.specs.AgentLaws.{DiffersInBlock, IsAttribute, IsSettled, IsUnseenPut, ReadsAlike, unsettable}
-use Rattle.attr_tables.specs.PortSetting.{is_down}
-use Rattle.attr_tables.specs.Request.{attribute_asked, modifier_of}
+use Rattle.agent_rules.specs.Laws.{DiffersInBlock, IsSettled, IsUnseenPut, ReadsAlike, unsettable}
+use Rattle.attr_tables.specs.Attribute.{IsAttribute}
+use Rattle.agent_rules.specs.PortSetting.{is_down}
+use Rattle.agent_rules.specs.Request.{attribute_asked, modifier_of}
 use Rattle.switch_model.specs.declared.switch_port.SwitchPort.{SwitchPort}
 use Rattle.switch_model.specs.Agent.{agent_after, agent_reply, get, set, key_block, key_port, mask_block, mask_position}
 use Rattle.switch_model.specs.SwitchState.{SwitchState, port_at_power_up, ports_from}

@@ -3,7 +3,9 @@
 use crate::agents::fixtures::{
     adapter_port, adapter_port_info, attribute_with, get, reply, set, switch, with_byte,
 };
-use attr_tables::{Link, NodeInfo, NodeType, PortInfo, PortState, SmpAttribute, SwitchInfo};
+use agent_rules::Link;
+use attr_tables::{NodeInfo, PortInfo, PortState, SmpAttribute, SwitchInfo};
+use fabric_parts::NodeType;
 use mad_layout::{DrSmp, Header, MadStatus};
 use port_model::AdapterPort;
 

@@ -2,8 +2,8 @@ use Rattle.std.proofs.Common.{◌≡◌, ℕ, ◌+◌, ◌<◌, List, [], ◌∷
 use Rattle.std.proofs.lemmas.List.{take_more}
 use Rattle.mad_layout.specs.Layout.{Fits}
 use Rattle.attr_tables.specs.PortInfo.{port_info}
-use Rattle.attr_tables.specs.declared.link.Link.{Link}
-use Rattle.attr_tables.specs.declared.link.Link.TheVariants.{Cabled, Internal}
+use Rattle.agent_rules.specs.declared.link.Link.{Link}
+use Rattle.agent_rules.specs.declared.link.Link.TheVariants.{Cabled, Internal}
 use Rattle.switch_model.specs.declared.switch_port.SwitchPort.{SwitchPort}
 use Rattle.switch_model.specs.SwitchState.{AllFit, port_at_power_up, ports_from}
 use Rattle.switch_model.proofs.PortLemmas.{grown_fits, length-ports_from, ports_from_more}

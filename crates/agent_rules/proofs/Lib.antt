@@ -1,0 +1,6 @@
+pub mod RequestLemmas
+pub mod PortSettingLemmas
+pub mod AgentLemmas
+pub mod TableLemmas
+pub mod CarryLemmas
+pub mod UnseenLemmas
