@@ -3,34 +3,34 @@ use Rattle.std.proofs.lemmas.Bool.{leb-false, ltb-false}
 use Rattle.std.proofs.lemmas.Grind.{common_steps}
 use Rattle.std.proofs.lemmas.List.Sums.{sum_by-append}
 use Rattle.topo_file.specs.declared.node.Node.{Node}
-use Rattle.topo_file.specs.declared.node.NodeKind.{NodeKind}
-use Rattle.topo_file.specs.declared.node.NodeKind.TheVariants.{Switch, Adapter}
+use Rattle.fabric_parts.specs.declared.node_type.NodeType.{NodeType}
+use Rattle.fabric_parts.specs.declared.node_type.NodeType.TheVariants.{Switch, ChannelAdapter}
 use Rattle.topo_file.specs.Node.{IsWithinLimits, adapter_ports, is_one_too_many, port_guids, switch_count}
 
-abbrev switch_count_of : NodeKind → ℕ
+abbrev switch_count_of : NodeType → ℕ
 switch_count_of Switch = 1
-switch_count_of Adapter = 0
+switch_count_of ChannelAdapter = 0
 
-switches_of : (node : Node) (kind : NodeKind) → node.kind ≡ kind → switch_count (node ∷ []) ≡ switch_count_of kind
+switches_of : (node : Node) (node_type : NodeType) → node.node_type ≡ node_type → switch_count (node ∷ []) ≡ switch_count_of node_type
 switches_of node Switch e = rw e refl
-switches_of node Adapter e = rw e refl
+switches_of node ChannelAdapter e = rw e refl
 
 switches_more : (nodes : List Node) (node : Node) → switch_count (nodes ++ node ∷ []) ≡ switch_count nodes + switch_count (node ∷ [])
 switches_more nodes node = grind (arith, common_steps)
 
-ports_more : (nodes : List Node) (node : Node) → adapter_ports (nodes ++ node ∷ []) ≡ adapter_ports nodes + port_guids node.kind node.ports
-ports_more nodes node = sum_by-append (λ n. port_guids n.kind n.ports) nodes (node ∷ []) ∙ ap (λ k. adapter_ports nodes + k) (omega arith)
+ports_more : (nodes : List Node) (node : Node) → adapter_ports (nodes ++ node ∷ []) ≡ adapter_ports nodes + port_guids node.node_type node.ports
+ports_more nodes node = sum_by-append (λ n. port_guids n.node_type n.ports) nodes (node ∷ []) ∙ ap (λ k. adapter_ports nodes + k) (omega arith)
 
-more_of_kind : (nodes : List Node) (node : Node) (kind : NodeKind) → node.kind ≡ kind → IsWithinLimits nodes → is_one_too_many nodes kind node.ports ≡ false → IsWithinLimits (nodes ++ node ∷ [])
-more_of_kind nodes node Switch e within room = (
+more_of_type : (nodes : List Node) (node : Node) (node_type : NodeType) → node.node_type ≡ node_type → IsWithinLimits nodes → is_one_too_many nodes node_type node.ports ≡ false → IsWithinLimits (nodes ++ node ∷ [])
+more_of_type nodes node Switch e within room = (
   omega (arith, switches_more nodes node, switches_of node Switch e, leb-false 64 (switch_count nodes) room),
   omega (arith, ports_more nodes node, ap (λ k. port_guids k node.ports) e),
 )
-more_of_kind nodes node Adapter e within room = (
-  omega (arith, switches_more nodes node, switches_of node Adapter e),
+more_of_type nodes node ChannelAdapter e within room = (
+  omega (arith, switches_more nodes node, switches_of node ChannelAdapter e),
   omega (arith, ports_more nodes node, ap (λ k. port_guids k node.ports) e, ltb-false 256 (adapter_ports nodes + node.ports) room),
 )
 
 -- a node that is not one too many keeps the limits
-pub within_limits_more : (nodes : List Node) (node : Node) → IsWithinLimits nodes → is_one_too_many nodes node.kind node.ports ≡ false → IsWithinLimits (nodes ++ node ∷ [])
-within_limits_more nodes node within room = more_of_kind nodes node node.kind refl within room
+pub within_limits_more : (nodes : List Node) (node : Node) → IsWithinLimits nodes → is_one_too_many nodes node.node_type node.ports ≡ false → IsWithinLimits (nodes ++ node ∷ [])
+within_limits_more nodes node within room = more_of_type nodes node node.node_type refl within room

@@ -1,19 +1,19 @@
 use Rattle.std.proofs.Common.{◌≡◌, ◌≢◌, ℕ, List, [], ◌∷◌, length, Option, Err, refl}
-use Rattle.topo_file.specs.declared.cable.Cable.{Cable}
+use Rattle.fabric_parts.specs.declared.cable.Cable.{Cable}
 use Rattle.topo_file.specs.declared.fault.TopologyCause.TheVariants.{Malformed}
 use Rattle.topo_file.specs.declared.node.Node.{Node}
-use Rattle.topo_file.specs.declared.node.NodeKind.{NodeKind}
+use Rattle.fabric_parts.specs.declared.node_type.NodeType.{NodeType}
 use Rattle.topo_file.specs.declared.draft.Manager.{Manager}
 use Rattle.topo_file.specs.Topology.{node_of, cable_of, manager_of}
 
 -- lines with another number of words than theirs
-pub node_of-other : (kind : NodeKind) (nodes : List Node) (words : List (List ℕ)) → length words ≢ 3 → node_of kind nodes words ≡ Err Malformed
+pub node_of-other : (node_type : NodeType) (nodes : List Node) (words : List (List ℕ)) → length words ≢ 3 → node_of node_type nodes words ≡ Err Malformed
 unfolding node_of
-node_of-other kind nodes [] h = refl
-node_of-other kind nodes (a ∷ []) h = refl
-node_of-other kind nodes (a ∷ b ∷ []) h = refl
-node_of-other kind nodes (a ∷ b ∷ c ∷ []) h = absurd (h refl)
-node_of-other kind nodes (a ∷ b ∷ c ∷ d ∷ rest) h = refl
+node_of-other node_type nodes [] h = refl
+node_of-other node_type nodes (a ∷ []) h = refl
+node_of-other node_type nodes (a ∷ b ∷ []) h = refl
+node_of-other node_type nodes (a ∷ b ∷ c ∷ []) h = absurd (h refl)
+node_of-other node_type nodes (a ∷ b ∷ c ∷ d ∷ rest) h = refl
 
 pub cable_of-other : (nodes : List Node) (cables : List Cable) (words : List (List ℕ)) → length words ≢ 2 → cable_of nodes cables words ≡ Err Malformed
 unfolding cable_of

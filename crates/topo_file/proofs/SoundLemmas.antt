@@ -4,12 +4,12 @@ use Rattle.std.specs.Str.{bytes_eq}
 use Rattle.std.proofs.lemmas.Bool.{and_parts, and_from}
 use Rattle.std.proofs.lemmas.Bool.Decides.{nat_tests}
 use Rattle.std.proofs.lemmas.List.Elements.{All-nil, All-push}
-use Rattle.topo_file.specs.declared.cable.Cable.{Cable}
-use Rattle.topo_file.specs.declared.cable.PortRef.{PortRef}
+use Rattle.fabric_parts.specs.declared.cable.Cable.{Cable}
+use Rattle.fabric_parts.specs.declared.cable.PortRef.{PortRef}
 use Rattle.topo_file.specs.declared.node.Node.{Node}
 use Rattle.topo_file.specs.declared.draft.Manager.{Manager}
 use Rattle.topo_file.specs.Node.{HasGuids, is_one_too_many, is_switch_at, last_guid, ports_at, shares_guid}
-use Rattle.topo_file.specs.Cable.{ends_at, is_cabled, is_same_port}
+use Rattle.fabric_parts.specs.Cable.{ends_at, is_cabled, is_same_port}
 use Rattle.topo_file.specs.Sound.{is_named, is_port, is_sized, ends_at_ports, is_manager_port, joins_right, on_adapter, shares_name, shares_port, AreSound, IsSoundSoFar}
 use Rattle.topo_file.specs.Topology.{Declarations, nothing}
 use Rattle.topo_file.proofs.AcceptedLemmas.{IsNewNode, IsNewCable}
@@ -36,18 +36,18 @@ ends_still nodes node (cable ∷ cables) h =
     (and_from (is_port (nodes ++ node ∷ []) cable.first) _ (is_port_still nodes node cable.first ends.0) (is_port_still nodes node cable.second ends.1))
     (ends_still nodes node cables parts.1)
 
-kind_still : (nodes : List Node) (node : Node) (place number : ℕ) → (nat_le 1 number && nat_le number (ports_at nodes place)) ≡ true → is_switch_at (nodes ++ node ∷ []) place ≡ is_switch_at nodes place
-kind_still [] node place number h = absurd (let none = none_at number in cc)
+type_still : (nodes : List Node) (node : Node) (place number : ℕ) → (nat_le 1 number && nat_le number (ports_at nodes place)) ≡ true → is_switch_at (nodes ++ node ∷ []) place ≡ is_switch_at nodes place
+type_still [] node place number h = absurd (let none = none_at number in cc)
   where
     none_at : (number : ℕ) → (nat_le 1 number && nat_le number 0) ≡ false
     none_at number = grind (arith, nat_tests)
-kind_still (first ∷ nodes) node zero number h = refl
-kind_still (first ∷ nodes) node (suc place) number h = kind_still nodes node place number h
+type_still (first ∷ nodes) node zero number h = refl
+type_still (first ∷ nodes) node (suc place) number h = type_still nodes node place number h
 
 manager_port_still : (nodes : List Node) (node : Node) (port : PortRef) → is_manager_port nodes port ≡ true → is_manager_port (nodes ++ node ∷ []) port ≡ true
 manager_port_still nodes node port h =
     let parts = and_parts (not (is_switch_at nodes port.node)) (is_port nodes port) h in
-    and_from (not (is_switch_at (nodes ++ node ∷ []) port.node)) _ (rw (kind_still nodes node port.node port.port parts.1) parts.0) (is_port_still nodes node port parts.1)
+    and_from (not (is_switch_at (nodes ++ node ∷ []) port.node)) _ (rw (type_still nodes node port.node port.port parts.1) parts.0) (is_port_still nodes node port parts.1)
 
 manager_still : (nodes : List Node) (node : Node) (manager : Option Manager) → on_adapter nodes manager ≡ true → on_adapter (nodes ++ node ∷ []) manager ≡ true
 manager_still nodes node None h = refl
@@ -135,7 +135,7 @@ nothing_sound = record {
 join_still : (nodes : List Node) (node : Node) (cable : Cable) → ends_at_ports nodes cable ≡ true → joins_right nodes cable ≡ true → joins_right (nodes ++ node ∷ []) cable ≡ true
 join_still nodes node cable ends joins =
     let parts = and_parts (is_port nodes cable.first) (is_port nodes cable.second) ends in
-    rw (kind_still nodes node cable.first.node cable.first.port parts.0, kind_still nodes node cable.second.node cable.second.port parts.1) joins
+    rw (type_still nodes node cable.first.node cable.first.port parts.0, type_still nodes node cable.second.node cable.second.port parts.1) joins
 
 joins_still : (nodes : List Node) (node : Node) (cables : List Cable) → list_all (ends_at_ports nodes) cables ≡ true → list_all (joins_right nodes) cables ≡ true
     → list_all (joins_right (nodes ++ node ∷ [])) cables ≡ true
@@ -145,7 +145,7 @@ joins_still nodes node (cable ∷ cables) ends joins =
     let j = and_parts (joins_right nodes cable) _ joins in
     and_from (joins_right (nodes ++ node ∷ []) cable) _ (join_still nodes node cable e.0 j.0) (joins_still nodes node cables e.1 j.1)
 
-lines_still : (nodes : List Node) (node : Node) (cables : List Cable) → AreSound nodes cables → HasGuids node → is_one_too_many nodes node.kind node.ports ≡ false → IsNewNode nodes node → AreSound (nodes ++ node ∷ []) cables
+lines_still : (nodes : List Node) (node : Node) (cables : List Cable) → AreSound nodes cables → HasGuids node → is_one_too_many nodes node.node_type node.ports ≡ false → IsNewNode nodes node → AreSound (nodes ++ node ∷ []) cables
 lines_still nodes node cables sound guids room new = record {
   names = all_more is_named nodes node sound.names new.named;
   own_names = distinct_more shares_name (λ a b. name_turned a.name b.name) nodes node sound.own_names new.own_name;
@@ -159,7 +159,7 @@ lines_still nodes node cables sound guids room new = record {
 }
 
 -- a node with GUIDs of its own and room for it leaves all sound
-pub sound_still : (so_far : Declarations) (node : Node) → IsSoundSoFar so_far → HasGuids node → is_one_too_many so_far.nodes node.kind node.ports ≡ false → IsNewNode so_far.nodes node
+pub sound_still : (so_far : Declarations) (node : Node) → IsSoundSoFar so_far → HasGuids node → is_one_too_many so_far.nodes node.node_type node.ports ≡ false → IsNewNode so_far.nodes node
     → IsSoundSoFar (record so_far { nodes = so_far.nodes ++ node ∷ [] })
 sound_still so_far node sound guids room new = record {
   lines = lines_still so_far.nodes node so_far.cables sound.lines guids room new;

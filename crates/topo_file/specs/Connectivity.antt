@@ -1,7 +1,7 @@
 -- Whether cables join all switches.
 use Rattle.std.specs.Prelude.{◌≡◌, ℕ, zero, suc, Bool, true, ◌==◌, ◌&&◌, ◌||◌, List, [], ◌∷◌, length, filter}
 use Rattle.std.specs.List.{list_any, list_all, range_with_len}
-use Rattle.topo_file.specs.declared.cable.Cable.{Cable}
+use Rattle.fabric_parts.specs.declared.cable.Cable.{Cable}
 use Rattle.topo_file.specs.declared.node.Node.{Node}
 use Rattle.topo_file.specs.Node.{is_switch_at, switch_count}
 

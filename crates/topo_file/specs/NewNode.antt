@@ -4,4 +4,4 @@ use Rattle.topo_file.specs.declared.node.Node.{Node}
 
 -- the node that it becomes
 abbrev pub seen : NewNode → Node
-seen node = record { name = node.name.now; kind = node.kind; guid = node.guid; ports = node.ports }
+seen node = record { name = node.name.now; node_type = node.node_type; guid = node.guid; ports = node.ports }

@@ -1,18 +1,17 @@
 -- Nodes: switches and adapters, their names, ports and GUIDs.
-use Rattle.std.specs.Prelude.{ℕ, ◌+◌, ◌^◌, ◌<◌, ◌≤◌, Bool, true, false, ◌&&◌, ◌||◌, nat_le, nat_lt, List, position, count_by, sum_by, slice_get, Option}
+use Rattle.std.specs.Prelude.{ℕ, ◌+◌, ◌^◌, ◌<◌, ◌≤◌, Bool, false, ◌&&◌, ◌||◌, nat_le, nat_lt, List, position, count_by, sum_by, slice_get, Option}
 use Rattle.std.specs.List.{list_any}
 use Rattle.std.specs.Option.{option_map_or}
 use Rattle.std.specs.Str.{bytes_eq}
+use Rattle.fabric_parts.specs.declared.cable.PortRef.{PortRef}
+use Rattle.fabric_parts.specs.declared.node_type.NodeType.{NodeType}
+use Rattle.fabric_parts.specs.declared.node_type.NodeType.TheVariants.{Switch, ChannelAdapter}
+use Rattle.fabric_parts.specs.NodeType.{is_switch_type}
 use Rattle.topo_file.specs.declared.node.Node.{Node}
-use Rattle.topo_file.specs.declared.node.NodeKind.{NodeKind}
-use Rattle.topo_file.specs.declared.node.NodeKind.TheVariants.{Switch, Adapter}
-
-abbrev pub is_switch_kind : NodeKind → Bool
-is_switch_kind Switch = true
-is_switch_kind Adapter = false
+use Rattle.topo_file.specs.declared.node.TheConstants.{SWITCHES, ADAPTER_PORTS}
 
 abbrev pub is_switch : Node → Bool
-is_switch node = is_switch_kind node.kind
+is_switch node = is_switch_type node.node_type
 
 -- where the node of this name stands among the nodes
 abbrev pub place_of : List ℕ → List Node → Option ℕ
@@ -26,18 +25,22 @@ is_switch_at nodes place = option_map_or is_switch (slice_get nodes place) false
 abbrev pub ports_at : List Node → ℕ → ℕ
 ports_at nodes place = option_map_or (λ node. node.ports) (slice_get nodes place) 0
 
--- the GUID of the node there
-abbrev pub guid_at : List Node → ℕ → ℕ
-guid_at nodes place = option_map_or (λ node. node.guid) (slice_get nodes place) 0
+-- port p of an adapter has the GUID that is p above its node's
+abbrev pub port_guid : Node → ℕ → ℕ
+port_guid node number = node.guid + number
 
--- a switch has one GUID for itself and its port 0; port p of an adapter with GUID g has the GUID g + p. So the GUIDs of
--- a node follow one another, from its own to the last.
-abbrev pub port_guids : NodeKind → ℕ → ℕ
+-- of a port of the adapter there; 0, which is no GUID, where there is no node
+abbrev pub port_guid_at : List Node → PortRef → ℕ
+port_guid_at nodes port = option_map_or (λ node. port_guid node port.port) (slice_get nodes port.node) 0
+
+-- a switch has one GUID, for itself and its port 0; an adapter has one for each of its ports besides. So the GUIDs of a
+-- node follow one another, from its own to the last.
+abbrev pub port_guids : NodeType → ℕ → ℕ
 port_guids Switch ports = 0
-port_guids Adapter ports = ports
+port_guids ChannelAdapter ports = ports
 
 abbrev pub last_guid : Node → ℕ
-last_guid node = node.guid + port_guids node.kind node.ports
+last_guid node = port_guid node (port_guids node.node_type node.ports)
 
 -- all GUIDs of the node have 64 bits
 abbrev pub HasGuids : Node → Type 0
@@ -51,23 +54,18 @@ shares_guid a b = nat_le a.guid (last_guid b) && nat_le b.guid (last_guid a)
 abbrev pub lacks_guids : List Node → Node → Bool
 lacks_guids nodes node = nat_le (2 ^ 64) (last_guid node) || list_any (λ other. shares_guid node other) nodes
 
--- a switch has 1 to 36 ports, an adapter 1 to 8
-abbrev pub most_ports : NodeKind → ℕ
-most_ports Switch = 36
-most_ports Adapter = 8
-
 abbrev pub switch_count : List Node → ℕ
 switch_count nodes = count_by is_switch nodes
 
 -- how many ports the adapters have, all together
 abbrev pub adapter_ports : List Node → ℕ
-adapter_ports nodes = sum_by (λ node. port_guids node.kind node.ports) nodes
+adapter_ports nodes = sum_by (λ node. port_guids node.node_type node.ports) nodes
 
 -- a fabric has at most 64 switches, and 256 adapter ports in all, so that no such node may follow these
-abbrev pub is_one_too_many : List Node → NodeKind → ℕ → Bool
+abbrev pub is_one_too_many : List Node → NodeType → ℕ → Bool
 is_one_too_many nodes Switch ports = nat_le 64 (switch_count nodes)
-is_one_too_many nodes Adapter ports = nat_lt 256 (adapter_ports nodes + ports)
+is_one_too_many nodes ChannelAdapter ports = nat_lt 256 (adapter_ports nodes + ports)
 
 -- no limit is passed
 abbrev pub IsWithinLimits : List Node → Type 0
-IsWithinLimits nodes = (switch_count nodes ≤ 64) × (adapter_ports nodes ≤ 256)
+IsWithinLimits nodes = (switch_count nodes ≤ SWITCHES) × (adapter_ports nodes ≤ ADAPTER_PORTS)

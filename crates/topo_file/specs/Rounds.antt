@@ -2,7 +2,7 @@
 -- finds is `is_connected` of Connectivity, and no other definition stands on this one.
 use Rattle.std.specs.Prelude.{ℕ, zero, suc, Bool, true, false, not, ◌==◌, ◌&&◌, ◌||◌, List, map, slice_get, Option, Some, None, position, unwrap_or}
 use Rattle.std.specs.List.{list_any, list_all, enumerate_from}
-use Rattle.topo_file.specs.declared.cable.Cable.{Cable}
+use Rattle.fabric_parts.specs.declared.cable.Cable.{Cable}
 use Rattle.topo_file.specs.declared.node.Node.{Node}
 use Rattle.topo_file.specs.Node.{is_switch, switch_count}
 

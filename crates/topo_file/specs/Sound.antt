@@ -3,12 +3,14 @@ use Rattle.std.specs.Prelude.{◌≡◌, Bool, true, not, ◌&&◌, ◌||◌, na
 use Rattle.std.specs.List.{list_all, IsDistinct}
 use Rattle.std.specs.Str.{bytes_eq}
 use Rattle.text_words.specs.Words.{is_name}
-use Rattle.topo_file.specs.declared.cable.Cable.{Cable}
-use Rattle.topo_file.specs.declared.cable.PortRef.{PortRef}
+use Rattle.fabric_parts.specs.declared.cable.Cable.{Cable}
+use Rattle.fabric_parts.specs.declared.cable.PortRef.{PortRef}
+use Rattle.fabric_parts.specs.Cable.{ends_at, is_cabled}
+use Rattle.fabric_parts.specs.NodeType.{most_ports}
 use Rattle.topo_file.specs.declared.node.Node.{Node}
 use Rattle.topo_file.specs.declared.draft.Manager.{Manager}
-use Rattle.topo_file.specs.Node.{HasGuids, IsWithinLimits, is_switch_at, most_ports, ports_at, shares_guid}
-use Rattle.topo_file.specs.Cable.{ends_at, is_cabled, may_join}
+use Rattle.topo_file.specs.Node.{HasGuids, IsWithinLimits, is_switch_at, ports_at, shares_guid}
+use Rattle.topo_file.specs.Cable.{may_join}
 use Rattle.topo_file.specs.Connectivity.{AllJoined}
 use Rattle.topo_file.specs.Topology.{Plan, Declarations}
 
@@ -31,7 +33,7 @@ on_adapter nodes (Some manager) = is_manager_port nodes manager.port
 
 -- what is counted of a node is in its range: its GUID is not 0, and a switch has 1 to 36 ports, an adapter 1 to 8
 abbrev pub is_sized : Node → Bool
-is_sized node = nat_le 1 node.guid && (nat_le 1 node.ports && nat_le node.ports (most_ports node.kind))
+is_sized node = nat_le 1 node.guid && (nat_le 1 node.ports && nat_le node.ports (most_ports node.node_type))
 
 -- what stands as its name is a name
 abbrev pub is_named : Node → Bool

@@ -1,20 +1,24 @@
 -- What a topology text describes, or the first line that is at fault.
-use Rattle.std.specs.Prelude.{ℕ, ◌+◌, ◌-◌, ◌^◌, not, ◌&&◌, ◌||◌, nat_le, List, [], ◌∷◌, ◌++◌, codes, Option, Some, None, is_some, Result, Ok, Err, if◌then◌else◌}
+use Rattle.std.specs.Prelude.{ℕ, ◌-◌, ◌^◌, not, ◌&&◌, ◌||◌, nat_le, List, [], ◌∷◌, ◌++◌, codes, Option, Some, None, is_some, Result, Ok, Err, if◌then◌else◌}
 use Rattle.std.specs.Option.{ok_or}
 use Rattle.std.specs.Str.{bytes_eq}
+use Rattle.result_words.specs.AtLine.{AtLine, after_lines, on_line}
+use Rattle.result_words.specs.Steps.{◌>>=◌}
 use Rattle.text_words.specs.Lines.{lines, has_bad_character, words}
 use Rattle.text_words.specs.Number.{number_in}
 use Rattle.text_words.specs.Words.{Port, is_name, port_in}
-use Rattle.topo_file.specs.declared.cable.Cable.{Cable}
-use Rattle.topo_file.specs.declared.cable.PortRef.{PortRef}
+use Rattle.fabric_parts.specs.declared.cable.Cable.{Cable}
+use Rattle.fabric_parts.specs.declared.cable.PortRef.{PortRef}
+use Rattle.fabric_parts.specs.Cable.{is_cabled}
+use Rattle.fabric_parts.specs.NodeType.{most_ports}
 use Rattle.topo_file.specs.declared.fault.TopologyCause.{TopologyCause}
 use Rattle.topo_file.specs.declared.fault.TopologyCause.TheVariants.{Malformed, DuplicateName, DuplicateGuid, UnknownNode, NoSuchPort, PortTaken, WrongCableEnds, WrongManager, Disconnected, OverLimit, ManagerUncabled}
 use Rattle.topo_file.specs.declared.node.Node.{Node}
-use Rattle.topo_file.specs.declared.node.NodeKind.{NodeKind}
-use Rattle.topo_file.specs.declared.node.NodeKind.TheVariants.{Switch, Adapter}
+use Rattle.fabric_parts.specs.declared.node_type.NodeType.{NodeType}
+use Rattle.fabric_parts.specs.declared.node_type.NodeType.TheVariants.{Switch, ChannelAdapter}
 use Rattle.topo_file.specs.declared.draft.Manager.{Manager}
-use Rattle.topo_file.specs.Node.{place_of, is_switch_at, lacks_guids, is_one_too_many, most_ports}
-use Rattle.topo_file.specs.Cable.{port_at, is_cabled, may_join}
+use Rattle.topo_file.specs.Node.{place_of, is_switch_at, lacks_guids, is_one_too_many}
+use Rattle.topo_file.specs.Cable.{port_at, may_join}
 use Rattle.topo_file.specs.Connectivity.{is_connected}
 
 -- a topology: its nodes and cables in the order of their lines, and the subnet manager's port
@@ -28,17 +32,6 @@ pub record Declarations : Type 0 where
   pub nodes : List Node
   pub cables : List Cable
   pub manager : Option Manager
-
--- a fault with the line that it is told for, counted from 1; 0 where it is of no line, but of the text as a whole
-pub record LineFault : Type 0 where
-  pub line : ℕ
-  pub cause : TopologyCause
-
--- the first of two steps that is refused decides; `do` chains steps so
-infixl 10 ◌>>=◌
-abbrev pub ◌>>=◌ : {A B E : Type 0} → Result A E → (A → Result B E) → Result B E
-(Ok x) >>= f = f x
-(Err e) >>= f = Err e
 
 -- ---- words
 abbrev pub name_of : List ℕ → Result (List ℕ) TopologyCause
@@ -59,18 +52,18 @@ port_of word = ok_or (port_in word) Malformed
 -- A node has a name that no node before it has, GUIDs that are free, and room below the limits.
 abbrev pub new_node : List Node → Node → Result Node TopologyCause
 new_node nodes node =
-    if is_some (place_of node.name nodes) then Err DuplicateName else (if lacks_guids nodes node then Err DuplicateGuid else (if is_one_too_many nodes node.kind node.ports then Err OverLimit else Ok node))
+    if is_some (place_of node.name nodes) then Err DuplicateName else (if lacks_guids nodes node then Err DuplicateGuid else (if is_one_too_many nodes node.node_type node.ports then Err OverLimit else Ok node))
 
-unfoldable pub node_spelt : NodeKind → List Node → List ℕ → List ℕ → List ℕ → Result Node TopologyCause
-node_spelt kind nodes name guid ports = do
+unfoldable pub node_spelt : NodeType → List Node → List ℕ → List ℕ → List ℕ → Result Node TopologyCause
+node_spelt node_type nodes name guid ports = do
   named ← name_of name
   number ← number_up_to (2 ^ 64 - 1) guid
-  count ← number_up_to (most_ports kind) ports
-  new_node nodes (record { name = named; kind = kind; guid = number; ports = count })
+  count ← number_up_to (most_ports node_type) ports
+  new_node nodes (record { name = named; node_type = node_type; guid = number; ports = count })
 
-unfoldable pub node_of : NodeKind → List Node → List (List ℕ) → Result Node TopologyCause
-node_of kind nodes (name ∷ guid ∷ ports ∷ []) = node_spelt kind nodes name guid ports
-node_of kind nodes _ = Err Malformed
+unfoldable pub node_of : NodeType → List Node → List (List ℕ) → Result Node TopologyCause
+node_of node_type nodes (name ∷ guid ∷ ports ∷ []) = node_spelt node_type nodes name guid ports
+node_of node_type nodes _ = Err Malformed
 
 -- `cable PORT PORT`, of two ports that have none yet
 abbrev pub new_cable : List Node → List Cable → PortRef → PortRef → Result Cable TopologyCause
@@ -121,7 +114,7 @@ unfoldable pub after_words : ℕ → Declarations → List (List ℕ) → Result
 after_words number so_far [] = Ok so_far
 after_words number so_far (first ∷ rest) =
     if bytes_eq first (codes "switch") then with_node so_far (node_of Switch so_far.nodes rest)
-    else (if bytes_eq first (codes "adapter") then with_node so_far (node_of Adapter so_far.nodes rest)
+    else (if bytes_eq first (codes "adapter") then with_node so_far (node_of ChannelAdapter so_far.nodes rest)
     else (if bytes_eq first (codes "cable") then with_cable so_far (cable_of so_far.nodes so_far.cables rest)
     else (if bytes_eq first (codes "sm") then with_manager so_far (manager_of so_far.nodes so_far.manager number rest)
     else Err Malformed)))
@@ -129,25 +122,15 @@ after_words number so_far (first ∷ rest) =
 abbrev pub after_line : ℕ → Declarations → List ℕ → Result Declarations TopologyCause
 after_line number so_far line = if has_bad_character line then Err Malformed else after_words number so_far (words line)
 
--- the same, with the number of the line that is at fault
-abbrev pub on_line : {X : Type 0} → ℕ → Result X TopologyCause → Result X LineFault
-on_line number (Ok x) = Ok x
-on_line number (Err fault) = Err (record { line = number; cause = fault })
-
--- the lines one after the other, counted from this number
-unfoldable pub after_lines : ℕ → Declarations → List (List ℕ) → Result Declarations LineFault
-after_lines number so_far [] = Ok so_far
-after_lines number so_far (line ∷ rest) = on_line number (after_line number so_far line) >>= λ next. after_lines (number + 1) next rest
-
 -- ---- the whole text: after the last line there must be a manager, its port must have a cable, and cables must join
 -- all switches
-abbrev pub plan_of : Declarations → Manager → Result Plan LineFault
+abbrev pub plan_of : Declarations → Manager → Result Plan (AtLine TopologyCause)
 plan_of all manager =
     if not (is_cabled all.cables manager.port) then Err (record { line = manager.line; cause = ManagerUncabled })
     else (if not (is_connected all.nodes all.cables) then Err (record { line = 0; cause = Disconnected })
     else Ok (record { nodes = all.nodes; cables = all.cables; sm = manager.port }))
 
-unfoldable pub whole : Declarations → Result Plan LineFault
+unfoldable pub whole : Declarations → Result Plan (AtLine TopologyCause)
 whole all = do
   manager ← on_line 0 (ok_or all.manager WrongManager)
   plan_of all manager
@@ -156,6 +139,10 @@ whole all = do
 abbrev pub nothing : Declarations
 nothing = record { nodes = []; cables = []; manager = None }
 
+-- what all lines declare
+abbrev pub declarations_of : List ℕ → Result Declarations (AtLine TopologyCause)
+declarations_of text = after_lines after_line 1 nothing (lines text)
+
 -- what the text describes, or its first fault
-unfoldable pub topology_of : List ℕ → Result Plan LineFault
-topology_of text = after_lines 1 nothing (lines text) >>= whole
+unfoldable pub topology_of : List ℕ → Result Plan (AtLine TopologyCause)
+topology_of text = declarations_of text >>= whole

@@ -1,29 +1,13 @@
 ghost use Rattle.std.specs.Prelude.{◌≡◌, ◌++◌, [], ◌∷◌, true, IfSome, OnErr, OnOk};
+ghost use Rattle.fabric_parts.specs.Cable.{is_cabled};
 ghost use Rattle.topo_file.specs.Sound.{is_port};
-ghost use Rattle.topo_file.specs.Cable.{is_cabled, may_join, port_at};
+ghost use Rattle.topo_file.specs.Cable.{may_join, port_at};
 
 use crate::node::{Node, is_switch_at, ports_at};
+use fabric_parts::{Cable, PortRef};
 use indexmap::IndexSet;
 use std::alloc::{AllocError, Global};
 use std::marker::Model;
-
-/// A port of a node.
-#[derive(Clone, Copy, Debug, PartialEq, Eq, Hash)]
-pub struct PortRef {
-    /// The place of the node among the nodes of the topology.
-    pub node: usize,
-    /// The number of the port, from 1.
-    pub port: u8,
-}
-
-/// A cable between two ports.
-#[derive(Clone, Copy, Debug, PartialEq, Eq)]
-pub struct Cable {
-    /// The end that the text names first.
-    pub first: PortRef,
-    /// The other end.
-    pub second: PortRef,
-}
 
 /// Cables in the order in which they were added; the ports that they end at are looked up in constant
 /// time.
@@ -37,9 +21,9 @@ pub(crate) struct CableList {
 impl Model for CableList {
     ghost use Rattle.std.specs.Prelude.{◌≡◌, List};
     ghost use Rattle.std.specs.List.{list_any};
-    ghost use Rattle.topo_file.specs.declared.cable.Cable.{Cable};
-    ghost use Rattle.topo_file.specs.declared.cable.PortRef.{PortRef};
-    ghost use Rattle.topo_file.specs.Cable.{is_cabled, is_same_port};
+    ghost use Rattle.fabric_parts.specs.declared.cable.Cable.{Cable};
+    ghost use Rattle.fabric_parts.specs.declared.cable.PortRef.{PortRef};
+    ghost use Rattle.fabric_parts.specs.Cable.{is_cabled, is_same_port};
 
     ghost Value = { List Cable };
 

@@ -4,8 +4,8 @@ ghost use Rattle.topo_file.specs.Node.{is_switch, switch_count};
 ghost use Rattle.topo_file.specs.Connectivity.{AllJoined, is_connected};
 ghost use Rattle.topo_file.specs.Rounds.{after_rounds, is_marked, leads_to, marks_all, only, reaches_all, spread};
 
-use crate::cable::Cable;
 use crate::node::{Node, switch_count};
+use fabric_parts::Cable;
 use std::alloc::{AllocError, Global};
 
 /// Whether cables between switches join all switches; an adapter with several ports joins none.

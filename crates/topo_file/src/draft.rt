@@ -8,9 +8,10 @@ ghost use Rattle.topo_file.specs.Sound.{is_port};
 ghost use Rattle.topo_file.specs.Reading.{seen_by};
 ghost use Rattle.topo_file.specs.Topology.{new_node, new_cable, new_manager, nothing};
 
-use crate::cable::{Cable, CableList, PortRef, may_join, port_at};
+use crate::cable::{CableList, may_join, port_at};
 use crate::fault::TopologyCause;
 use crate::node::{NewNode, NodeList, is_one_too_many, is_switch_at, lacks_guids};
+use fabric_parts::{Cable, PortRef};
 use std::alloc::Global;
 use std::marker::Model;
 
@@ -57,7 +58,7 @@ impl Draft {
         ensures value { seen_by (λ _. seen node.now) result ≡ new_node self.now.nodes (seen node.now) }
         ensures new { IfOk result (λ _. place_of node.now.name.now self.now.nodes ≡ None) }
         ensures guids { OnOk result (HasGuids (seen node.now)) }
-        ensures room { OnOk result (is_one_too_many self.now.nodes node.now.kind node.now.ports ≡ false) }
+        ensures room { OnOk result (is_one_too_many self.now.nodes node.now.node_type node.now.ports ≡ false) }
     {
         let nodes = self.nodes.as_slice();
         if self.nodes.place_of(node.name).is_some() {
@@ -66,7 +67,7 @@ impl Draft {
         if lacks_guids(nodes, node) {
             return Err(TopologyCause::DuplicateGuid);
         }
-        if is_one_too_many(nodes, node.kind, node.ports) {
+        if is_one_too_many(nodes, node.node_type, node.ports) {
             return Err(TopologyCause::OverLimit);
         }
         Ok(())

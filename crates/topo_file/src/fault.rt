@@ -2,9 +2,9 @@
 
 ghost use Rattle.std.specs.Prelude.{◌≡◌};
 ghost use Rattle.topo_file.specs.Fault.{code_of};
-ghost use Rattle.topo_file.specs.declared.fault.LineError.TheVariants.{NoMemory, Fault};
 
-use std::alloc::{AllocError, AllocFailed};
+use result_words::LineError;
+use std::alloc::AllocError;
 use thiserror::Error;
 
 /// What is wrong with a line, or with the text as a whole.
@@ -83,34 +83,13 @@ pub enum TopoFault {
     },
 }
 
-/// Why a line was not taken.
-#[derive(Clone, Copy, Debug, PartialEq, Eq)]
-pub(crate) enum LineError {
-    NoMemory,
-    Fault(TopologyCause),
-}
+impl From<TopologyCause> for LineError<TopologyCause> {
+    ghost use Rattle.result_words.specs.declared.line_error.LineError.TheVariants.{Fault};
 
-impl From<AllocError> for LineError {
-    ghost from_gives = { λ _ e. e ≡ NoMemory };
+    ghost from_gives = { λ cause e. e ≡ Fault cause };
 
-    fn from(_error: AllocError) -> LineError {
-        LineError::NoMemory
-    }
-}
-
-impl<T: Drop> From<AllocFailed<T>> for LineError {
-    ghost from_gives = { λ _ e. e ≡ NoMemory };
-
-    fn from(_error: AllocFailed<T>) -> LineError {
-        LineError::NoMemory
-    }
-}
-
-impl From<TopologyCause> for LineError {
-    ghost from_gives = { λ fault e. e ≡ Fault fault };
-
-    fn from(fault: TopologyCause) -> LineError {
-        LineError::Fault(fault)
+    fn from(cause: TopologyCause) -> LineError<TopologyCause> {
+        LineError::Fault(cause)
     }
 }
 

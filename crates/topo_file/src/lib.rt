@@ -14,9 +14,8 @@ mod node;
 mod reader;
 mod topology;
 
-pub use crate::cable::{Cable, PortRef};
 pub use crate::connectivity::{connected_means_joined, is_connected};
 pub use crate::fault::{TopoFault, TopologyCause};
-pub use crate::node::{Name, Node, NodeKind};
+pub use crate::node::{ADAPTER_PORTS, Name, Node, SWITCHES};
 pub use crate::reader::read;
 pub use crate::topology::Topology;

@@ -1,18 +1,19 @@
-ghost use Rattle.std.specs.Prelude.{◌≡◌, ◌≤◌, ◌+◌, length, [], ◌∷◌, ◌++◌, None, IfOk, OnOk, OnErr};
-ghost use Rattle.topo_file.specs.Node.{adapter_ports, is_one_too_many, is_switch, is_switch_at, is_switch_kind, lacks_guids, last_guid, most_ports, place_of, port_guids, ports_at, shares_guid, switch_count};
+ghost use Rattle.std.specs.Prelude.{◌≡◌, ◌≤◌, ◌<◌, ◌^◌, ◌+◌, length, [], ◌∷◌, ◌++◌, None, IfOk, OnOk, OnErr};
+ghost use Rattle.topo_file.specs.Node.{adapter_ports, is_one_too_many, is_switch, is_switch_at, lacks_guids, last_guid, place_of, port_guid, port_guids, ports_at, shares_guid, switch_count};
 ghost use Rattle.std.specs.List.{list_any};
 ghost use Rattle.topo_file.specs.NewNode.{seen};
 ghost use Rattle.text_words.specs.declared.word.TheConstants.{NAME_LENGTH};
 
+use fabric_parts::NodeType;
 use indexmap::IndexSet;
 use std::alloc::{AllocError, Global};
 use std::marker::Model;
 
 /// How many switches a fabric has at most.
-const SWITCHES: usize = 64;
+pub const SWITCHES: usize = 64;
 
 /// How many ports the adapters of a fabric have at most, all together.
-const ADAPTER_PORTS: u128 = 256;
+pub const ADAPTER_PORTS: usize = 256;
 
 /// The name of a node: 1 to 32 letters, digits, `_`, `-` and `.`.
 #[derive(Debug, Drop)]
@@ -51,56 +52,15 @@ impl Name {
     }
 }
 
-/// What a node is.
-#[derive(Clone, Copy, Debug, PartialEq, Eq)]
-pub enum NodeKind {
-    /// A switch: its ports count from 1, and port 0 is the switch itself.
-    Switch,
-    /// A channel adapter: its ports count from 1.
-    Adapter,
-}
-
-impl NodeKind {
-    /// Whether it is a switch.
-    pub fn is_switch(self) -> bool
-        ensures { result ≡ is_switch_kind self }
-    {
-        match self {
-            NodeKind::Switch => true,
-            NodeKind::Adapter => false,
-        }
-    }
-
-    /// How many ports such a node has at most.
-    pub(crate) fn most_ports(self) -> u64
-        ensures { result ≡ most_ports self }
-    {
-        match self {
-            NodeKind::Switch => 36,
-            NodeKind::Adapter => 8,
-        }
-    }
-
-    /// How many of a node's ports have a GUID of their own.
-    fn port_guids(self, ports: u8) -> u8
-        ensures { result ≡ port_guids self ports }
-    {
-        match self {
-            NodeKind::Switch => 0,
-            NodeKind::Adapter => ports,
-        }
-    }
-}
-
 /// A node of the fabric.
 #[derive(Debug, Drop)]
 pub struct Node {
     /// Its name, which no other node has.
     pub name: Name,
     /// What it is.
-    pub kind: NodeKind,
-    /// The GUID of the node. A switch uses it for its port 0 too; port `p` of an adapter has the
-    /// GUID that is `p` above it.
+    pub node_type: NodeType,
+    /// The GUID of the node. A switch uses it for its port 0 too; for an adapter's ports see
+    /// [`Node::port_guid`].
     pub guid: u64,
     /// How many ports it has, which count from 1.
     pub ports: u8,
@@ -111,14 +71,22 @@ impl Node {
     pub fn is_switch(&self) -> bool
         ensures { result ≡ is_switch self.now }
     {
-        self.kind.is_switch()
+        self.node_type.is_switch()
+    }
+
+    /// The GUID of a port of this adapter: port `p` has the GUID that is `p` above its node's.
+    pub fn port_guid(&self, number: u8) -> u64
+        requires fits { port_guid self.now number < 2 ^ 64 }
+        ensures { result ≡ port_guid self.now number }
+    {
+        self.guid + u64::from(number)
     }
 
     /// The last GUID that the node uses, which may be past 64 bits.
     fn last_guid(&self) -> u128
         ensures { result ≡ last_guid self.now }
     {
-        u128::from(self.guid) + u128::from(self.kind.port_guids(self.ports))
+        u128::from(self.guid) + u128::from(port_guids(self.node_type, self.ports))
     }
 }
 
@@ -126,7 +94,7 @@ impl Node {
 #[derive(Clone, Copy, Debug)]
 pub(crate) struct NewNode<'a> {
     pub(crate) name: &'a [u8],
-    pub(crate) kind: NodeKind,
+    pub(crate) node_type: NodeType,
     pub(crate) guid: u64,
     pub(crate) ports: u8,
 }
@@ -138,7 +106,7 @@ impl NewNode<'_> {
     fn last_guid(&self) -> u128
         ensures { result ≡ last_guid (seen self.now) }
     {
-        u128::from(self.guid) + u128::from(self.kind.port_guids(self.ports))
+        u128::from(self.guid) + u128::from(port_guids(self.node_type, self.ports))
     }
 
     fn shares_guid(&self, other: &Node) -> bool
@@ -204,7 +172,7 @@ impl NodeList {
         self.names.insert(key)?;
         self.nodes.push(Node {
             name,
-            kind: node.kind,
+            node_type: node.node_type,
             guid: node.guid,
             ports: node.ports,
         })?;
@@ -229,6 +197,16 @@ pub(crate) fn ports_at(nodes: &[Node], place: usize) -> u8
     match nodes.get(place) {
         Some(node) => node.ports,
         None => 0,
+    }
+}
+
+/// How many ports of such a node have a GUID of their own.
+fn port_guids(node_type: NodeType, ports: u8) -> u8
+    ensures { result ≡ port_guids node_type ports }
+{
+    match node_type {
+        NodeType::Switch => 0,
+        NodeType::ChannelAdapter => ports,
     }
 }
 
@@ -258,16 +236,17 @@ fn adapter_ports(nodes: &[Node]) -> u128
 {
     nodes
         .iter()
-        .map(|node| u128::from(node.kind.port_guids(node.ports)))
+        .map(|node| u128::from(port_guids(node.node_type, node.ports)))
         .sum()
 }
 
-/// Whether one more node of this kind is past the limits of a fabric.
-pub(crate) fn is_one_too_many(nodes: &[Node], kind: NodeKind, ports: u8) -> bool
-    ensures { result ≡ is_one_too_many nodes.now kind ports }
+/// Whether one more node of this type is past the limits of a fabric.
+pub(crate) fn is_one_too_many(nodes: &[Node], node_type: NodeType, ports: u8) -> bool
+    ensures { result ≡ is_one_too_many nodes.now node_type ports }
 {
-    match kind {
-        NodeKind::Switch => switch_count(nodes) >= SWITCHES,
-        NodeKind::Adapter => adapter_ports(nodes) > ADAPTER_PORTS - u128::from(ports),
+    match node_type {
+        NodeType::Switch => switch_count(nodes) >= SWITCHES,
+        NodeType::ChannelAdapter => adapter_ports(nodes)
+            > ADAPTER_PORTS as u128 - u128::from(ports),
     }
 }

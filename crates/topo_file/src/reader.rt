@@ -5,54 +5,61 @@ ghost use Rattle.text_words.specs.Words.{seen as port_seen};
 ghost use Rattle.topo_file.specs.Node.{HasGuids, is_one_too_many, place_of};
 ghost use Rattle.topo_file.specs.NewNode.{seen};
 ghost use Rattle.topo_file.specs.Sound.{ends_at_ports, is_manager_port};
-ghost use Rattle.topo_file.specs.Reading.{Gives, TextGives, seen_by};
-ghost use Rattle.topo_file.specs.Topology.{name_of, port_of, number_up_to, node_spelt, node_of, cable_spelt, cable_of, manager_spelt, manager_of, with_node, with_cable, with_manager, after_words, after_line, after_lines, whole, on_line, nothing, topology_of};
+ghost use Rattle.result_words.specs.AtLine.{on_line};
+ghost use Rattle.result_words.specs.Gives.{Gives, LineGives};
+ghost use Rattle.topo_file.specs.Reading.{fault_in, seen_by};
+ghost use Rattle.topo_file.specs.Topology.{name_of, port_of, number_up_to, node_spelt, node_of, cable_spelt, cable_of, manager_spelt, manager_of, with_node, with_cable, with_manager, after_words, after_line, whole, declarations_of, topology_of};
 
-use crate::cable::Cable;
 use crate::connectivity::is_connected;
 use crate::draft::{Draft, Manager};
-use crate::fault::{LineError, TopoFault, TopologyCause};
-use crate::node::{NewNode, NodeKind};
+use crate::fault::{TopoFault, TopologyCause};
+use crate::node::NewNode;
 use crate::topology::Topology;
+use fabric_parts::{Cable, NodeType};
+use result_words::LineError;
 use std::alloc::Global;
 use text_words::{Lines, PortWord, has_bad_character, is_name, number_in, port_in, words};
 
 impl Draft {
     /// The node that a line declares, by the words after the first.
     #[tactic(auto, unfolding(crate::specs::Topology::node_of))]
-    fn node_of<'a>(&self, kind: NodeKind, words: &[&'a [u8]]) -> Result<NewNode<'a>, TopologyCause>
-        ensures value { seen_by seen result ≡ node_of kind self.now.nodes (map (λ word. word.now) words.now) }
+    fn node_of<'a>(
+        &self,
+        node_type: NodeType,
+        words: &[&'a [u8]],
+    ) -> Result<NewNode<'a>, TopologyCause>
+        ensures value { seen_by seen result ≡ node_of node_type self.now.nodes (map (λ word. word.now) words.now) }
         ensures new { IfOk result (λ node. place_of node.name.now self.now.nodes ≡ None) }
         ensures short { IfOk result (λ node. length node.name.now ≤ NAME_LENGTH) }
         ensures guids { IfOk result (λ node. HasGuids (seen node)) }
-        ensures room { IfOk result (λ node. is_one_too_many self.now.nodes node.kind node.ports ≡ false) }
+        ensures room { IfOk result (λ node. is_one_too_many self.now.nodes node.node_type node.ports ≡ false) }
     {
         let [name, guid, ports] = words else {
             return Err(TopologyCause::Malformed);
         };
-        self.node_spelt(kind, *name, *guid, *ports)
+        self.node_spelt(node_type, *name, *guid, *ports)
     }
 
     #[tactic(auto, unfolding(crate::specs::Topology::node_spelt))]
     fn node_spelt<'a>(
         &self,
-        kind: NodeKind,
+        node_type: NodeType,
         name: &'a [u8],
         guid: &[u8],
         ports: &[u8],
     ) -> Result<NewNode<'a>, TopologyCause>
-        ensures value { seen_by seen result ≡ node_spelt kind self.now.nodes name.now guid.now ports.now }
+        ensures value { seen_by seen result ≡ node_spelt node_type self.now.nodes name.now guid.now ports.now }
         ensures new { IfOk result (λ node. place_of node.name.now self.now.nodes ≡ None) }
         ensures short { IfOk result (λ node. length node.name.now ≤ NAME_LENGTH) }
         ensures guids { IfOk result (λ node. HasGuids (seen node)) }
-        ensures room { IfOk result (λ node. is_one_too_many self.now.nodes node.kind node.ports ≡ false) }
+        ensures room { IfOk result (λ node. is_one_too_many self.now.nodes node.node_type node.ports ≡ false) }
     {
         let name = name_of(name)?;
         let guid = number_up_to(u64::MAX, guid)?;
-        let ports = number_up_to(kind.most_ports(), ports)? as u8;
+        let ports = number_up_to(u64::from(node_type.most_ports()), ports)? as u8;
         let node = NewNode {
             name,
-            kind,
+            node_type,
             guid,
             ports,
         };
@@ -109,24 +116,33 @@ impl Draft {
         self.new_manager(number, port)
     }
 
-    fn take_node(&mut self, alloc: Global, kind: NodeKind, words: &[&[u8]]) -> Result<(), LineError>
-        ensures { Gives (λ _. self.new) result (with_node self.old (node_of kind self.old.nodes (map (λ word. word.now) words.now))) }
+    fn take_node(
+        &mut self,
+        alloc: Global,
+        node_type: NodeType,
+        words: &[&[u8]],
+    ) -> Result<(), LineError<TopologyCause>>
+        ensures { LineGives (λ _. self.new) result (with_node self.old (node_of node_type self.old.nodes (map (λ word. word.now) words.now))) }
     {
-        let node = self.node_of(kind, words)?;
+        let node = self.node_of(node_type, words)?;
         self.nodes.push(alloc, &node)?;
         Ok(())
     }
 
-    fn take_cable(&mut self, words: &[&[u8]]) -> Result<(), LineError>
-        ensures { Gives (λ _. self.new) result (with_cable self.old (cable_of self.old.nodes self.old.cables (map (λ word. word.now) words.now))) }
+    fn take_cable(&mut self, words: &[&[u8]]) -> Result<(), LineError<TopologyCause>>
+        ensures { LineGives (λ _. self.new) result (with_cable self.old (cable_of self.old.nodes self.old.cables (map (λ word. word.now) words.now))) }
     {
         let cable = self.cable_of(words)?;
         self.cables.push(cable)?;
         Ok(())
     }
 
-    fn take_manager(&mut self, number: usize, words: &[&[u8]]) -> Result<(), LineError>
-        ensures { Gives (λ _. self.new) result (with_manager self.old (manager_of self.old.nodes self.old.manager number (map (λ word. word.now) words.now))) }
+    fn take_manager(
+        &mut self,
+        number: usize,
+        words: &[&[u8]],
+    ) -> Result<(), LineError<TopologyCause>>
+        ensures { LineGives (λ _. self.new) result (with_manager self.old (manager_of self.old.nodes self.old.manager number (map (λ word. word.now) words.now))) }
     {
         let manager = self.manager_of(number, words)?;
         self.manager = Some(manager);
@@ -134,17 +150,22 @@ impl Draft {
     }
 
     #[tactic(auto, unfolding(crate::specs::Topology::after_words))]
-    fn take_words(&mut self, alloc: Global, number: usize, words: &[&[u8]]) -> Result<(), LineError>
-        ensures { Gives (λ _. self.new) result (after_words number self.old (map (λ word. word.now) words.now)) }
+    fn take_words(
+        &mut self,
+        alloc: Global,
+        number: usize,
+        words: &[&[u8]],
+    ) -> Result<(), LineError<TopologyCause>>
+        ensures { LineGives (λ _. self.new) result (after_words number self.old (map (λ word. word.now) words.now)) }
     {
         let [first, rest @ ..] = words else {
             return Ok(());
         };
         if *first == b"switch".as_slice() {
-            return self.take_node(alloc, NodeKind::Switch, rest);
+            return self.take_node(alloc, NodeType::Switch, rest);
         }
         if *first == b"adapter".as_slice() {
-            return self.take_node(alloc, NodeKind::Adapter, rest);
+            return self.take_node(alloc, NodeType::ChannelAdapter, rest);
         }
         if *first == b"cable".as_slice() {
             return self.take_cable(rest);
@@ -155,8 +176,13 @@ impl Draft {
         Err(LineError::Fault(TopologyCause::Malformed))
     }
 
-    fn take_line(&mut self, alloc: Global, number: usize, line: &[u8]) -> Result<(), LineError>
-        ensures { Gives (λ _. self.new) result (after_line number self.old line.now) }
+    fn take_line(
+        &mut self,
+        alloc: Global,
+        number: usize,
+        line: &[u8],
+    ) -> Result<(), LineError<TopologyCause>>
+        ensures { LineGives (λ _. self.new) result (after_line number self.old line.now) }
     {
         if has_bad_character(line) {
             return Err(LineError::Fault(TopologyCause::Malformed));
@@ -167,7 +193,7 @@ impl Draft {
 
     /// Takes the line of this number, and tells its fault with the number.
     fn take_numbered(&mut self, alloc: Global, number: usize, line: &[u8]) -> Result<(), TopoFault>
-        ensures { TextGives (λ _. self.new) result (on_line number (after_line number self.old line.now)) }
+        ensures { Gives fault_in (λ _. self.new) result (on_line number (after_line number self.old line.now)) }
     {
         match self.take_line(alloc, number, line) {
             Ok(()) => Ok(()),
@@ -182,7 +208,7 @@ impl Draft {
     /// The topology, if all lines together describe one.
     #[tactic(auto, unfolding(crate::specs::Topology::whole))]
     fn finish(self, alloc: Global) -> Result<Topology, TopoFault>
-        ensures { TextGives (λ topology. topology) result (whole self) }
+        ensures { Gives fault_in (λ topology. topology) result (whole self) }
     {
         let Some(manager) = self.manager else {
             return Err(TopoFault::At {
@@ -237,8 +263,8 @@ fn number_up_to(top: u64, word: &[u8]) -> Result<u64, TopologyCause>
     }
 }
 
-fn after_lines(alloc: Global, text: &[u8]) -> Result<Draft, TopoFault>
-    ensures { TextGives (λ draft. draft) result (after_lines 1 nothing (lines text.now)) }
+fn declarations_of(alloc: Global, text: &[u8]) -> Result<Draft, TopoFault>
+    ensures { Gives fault_in (λ draft. draft) result (declarations_of text.now) }
 {
     let mut draft = Draft::new(alloc);
     let mut number = 0;
@@ -255,8 +281,8 @@ fn after_lines(alloc: Global, text: &[u8]) -> Result<Draft, TopoFault>
 /// linear in the length of the text, and only names are copied.
 #[tactic(auto, unfolding(crate::specs::Topology::topology_of))]
 pub fn read(alloc: Global, text: &[u8]) -> Result<Topology, TopoFault>
-    ensures { TextGives (λ topology. topology) result (topology_of text.now) }
+    ensures { Gives fault_in (λ topology. topology) result (topology_of text.now) }
 {
-    let draft = after_lines(alloc, text)?;
+    let draft = declarations_of(alloc, text)?;
     draft.finish(alloc)
 }

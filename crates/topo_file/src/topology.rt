@@ -1,12 +1,14 @@
 ghost use Rattle.std.specs.Prelude.{◌≡◌, ◌+◌, ◌≤◌, true, false, All, IfSome};
 ghost use Rattle.std.specs.List.{list_all, IsDistinct};
-ghost use Rattle.topo_file.specs.Cable.{is_cabled, port_at};
+ghost use Rattle.fabric_parts.specs.Cable.{is_cabled};
+ghost use Rattle.topo_file.specs.Cable.{port_at};
 ghost use Rattle.topo_file.specs.Connectivity.{AllJoined};
-ghost use Rattle.topo_file.specs.Node.{HasGuids, IsWithinLimits, guid_at, is_switch_at, place_of, ports_at, shares_guid};
+ghost use Rattle.topo_file.specs.Node.{HasGuids, IsWithinLimits, is_switch_at, place_of, port_guid_at, ports_at, shares_guid};
 ghost use Rattle.topo_file.specs.Sound.{IsSound, ends_at_ports, is_manager_port, is_named, is_sized, joins_right, shares_name, shares_port};
 
-use crate::cable::{Cable, CableList, PortRef, port_at};
+use crate::cable::{CableList, port_at};
 use crate::node::{Node, NodeList, is_switch_at};
+use fabric_parts::{Cable, PortRef};
 use std::marker::Model;
 
 /// The nodes and cables of a fabric, and the port that the subnet manager runs on.
@@ -89,11 +91,11 @@ impl Topology {
     pub fn guid_of(&self, port: PortRef) -> u64
         requires adapter { is_switch_at self.now.nodes port.node ≡ false }
         requires within { port.port ≤ ports_at self.now.nodes port.node }
-        ensures { result ≡ guid_at self.now.nodes port.node + port.port }
+        ensures { result ≡ port_guid_at self.now.nodes port }
     {
         match self.nodes.as_slice().get(port.node) {
-            Some(node) => node.guid + u64::from(port.port),
-            None => u64::from(port.port),
+            Some(node) => node.port_guid(port.port),
+            None => 0,
         }
     }
 

@@ -1,6 +1,6 @@
 use Rattle.std.proofs.Common.{true, cond, ap, ◌∙◌}
 use Rattle.std.specs.List.{list_any}
-use Rattle.topo_file.specs.Cable.{is_same_port}
+use Rattle.fabric_parts.specs.Cable.{is_same_port}
 use Rattle.topo_file.proofs.CableLemmas.{cabled_more}
 use Rattle.topo_file.proofs.cable.CableList.push.Goals as goal
 
