@@ -4,13 +4,14 @@ ghost use Rattle.std.specs.Prelude.{◌<◌};
 
 use agent_rules::{LINEAR_TABLE, Link, MULTICAST_TABLE};
 use attr_tables::SmpAttribute;
+use fabric_parts::PortRef;
 use fabric_wire::{AdapterPorts, Fabric, Node, PlainWire, SmpWire, get_request};
 use mad_layout::{DrSmp, Mad};
 use port_model::AdapterPort;
 use std::alloc::Global;
 use std::test::Fail;
 use switch_model::Switch;
-use topo_file::{PortRef, Topology, read};
+use topo_file::{Topology, read};
 
 /// Numbers that look like chance, the same in each run.
 #[derive(Drop)]

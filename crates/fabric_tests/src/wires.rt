@@ -4,6 +4,7 @@ ghost use Rattle.std.specs.Prelude.{◌≤◌, ◌<◌, ◌*◌, length};
 
 use agent_rules::{LINEAR_TABLE, Link, MULTICAST_TABLE};
 use attr_tables::{SmpAttribute, SwitchInfo};
+use fabric_parts::{Cable, PortRef};
 use fabric_wire::{
     AdapterPorts, CountingWire, Fabric, Node, PlainWire, SilencedWire, SmpWire, get_request,
     read_attribute,
@@ -14,7 +15,7 @@ use std::alloc::{AllocError, AllocFailed, Global};
 use std::process::Abort;
 use std::test::Fail;
 use switch_model::Switch;
-use topo_file::{Cable, PortRef, read};
+use topo_file::read;
 
 /// The text that describes the two-switch fabric.
 const TWO_SWITCHES: &[u8] = b"switch A 0x10 4

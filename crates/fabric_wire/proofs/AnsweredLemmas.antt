@@ -8,19 +8,21 @@ use Rattle.mad_layout.proofs.LayoutLemmas.{field-put_same, length-put_field}
 use Rattle.smp_route.specs.declared.hop.Hop.{Hop}
 use Rattle.smp_route.specs.declared.hop.Hop.TheVariants.{Forward, ToAgent, ToManager, Discard}
 use Rattle.smp_route.specs.Places.{count, is_outgoing, turned_round, with_pointer}
-use Rattle.topo_file.specs.declared.cable.PortRef.{PortRef}
-use Rattle.fabric_wire.specs.declared.walking.Arrival.{Arrival}
-use Rattle.fabric_wire.specs.FabricState.{FabricState, after_at, far_end, reply_at}
-use Rattle.fabric_wire.specs.Good.{IsGood, is_right}
-use Rattle.fabric_wire.specs.HopByHop.{ComesHome, ExchangesGoByHops, Goes, IsAnswered, Passes, Reaches, Visit, hop_rules}
+use Rattle.fabric_parts.specs.declared.cable.PortRef.{PortRef}
+use Rattle.smp_wire.specs.declared.walking.Arrival.{Arrival}
+use Rattle.fabric_parts.specs.Cable.{far_end}
+use Rattle.smp_wire.specs.FabricState.{FabricState, after_at, reply_at}
+use Rattle.smp_wire.specs.Good.{IsGood, is_right}
+use Rattle.fabric_wire.specs.Laws.{ExchangesGoByHops}
+use Rattle.fabric_wire.specs.HopByHop.{ComesHome, Goes, IsAnswered, Passes, Reaches, Visit, hop_rules}
 use Rattle.fabric_wire.specs.Hopping.{node_type_at}
-use Rattle.fabric_wire.specs.Walk.{arrival_of, arrived, exchange_after, exchange_reply, last_of, path_of, returned, walk, walk_of}
+use Rattle.smp_wire.specs.Walk.{arrival_of, arrived, exchange_after, exchange_reply, last_of, path_of, returned, walk, walk_of}
 use Rattle.fabric_wire.proofs.ExchangeLemmas.{IsReady, ready_before}
 use Rattle.fabric_wire.proofs.HopByHopLemmas.{back_from, direction_kept, follows, found, is_sent_by, rules_back, rules_out, set_out as set_out_by}
-use Rattle.fabric_wire.proofs.ReplyLemmas.{replies}
-use Rattle.fabric_wire.proofs.WalkedLemmas.{carried, no_walk_after, no_walk_reply, walk_after, walk_reply, walks}
+use Rattle.smp_wire.proofs.ReplyLemmas.{replies}
+use Rattle.smp_wire.proofs.WalkedLemmas.{carried, no_walk_after, no_walk_reply, walk_after, walk_reply, walks}
 use Rattle.fabric_wire.proofs.ReturnLemmas.{IsComing, bare_port, came, goes, lost, set_out}
-use Rattle.fabric_wire.proofs.ArrivalLemmas.{put_below}
+use Rattle.smp_wire.proofs.ArrivalLemmas.{put_below}
 use Rattle.smp_route.specs.Hops.{Step}
 
 abbrev visit : PortRef → ℕ → List ℕ → Visit

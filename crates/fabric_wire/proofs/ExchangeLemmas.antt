@@ -12,21 +12,21 @@ use Rattle.mad_layout.proofs.AlignedLemmas.{byte_is_field}
 use Rattle.mad_layout.proofs.LayoutLemmas.{field-put_apart, length-put_field}
 use Rattle.agent_rules.specs.Request.{KeepsRest}
 use Rattle.smp_route.specs.Places.{count, pointer, return_port, turned_round, with_return_port}
-use Rattle.topo_file.specs.declared.cable.Cable.{Cable}
-use Rattle.topo_file.specs.declared.cable.PortRef.{PortRef}
-use Rattle.fabric_wire.specs.declared.node.Node.{Node}
-use Rattle.fabric_wire.specs.declared.walking.Arrival.{Arrival}
-use Rattle.fabric_wire.specs.FabricState.{FabricState, far_end, is_switch_at, nodes_after}
-use Rattle.fabric_wire.specs.Good.{IsGood, is_right}
+use Rattle.fabric_parts.specs.declared.cable.Cable.{Cable}
+use Rattle.fabric_parts.specs.declared.cable.PortRef.{PortRef}
+use Rattle.smp_wire.specs.declared.node.Node.{Node}
+use Rattle.smp_wire.specs.declared.walking.Arrival.{Arrival}
+use Rattle.fabric_parts.specs.Cable.{far_end, is_same_port}
+use Rattle.smp_wire.specs.FabricState.{FabricState, is_switch_at, nodes_after}
+use Rattle.smp_wire.specs.Good.{IsGood, is_right}
 use Rattle.fabric_wire.specs.Hopping.{leads_home}
-use Rattle.fabric_wire.specs.Walk.{arrival_of, arrived, is_sent, last_of, path_of, walk, with_return_ports}
+use Rattle.smp_wire.specs.Walk.{arrival_of, arrived, is_sent, last_of, path_of, walk, with_return_ports}
 use Rattle.fabric_wire.proofs.HomeLemmas.{leads_alike, leads_by, walk_leads_home}
 use Rattle.fabric_wire.proofs.HopLemmas.{byte_kept, pointer_set}
-use Rattle.fabric_wire.proofs.KeptLemmas.{IsSame, after_found, stays_good, switch_same}
-use Rattle.fabric_wire.proofs.ArrivalLemmas.{arrived_carries, put_below, walks_right}
-use Rattle.fabric_wire.proofs.WalkLemmas.{path_length, sent_parts}
+use Rattle.smp_wire.proofs.KeptLemmas.{IsSame, after_found, stays_good, switch_same}
+use Rattle.smp_wire.proofs.ArrivalLemmas.{arrived_carries, put_below, walks_right}
+use Rattle.smp_wire.proofs.WalkLemmas.{path_length, sent_parts}
 use Rattle.fabric_wire.proofs.DistinctLemmas.{differ}
-use Rattle.topo_file.specs.Cable.{is_same_port}
 
 pub record IsReady (nodes : List Node) (cables : List Cable) (manager agent : PortRef) (smp : List ℕ) : Type 0 where
   pub right : list_all (is_right nodes) cables ≡ true

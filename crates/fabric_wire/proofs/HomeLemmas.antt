@@ -7,14 +7,14 @@ use Rattle.std.proofs.lemmas.Bool.Decides.{nat_tests}
 use Rattle.std.proofs.lemmas.List.{get_or-set_other, get_or-set_same, length-set}
 use Rattle.std.proofs.lemmas.Option.{same_Some}
 use Rattle.smp_route.specs.Places.{return_port, with_return_port}
-use Rattle.topo_file.specs.declared.cable.Cable.{Cable}
-use Rattle.topo_file.specs.declared.cable.PortRef.{PortRef}
-use Rattle.topo_file.specs.Cable.{is_same_port}
-use Rattle.fabric_wire.specs.declared.node.Node.{Node}
-use Rattle.fabric_wire.specs.FabricState.{far_end, is_port, is_switch_at}
-use Rattle.fabric_wire.specs.Good.{ends_of, is_right}
+use Rattle.fabric_parts.specs.declared.cable.Cable.{Cable}
+use Rattle.fabric_parts.specs.declared.cable.PortRef.{PortRef}
+use Rattle.fabric_parts.specs.Cable.{is_same_port, far_end}
+use Rattle.smp_wire.specs.declared.node.Node.{Node}
+use Rattle.smp_wire.specs.FabricState.{is_port, is_switch_at}
+use Rattle.smp_wire.specs.Good.{ends_of, is_right}
 use Rattle.fabric_wire.specs.Hopping.{leads_home}
-use Rattle.fabric_wire.specs.Walk.{hands_on, hop, last_of, walk, with_return_ports}
+use Rattle.smp_wire.specs.Walk.{hands_on, hop, last_of, walk, with_return_ports}
 use Rattle.fabric_wire.proofs.CablingLemmas.{far_end_before}
 use Rattle.fabric_wire.proofs.DistinctLemmas.{all_differ}
 

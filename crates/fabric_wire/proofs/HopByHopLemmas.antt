@@ -8,20 +8,21 @@ use Rattle.smp_route.specs.declared.hop.Hop.{Hop}
 use Rattle.smp_route.specs.declared.hop.Hop.TheVariants.{Forward, ToAgent, ToManager, Discard}
 use Rattle.smp_route.specs.Hops.{Step, outgoing, returning}
 use Rattle.smp_route.specs.Places.{count, is_outgoing, pointer, with_pointer, with_return_port}
-use Rattle.topo_file.specs.declared.cable.PortRef.{PortRef}
-use Rattle.fabric_wire.specs.declared.walking.Arrival.{Arrival}
-use Rattle.fabric_wire.specs.FabricState.{FabricState, far_end}
-use Rattle.fabric_wire.specs.Good.{IsGood, is_right}
+use Rattle.fabric_parts.specs.declared.cable.PortRef.{PortRef}
+use Rattle.smp_wire.specs.declared.walking.Arrival.{Arrival}
+use Rattle.fabric_parts.specs.Cable.{far_end}
+use Rattle.smp_wire.specs.FabricState.{FabricState}
+use Rattle.smp_wire.specs.Good.{IsGood, is_right}
 use Rattle.fabric_wire.specs.HopByHop.{Goes, Passes, Visit, agent_port, hop_rules}
-use Rattle.fabric_wire.specs.Walk.{arrival_of, is_sent, path_of, walk}
+use Rattle.smp_wire.specs.Walk.{arrival_of, is_sent, path_of, walk}
 use Rattle.fabric_wire.proofs.HomeLemmas.{numbered}
 use Rattle.fabric_wire.proofs.HopLemmas.{IsOnWay, Leaves, leaves, noted_by}
 use Rattle.fabric_wire.proofs.HopLemmas.Leaves.{arrives, drops, passes}
-use Rattle.fabric_wire.proofs.ArrivalLemmas.{end_small, port_small, put_below}
+use Rattle.smp_wire.proofs.ArrivalLemmas.{end_small, port_small, put_below}
 use Rattle.fabric_wire.proofs.OutwardLemmas.{arrived, bare_port, begun, goes, lost}
 use Rattle.fabric_wire.specs.Hopping.{node_type_at}
-use Rattle.fabric_wire.specs.declared.node.Node.{Node}
-use Rattle.topo_file.specs.declared.cable.Cable.{Cable}
+use Rattle.smp_wire.specs.declared.node.Node.{Node}
+use Rattle.fabric_parts.specs.declared.cable.Cable.{Cable}
 use Rattle.mad_layout.proofs.LayoutLemmas.{field-put_apart}
 use Rattle.mad_layout.proofs.AlignedLemmas.{byte_is_set}
 use Rattle.mad_layout.specs.Bits.{field}

@@ -8,15 +8,16 @@ use Rattle.fabric_parts.specs.declared.node_type.NodeType.{NodeType}
 use Rattle.smp_route.specs.declared.hop.Hop.TheVariants.{Forward, ToAgent}
 use Rattle.smp_route.specs.Hops.{Step, by_port, discarded, handed_on, noted, outgoing}
 use Rattle.smp_route.specs.Places.{count, initial_port, pointer, with_pointer, with_return_port}
-use Rattle.topo_file.specs.declared.cable.Cable.{Cable}
-use Rattle.topo_file.specs.declared.cable.PortRef.{PortRef}
-use Rattle.fabric_wire.specs.declared.node.Node.{Node}
-use Rattle.fabric_wire.specs.FabricState.{far_end, is_port, is_switch_at}
-use Rattle.fabric_wire.specs.Good.{is_right}
+use Rattle.fabric_parts.specs.declared.cable.Cable.{Cable}
+use Rattle.fabric_parts.specs.declared.cable.PortRef.{PortRef}
+use Rattle.smp_wire.specs.declared.node.Node.{Node}
+use Rattle.fabric_parts.specs.Cable.{far_end}
+use Rattle.smp_wire.specs.FabricState.{is_port, is_switch_at}
+use Rattle.smp_wire.specs.Good.{is_right}
 use Rattle.fabric_wire.specs.Hopping.{node_type_at}
-use Rattle.fabric_wire.specs.Walk.{hands_on, hop}
+use Rattle.smp_wire.specs.Walk.{hands_on, hop}
 use Rattle.fabric_wire.proofs.HomeLemmas.{cabled_is_port, numbered}
-use Rattle.fabric_wire.proofs.WalkLemmas.{IsUnderWay}
+use Rattle.smp_wire.proofs.WalkLemmas.{IsUnderWay}
 
 -- ---- the bytes that hops change
 pub pointer_set : (smp : List ℕ) (p : ℕ) → length smp ≡ 256 → pointer (with_pointer p smp) ≡ p

@@ -5,15 +5,15 @@ use Rattle.std.proofs.lemmas.Bool.{and_cases, and_from, and_parts, le-leb, leb-f
 use Rattle.std.proofs.lemmas.List.Concat.{flat_map_single}
 use Rattle.std.proofs.lemmas.List.Folds.{flat_map-map, list_all-append, list_any-append}
 use Rattle.std.proofs.lemmas.Map.Keys.{IsDistinct-tail}
-use Rattle.topo_file.specs.declared.cable.Cable.{Cable}
+use Rattle.fabric_parts.specs.declared.cable.Cable.{Cable}
 use Rattle.topo_file.specs.declared.node.Node.{Node as PlannedNode}
-use Rattle.topo_file.specs.declared.node.NodeKind.{NodeKind}
-use Rattle.topo_file.specs.declared.node.NodeKind.TheVariants as kind
+use Rattle.fabric_parts.specs.declared.node_type.NodeType.{NodeType}
+use Rattle.fabric_parts.specs.declared.node_type.NodeType.TheVariants as node_type
 use Rattle.topo_file.specs.Node.{last_guid, port_guids, shares_guid}
 use Rattle.topo_file.specs.Sound.{is_sized}
-use Rattle.fabric_wire.specs.declared.node.Node.TheVariants.{Adapter}
-use Rattle.fabric_wire.specs.Good.{AreGuids, end_port_guids, node_guid}
-use Rattle.fabric_wire.specs.OfTopology.{adapter_port_of, node_of, node_of_kind}
+use Rattle.smp_wire.specs.declared.node.Node.TheVariants.{Adapter}
+use Rattle.smp_wire.specs.Good.{AreGuids, end_port_guids, node_guid}
+use Rattle.fabric_wire.specs.OfTopology.{adapter_port_of, node_of, node_of_type}
 use Rattle.fabric_wire.proofs.OfTopologyLemmas.{nodes_from, some_port}
 use Rattle.fabric_wire.proofs.DistinctLemmas.{all_differ, distinct, none_shares}
 
@@ -129,12 +129,12 @@ first_guid : (cables : List Cable) (place : ℕ) (node : PlannedNode) (count : �
 first_guid cables place node zero some = absurd (omega (arith, some))
 first_guid cables place node (suc k) some = refl
 
-guid_of_kind : (of : NodeKind) (cables : List Cable) (place : ℕ) (node : PlannedNode) → 1 ≤ node.ports → node_guid (node_of_kind of cables place node) ≡ node.guid
-guid_of_kind kind.Switch cables place node some = refl
-guid_of_kind kind.Adapter cables place node some = first_guid cables place node node.ports some
+guid_of_type : (of : NodeType) (cables : List Cable) (place : ℕ) (node : PlannedNode) → 1 ≤ node.ports → node_guid (node_of_type of cables place node) ≡ node.guid
+guid_of_type node_type.Switch cables place node some = refl
+guid_of_type node_type.ChannelAdapter cables place node some = first_guid cables place node node.ports some
 
 pub guid_of : (cables : List Cable) (place : ℕ) (node : PlannedNode) → is_sized node ≡ true → node_guid (node_of cables place node) ≡ node.guid
-guid_of cables place node sized = guid_of_kind node.kind cables place node (some_port node sized)
+guid_of cables place node sized = guid_of_type node.node_type cables place node (some_port node sized)
 
 guid_own : (cables : List Cable) → HaveOwn (λ place node. node_guid (node_of cables place node) ∷ [])
 guid_own cables place node sized = rw (guid_of cables place node sized) (one_own node.guid (last_guid node) (omega arith))
@@ -169,9 +169,9 @@ ports_differ cables place node number (suc count) =
     (not_from_false _ (none_is guid (guid + 1) last (port_guids_from cables place node (number + 1) count) (inl (omega arith)) later))
     (ports_differ cables place node (number + 1) count)
 
-ends_of_kind : (of : NodeKind) (cables : List Cable) (place : ℕ) (node : PlannedNode) → AreOwn node.guid (node.guid + port_guids of node.ports) (end_port_guids (node_of_kind of cables place node))
-ends_of_kind kind.Switch cables place node = one_own node.guid (node.guid + 0) (omega arith)
-ends_of_kind kind.Adapter cables place node = record {
+ends_of_type : (of : NodeType) (cables : List Cable) (place : ℕ) (node : PlannedNode) → AreOwn node.guid (node.guid + port_guids of node.ports) (end_port_guids (node_of_type of cables place node))
+ends_of_type node_type.Switch cables place node = one_own node.guid (node.guid + 0) (omega arith)
+ends_of_type node_type.ChannelAdapter cables place node = record {
   within = ports_within cables place node node.guid (node.guid + node.ports) 1 node.ports (omega arith) (omega arith);
   different = ports_differ cables place node 1 node.ports;
 }
@@ -181,4 +181,4 @@ pub end_guids_differ : (cables : List Cable) (nodes : List PlannedNode) → list
 end_guids_differ cables nodes sized apart =
     let of : ℕ → PlannedNode → List ℕ = λ place node. end_port_guids (node_of cables place node) in
     rw (flat_map-map end_port_guids (λ p. node_of cables p.0 p.1) (enumerate_from 0 nodes))
-    (guids_of of nodes (λ place node size. ends_of_kind node.kind cables place node) sized apart)
+    (guids_of of nodes (λ place node size. ends_of_type node.node_type cables place node) sized apart)

@@ -3,19 +3,20 @@ use Rattle.std.proofs.Common.{ℕ, ◌≡◌, ◌==◌, ◌∙◌, ap, refl, sym
 use Rattle.std.specs.List.{list_all, list_any, IsDistinct}
 use Rattle.std.proofs.lemmas.Bool.{and_left, and_parts, eq-eqb, eqb-true, false≢true, not-true, or_cases, or_from}
 use Rattle.std.proofs.lemmas.Map.Keys.{IsDistinct-tail}
-use Rattle.topo_file.specs.declared.cable.Cable.{Cable}
-use Rattle.topo_file.specs.declared.cable.PortRef.{PortRef}
+use Rattle.fabric_parts.specs.declared.cable.Cable.{Cable}
+use Rattle.fabric_parts.specs.declared.cable.PortRef.{PortRef}
 use Rattle.topo_file.specs.declared.node.Node.{Node as PlannedNode}
-use Rattle.topo_file.specs.Cable.{ends_at, is_cabled, is_same_port}
+use Rattle.fabric_parts.specs.Cable.{ends_at, is_cabled, is_same_port, far_end, other_end}
 use Rattle.topo_file.specs.Connectivity.{is_walk, joins}
 use Rattle.topo_file.specs.Node.{is_switch_at as is_planned_at}
 use Rattle.topo_file.specs.Sound.{IsSound, joins_right, shares_port}
 use Rattle.topo_file.specs.Topology.{Plan}
-use Rattle.fabric_wire.specs.declared.node.Node.{Node}
-use Rattle.fabric_wire.specs.FabricState.{far_end, is_switch_at, other_end}
-use Rattle.fabric_wire.specs.Good.{is_right, leads}
-use Rattle.fabric_wire.specs.OfTopology.{TopologiesAreJoined, fabric_of}
-use Rattle.fabric_wire.specs.Walk.{last_of, walk}
+use Rattle.smp_wire.specs.declared.node.Node.{Node}
+use Rattle.smp_wire.specs.FabricState.{is_switch_at}
+use Rattle.smp_wire.specs.Good.{is_right, leads}
+use Rattle.fabric_wire.specs.Laws.{TopologiesAreJoined}
+use Rattle.fabric_wire.specs.OfTopology.{fabric_of}
+use Rattle.smp_wire.specs.Walk.{last_of, walk}
 use Rattle.fabric_wire.proofs.HomeLemmas.{itself, same_port}
 use Rattle.fabric_wire.proofs.HopLemmas.{hop_is_far_end}
 use Rattle.fabric_wire.proofs.OfTopologyGoodLemmas.{all_right}

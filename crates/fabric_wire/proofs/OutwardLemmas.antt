@@ -6,15 +6,15 @@ use Rattle.smp_route.specs.declared.hop.Hop.{Hop}
 use Rattle.smp_route.specs.declared.hop.Hop.TheVariants.{Forward, ToAgent, ToManager, Discard}
 use Rattle.smp_route.specs.Hops.{Step, outgoing}
 use Rattle.smp_route.specs.Places.{count, initial_port, pointer, with_pointer, with_return_port}
-use Rattle.topo_file.specs.declared.cable.Cable.{Cable}
-use Rattle.topo_file.specs.declared.cable.PortRef.{PortRef}
-use Rattle.fabric_wire.specs.declared.node.Node.{Node}
-use Rattle.fabric_wire.specs.declared.walking.Arrival.{Arrival}
-use Rattle.fabric_wire.specs.FabricState.{far_end}
-use Rattle.fabric_wire.specs.Good.{is_right}
+use Rattle.fabric_parts.specs.declared.cable.Cable.{Cable}
+use Rattle.fabric_parts.specs.declared.cable.PortRef.{PortRef}
+use Rattle.smp_wire.specs.declared.node.Node.{Node}
+use Rattle.smp_wire.specs.declared.walking.Arrival.{Arrival}
+use Rattle.fabric_parts.specs.Cable.{far_end}
+use Rattle.smp_wire.specs.Good.{is_right}
 use Rattle.fabric_wire.specs.Hopping.{node_type_at}
-use Rattle.fabric_wire.specs.Walk.{arrival_of, hop, is_sent, path_of, walk}
-use Rattle.fabric_wire.proofs.WalkLemmas.{IsUnderWay, begins, ends, goes_on, sent_parts, stops}
+use Rattle.smp_wire.specs.Walk.{arrival_of, hop, is_sent, path_of, walk}
+use Rattle.smp_wire.proofs.WalkLemmas.{IsUnderWay, begins, ends, goes_on, sent_parts, stops}
 use Rattle.fabric_wire.proofs.HomeLemmas.{numbered}
 use Rattle.fabric_wire.proofs.HopLemmas.{IsOnWay, Leaves, byte_kept, byte_left, hop_is_far_end, leaves, noted_by, pointer_set, same_port_out}
 use Rattle.fabric_wire.proofs.HopLemmas.Leaves.{arrives, drops, passes}

@@ -3,9 +3,9 @@ use Rattle.std.proofs.Common.{ℕ, ◌≡◌, ◌+◌, ◌-◌, ◌<◌, ◌≤�
 use Rattle.std.specs.List.{range_with_len}
 use Rattle.std.proofs.lemmas.List.{take_more}
 use Rattle.std.proofs.lemmas.List.FromFn.{map-range_with_len_more}
-use Rattle.topo_file.specs.declared.cable.Cable.{Cable}
+use Rattle.fabric_parts.specs.declared.cable.Cable.{Cable}
 use Rattle.topo_file.specs.declared.node.Node.{Node as PlannedNode}
-use Rattle.fabric_wire.specs.declared.node.Node.{Node}
+use Rattle.smp_wire.specs.declared.node.Node.{Node}
 use Rattle.fabric_wire.specs.OfTopology.{node_of}
 use Rattle.fabric_wire.proofs.OfTopologyLemmas.{nodes_from}
 

@@ -8,11 +8,12 @@ use Rattle.smp_route.specs.declared.hop.Hop.{Hop}
 use Rattle.smp_route.specs.declared.hop.Hop.TheVariants.{Forward, ToAgent, ToManager, Discard}
 use Rattle.smp_route.specs.Hops.{Step, discarded, may_return, passes_back, returning, sent_back}
 use Rattle.smp_route.specs.Places.{count, pointer, return_port, with_pointer}
-use Rattle.topo_file.specs.declared.cable.Cable.{Cable}
-use Rattle.topo_file.specs.declared.cable.PortRef.{PortRef}
-use Rattle.fabric_wire.specs.declared.node.Node.{Node}
-use Rattle.fabric_wire.specs.FabricState.{far_end, is_switch_at}
-use Rattle.fabric_wire.specs.Good.{is_right}
+use Rattle.fabric_parts.specs.declared.cable.Cable.{Cable}
+use Rattle.fabric_parts.specs.declared.cable.PortRef.{PortRef}
+use Rattle.smp_wire.specs.declared.node.Node.{Node}
+use Rattle.fabric_parts.specs.Cable.{far_end}
+use Rattle.smp_wire.specs.FabricState.{is_switch_at}
+use Rattle.smp_wire.specs.Good.{is_right}
 use Rattle.fabric_wire.specs.Hopping.{leads_home, node_type_at}
 use Rattle.fabric_wire.proofs.HomeLemmas.{numbered}
 use Rattle.fabric_wire.proofs.HopLemmas.{byte_kept, pointer_set, port_0_is_bare, same_port_out}
@@ -61,12 +62,12 @@ rule_may node_type entered smp may few is =
     let short : nat_lt 63 (count smp) ≡ false = grind (arith, nat_tests, few) in
     rw (short, is) refl
 
-by_kind : (nodes : List Node) (node left : ℕ) (switch last : Bool) → is_switch_at nodes node ≡ switch → (left == 0) ≡ last → (left + 1 == 1) ≡ last
+by_type : (nodes : List Node) (node left : ℕ) (switch last : Bool) → is_switch_at nodes node ≡ switch → (left == 0) ≡ last → (left + 1 == 1) ≡ last
     → passes_back (node_type_at nodes node) (left + 1) ≡ (left == 0) || is_switch_at nodes node
-by_kind nodes node left true true s l one = rw (s, l) refl
-by_kind nodes node left true false s l one = rw (s, l) refl
-by_kind nodes node left false true s l one = rw (s, l, one) refl
-by_kind nodes node left false false s l one = rw (s, l, one) refl
+by_type nodes node left true true s l one = rw (s, l) refl
+by_type nodes node left true false s l one = rw (s, l) refl
+by_type nodes node left false true s l one = rw (s, l, one) refl
+by_type nodes node left false false s l one = rw (s, l, one) refl
 
 last_hop : (left : ℕ) → (left + 1 == 1) ≡ (left == 0)
 last_hop zero = refl
@@ -80,7 +81,7 @@ may nodes zero left node entered smp enters here hops =
 may nodes (suc done) left node entered smp enters here hops =
     let some : nat_le 1 (left + 1) ≡ true = grind (arith, nat_tests) in
     let within : nat_le (left + 1) (count smp) ≡ true = grind (arith, nat_tests, hops) in
-    rw (enters, here, some, within) (by_kind nodes node left (is_switch_at nodes node) (left == 0) refl refl (last_hop left))
+    rw (enters, here, some, within) (by_type nodes node left (is_switch_at nodes node) (left == 0) refl refl (last_hop left))
 
 back_by : (cables : List Cable) (nodes : List Node) (manager : ℕ) (home : Bool) (reply : List ℕ) (done left : ℕ) (at : PortRef) (smp : List ℕ) (hands : Bool) (step : Step)
     → list_all (is_right nodes) cables ≡ true → length reply ≡ 256 → smp ≡ with_pointer (left + 1) reply → done + left ≡ count reply → home ≡ hands && leads_home nodes cables manager reply left at.node

@@ -5,12 +5,13 @@ use Rattle.std.specs.Int.Digits.{AllBelowBase}
 use Rattle.smp_route.specs.declared.hop.Hop.TheVariants.{Forward, ToAgent, ToManager}
 use Rattle.smp_route.specs.Hops.{Step, outgoing, returning}
 use Rattle.smp_route.specs.Places.{is_outgoing, turned_round}
-use Rattle.topo_file.specs.declared.cable.PortRef.{PortRef}
-use Rattle.fabric_wire.specs.declared.node.Node.{Node}
-use Rattle.fabric_wire.specs.FabricState.{FabricState, after_at, far_end, reply_at}
-use Rattle.fabric_wire.specs.Good.{IsGood}
+use Rattle.fabric_parts.specs.declared.cable.PortRef.{PortRef}
+use Rattle.smp_wire.specs.declared.node.Node.{Node}
+use Rattle.fabric_parts.specs.Cable.{far_end}
+use Rattle.smp_wire.specs.FabricState.{FabricState, after_at, reply_at}
+use Rattle.smp_wire.specs.Good.{IsGood}
 use Rattle.fabric_wire.specs.Hopping.{node_type_at}
-use Rattle.fabric_wire.specs.Walk.{exchange_after, exchange_reply}
+use Rattle.smp_wire.specs.Walk.{exchange_after, exchange_reply}
 
 -- an SMP at a node, to which it came by this port; port 0 is the node itself
 pub record Visit : Type 0 where
@@ -74,7 +75,3 @@ pub record GoesByHops (fabric : FabricState) (smp : List ℕ) : Type 0 where
   -- the agent that it reaches may have changed; where it reaches none, nothing has
   pub change : (at : PortRef) (request : List ℕ) → Reaches fabric smp at request → exchange_after fabric smp ≡ after_at fabric at request
   pub no_change : ((at : PortRef) (request : List ℕ) → Reaches fabric smp at request → ⊥) → exchange_after fabric smp ≡ fabric
-
--- in every good fabric, for every SMP
-abbrev pub ExchangesGoByHops : Type 0
-ExchangesGoByHops = (fabric : FabricState) (smp : List ℕ) → IsGood fabric → length smp ≡ 256 → AllBelowBase 256 smp → GoesByHops fabric smp

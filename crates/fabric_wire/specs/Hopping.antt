@@ -5,9 +5,10 @@ use Rattle.std.specs.Option.{option_map_or}
 use Rattle.fabric_parts.specs.declared.node_type.NodeType.{NodeType}
 use Rattle.fabric_parts.specs.declared.node_type.NodeType.TheVariants.{ChannelAdapter, Switch}
 use Rattle.smp_route.specs.Places.{return_port}
-use Rattle.topo_file.specs.declared.cable.Cable.{Cable}
-use Rattle.fabric_wire.specs.declared.node.Node.{Node}
-use Rattle.fabric_wire.specs.FabricState.{far_end, is_switch_at}
+use Rattle.fabric_parts.specs.declared.cable.Cable.{Cable}
+use Rattle.smp_wire.specs.declared.node.Node.{Node}
+use Rattle.fabric_parts.specs.Cable.{far_end}
+use Rattle.smp_wire.specs.FabricState.{is_switch_at}
 
 -- the kind of the node there; a place without a node counts as a channel adapter
 abbrev pub node_type_at : List Node → ℕ → NodeType

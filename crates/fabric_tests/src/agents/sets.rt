@@ -72,7 +72,7 @@ fn a_set_of_port_info_takes_what_it_may(rt: HostRuntime) {
     assert!(rt; node.agent(4, &mut smp));
     assert_eq!(rt; Header::read(&smp).status, 0);
     let info = PortInfo::read(&DrSmp::read(&smp).data);
-    let before = attr_tables::port_info_at_power_up(NodeType::Switch, 4, Link::Cabled);
+    let before = agent_rules::port_info_at_power_up(NodeType::Switch, 4, Link::Cabled);
     let after = PortInfo {
         gid_prefix: 0xffffffffffffffff,
         lid: 0x1234,
@@ -138,7 +138,7 @@ fn only_linear_fdb_top_of_switch_info_is_taken(rt: HostRuntime) {
     assert_eq!(rt; Header::read(&smp).status, 0);
     let after = SwitchInfo {
         linear_fdb_top: 511,
-        ..attr_tables::switch_info_at_power_up()
+        ..agent_rules::switch_info_at_power_up()
     };
     assert_eq!(rt; SwitchInfo::read(&DrSmp::read(&smp).data), after);
 }
