@@ -1,4 +1,4 @@
-ghost use Rattle.std.specs.Prelude.{◌≡◌, ◌≤◌, ◌-◌, ◌++◌, length, replicate};
+ghost use Rattle.std.specs.Prelude.{◌≡◌, ◌≤◌, length};
 ghost use Rattle.data_packet.specs.declared.payload.TheConstants.{PAYLOAD_BYTES};
 
 use arrayvec::ArrayVec;
@@ -31,23 +31,8 @@ impl Payload {
         ensures { result ≡ bytes.now }
     {
         let mut payload = ArrayVec::new();
-        for byte in bytes {
-            payload.push(*byte);
-        }
+        let _ = payload.try_extend_from_slice(bytes);
         Payload { bytes: payload }
-    }
-
-    /// A payload of this size: the bytes, and zero bytes behind them.
-    pub fn padded(bytes: &[u8], size: usize) -> Payload
-        requires within { length bytes.now ≤ size }
-        requires fits { size ≤ PAYLOAD_BYTES }
-        ensures { result ≡ bytes.now ++ replicate (size - length bytes.now) 0 }
-    {
-        let Payload { bytes: mut all } = Payload::new(bytes);
-        for _added in 0..size - bytes.len() {
-            all.push(0);
-        }
-        Payload { bytes: all }
     }
 
     /// Its bytes.

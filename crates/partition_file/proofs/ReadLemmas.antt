@@ -1,14 +1,17 @@
-use Rattle.std.proofs.Common.{◌≡◌, ℕ, suc, ◌+◌, ◌-◌, ◌<◌, ◌≤◌, Bool, true, false, cond, not, List, [], ◌∷◌, ◌++◌, length, take, drop, get_or, reverse, Result, Ok, Err, refl, sym, ap, subst, ◌∙◌, arith, length-drop, drop-cons}
+-- How far a partition text is read: the loop over its bytes.
+use Rattle.std.proofs.Common.{◌≡◌, ℕ, suc, ◌+◌, ◌-◌, ◌<◌, ◌≤◌, Bool, true, false, cond, not, List, [], ◌∷◌, ◌++◌, length, take, drop, get_or, reverse, Result, Ok, refl, sym, ap, subst, ◌∙◌, arith, length-drop, drop-cons}
 use Rattle.std.specs.List.{take_while}
+use Rattle.std.specs.Prelude.{Option}
 use Rattle.std.proofs.lemmas.List.{take_more, take_all, drop_all, reverse-append, get_or-drop}
 use Rattle.std.proofs.lemmas.List.Sums.{take_while-cons, count_by_more_yes, count_by_more_no}
 use Rattle.partition_file.specs.declared.definition.Definition.{Definition}
-use Rattle.partition_file.specs.declared.fault.PartFault.{PartFault}
-use Rattle.partition_file.specs.declared.fault.PartFault.TheVariants.{NoMemory, At}
-use Rattle.partition_file.specs.Fault.{TextFault, ◌>>=◌, at_line}
+use Rattle.result_words.proofs.StepLemmas.{bind_after, bind_twice, fails_on}
+use Rattle.partition_file.specs.declared.fault.PartitionCause.{PartitionCause}
+use Rattle.result_words.specs.AtLine.{AtLine, on_line}
+use Rattle.result_words.specs.Steps.{◌>>=◌}
 use Rattle.partition_file.specs.Pieces.{folded, is_delimiter, is_line_end, line_after, piece_after, since}
 use Rattle.partition_file.specs.Definitions.{Scanned, after, after_byte, at_end, start, whole}
-use Rattle.partition_file.specs.Reading.{Fails}
+use Rattle.result_words.specs.Gives.{Fails}
 
 -- ---- the piece that is open, after one more byte
 reverse_more : (text : List ℕ) (byte : ℕ) → reverse (text ++ byte ∷ []) ≡ byte ∷ reverse text
@@ -26,7 +29,7 @@ since_more passes text byte =
 
 -- ---- how far the text is read
 pub record IsReadTo (text : List ℕ) (i from number : ℕ) (s : Scanned) : Type 0 where
-  pub gives : whole text ≡ (after (take i text) s (drop i text) >>= λ t. at_line (line_after text) (at_end t (piece_after text)))
+  pub gives : whole text ≡ (after (take i text) s (drop i text) >>= λ t. on_line (line_after text) (at_end t (piece_after text)))
   pub line : number ≡ line_after (take i text)
   pub few : number ≤ i + 1
   pub below : from ≤ i
@@ -73,53 +76,42 @@ below_by : (from i : ℕ) (b : Bool) → from ≤ i → next_from b from i ≤ i
 below_by from i true h = omega arith
 below_by from i false h = omega arith
 
-bound_by : {X Y : Type 0} (given : Result X TextFault) (t : X) (f : X → Result Y TextFault) → given ≡ Ok t → (given >>= f) ≡ f t
-bound_by given t f h = rw h refl
-
 -- the byte at i, judged where it stands
 judged_here : (text : List ℕ) (i from number : ℕ) (s : Scanned) (byte : ℕ) → byte ≡ get_or text i 0 → i < length text → IsReadTo text i from number s
-    → after (take i text) s (drop i text) ≡ (at_line number (after_byte s (folded (take (i - from) (drop from text))) byte) >>= λ t. after (take (i + 1) text) t (drop (i + 1) text))
+    → after (take i text) s (drop i text) ≡ (on_line number (after_byte s (folded (take (i - from) (drop from text))) byte) >>= λ t. after (take (i + 1) text) t (drop (i + 1) text))
 unfolding after
 judged_here text i from number s byte e within so_far =
     let after_it : suc i ≡ i + 1 = omega arith in
     let cut : drop i text ≡ get_or text i 0 ∷ drop (i + 1) text = drop-cons text i 0 within ∙ ap (λ k. get_or text i 0 ∷ drop k text) after_it in
     rw (cut, e, so_far.raw, so_far.line, take_more text i 0 within) refl
 
-both_bound : {X Y Z : Type 0} (given : Result X TextFault) (f : X → Result Y TextFault) (g : Y → Result Z TextFault) → ((given >>= f) >>= g) ≡ (given >>= λ t. f t >>= g)
-both_bound (Ok x) f g = refl
-both_bound (Err e) f g = refl
-
 goes_so : (text : List ℕ) (i from number : ℕ) (s : Scanned) (byte : ℕ) → byte ≡ get_or text i 0 → i < length text → IsReadTo text i from number s
-    → whole text ≡ (at_line number (after_byte s (folded (take (i - from) (drop from text))) byte) >>= λ t. after (take (i + 1) text) t (drop (i + 1) text) >>= λ u. at_line (line_after text) (at_end u (piece_after text)))
+    → whole text ≡ (on_line number (after_byte s (folded (take (i - from) (drop from text))) byte) >>= λ t. after (take (i + 1) text) t (drop (i + 1) text) >>= λ u. on_line (line_after text) (at_end u (piece_after text)))
 goes_so text i from number s byte e within so_far =
-    let finish = λ (t : Scanned). at_line (line_after text) (at_end t (piece_after text)) in
+    let finish = λ (t : Scanned). on_line (line_after text) (at_end t (piece_after text)) in
     so_far.gives
-    ∙ ap (λ (given : Result Scanned TextFault). given >>= finish) (judged_here text i from number s byte e within so_far)
-    ∙ both_bound (at_line number (after_byte s (folded (take (i - from) (drop from text))) byte)) (λ t. after (take (i + 1) text) t (drop (i + 1) text)) finish
+    ∙ ap (λ (given : Result Scanned (AtLine PartitionCause)). given >>= finish) (judged_here text i from number s byte e within so_far)
+    ∙ bind_twice (on_line number (after_byte s (folded (take (i - from) (drop from text))) byte)) (λ t. after (take (i + 1) text) t (drop (i + 1) text)) finish
 
 pub goes_on : (text : List ℕ) (i from number : ℕ) (s t : Scanned) (byte : ℕ) → byte ≡ get_or text i 0 → i < length text → IsReadTo text i from number s
-    → at_line number (after_byte s (folded (take (i - from) (drop from text))) byte) ≡ Ok t → IsReadTo text (i + 1) (next_from (is_delimiter byte) from i) (next_line (is_line_end byte) number) t
+    → on_line number (after_byte s (folded (take (i - from) (drop from text))) byte) ≡ Ok t → IsReadTo text (i + 1) (next_from (is_delimiter byte) from i) (next_line (is_line_end byte) number) t
 goes_on text i from number s t byte e within so_far judged = record {
-  gives = goes_so text i from number s byte e within so_far ∙ bound_by (at_line number (after_byte s (folded (take (i - from) (drop from text))) byte)) t (λ u. after (take (i + 1) text) u (drop (i + 1) text) >>= λ v. at_line (line_after text) (at_end v (piece_after text))) judged;
+  gives = goes_so text i from number s byte e within so_far ∙ bind_after (on_line number (after_byte s (folded (take (i - from) (drop from text))) byte)) (λ u. after (take (i + 1) text) u (drop (i + 1) text) >>= λ v. on_line (line_after text) (at_end v (piece_after text))) t judged;
   line = line_by text i number (is_line_end byte) (ap is_line_end (sym e)) within so_far.line;
   few = few_by number i (is_line_end byte) so_far.few;
   below = below_by from i (is_delimiter byte) so_far.below;
   raw = raw_next text i from byte e within so_far.below so_far.raw;
 }
 
-fails_so : {X Y : Type 0} (fault : PartFault) (given : Result X TextFault) (f : X → Result Y TextFault) → Fails fault given → Fails fault (given >>= f)
-fails_so NoMemory given f h = tt
-fails_so (At number cause) given f h = rw h refl
-
-pub stops : (fault : PartFault) (text : List ℕ) (i from number : ℕ) (s : Scanned) (byte : ℕ) → byte ≡ get_or text i 0 → i < length text → IsReadTo text i from number s
-    → Fails fault (at_line number (after_byte s (folded (take (i - from) (drop from text))) byte)) → Fails fault (whole text)
-stops fault text i from number s byte e within so_far h =
-    subst (λ (given : Result (List Definition) TextFault). Fails fault given) (sym (goes_so text i from number s byte e within so_far))
-    (fails_so fault (at_line number (after_byte s (folded (take (i - from) (drop from text))) byte)) (λ t. after (take (i + 1) text) t (drop (i + 1) text) >>= λ u. at_line (line_after text) (at_end u (piece_after text))) h)
+pub stops : (told : Option (AtLine PartitionCause)) (text : List ℕ) (i from number : ℕ) (s : Scanned) (byte : ℕ) → byte ≡ get_or text i 0 → i < length text → IsReadTo text i from number s
+    → Fails told (on_line number (after_byte s (folded (take (i - from) (drop from text))) byte)) → Fails told (whole text)
+stops told text i from number s byte e within so_far h =
+    subst (λ (given : Result (List Definition) (AtLine PartitionCause)). Fails told given) (sym (goes_so text i from number s byte e within so_far))
+    (fails_on told (on_line number (after_byte s (folded (take (i - from) (drop from text))) byte)) (λ t. after (take (i + 1) text) t (drop (i + 1) text) >>= λ u. on_line (line_after text) (at_end u (piece_after text))) h)
 
 -- all bytes are read
 pub ends : (text : List ℕ) (i from number : ℕ) (s : Scanned) → length text ≤ i → i ≤ length text → IsReadTo text i from number s
-    → whole text ≡ at_line number (at_end s (folded (take (length text - from) (drop from text))))
+    → whole text ≡ on_line number (at_end s (folded (take (length text - from) (drop from text))))
 unfolding after
 ends text i from number s past within so_far =
     let all : i ≡ length text = omega arith in
@@ -127,4 +119,4 @@ ends text i from number s past within so_far =
     let whole_text : take i text ≡ text = take_all i text past in
     let raw : take (length text - from) (drop from text) ≡ since is_delimiter text = ap (λ k. take (k - from) (drop from text)) (sym all) ∙ so_far.raw ∙ ap (since is_delimiter) whole_text in
     let line : number ≡ line_after text = so_far.line ∙ ap line_after whole_text in
-    so_far.gives ∙ ap (λ (rest : List ℕ). after (take i text) s rest >>= λ t. at_line (line_after text) (at_end t (piece_after text))) none ∙ rw (raw, line) refl
+    so_far.gives ∙ ap (λ (rest : List ℕ). after (take i text) s rest >>= λ t. on_line (line_after text) (at_end t (piece_after text))) none ∙ rw (raw, line) refl

@@ -5,7 +5,7 @@ use Rattle.std.proofs.lemmas.Bool.Decides.{nat_tests}
 use Rattle.partition_file.specs.declared.fault.PartitionCause.{PartitionCause}
 use Rattle.partition_file.specs.declared.fault.PartitionCause.TheVariants.{BadCharacter, BadNumber, ReservedKey, UnknownFlag, BothMembership, MgidItem, TooManyPartitions, Unfinished, BadFlagValue}
 use Rattle.partition_file.specs.declared.piece.Delimiter.{Delimiter}
-use Rattle.partition_file.specs.Fault.{unless}
+use Rattle.result_words.specs.Steps.{unless}
 use Rattle.partition_file.specs.Pieces.{delimiter_of, is_allowed, piece_after}
 use Rattle.partition_file.specs.Cases.{fault_of, has_fault, in_turn}
 use Rattle.partition_file.specs.Definitions.{Scanned, after_byte, judged_at, next, place_of}

@@ -10,7 +10,8 @@ use Rattle.partition_file.specs.declared.item.Ports.{Ports}
 use Rattle.partition_file.specs.declared.item.Item.{Item}
 use Rattle.partition_file.specs.declared.flag.Flag.{Flag}
 use Rattle.partition_file.specs.declared.definition.Definition.{Definition}
-use Rattle.partition_file.specs.Fault.{TextFault, ◌>>=◌, unless, at_line}
+use Rattle.result_words.specs.AtLine.{AtLine, on_line}
+use Rattle.result_words.specs.Steps.{◌>>=◌, unless}
 use Rattle.partition_file.specs.Pieces.{without_comments, is_allowed, delimiter_of, is_equals, is_semicolon, piece_after, line_after}
 use Rattle.partition_file.specs.Flags.{flag_of, with_flag, with_value, is_full, is_full_by_default, no_flags}
 use Rattle.partition_file.specs.Ports.{ports_of}
@@ -90,9 +91,9 @@ unfoldable pub after_byte : Scanned → List ℕ → ℕ → Result Scanned Part
 after_byte s piece byte = judged_at s (delimiter_of byte) (is_allowed byte) piece
 
 -- the state after the bytes that follow the text so far, or their first fault
-unfoldable pub after : List ℕ → Scanned → List ℕ → Result Scanned TextFault
+unfoldable pub after : List ℕ → Scanned → List ℕ → Result Scanned (AtLine PartitionCause)
 after so_far s [] = Ok s
-after so_far s (byte ∷ rest) = at_line (line_after so_far) (after_byte s (piece_after so_far) byte) >>= λ t. after (so_far ++ byte ∷ []) t rest
+after so_far s (byte ∷ rest) = on_line (line_after so_far) (after_byte s (piece_after so_far) byte) >>= λ t. after (so_far ++ byte ∷ []) t rest
 
 abbrev pub is_name : Part → Bool
 is_name part.Name = true
@@ -106,8 +107,8 @@ abbrev pub at_end : Scanned → List ℕ → Result (List Definition) PartitionC
 at_end s piece = if is_inside s.at piece then Err Unfinished else Ok s.done
 
 -- a text whose comments are blanked
-unfoldable pub whole : List ℕ → Result (List Definition) TextFault
-whole shown = after [] start shown >>= λ s. at_line (line_after shown) (at_end s (piece_after shown))
+unfoldable pub whole : List ℕ → Result (List Definition) (AtLine PartitionCause)
+whole shown = after [] start shown >>= λ s. on_line (line_after shown) (at_end s (piece_after shown))
 
-abbrev pub definitions_of : List ℕ → Result (List Definition) TextFault
+abbrev pub definitions_of : List ℕ → Result (List Definition) (AtLine PartitionCause)
 definitions_of text = whole (without_comments false text)

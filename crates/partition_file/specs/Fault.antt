@@ -1,5 +1,8 @@
--- The faults of a partition file: their codes, and a fault with its line.
-use Rattle.std.specs.Prelude.{ℕ, List, codes, Option, Some, None, Result, Ok, Err}
+-- The faults of a partition file: their codes, and what the error of its reader tells.
+use Rattle.std.specs.Prelude.{ℕ, List, codes, Option, Some, None}
+use Rattle.result_words.specs.AtLine.{AtLine}
+use Rattle.partition_file.specs.declared.fault.PartFault.{PartFault}
+use Rattle.partition_file.specs.declared.fault.PartFault.TheVariants.{NoMemory, At}
 use Rattle.partition_file.specs.declared.fault.PartitionCause.{PartitionCause}
 use Rattle.partition_file.specs.declared.fault.PartitionCause.TheVariants.{BadCharacter, BadNumber, ReservedKey, UnknownFlag, BothMembership, MgidItem, TooManyPartitions, Unfinished, BadFlagValue}
 
@@ -14,21 +17,7 @@ code_of TooManyPartitions = codes "PF7"
 code_of Unfinished = codes "PF8"
 code_of BadFlagValue = codes "PF9"
 
--- a fault with the line of its place
-pub record TextFault : Type 0 where
-  pub line : ℕ
-  pub cause : PartitionCause
-
-infixl 10 ◌>>=◌
-abbrev pub ◌>>=◌ : {A B E : Type 0} → Result A E → (A → Result B E) → Result B E
-(Ok x) >>= f = f x
-(Err e) >>= f = Err e
-
--- a value, unless there is a fault
-abbrev pub unless : {X E : Type 0} → Option E → X → Result X E
-unless None x = Ok x
-unless (Some fault) x = Err fault
-
-abbrev pub at_line : {X : Type 0} → ℕ → Result X PartitionCause → Result X TextFault
-at_line number (Ok x) = Ok x
-at_line number (Err fault) = Err (record { line = number; cause = fault })
+-- what is wrong with the text, if the error tells it; none where memory was refused
+abbrev pub fault_in : PartFault → Option (AtLine PartitionCause)
+fault_in NoMemory = None
+fault_in (At number cause) = Some (record { line = number; cause = cause })

@@ -3,7 +3,7 @@ use Rattle.std.specs.Prelude.{ℕ, ◌≡◌, ◌≤◌, ◌⊎◌, Bool, true, 
 use Rattle.partition_file.specs.declared.fault.PartitionCause.{PartitionCause}
 use Rattle.partition_file.specs.declared.fault.PartitionCause.TheVariants.{BadCharacter, BadNumber, ReservedKey, UnknownFlag, BothMembership, MgidItem, TooManyPartitions, Unfinished, BadFlagValue}
 use Rattle.partition_file.specs.declared.piece.Delimiter.{Delimiter}
-use Rattle.partition_file.specs.Fault.{TextFault}
+use Rattle.result_words.specs.AtLine.{AtLine}
 use Rattle.partition_file.specs.Pieces.{delimiter_of, is_allowed, line_after, piece_after, without_comments}
 use Rattle.partition_file.specs.Cases.{has_fault}
 use Rattle.partition_file.specs.Definitions.{Scanned, after, is_inside, place_of, start}
@@ -41,7 +41,7 @@ CleanThroughout = (before rest : List ℕ) (byte : ℕ) (s : Scanned) → IsClea
     → (t : Scanned) × (IsClean before t × ((fault : PartitionCause) → is_fault_at t before byte fault ≡ false))
 
 -- the byte after a clean beginning has this fault, and none before it in turn; its line is that of the byte
-pub record HasFaultInside (shown : List ℕ) (e : TextFault) : Type 0 where
+pub record HasFaultInside (shown : List ℕ) (e : AtLine PartitionCause) : Type 0 where
   pub before : List ℕ
   pub byte : ℕ
   pub rest : List ℕ
@@ -53,7 +53,7 @@ pub record HasFaultInside (shown : List ℕ) (e : TextFault) : Type 0 where
   pub line : e.line ≡ line_after before
 
 -- all of a text is clean, and it ends inside a definition
-pub record HasFaultAtEnd (shown : List ℕ) (e : TextFault) : Type 0 where
+pub record HasFaultAtEnd (shown : List ℕ) (e : AtLine PartitionCause) : Type 0 where
   pub state : Scanned
   pub clean : IsClean shown state
   pub inside : is_inside state.at (piece_after shown) ≡ true
@@ -62,13 +62,13 @@ pub record HasFaultAtEnd (shown : List ℕ) (e : TextFault) : Type 0 where
 
 -- whatever follows the byte
 abbrev pub InsideRefuses : Type 0
-InsideRefuses = (text : List ℕ) (e : TextFault) → HasFaultInside (without_comments false text) e → partitions_of text ≡ Err e
+InsideRefuses = (text : List ℕ) (e : AtLine PartitionCause) → HasFaultInside (without_comments false text) e → partitions_of text ≡ Err e
 
 abbrev pub EndRefuses : Type 0
-EndRefuses = (text : List ℕ) (e : TextFault) → HasFaultAtEnd (without_comments false text) e → partitions_of text ≡ Err e
+EndRefuses = (text : List ℕ) (e : AtLine PartitionCause) → HasFaultAtEnd (without_comments false text) e → partitions_of text ≡ Err e
 
 abbrev pub OnlySoRefused : Type 0
-OnlySoRefused = (text : List ℕ) (e : TextFault) → partitions_of text ≡ Err e
+OnlySoRefused = (text : List ℕ) (e : AtLine PartitionCause) → partitions_of text ≡ Err e
     → HasFaultInside (without_comments false text) e ⊎ HasFaultAtEnd (without_comments false text) e
 
 -- the beginnings of a text without its comments are the beginnings of the text, without theirs

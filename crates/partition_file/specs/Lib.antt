@@ -8,7 +8,6 @@ pub mod Cases
 pub mod Definitions
 pub mod Partitions
 pub mod Sound
-pub mod Reading
 pub mod Law
 pub mod Generated
 pub mod Members

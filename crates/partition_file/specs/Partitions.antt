@@ -7,7 +7,9 @@ use Rattle.partition_file.specs.declared.flag.Flags.{Flags}
 use Rattle.partition_file.specs.declared.definition.Definition.{Definition}
 use Rattle.partition_file.specs.declared.partition.Group.{Group}
 use Rattle.partition_file.specs.declared.partition.Partition.{Partition}
-use Rattle.partition_file.specs.Fault.{TextFault, ◌>>=◌}
+use Rattle.result_words.specs.AtLine.{AtLine}
+use Rattle.partition_file.specs.declared.fault.PartitionCause.{PartitionCause}
+use Rattle.result_words.specs.Steps.{◌>>=◌}
 use Rattle.partition_file.specs.Counting.{has_base, with_base, default_base}
 use Rattle.partition_file.specs.Definitions.{definitions_of}
 
@@ -104,7 +106,7 @@ abbrev pub partitions_in : List Definition → List Partition
 partitions_in definitions = partitions_by (rules_of definitions)
 
 -- the partitions of a text, or its first fault
-unfoldable pub partitions_of : List ℕ → Result (List Partition) TextFault
+unfoldable pub partitions_of : List ℕ → Result (List Partition) (AtLine PartitionCause)
 partitions_of text = definitions_of text >>= λ definitions. Ok (partitions_in definitions)
 
 -- ff1s:401b:kkkk:0000:0000:0000:ffff:ffff: the broadcast group of IP over InfiniBand (RFC 4391), with the scope s and the partition's full key k

@@ -1,12 +1,13 @@
 //! The text so far, as it is gone through byte by byte.
 
 ghost use Rattle.std.specs.Prelude.{◌≡◌, ◌≤◌, ◌<◌, true, None, IfOk, OnOk, OnErr};
-ghost use Rattle.partition_file.specs.Fault.{at_line};
+ghost use Rattle.partition_file.specs.Fault.{fault_in};
+ghost use Rattle.result_words.specs.AtLine.{on_line};
 ghost use Rattle.partition_file.specs.Pieces.{folded};
 ghost use Rattle.partition_file.specs.Cases.{fault_of, is_in_list, is_one_too_many};
 ghost use Rattle.partition_file.specs.Counting.{keys_of};
 ghost use Rattle.partition_file.specs.Definitions.{after_byte, at_end, next, place_of, start, with_item, with_piece};
-ghost use Rattle.partition_file.specs.Reading.{Gives};
+ghost use Rattle.result_words.specs.Gives.{Gives};
 
 use crate::definition::{Definition, DefinitionList, Name};
 use crate::fault::{PartFault, PartitionCause};
@@ -177,7 +178,7 @@ impl Scan {
         raw: &[u8],
         byte: u8,
     ) -> Result<(), PartFault>
-        ensures { Gives (λ _. self.new) result (at_line line (after_byte self.old (folded raw.now) byte)) }
+        ensures { Gives fault_in (λ _. self.new) result (on_line line (after_byte self.old (folded raw.now) byte)) }
     {
         let Some(delimiter) = delimiter_of(byte) else {
             if is_allowed(byte) {
@@ -203,7 +204,7 @@ impl Scan {
         line: usize,
         raw: &[u8],
     ) -> Result<DefinitionList, PartFault>
-        ensures { Gives (λ definitions. definitions) result (at_line line (at_end self (folded raw.now))) }
+        ensures { Gives fault_in (λ definitions. definitions) result (on_line line (at_end self (folded raw.now))) }
     {
         let piece = folded(alloc, raw)?;
         if self.part.is_inside(&piece) {

@@ -21,3 +21,8 @@ fault_in (Fault cause) = Some cause
 -- a line's reader returned what is given
 abbrev pub LineGives : {X Y Cause : Type 0} → (X → Y) → Result X (LineError Cause) → Result Y Cause → Type 0
 LineGives view read given = Gives fault_in view read given
+
+-- what was returned, its value as `view` sees it
+abbrev pub seen_by : {X Y Error : Type 0} → (X → Y) → Result X Error → Result Y Error
+seen_by view (Ok x) = Ok (view x)
+seen_by view (Err error) = Err error

@@ -1,3 +1,4 @@
+-- Isolation, from one command to whole runs; and which port a LID names.
 use Rattle.std.proofs.Common.{◌≡◌, ℕ, Bool, true, false, ◌==◌, ◌&&◌, ◌||◌, not, List, [], ◌∷◌, ◌++◌, Option, Some, None, find, filter, map, All, refl, inl, inr, ◌∙◌, sym, ap, arith}
 use Rattle.std.specs.List.{list_any, IsDistinct, AllByRecursion}
 use Rattle.std.proofs.lemmas.List.Elements.{All-nil, All-cons, All-same, All-append, All-filter, All-map, All-weaker, All-from_recursion, filter-append}
@@ -200,8 +201,8 @@ only_one test lid (x ∷ xs) distinct h =
           (only_one test lid xs distinct.1 later)
     ]
 
-pub names_near_port : (ports : List SubnetPort) (p lid : ℕ) → IsDistinct same_lid ports → is_lid_near ports p lid ≡ true → All (λ port. port.lid ≡ lid → is_near ports p port.guid ≡ true) ports
-names_near_port ports p lid distinct h = only_one (λ port. is_near ports p port.guid) lid ports distinct h
+pub the_port_of_a_lid_is_near : (ports : List SubnetPort) (p lid : ℕ) → IsDistinct same_lid ports → is_lid_near ports p lid ≡ true → All (λ port. port.lid ≡ lid → is_near ports p port.guid ≡ true) ports
+the_port_of_a_lid_is_near ports p lid distinct h = only_one (λ port. is_near ports p port.guid) lid ports distinct h
 
 -- what is the report of the commands is isolated
 pub report_is_isolated : (ports : List SubnetPort) (commands : List Command) (events : List Event) → events ≡ report ports commands → IsIsolated ports commands events

@@ -1,20 +1,16 @@
 -- Whether a packet may be sent, and whom it reaches.
-use Rattle.std.specs.Prelude.{ℕ, Bool, true, false, not, ◌==◌, ◌&&◌, ◌||◌, List, Option, Some, None, if◌then◌else◌, find}
+use Rattle.std.specs.Prelude.{ℕ, Bool, not, ◌==◌, ◌&&◌, ◌||◌, List, Option, Some, None, if◌then◌else◌, find}
+use Rattle.fabric_parts.specs.Lid.{is_reserved}
+use Rattle.fabric_parts.specs.NodeType.{is_switch_type}
 use Rattle.pkey_rules.specs.KeyTable.{accepts, holds}
 use Rattle.data_packet.specs.declared.refusal.Refusal.{Refusal}
 use Rattle.data_packet.specs.declared.refusal.Refusal.TheVariants.{KeyNotHeld, QpZero, ReservedDlid}
 use Rattle.subnet_model.specs.declared.subnet_port.SubnetPort.{SubnetPort}
-use Rattle.subnet_model.specs.declared.subnet_port.PortKind.{PortKind}
-use Rattle.subnet_model.specs.declared.subnet_port.PortKind.TheVariants.{ChannelAdapter, Switch}
 use Rattle.subnet_model.specs.declared.command.SendCommand.{SendCommand}
 
 -- the port that a command names
 abbrev pub port_of : List SubnetPort → ℕ → Option SubnetPort
 port_of ports guid = find (λ port. port.guid == guid) ports
-
--- LID 0 is nobody's, and 0xffff, the permissive LID, is for directed-route packets alone
-abbrev pub is_reserved : ℕ → Bool
-is_reserved lid = (lid == 0) || (lid == 0xffff)
 
 -- why a port will not send: it holds no such key, or the queue pair is 0, or the LID is 0 or the permissive one
 abbrev pub refusal_of : SubnetPort → SendCommand → Option Refusal
@@ -27,13 +23,9 @@ refusal_of sender command =
     then Some ReservedDlid
     else None
 
-abbrev pub is_adapter : PortKind → Bool
-is_adapter ChannelAdapter = true
-is_adapter Switch = false
-
 -- a packet reaches the adapter port of its destination LID, if that port holds a key that matches the packet's
 abbrev pub reaches : SendCommand → SubnetPort → Bool
-reaches command port = (port.lid == command.dlid) && (is_adapter port.kind && accepts command.p_key port.keys)
+reaches command port = (port.lid == command.dlid) && (not (is_switch_type port.node_type) && accepts command.p_key port.keys)
 
 -- what comes to the subnet manager's port at queue pair 1 is for the subnet administration
 abbrev pub is_for_sa : SendCommand → SubnetPort → Bool

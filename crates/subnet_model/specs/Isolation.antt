@@ -3,10 +3,9 @@ use Rattle.std.specs.Prelude.{ℕ, ◌≡◌, Bool, true, false, List, [], ◌++
 use Rattle.subnet_model.specs.declared.subnet_port.SubnetPort.{SubnetPort}
 use Rattle.subnet_model.specs.declared.command.Command.{Command}
 use Rattle.subnet_model.specs.declared.event.Event.{Event}
-use Rattle.subnet_model.specs.State.{view}
 use Rattle.subnet_model.specs.Near.{is_near}
-use Rattle.subnet_model.specs.Report.{step, report}
-use Rattle.subnet_model.specs.Restriction.{actor, commands_of, events_at}
+use Rattle.subnet_model.specs.Report.{report}
+use Rattle.subnet_model.specs.Restriction.{commands_of, events_at}
 use Rattle.subnet_model.specs.Source.{ComesFromNear}
 
 -- A step keeps a port to itself: a command of a port that is far from it brings it no event and does not
@@ -22,11 +21,6 @@ pub record Isolates {S V C E : Type 0} (step : S → C → List E × S) (view : 
   pub joined : (xs ys : List E) → at (xs ++ ys) ≡ at xs ++ at ys
   pub nothing : at [] ≡ []
 
--- the step of a subnet keeps each port to itself
-abbrev pub StepIsolates : Type 0
-StepIsolates = (ports : List SubnetPort) (p : ℕ)
-    → Isolates (step ports) (view ports p) (λ command. is_near ports p (actor command)) (events_at p)
-
 -- the events at p are those that the commands of the ports near p alone would bring it
 abbrev pub DependsOnNear : List SubnetPort → ℕ → List Command → List Event → Type 0
 DependsOnNear ports p commands events =
@@ -36,8 +30,3 @@ DependsOnNear ports p commands events =
 abbrev pub IsIsolated : List SubnetPort → List Command → List Event → Type 0
 IsIsolated ports commands events =
     (p : ℕ) → DependsOnNear ports p commands events × ComesFromNear ports p events
-
--- whatever the ports and the commands
-abbrev pub EveryRunIsIsolated : Type 0
-EveryRunIsIsolated =
-    (ports : List SubnetPort) (commands : List Command) → IsIsolated ports commands (report ports commands)

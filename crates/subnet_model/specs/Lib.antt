@@ -8,3 +8,4 @@ pub mod Source
 pub mod Isolation
 pub use Rattle.pkey_rules.specs.PKey
 pub use Rattle.pkey_rules.specs.KeyTable
+pub mod Laws

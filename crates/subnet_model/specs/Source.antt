@@ -1,6 +1,6 @@
 -- Where what a port receives comes from.
 use Rattle.std.specs.Prelude.{ℕ, ◌≡◌, Bool, ◌==◌, ◌&&◌, true, List, All}
-use Rattle.std.specs.List.{list_any, IsDistinct}
+use Rattle.std.specs.List.{list_any}
 use Rattle.data_packet.specs.declared.packet.Packet.{Packet}
 use Rattle.subnet_model.specs.declared.subnet_port.SubnetPort.{SubnetPort}
 use Rattle.subnet_model.specs.declared.event.Event.{Event}
@@ -24,9 +24,3 @@ ComesFromNear ports p events = All (λ event. IsFromNear ports p event.what) (ev
 
 abbrev pub same_lid : SubnetPort → SubnetPort → Bool
 same_lid a b = a.lid == b.lid
-
--- where no two ports have one LID, the port of that LID is near
-abbrev pub NamesNearPort : Type 0
-NamesNearPort =
-    (ports : List SubnetPort) (p lid : ℕ) → IsDistinct same_lid ports → is_lid_near ports p lid ≡ true
-    → All (λ port. port.lid ≡ lid → is_near ports p port.guid ≡ true) ports

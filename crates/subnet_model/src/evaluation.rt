@@ -1,20 +1,18 @@
 ghost use Rattle.std.specs.Prelude.{◌≡◌, [], ◌∷◌, ◌++◌, Some, None, IfOk, OnOk, MatchResult};
 ghost use Rattle.std.specs.Option.{option_copied};
 ghost use Rattle.subnet_model.specs.declared.event.Outcome.TheVariants.{Received, Refused};
-ghost use Rattle.subnet_model.specs.Delivery.{port_of, refusal_of, is_reserved, reaches, is_for_sa};
+ghost use Rattle.subnet_model.specs.Delivery.{port_of, refusal_of, reaches, is_for_sa};
 ghost use Rattle.subnet_model.specs.Isolation.{IsIsolated};
-ghost use Rattle.subnet_model.specs.Report.{packet_of, received, sent_from, step, report};
+ghost use Rattle.subnet_model.specs.Report.{events_from, packet_of, received, sent_from, step, report};
 
 use crate::command::{Command, SendCommand};
 use crate::event::{Event, Outcome};
 use crate::state::State;
-use crate::subnet_port::{PortKind, SubnetPort};
+use crate::subnet_port::SubnetPort;
 use data_packet::{Packet, Payload, Refusal};
+use fabric_parts::{NodeType, is_reserved};
 use pkey_rules::PKey;
 use std::alloc::{AllocError, Global};
-
-/// The permissive LID, which directed-route packets carry in place of an address.
-const PERMISSIVE_LID: u16 = 0xffff;
 
 /// What the commands bring about, one after another, in a subnet of these ports.
 pub fn report(
@@ -25,54 +23,55 @@ pub fn report(
     ensures exact { IfOk result (λ events. events.items ≡ report ports.now commands.now) }
     ensures private { IfOk result (λ events. IsIsolated ports.now commands.now events.items) }
 {
-    run_in_turn(alloc, ports, commands)
-}
-
-fn run_in_turn(
-    alloc: Global,
-    ports: &[SubnetPort],
-    commands: &[Command],
-) -> Result<Vec<Event>, AllocError>
-    ensures { IfOk result (λ events. events.items ≡ report ports.now commands.now) }
-{
-    let mut state = State::new();
     let mut events = Vec::new(alloc);
-    for command in commands {
-        let mut next = step(alloc, ports, &mut state, command)?;
-        events.append(&mut next)?;
-    }
+    carry_out(&mut events, ports, &mut State::new(), commands)?;
     Ok(events)
 }
 
-/// The events of one command, and the state after it.
+/// Carries out commands one after another, and adds their events to those before.
+pub fn carry_out(
+    events: &mut Vec<Event>,
+    ports: &[SubnetPort],
+    state: &mut State,
+    commands: &[Command],
+) -> Result<(), AllocError>
+    ensures { OnOk result (events.new.items ≡ events.old.items ++ events_from (step ports.now) state.old commands.now) }
+{
+    for command in commands {
+        step(events, ports, state, command)?;
+    }
+    Ok(())
+}
+
+/// Carries out one command: adds its events to those before, and leaves the state after it.
 pub fn step(
-    alloc: Global,
+    events: &mut Vec<Event>,
     ports: &[SubnetPort],
     state: &mut State,
     command: &Command,
-) -> Result<Vec<Event>, AllocError>
-    ensures events { IfOk result (λ events. events.items ≡ (step ports.now state.old command.now).0) }
+) -> Result<(), AllocError>
+    ensures events { OnOk result (events.new.items ≡ events.old.items ++ (step ports.now state.old command.now).0) }
     ensures state { OnOk result (state.new ≡ (step ports.now state.old command.now).1) }
 {
     match command {
-        Command::Send(send) => sent(alloc, ports, send),
+        Command::Send(send) => push_sent(events, ports, send),
     }
 }
 
-fn sent(
-    alloc: Global,
+fn push_sent(
+    events: &mut Vec<Event>,
     ports: &[SubnetPort],
     command: &SendCommand,
-) -> Result<Vec<Event>, AllocError>
-    ensures { IfOk result (λ events.
-        events.items ≡ sent_from (port_of ports.now command.now.port) ports.now command.now) }
+) -> Result<(), AllocError>
+    ensures { OnOk result (events.new.items
+        ≡ events.old.items ++ sent_from (port_of ports.now command.now.port) ports.now command.now) }
 {
     let Some(sender) = port_of(ports, command.port) else {
-        return Ok(Vec::new(alloc));
+        return Ok(());
     };
     match key_to_send(sender, command) {
-        Ok(key) => received(alloc, ports, sender, key, command),
-        Err(refusal) => refused(alloc, command.port, refusal),
+        Ok(key) => push_received(events, ports, sender, key, command),
+        Err(refusal) => push_refused(events, command.port, refusal),
     }
 }
 
@@ -101,39 +100,33 @@ fn key_to_send(sender: &SubnetPort, command: &SendCommand) -> Result<PKey, Refus
     Ok(key)
 }
 
-/// LID 0 is nobody's, and the permissive LID is for directed-route packets alone.
-fn is_reserved(dlid: u16) -> bool
-    ensures { result ≡ is_reserved dlid }
+fn push_refused(events: &mut Vec<Event>, port: u64, refusal: Refusal) -> Result<(), AllocError>
+    ensures { OnOk result (events.new.items
+        ≡ events.old.items ++ record { port = port; what = Refused refusal } ∷ []) }
 {
-    dlid == 0 || dlid == PERMISSIVE_LID
-}
-
-fn refused(alloc: Global, port: u64, refusal: Refusal) -> Result<Vec<Event>, AllocError>
-    ensures { IfOk result (λ events. events.items ≡ record { port = port; what = Refused refusal } ∷ []) }
-{
-    let event = Event {
+    events.push(Event {
         port,
         what: Outcome::Refused(refusal),
-    };
-    Ok(vec![in alloc; event]?)
+    })?;
+    Ok(())
 }
 
 /// The packet at each port that it reaches.
-fn received(
-    alloc: Global,
+fn push_received(
+    events: &mut Vec<Event>,
     ports: &[SubnetPort],
     sender: &SubnetPort,
     key: PKey,
     command: &SendCommand,
-) -> Result<Vec<Event>, AllocError>
+) -> Result<(), AllocError>
     requires { key ≡ command.now.p_key }
-    ensures { IfOk result (λ events. events.items ≡ received ports.now sender.now command.now) }
+    ensures { OnOk result (events.new.items
+        ≡ events.old.items ++ received ports.now sender.now command.now) }
 {
-    let mut events = Vec::new(alloc);
     for port in ports {
-        push_if_reached(&mut events, port, sender, key, command)?;
+        push_if_reached(events, port, sender, key, command)?;
     }
-    Ok(events)
+    Ok(())
 }
 
 fn push_if_reached(
@@ -173,7 +166,7 @@ fn reaches(command: &SendCommand, key: PKey, port: &SubnetPort) -> bool
     requires { key ≡ command.now.p_key }
     ensures { result ≡ reaches command.now port.now }
 {
-    port.lid == command.dlid && port.kind == PortKind::ChannelAdapter && port.keys.accepts(key)
+    port.lid == command.dlid && port.node_type == NodeType::ChannelAdapter && port.keys.accepts(key)
 }
 
 /// Whether the packet is for the subnet administration, where it reaches this port.

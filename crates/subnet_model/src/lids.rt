@@ -1,4 +1,5 @@
 ghost use Rattle.std.specs.Prelude.{◌≡◌, ◌<◌, length, IfOk};
+ghost use Rattle.fabric_parts.specs.declared.lid.TheConstants.{LAST_UNICAST_LID};
 ghost use Rattle.subnet_model.specs.EndPorts.{lid_of, lids_of};
 
 use pkey_rules::EndPort;
@@ -6,7 +7,7 @@ use std::alloc::{AllocError, Global};
 
 /// The LID of each end port: 1 for the subnet manager's, the others from 2 in order of their GUIDs.
 pub fn lids_of(alloc: Global, ports: &[EndPort]) -> Result<Vec<u16>, AllocError>
-    requires { length ports.now < 0xbfff }
+    requires { length ports.now < LAST_UNICAST_LID }
     ensures { IfOk result (λ lids. lids.items ≡ lids_of ports.now) }
 {
     ports.iter().map(|port| lid_of(ports, port)).collect(alloc)
@@ -14,7 +15,7 @@ pub fn lids_of(alloc: Global, ports: &[EndPort]) -> Result<Vec<u16>, AllocError>
 
 /// The LID of an end port among all of them.
 pub fn lid_of(ports: &[EndPort], port: &EndPort) -> u16
-    requires { length ports.now < 0xbfff }
+    requires { length ports.now < LAST_UNICAST_LID }
     ensures { result ≡ lid_of ports.now port.now }
 {
     if port.is_sm {

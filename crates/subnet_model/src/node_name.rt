@@ -28,9 +28,7 @@ impl NodeName {
         ensures { result ≡ bytes.now }
     {
         let mut name = ArrayVec::new();
-        for byte in bytes {
-            name.push(*byte);
-        }
+        let _ = name.try_extend_from_slice(bytes);
         NodeName { bytes: name }
     }
 

@@ -1,14 +1,6 @@
 use crate::node_name::NodeName;
+use fabric_parts::NodeType;
 use pkey_rules::{KeyTable, PARTITIONS};
-
-/// What kind of node an end port belongs to.
-#[derive(Clone, Copy, Debug, PartialEq, Eq)]
-pub enum PortKind {
-    /// A port of a channel adapter: it sends and receives data.
-    ChannelAdapter,
-    /// Port 0 of a switch: it has a LID and keys, and takes no data.
-    Switch,
-}
 
 /// An end port of a subnet: all that the subnet knows it by. The ports of a subnet stand in order of
 /// their LIDs.
@@ -22,8 +14,9 @@ pub struct SubnetPort {
     pub node: NodeName,
     /// Which port of its node it is: from 1 on a channel adapter, 0 on a switch.
     pub number: u8,
-    /// The kind of its node.
-    pub kind: PortKind,
+    /// The type of its node. A port of a channel adapter sends and receives data; port 0 of a switch has
+    /// a LID and keys, and takes no data.
+    pub node_type: NodeType,
     /// The keys that it holds.
     pub keys: KeyTable<PARTITIONS>,
 }

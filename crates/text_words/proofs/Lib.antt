@@ -1,3 +1,5 @@
 pub mod LineLemmas
 pub mod NumberLemmas
+pub mod LineWordsLemmas
+pub mod ContentLemmas
 pub mod WordLemmas

@@ -1,5 +1,5 @@
 -- Lines of a text, and the words of a line.
-use Rattle.std.specs.Prelude.{ℕ, Bool, not, ◌==◌, ◌&&◌, ◌||◌, nat_lt, nat_le, if◌then◌else◌, List, [], ◌∷◌, length, filter, take, ◌-◌, slice_index}
+use Rattle.std.specs.Prelude.{ℕ, Bool, not, ◌==◌, ◌&&◌, ◌||◌, nat_lt, nat_le, if◌then◌else◌, List, [], ◌∷◌, length, filter, take, ◌-◌, slice_index, Option, Some, None, option_map}
 use Rattle.std.specs.List.{slice_split, onto_first, before_first, list_any}
 
 -- LF ends a line
@@ -48,6 +48,10 @@ has_bad_character line = list_any is_line_end (body line) || list_any (λ byte. 
 abbrev pub words_between : (ℕ → Bool) → List ℕ → List (List ℕ)
 words_between is_white text = filter (λ word. not (length word == 0)) (slice_split is_white text)
 
--- the words of a line
-abbrev pub words : List ℕ → List (List ℕ)
-words line = words_between is_blank (content line)
+-- what counts of a line, unless a byte stands in it that may not
+abbrev pub plain_content : List ℕ → Option (List ℕ)
+plain_content line = if has_bad_character line then None else Some (content line)
+
+-- the words of a line, likewise
+abbrev pub words_of : List ℕ → Option (List (List ℕ))
+words_of line = option_map (words_between is_blank) (plain_content line)

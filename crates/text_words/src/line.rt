@@ -1,19 +1,11 @@
-ghost use Rattle.std.specs.Prelude.{◌≡◌, ◌≤◌, ◌==◌, not, [], ◌∷◌, length, take, drop, map, position, ◌<◌, IfOk, IfSome, MatchOption};
-ghost use Rattle.std.specs.List.{list_any, position_or_len};
-ghost use Rattle.std.specs.Option.{option_map};
-ghost use Rattle.text_words.specs.Cut.{both, cut_at};
-ghost use Rattle.text_words.specs.Lines.{body, content, has_bad_character, is_blank, is_line_end, is_plain, lines, uncommented, words};
+ghost use Rattle.std.specs.Prelude.{◌≡◌, ◌≤◌, [], ◌∷◌, length, take, drop, MatchOption};
+ghost use Rattle.text_words.specs.Lines.{lines};
 
-use std::alloc::{AllocError, Global};
+use crate::cut::place_or_end;
 use std::marker::Model;
 
-const LF: u8 = b'\n';
-
-const CR: u8 = b'\r';
-
-const TAB: u8 = b'\t';
-
-const COMMENT: u8 = b'#';
+/// What ends a line.
+pub(crate) const LF: u8 = b'\n';
 
 /// The lines that are left of a text: contracts see their list.
 #[derive(Debug, Drop)]
@@ -70,105 +62,4 @@ fn line_length(text: &[u8]) -> Option<usize>
     } else {
         Some(text.len())
     }
-}
-
-/// The line without the LF that ends it.
-fn body(line: &[u8]) -> &[u8]
-    ensures { result.now ≡ body line.now }
-{
-    match line {
-        [front @ .., LF] => front,
-        _ => line,
-    }
-}
-
-/// The line without its LF and its comment.
-fn uncommented(line: &[u8]) -> &[u8]
-    ensures { result.now ≡ uncommented line.now }
-{
-    let body = body(line);
-    &body[..place_or_end(COMMENT, body)]
-}
-
-/// Where this byte stands first, or the length.
-pub(crate) fn place_or_end(wanted: u8, text: &[u8]) -> usize
-    ensures value { result ≡ position_or_len (λ byte. byte == wanted) text.now }
-    ensures within { result ≤ length text.now }
-{
-    match place_of(wanted, text) {
-        Some(place) => place,
-        None => text.len(),
-    }
-}
-
-/// What stands before and behind the first such byte, if there is one.
-#[tactic(auto, using(crate::proofs::LineLemmas::list_any_place))]
-pub fn cut_at(wanted: u8, text: &[u8]) -> Option<(&[u8], &[u8])>
-    ensures { option_map both result ≡ cut_at (λ byte. byte == wanted) text.now }
-{
-    let place = place_or_end(wanted, text);
-    if place == text.len() {
-        return None;
-    }
-    Some((&text[..place], &text[place + 1..]))
-}
-
-fn place_of(wanted: u8, text: &[u8]) -> Option<usize>
-    ensures value { result ≡ position (λ byte. byte == wanted) text.now }
-    ensures within { IfSome result (λ place. place < length text.now) }
-{
-    text.iter().position(|byte| *byte == wanted)
-}
-
-/// What a line says: the line without its LF, its comment and the CR before them.
-fn content(line: &[u8]) -> &[u8]
-    ensures { result.now ≡ content line.now }
-{
-    let told = uncommented(line);
-    match told {
-        [front @ .., CR] if told.len() < line.len() => front,
-        _ => told,
-    }
-}
-
-/// Whether a byte stands in the line that may not: an LF before its end, or outside its comment any
-/// byte but printable ASCII, a tab, and a CR before the comment or the LF.
-pub fn has_bad_character(line: &[u8]) -> bool
-    ensures { result ≡ has_bad_character line.now }
-{
-    has_line_end(body(line)) || has_other_than_plain(content(line))
-}
-
-fn has_line_end(text: &[u8]) -> bool
-    ensures { result ≡ list_any is_line_end text.now }
-{
-    text.iter().any(|byte| *byte == LF)
-}
-
-fn has_other_than_plain(text: &[u8]) -> bool
-    ensures { result ≡ list_any (λ byte. not (is_plain byte)) text.now }
-{
-    text.iter().any(|byte| !is_plain(*byte))
-}
-
-fn is_plain(byte: u8) -> bool
-    ensures { result ≡ is_plain byte }
-{
-    (byte >= b' ' && byte <= b'~') || byte == TAB
-}
-
-fn is_blank(byte: u8) -> bool
-    ensures { result ≡ is_blank byte }
-{
-    byte == b' ' || byte == TAB
-}
-
-/// The words of a line, which stand between blanks and tabs.
-pub fn words(alloc: Global, line: &[u8]) -> Result<Vec<&[u8]>, AllocError>
-    ensures { IfOk result (λ v. map (λ word. word.now) v.items ≡ words line.now) }
-{
-    content(line)
-        .split(|byte| is_blank(*byte))
-        .filter(|word| !word.is_empty())
-        .collect(alloc)
 }

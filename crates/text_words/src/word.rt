@@ -3,7 +3,7 @@ ghost use Rattle.std.specs.List.{list_all};
 ghost use Rattle.std.specs.Option.{option_map};
 ghost use Rattle.text_words.specs.Words.{is_name, is_name_byte, port_in, seen};
 
-use crate::line::place_or_end;
+use crate::cut::place_or_end;
 use crate::number::number_in;
 
 /// The longest name, in bytes.

@@ -1,6 +1,5 @@
 pub mod NodeLemmas
 pub mod LimitLemmas
-pub mod LineLemmas
 pub mod MarkLemmas
 pub mod WalkLemmas
 pub mod CableLemmas

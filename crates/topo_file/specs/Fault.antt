@@ -1,5 +1,8 @@
--- The codes that are printed for faults of a topology.
-use Rattle.std.specs.Prelude.{ℕ, List, codes}
+-- The faults of a topology: their codes, and what the error of its reader tells.
+use Rattle.std.specs.Prelude.{ℕ, List, codes, Option, Some, None}
+use Rattle.result_words.specs.AtLine.{AtLine}
+use Rattle.topo_file.specs.declared.fault.TopoFault.{TopoFault}
+use Rattle.topo_file.specs.declared.fault.TopoFault.TheVariants.{NoMemory, At}
 use Rattle.topo_file.specs.declared.fault.TopologyCause.{TopologyCause}
 use Rattle.topo_file.specs.declared.fault.TopologyCause.TheVariants.{Malformed, DuplicateName, DuplicateGuid, UnknownNode, NoSuchPort, PortTaken, WrongCableEnds, WrongManager, Disconnected, OverLimit, ManagerUncabled}
 
@@ -15,3 +18,8 @@ code_of WrongManager = codes "TF8"
 code_of Disconnected = codes "TF9"
 code_of OverLimit = codes "TF10"
 code_of ManagerUncabled = codes "TF11"
+
+-- what is wrong with the text, if the error tells it; none where memory was refused
+abbrev pub fault_in : TopoFault → Option (AtLine TopologyCause)
+fault_in NoMemory = None
+fault_in (At number cause) = Some (record { line = number; cause = cause })

@@ -6,7 +6,6 @@ pub mod Connectivity
 pub mod Rounds
 pub mod Topology
 pub mod Sound
-pub mod Reading
 pub use Rattle.text_words.specs.Lines
 pub use Rattle.text_words.specs.Number
 pub use Rattle.text_words.specs.Words

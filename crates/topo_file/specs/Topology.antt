@@ -4,7 +4,7 @@ use Rattle.std.specs.Option.{ok_or}
 use Rattle.std.specs.Str.{bytes_eq}
 use Rattle.result_words.specs.AtLine.{AtLine, after_lines, on_line}
 use Rattle.result_words.specs.Steps.{◌>>=◌}
-use Rattle.text_words.specs.Lines.{lines, has_bad_character, words}
+use Rattle.text_words.specs.Lines.{lines, words_of}
 use Rattle.text_words.specs.Number.{number_in}
 use Rattle.text_words.specs.Words.{Port, is_name, port_in}
 use Rattle.fabric_parts.specs.declared.cable.Cable.{Cable}
@@ -119,8 +119,10 @@ after_words number so_far (first ∷ rest) =
     else (if bytes_eq first (codes "sm") then with_manager so_far (manager_of so_far.nodes so_far.manager number rest)
     else Err Malformed)))
 
-abbrev pub after_line : ℕ → Declarations → List ℕ → Result Declarations TopologyCause
-after_line number so_far line = if has_bad_character line then Err Malformed else after_words number so_far (words line)
+unfoldable pub after_line : ℕ → Declarations → List ℕ → Result Declarations TopologyCause
+after_line number so_far line = do
+  words ← ok_or (words_of line) Malformed
+  after_words number so_far words
 
 -- ---- the whole text: after the last line there must be a manager, its port must have a cable, and cables must join
 -- all switches

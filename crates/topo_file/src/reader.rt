@@ -6,8 +6,8 @@ ghost use Rattle.topo_file.specs.Node.{HasGuids, is_one_too_many, place_of};
 ghost use Rattle.topo_file.specs.NewNode.{seen};
 ghost use Rattle.topo_file.specs.Sound.{ends_at_ports, is_manager_port};
 ghost use Rattle.result_words.specs.AtLine.{on_line};
-ghost use Rattle.result_words.specs.Gives.{Gives, LineGives};
-ghost use Rattle.topo_file.specs.Reading.{fault_in, seen_by};
+ghost use Rattle.result_words.specs.Gives.{Gives, LineGives, seen_by};
+ghost use Rattle.topo_file.specs.Fault.{fault_in};
 ghost use Rattle.topo_file.specs.Topology.{name_of, port_of, number_up_to, node_spelt, node_of, cable_spelt, cable_of, manager_spelt, manager_of, with_node, with_cable, with_manager, after_words, after_line, whole, declarations_of, topology_of};
 
 use crate::connectivity::is_connected;
@@ -18,7 +18,7 @@ use crate::topology::Topology;
 use fabric_parts::{Cable, NodeType};
 use result_words::LineError;
 use std::alloc::Global;
-use text_words::{Lines, PortWord, has_bad_character, is_name, number_in, port_in, words};
+use text_words::{Lines, PortWord, Words, is_name, number_in, port_in};
 
 impl Draft {
     /// The node that a line declares, by the words after the first.
@@ -26,18 +26,24 @@ impl Draft {
     fn node_of<'a>(
         &self,
         node_type: NodeType,
-        words: &[&'a [u8]],
+        words: Words<'a>,
     ) -> Result<NewNode<'a>, TopologyCause>
-        ensures value { seen_by seen result ≡ node_of node_type self.now.nodes (map (λ word. word.now) words.now) }
+        ensures value { seen_by seen result ≡ node_of node_type self.now.nodes words.entry }
         ensures new { IfOk result (λ node. place_of node.name.now self.now.nodes ≡ None) }
         ensures short { IfOk result (λ node. length node.name.now ≤ NAME_LENGTH) }
         ensures guids { IfOk result (λ node. HasGuids (seen node)) }
         ensures room { IfOk result (λ node. is_one_too_many self.now.nodes node.node_type node.ports ≡ false) }
     {
-        let [name, guid, ports] = words else {
+        let mut words = words;
+        let (Some(name), Some(guid), Some(ports), None) = (
+            words.next(),
+            words.next(),
+            words.next(),
+            words.next(),
+        ) else {
             return Err(TopologyCause::Malformed);
         };
-        self.node_spelt(node_type, *name, *guid, *ports)
+        self.node_spelt(node_type, name, guid, ports)
     }
 
     #[tactic(auto, unfolding(crate::specs::Topology::node_spelt))]
@@ -69,14 +75,15 @@ impl Draft {
 
     /// The cable that a line declares, by the words after the first.
     #[tactic(auto, unfolding(crate::specs::Topology::cable_of))]
-    fn cable_of(&self, words: &[&[u8]]) -> Result<Cable, TopologyCause>
-        ensures value { result ≡ cable_of self.now.nodes self.now.cables (map (λ word. word.now) words.now) }
+    fn cable_of(&self, words: Words<'_>) -> Result<Cable, TopologyCause>
+        ensures value { result ≡ cable_of self.now.nodes self.now.cables words.entry }
         ensures ends { IfOk result (λ cable. ends_at_ports self.now.nodes cable ≡ true) }
     {
-        let [one, other] = words else {
+        let mut words = words;
+        let (Some(one), Some(other), None) = (words.next(), words.next(), words.next()) else {
             return Err(TopologyCause::Malformed);
         };
-        self.cable_spelt(*one, *other)
+        self.cable_spelt(one, other)
     }
 
     #[tactic(auto, unfolding(crate::specs::Topology::cable_spelt))]
@@ -95,14 +102,15 @@ impl Draft {
 
     /// The port that a line places the subnet manager on, by the words after the first.
     #[tactic(auto, unfolding(crate::specs::Topology::manager_of))]
-    fn manager_of(&self, number: usize, words: &[&[u8]]) -> Result<Manager, TopologyCause>
-        ensures value { result ≡ manager_of self.now.nodes self.now.manager number (map (λ word. word.now) words.now) }
+    fn manager_of(&self, number: usize, words: Words<'_>) -> Result<Manager, TopologyCause>
+        ensures value { result ≡ manager_of self.now.nodes self.now.manager number words.entry }
         ensures on_adapter { IfOk result (λ manager. is_manager_port self.now.nodes manager.port ≡ true) }
     {
-        let [word] = words else {
+        let mut words = words;
+        let (Some(word), None) = (words.next(), words.next()) else {
             return Err(TopologyCause::Malformed);
         };
-        self.manager_spelt(number, *word)
+        self.manager_spelt(number, word)
     }
 
     #[tactic(auto, unfolding(crate::specs::Topology::manager_spelt))]
@@ -120,17 +128,17 @@ impl Draft {
         &mut self,
         alloc: Global,
         node_type: NodeType,
-        words: &[&[u8]],
+        words: Words<'_>,
     ) -> Result<(), LineError<TopologyCause>>
-        ensures { LineGives (λ _. self.new) result (with_node self.old (node_of node_type self.old.nodes (map (λ word. word.now) words.now))) }
+        ensures { LineGives (λ _. self.new) result (with_node self.old (node_of node_type self.old.nodes words.entry)) }
     {
         let node = self.node_of(node_type, words)?;
         self.nodes.push(alloc, &node)?;
         Ok(())
     }
 
-    fn take_cable(&mut self, words: &[&[u8]]) -> Result<(), LineError<TopologyCause>>
-        ensures { LineGives (λ _. self.new) result (with_cable self.old (cable_of self.old.nodes self.old.cables (map (λ word. word.now) words.now))) }
+    fn take_cable(&mut self, words: Words<'_>) -> Result<(), LineError<TopologyCause>>
+        ensures { LineGives (λ _. self.new) result (with_cable self.old (cable_of self.old.nodes self.old.cables words.entry)) }
     {
         let cable = self.cable_of(words)?;
         self.cables.push(cable)?;
@@ -140,9 +148,9 @@ impl Draft {
     fn take_manager(
         &mut self,
         number: usize,
-        words: &[&[u8]],
+        words: Words<'_>,
     ) -> Result<(), LineError<TopologyCause>>
-        ensures { LineGives (λ _. self.new) result (with_manager self.old (manager_of self.old.nodes self.old.manager number (map (λ word. word.now) words.now))) }
+        ensures { LineGives (λ _. self.new) result (with_manager self.old (manager_of self.old.nodes self.old.manager number words.entry)) }
     {
         let manager = self.manager_of(number, words)?;
         self.manager = Some(manager);
@@ -154,28 +162,30 @@ impl Draft {
         &mut self,
         alloc: Global,
         number: usize,
-        words: &[&[u8]],
+        words: Words<'_>,
     ) -> Result<(), LineError<TopologyCause>>
-        ensures { LineGives (λ _. self.new) result (after_words number self.old (map (λ word. word.now) words.now)) }
+        ensures { LineGives (λ _. self.new) result (after_words number self.old words.entry) }
     {
-        let [first, rest @ ..] = words else {
+        let mut words = words;
+        let Some(first) = words.next() else {
             return Ok(());
         };
-        if *first == b"switch".as_slice() {
-            return self.take_node(alloc, NodeType::Switch, rest);
+        if first == b"switch".as_slice() {
+            return self.take_node(alloc, NodeType::Switch, words);
         }
-        if *first == b"adapter".as_slice() {
-            return self.take_node(alloc, NodeType::ChannelAdapter, rest);
+        if first == b"adapter".as_slice() {
+            return self.take_node(alloc, NodeType::ChannelAdapter, words);
         }
-        if *first == b"cable".as_slice() {
-            return self.take_cable(rest);
+        if first == b"cable".as_slice() {
+            return self.take_cable(words);
         }
-        if *first == b"sm".as_slice() {
-            return self.take_manager(number, rest);
+        if first == b"sm".as_slice() {
+            return self.take_manager(number, words);
         }
         Err(LineError::Fault(TopologyCause::Malformed))
     }
 
+    #[tactic(auto, unfolding(crate::specs::Topology::after_line))]
     fn take_line(
         &mut self,
         alloc: Global,
@@ -184,11 +194,8 @@ impl Draft {
     ) -> Result<(), LineError<TopologyCause>>
         ensures { LineGives (λ _. self.new) result (after_line number self.old line.now) }
     {
-        if has_bad_character(line) {
-            return Err(LineError::Fault(TopologyCause::Malformed));
-        }
-        let words = words(alloc, line)?;
-        self.take_words(alloc, number, &words)
+        let words = Words::of(line).ok_or(TopologyCause::Malformed)?;
+        self.take_words(alloc, number, words)
     }
 
     /// Takes the line of this number, and tells its fault with the number.

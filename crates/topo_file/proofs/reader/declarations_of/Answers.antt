@@ -1,7 +1,7 @@
 use Rattle.std.proofs.Common.{length}
 use Rattle.std.proofs.lemmas.Result.{err_from_is_err_and}
 use Rattle.result_words.proofs.LineLemmas.{goes_on, stops, ends}
-use Rattle.topo_file.specs.Reading.{fault_in}
+use Rattle.topo_file.specs.Fault.{fault_in}
 use Rattle.topo_file.specs.Topology.{after_line, declarations_of}
 use Rattle.topo_file.proofs.reader.declarations_of.Goals as goal
 

@@ -1,0 +1,22 @@
+//! Isolation, over the definitions alone, which no code can change. Each function does nothing: its
+//! contract is the law.
+
+ghost use Rattle.subnet_model.specs.Laws.{EveryRunIsIsolated, StepsKeepToThoseNear, ThePortOfALidIsNear};
+
+/// A command of a port that is far from another brings that one no event and leaves its view of the state;
+/// one of a port near it does the same to it in every state of that view.
+pub fn steps_keep_to_those_near()
+    ensures { StepsKeepToThoseNear }
+{}
+
+/// Whatever the ports, their keys and the commands, what a port receives depends only on the ports near it
+/// and comes from them.
+pub fn every_run_is_isolated()
+    ensures { EveryRunIsIsolated }
+{}
+
+/// A LID that only one port has is that port's: where it is the LID of a port near another, that port is
+/// near it.
+pub fn the_port_of_a_lid_is_near()
+    ensures { ThePortOfALidIsNear }
+{}
