@@ -1,3 +1,4 @@
+pub mod GuardLemmas
 pub mod RequestLemmas
 pub mod PortSettingLemmas
 pub mod AgentLemmas

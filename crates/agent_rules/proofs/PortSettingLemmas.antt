@@ -6,6 +6,7 @@ use Rattle.std.proofs.Common.{◌≡◌, ℕ, ◌^◌, ◌<◌, ◌==◌, Bool, 
 use Rattle.fabric_parts.specs.declared.lid.TheConstants.{LAST_UNICAST_LID}
 use Rattle.mad_layout.specs.Bits.{bit_of}
 use Rattle.mad_layout.specs.Layout.{Fits}
+use Rattle.agent_rules.proofs.GuardLemmas.{taken_ok}
 use Rattle.attr_tables.specs.declared.port_info.PortInfo.{PortInfo}
 use Rattle.agent_rules.specs.declared.port_setting.PortSetting.{PortSetting}
 use Rattle.agent_rules.specs.Agent.{shown_at}
@@ -21,24 +22,119 @@ state_fits : (b : Bool) (now wanted : ℕ) → now < 2 ^ 4 → wanted < 2 ^ 4 �
 state_fits true now wanted h w = h
 state_fits false now wanted h w = w
 
-pub taken_fits : (enforces : Bool) (info : PortInfo) (wanted : PortSetting) → Fits (port_info info) → IsNarrow wanted → Fits (port_info (taken_over enforces info wanted))
+pub taken_fits : (enforces : Bool) (info : PortInfo) (wanted : PortSetting) → Fits (port_info info) → IsNarrow wanted
+    → Fits (port_info (taken_over enforces info wanted))
 unfolding taken_over
 taken_fits enforces info wanted h w =
-    (h.0, (w.gid_prefix, (w.lid, (w.master_sm_lid, (h.1.1.1.1.0, (h.1.1.1.1.1.0, (h.1.1.1.1.1.1.0, (h.1.1.1.1.1.1.1.0, (h.1.1.1.1.1.1.1.1.0, (h.1.1.1.1.1.1.1.1.1.0, (h.1.1.1.1.1.1.1.1.1.1.0, (h.1.1.1.1.1.1.1.1.1.1.1.0, (state_fits (is_no_change wanted) info.port_state wanted.port_state (h.1.1.1.1.1.1.1.1.1.1.1.1.0) w.port_state, (h.1.1.1.1.1.1.1.1.1.1.1.1.1.0, (h.1.1.1.1.1.1.1.1.1.1.1.1.1.1.0, (h.1.1.1.1.1.1.1.1.1.1.1.1.1.1.1.0, (h.1.1.1.1.1.1.1.1.1.1.1.1.1.1.1.1.0, (h.1.1.1.1.1.1.1.1.1.1.1.1.1.1.1.1.1.0, (h.1.1.1.1.1.1.1.1.1.1.1.1.1.1.1.1.1.1.0, (w.neighbor_mtu, (w.master_sm_sl, (h.1.1.1.1.1.1.1.1.1.1.1.1.1.1.1.1.1.1.1.1.1.0, (h.1.1.1.1.1.1.1.1.1.1.1.1.1.1.1.1.1.1.1.1.1.1.0, (h.1.1.1.1.1.1.1.1.1.1.1.1.1.1.1.1.1.1.1.1.1.1.1.0, (h.1.1.1.1.1.1.1.1.1.1.1.1.1.1.1.1.1.1.1.1.1.1.1.1.0, (h.1.1.1.1.1.1.1.1.1.1.1.1.1.1.1.1.1.1.1.1.1.1.1.1.1.0, (h.1.1.1.1.1.1.1.1.1.1.1.1.1.1.1.1.1.1.1.1.1.1.1.1.1.1.0, (h.1.1.1.1.1.1.1.1.1.1.1.1.1.1.1.1.1.1.1.1.1.1.1.1.1.1.1.0, (h.1.1.1.1.1.1.1.1.1.1.1.1.1.1.1.1.1.1.1.1.1.1.1.1.1.1.1.1.0, (h.1.1.1.1.1.1.1.1.1.1.1.1.1.1.1.1.1.1.1.1.1.1.1.1.1.1.1.1.1.0, (h.1.1.1.1.1.1.1.1.1.1.1.1.1.1.1.1.1.1.1.1.1.1.1.1.1.1.1.1.1.1.0, (bit_fits _, (bit_fits _, (h.1.1.1.1.1.1.1.1.1.1.1.1.1.1.1.1.1.1.1.1.1.1.1.1.1.1.1.1.1.1.1.1.1.0, (h.1.1.1.1.1.1.1.1.1.1.1.1.1.1.1.1.1.1.1.1.1.1.1.1.1.1.1.1.1.1.1.1.1.1.0, (h.1.1.1.1.1.1.1.1.1.1.1.1.1.1.1.1.1.1.1.1.1.1.1.1.1.1.1.1.1.1.1.1.1.1.1.0, (h.1.1.1.1.1.1.1.1.1.1.1.1.1.1.1.1.1.1.1.1.1.1.1.1.1.1.1.1.1.1.1.1.1.1.1.1.0, (h.1.1.1.1.1.1.1.1.1.1.1.1.1.1.1.1.1.1.1.1.1.1.1.1.1.1.1.1.1.1.1.1.1.1.1.1.1.0, (h.1.1.1.1.1.1.1.1.1.1.1.1.1.1.1.1.1.1.1.1.1.1.1.1.1.1.1.1.1.1.1.1.1.1.1.1.1.1.0, (h.1.1.1.1.1.1.1.1.1.1.1.1.1.1.1.1.1.1.1.1.1.1.1.1.1.1.1.1.1.1.1.1.1.1.1.1.1.1.1.0, (h.1.1.1.1.1.1.1.1.1.1.1.1.1.1.1.1.1.1.1.1.1.1.1.1.1.1.1.1.1.1.1.1.1.1.1.1.1.1.1.1.0, (h.1.1.1.1.1.1.1.1.1.1.1.1.1.1.1.1.1.1.1.1.1.1.1.1.1.1.1.1.1.1.1.1.1.1.1.1.1.1.1.1.1.0, (h.1.1.1.1.1.1.1.1.1.1.1.1.1.1.1.1.1.1.1.1.1.1.1.1.1.1.1.1.1.1.1.1.1.1.1.1.1.1.1.1.1.1.0, (h.1.1.1.1.1.1.1.1.1.1.1.1.1.1.1.1.1.1.1.1.1.1.1.1.1.1.1.1.1.1.1.1.1.1.1.1.1.1.1.1.1.1.1.0, (h.1.1.1.1.1.1.1.1.1.1.1.1.1.1.1.1.1.1.1.1.1.1.1.1.1.1.1.1.1.1.1.1.1.1.1.1.1.1.1.1.1.1.1.1.0, tt)))))))))))))))))))))))))))))))))))))))))))))
+    let a = h.1.1.1.1 in
+    let b = a.1.1.1.1.1.1.1.1 in
+    let c = b.1.1.1.1.1.1.1 in
+    let d = c.1.1 in
+    let state = state_fits (is_no_change wanted) info.port_state wanted.port_state b.0 w.port_state in (
+      h.0,
+      (
+        w.gid_prefix,
+        (
+          w.lid,
+          (
+            w.master_sm_lid,
+            (
+              a.0,
+              (
+                a.1.0,
+                (
+                  a.1.1.0,
+                  (
+                    a.1.1.1.0,
+                    (
+                      a.1.1.1.1.0,
+                      (
+                        a.1.1.1.1.1.0,
+                        (
+                          a.1.1.1.1.1.1.0,
+                          (
+                            a.1.1.1.1.1.1.1.0,
+                            (
+                              state,
+                              (
+                                b.1.0,
+                                (
+                                  b.1.1.0,
+                                  (
+                                    b.1.1.1.0,
+                                    (
+                                      b.1.1.1.1.0,
+                                      (
+                                        b.1.1.1.1.1.0,
+                                        (
+                                          b.1.1.1.1.1.1.0,
+                                          (
+                                            w.neighbor_mtu,
+                                            (
+                                              w.master_sm_sl,
+                                              (
+                                                d.0,
+                                                (
+                                                  d.1.0,
+                                                  (
+                                                    d.1.1.0,
+                                                    (
+                                                      d.1.1.1.0,
+                                                      (
+                                                        d.1.1.1.1.0,
+                                                        (
+                                                          d.1.1.1.1.1.0,
+                                                          (
+                                                            d.1.1.1.1.1.1.0,
+                                                            (
+                                                              d.1.1.1.1.1.1.1.0,
+                                                              (
+                                                                d.1.1.1.1.1.1.1.1.0,
+                                                                (
+                                                                  d.1.1.1.1.1.1.1.1.1.0,
+                                                                  (bit_fits _, (bit_fits _, d.1.1.1.1.1.1.1.1.1.1.1.1)),
+                                                                ),
+                                                              ),
+                                                            ),
+                                                          ),
+                                                        ),
+                                                      ),
+                                                    ),
+                                                  ),
+                                                ),
+                                              ),
+                                            ),
+                                          ),
+                                        ),
+                                      ),
+                                    ),
+                                  ),
+                                ),
+                              ),
+                            ),
+                          ),
+                        ),
+                      ),
+                    ),
+                  ),
+                ),
+              ),
+            ),
+          ),
+        ),
+      ),
+    )
 
 pub shown_fits : (port : ℕ) (info : PortInfo) → Fits (port_info info) → port < 2 ^ 8 → Fits (port_info (shown_at port info))
 shown_fits port info h small =
-    (h.0, (h.1.0, (h.1.1.0, (h.1.1.1.0, (h.1.1.1.1.0, (h.1.1.1.1.1.0, (h.1.1.1.1.1.1.0, (small, (h.1.1.1.1.1.1.1.1.0, (h.1.1.1.1.1.1.1.1.1.0, (h.1.1.1.1.1.1.1.1.1.1.0, (h.1.1.1.1.1.1.1.1.1.1.1.0, (h.1.1.1.1.1.1.1.1.1.1.1.1.0, (h.1.1.1.1.1.1.1.1.1.1.1.1.1.0, (h.1.1.1.1.1.1.1.1.1.1.1.1.1.1.0, (h.1.1.1.1.1.1.1.1.1.1.1.1.1.1.1.0, (h.1.1.1.1.1.1.1.1.1.1.1.1.1.1.1.1.0, (h.1.1.1.1.1.1.1.1.1.1.1.1.1.1.1.1.1.0, (h.1.1.1.1.1.1.1.1.1.1.1.1.1.1.1.1.1.1.0, (h.1.1.1.1.1.1.1.1.1.1.1.1.1.1.1.1.1.1.1.0, (h.1.1.1.1.1.1.1.1.1.1.1.1.1.1.1.1.1.1.1.1.0, (h.1.1.1.1.1.1.1.1.1.1.1.1.1.1.1.1.1.1.1.1.1.0, (h.1.1.1.1.1.1.1.1.1.1.1.1.1.1.1.1.1.1.1.1.1.1.0, (h.1.1.1.1.1.1.1.1.1.1.1.1.1.1.1.1.1.1.1.1.1.1.1.0, (h.1.1.1.1.1.1.1.1.1.1.1.1.1.1.1.1.1.1.1.1.1.1.1.1.0, (h.1.1.1.1.1.1.1.1.1.1.1.1.1.1.1.1.1.1.1.1.1.1.1.1.1.0, (h.1.1.1.1.1.1.1.1.1.1.1.1.1.1.1.1.1.1.1.1.1.1.1.1.1.1.0, (h.1.1.1.1.1.1.1.1.1.1.1.1.1.1.1.1.1.1.1.1.1.1.1.1.1.1.1.0, (h.1.1.1.1.1.1.1.1.1.1.1.1.1.1.1.1.1.1.1.1.1.1.1.1.1.1.1.1.0, (h.1.1.1.1.1.1.1.1.1.1.1.1.1.1.1.1.1.1.1.1.1.1.1.1.1.1.1.1.1.0, (h.1.1.1.1.1.1.1.1.1.1.1.1.1.1.1.1.1.1.1.1.1.1.1.1.1.1.1.1.1.1.0, (h.1.1.1.1.1.1.1.1.1.1.1.1.1.1.1.1.1.1.1.1.1.1.1.1.1.1.1.1.1.1.1.0, (h.1.1.1.1.1.1.1.1.1.1.1.1.1.1.1.1.1.1.1.1.1.1.1.1.1.1.1.1.1.1.1.1.0, (h.1.1.1.1.1.1.1.1.1.1.1.1.1.1.1.1.1.1.1.1.1.1.1.1.1.1.1.1.1.1.1.1.1.0, (h.1.1.1.1.1.1.1.1.1.1.1.1.1.1.1.1.1.1.1.1.1.1.1.1.1.1.1.1.1.1.1.1.1.1.0, (h.1.1.1.1.1.1.1.1.1.1.1.1.1.1.1.1.1.1.1.1.1.1.1.1.1.1.1.1.1.1.1.1.1.1.1.0, (h.1.1.1.1.1.1.1.1.1.1.1.1.1.1.1.1.1.1.1.1.1.1.1.1.1.1.1.1.1.1.1.1.1.1.1.1.0, (h.1.1.1.1.1.1.1.1.1.1.1.1.1.1.1.1.1.1.1.1.1.1.1.1.1.1.1.1.1.1.1.1.1.1.1.1.1.0, (h.1.1.1.1.1.1.1.1.1.1.1.1.1.1.1.1.1.1.1.1.1.1.1.1.1.1.1.1.1.1.1.1.1.1.1.1.1.1.0, (h.1.1.1.1.1.1.1.1.1.1.1.1.1.1.1.1.1.1.1.1.1.1.1.1.1.1.1.1.1.1.1.1.1.1.1.1.1.1.1.0, (h.1.1.1.1.1.1.1.1.1.1.1.1.1.1.1.1.1.1.1.1.1.1.1.1.1.1.1.1.1.1.1.1.1.1.1.1.1.1.1.1.0, (h.1.1.1.1.1.1.1.1.1.1.1.1.1.1.1.1.1.1.1.1.1.1.1.1.1.1.1.1.1.1.1.1.1.1.1.1.1.1.1.1.1.0, (h.1.1.1.1.1.1.1.1.1.1.1.1.1.1.1.1.1.1.1.1.1.1.1.1.1.1.1.1.1.1.1.1.1.1.1.1.1.1.1.1.1.1.0, (h.1.1.1.1.1.1.1.1.1.1.1.1.1.1.1.1.1.1.1.1.1.1.1.1.1.1.1.1.1.1.1.1.1.1.1.1.1.1.1.1.1.1.1.0, (h.1.1.1.1.1.1.1.1.1.1.1.1.1.1.1.1.1.1.1.1.1.1.1.1.1.1.1.1.1.1.1.1.1.1.1.1.1.1.1.1.1.1.1.1.0, tt)))))))))))))))))))))))))))))))))))))))))))))
-
--- what a test lets through
-pub taken_ok : {X E : Type 0} (b : Bool) (x next : X) (e : E) → (if b then Ok x else Err e) ≡ Ok next → (b ≡ true) × (x ≡ next)
-taken_ok true x next e h = (refl, cc)
-taken_ok false x next e h = absurd (cc)
+    let rest = h.1.1.1.1.1.1.1.1 in
+    (h.0, (h.1.0, (h.1.1.0, (h.1.1.1.0, (h.1.1.1.1.0, (h.1.1.1.1.1.0, (h.1.1.1.1.1.1.0, (small, rest))))))))
 
 state_down : (now next : ℕ) → ((next == 0) || may_follow now next) ≡ true → ((if next == 0 then now else next) == 1) ≡ (now == 1)
 state_down now next h = grind (arith, nat_tests)
 
-pub down_stays : (enforces : Bool) (info : PortInfo) (wanted : PortSetting) (next : PortInfo) → port_info_after enforces info wanted ≡ Ok next → is_down next ≡ is_down info
+pub down_stays : (enforces : Bool) (info : PortInfo) (wanted : PortSetting) (next : PortInfo)
+    → port_info_after enforces info wanted ≡ Ok next → is_down next ≡ is_down info
 unfolding is_valid taken_over
 down_stays enforces info wanted next h =
     let t = taken_ok (is_valid info wanted) (taken_over enforces info wanted) next InvalidField h in
@@ -47,12 +143,14 @@ down_stays enforces info wanted next h =
     let c = and_parts (nat_le wanted.lid LAST_UNICAST_LID) _ b.1 in
     ap is_down (sym t.1) ∙ state_down info.port_state wanted.port_state c.1
 
-unsettable_taken : (enforces : Bool) (info : PortInfo) (wanted : PortSetting) → unsettable enforces (taken_over enforces info wanted) ≡ unsettable enforces info
+unsettable_taken : (enforces : Bool) (info : PortInfo) (wanted : PortSetting)
+    → unsettable enforces (taken_over enforces info wanted) ≡ unsettable enforces info
 unfolding taken_over
 unsettable_taken true info wanted = refl
 unsettable_taken false info wanted = refl
 
-pub unsettable_stays : (enforces : Bool) (info : PortInfo) (wanted : PortSetting) (next : PortInfo) → port_info_after enforces info wanted ≡ Ok next → unsettable enforces next ≡ unsettable enforces info
+pub unsettable_stays : (enforces : Bool) (info : PortInfo) (wanted : PortSetting) (next : PortInfo)
+    → port_info_after enforces info wanted ≡ Ok next → unsettable enforces next ≡ unsettable enforces info
 unsettable_stays enforces info wanted next h =
     let t = taken_ok (is_valid info wanted) (taken_over enforces info wanted) next InvalidField h in
     ap (unsettable enforces) (sym t.1) ∙ unsettable_taken enforces info wanted

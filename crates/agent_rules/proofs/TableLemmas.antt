@@ -9,7 +9,7 @@ use Rattle.agent_rules.specs.Laws.{DiffersInBlock}
 use Rattle.agent_rules.specs.Agent.{word_block, set_word_block}
 use Rattle.attr_tables.specs.Blocks.{block_of, has_block, with_block, word_bytes}
 use Rattle.agent_rules.specs.Request.{asked, asked_words, asked_ports}
-use Rattle.agent_rules.proofs.PortSettingLemmas.{taken_ok}
+use Rattle.agent_rules.proofs.GuardLemmas.{passed, taken_ok}
 use Rattle.mad_layout.specs.declared.status.MadStatus.TheVariants.{InvalidField}
 use Rattle.std.proofs.lemmas.List.FromFn.{length-map-range_with_len}
 
@@ -36,7 +36,8 @@ block_within size block table some there =
     let step : size * (block + 1) ≤ size * (length table / size) = mul-le-mul_left size up in
     omega arith
 
-pub block_differs : (size block : ℕ) (entries table : List ℕ) → 0 < size → length entries ≡ size → has_block size block table ≡ true → DiffersInBlock size block table (with_block size block entries table)
+pub block_differs : (size block : ℕ) (entries table : List ℕ) → 0 < size → length entries ≡ size
+    → has_block size block table ≡ true → DiffersInBlock size block table (with_block size block entries table)
 unfolding with_block
 block_differs size block entries table some long there =
     let first = size * block in
@@ -76,15 +77,13 @@ words_differ block smp table next h =
     subst P t.1 (block_differs 32 block (asked_words smp) table (omega arith) (length-asked_words smp) t.0)
 
 -- a table of the same length has the same blocks
-pub same_blocks : (size block : ℕ) (old new : List ℕ) → DiffersInBlock size block old new → has_block size block old ≡ true → has_block size block new ≡ true
+pub same_blocks : (size block : ℕ) (old new : List ℕ) → DiffersInBlock size block old new
+    → has_block size block old ≡ true → has_block size block new ≡ true
 same_blocks size block old new d h = ap (λ (n : ℕ). nat_lt block (n / size)) d.same_length ∙ h
 
-pub given : {X E : Type 0} (b : Bool) (x : X) (e : E) → b ≡ true → (if b then Ok x else Err e) ≡ Ok x
-given true x e h = refl
-given false x e h = absurd (cc)
-
-pub words_shown : (block : ℕ) (smp table next : List ℕ) → set_word_block block smp table ≡ Ok next → (bytes : List ℕ) × (word_block block next ≡ Ok bytes)
+pub words_shown : (block : ℕ) (smp table next : List ℕ) → set_word_block block smp table ≡ Ok next
+    → (bytes : List ℕ) × (word_block block next ≡ Ok bytes)
 words_shown block smp table next h =
     let t = taken_ok (has_block 32 block table) (with_block 32 block (asked_words smp) table) next InvalidField h in
     let there = same_blocks 32 block table next (words_differ block smp table next h) t.0 in
-    (word_bytes (block_of 32 block next), given (has_block 32 block next) (word_bytes (block_of 32 block next)) InvalidField there)
+    (word_bytes (block_of 32 block next), passed (has_block 32 block next) (Ok (word_bytes (block_of 32 block next))) InvalidField there)

@@ -1,7 +1,7 @@
 -- What an agent does not see of an SMP.
 use Rattle.std.proofs.Common.{◌≡◌, ℕ, ◌+◌, ◌*◌, ◌%◌, ◌^◌, ◌<◌, ◌≤◌, ◌==◌, ◌⊎◌, inl, inr, true, nat_le, if◌then◌else◌, Ok, Err, List, map, refl, sym, ◌∙◌, ap, arith}
 use Rattle.std.specs.List.{range_with_len}
-use Rattle.std.proofs.lemmas.Bool.{and_parts, or_cases}
+use Rattle.std.proofs.lemmas.Bool.{and_parts, leb-true, or_cases}
 use Rattle.std.proofs.lemmas.Bool.Decides.{nat_tests}
 use Rattle.std.proofs.lemmas.Grind.{same_number_lists}
 use Rattle.std.proofs.lemmas.List.FromFn.{length-map-range_with_len, get_or-map-range_with_len}
@@ -36,27 +36,28 @@ apart_from off len free =
     let e = and_parts (is_apart off len (at 512 512 0)) _ d.1 in
     record { head = a.0; status = b.0; attribute = c.0; modifier = d.0; part = e.0 }
 
-le_from : (a b : ℕ) → nat_le a b ≡ true → a ≤ b
-le_from a b h = grind (arith, nat_tests)
-
 apart_parts : (off len first wide : ℕ) → is_apart off len (at first wide 0) ≡ true → (off + len ≤ first) ⊎ (first + wide ≤ off)
 apart_parts off len first wide h =
     elim (or_cases (nat_le (off + len) first) (nat_le (first + wide) off) h) [
-      | inl before ↦ inl (le_from (off + len) first before)
-      | inr after ↦ inr (le_from (first + wide) off after)
+      | inl before ↦ inl (leb-true (off + len) first before)
+      | inr after ↦ inr (leb-true (first + wide) off after)
     ]
 
-beside : (off len first wide o l : ℕ) → (off + len ≤ first) ⊎ (first + wide ≤ off) → first ≤ o → o + l ≤ first + wide → (o + l ≤ off) ⊎ (off + len ≤ o)
+beside : (off len first wide o l : ℕ) → (off + len ≤ first) ⊎ (first + wide ≤ off) → first ≤ o → o + l ≤ first + wide
+    → (o + l ≤ off) ⊎ (off + len ≤ o)
 beside off len first wide o l (inl before) from to = inr (omega arith)
 beside off len first wide o l (inr after) from to = inl (omega arith)
 
 -- a field of such a part is as it was
-same_field : (smp : List ℕ) (off len value first wide o l : ℕ) → IsUnseenPut smp off len value → is_apart off len (at first wide 0) ≡ true → first ≤ o → o + l ≤ first + wide → first + wide ≤ 2048 → field (put_field smp off len value) o l ≡ field smp o l
+same_field : (smp : List ℕ) (off len value first wide o l : ℕ) → IsUnseenPut smp off len value
+    → is_apart off len (at first wide 0) ≡ true → first ≤ o → o + l ≤ first + wide → first + wide ≤ 2048
+    → field (put_field smp off len value) o l ≡ field smp o l
 same_field smp off len value first wide o l put free from to inside =
     field-put_apart smp off len value o l (omega (arith, put.count, put.within)) (omega (arith, put.count)) put.fits
     (beside off len first wide o l (apart_parts off len first wide free) from to)
 
-same_asked : (smp : List ℕ) (off len value o l : ℕ) → IsUnseenPut smp off len value → o + l ≤ 512 → asked (put_field smp off len value) o l ≡ asked smp o l
+same_asked : (smp : List ℕ) (off len value o l : ℕ) → IsUnseenPut smp off len value → o + l ≤ 512
+    → asked (put_field smp off len value) o l ≡ asked smp o l
 same_asked smp off len value o l put inside =
     same_field smp off len value 512 512 (512 + o) l put (apart_from off len put.unseen).part (omega arith) (omega arith) (omega arith)
 
@@ -71,7 +72,8 @@ same_request smp off len value put =
     let method = same_method smp off len value put in
     rw (class, method) refl
 
-same_attribute : (smp : List ℕ) (off len value : ℕ) → IsUnseenPut smp off len value → attribute_asked (put_field smp off len value) ≡ attribute_asked smp
+same_attribute : (smp : List ℕ) (off len value : ℕ) → IsUnseenPut smp off len value
+    → attribute_asked (put_field smp off len value) ≡ attribute_asked smp
 unfolding attribute_asked
 same_attribute smp off len value put =
     let apart = apart_from off len put.unseen in
@@ -105,7 +107,8 @@ same_setting smp off len value put =
       partition_enforcement_outbound = e8 place;
     }
 
-same_entries : (smp : List ℕ) (off len value wide count : ℕ) → IsUnseenPut smp off len value → wide * count ≡ 512 → map (λ k. asked (put_field smp off len value) (wide * k) wide) (range_with_len 0 count) ≡ map (λ k. asked smp (wide * k) wide) (range_with_len 0 count)
+same_entries : (smp : List ℕ) (off len value wide count : ℕ) → IsUnseenPut smp off len value → wide * count ≡ 512
+    → map (λ k. asked (put_field smp off len value) (wide * k) wide) (range_with_len 0 count) ≡ map (λ k. asked smp (wide * k) wide) (range_with_len 0 count)
 same_entries smp off len value wide count put whole =
     let f : ℕ → ℕ = λ k. asked (put_field smp off len value) (wide * k) wide in
     let g : ℕ → ℕ = λ k. asked smp (wide * k) wide in
@@ -142,7 +145,9 @@ same_reply_method smp off len value put =
     ap (λ (method : ℕ). if method == 2 then 129 else 128 + method % 128) (same_method smp off len value put)
 
 -- method and status put after the field, or before it
-status_put : (smp : List ℕ) (off len value method status : ℕ) → IsUnseenPut smp off len value → method < 2 ^ 8 → status < 2 ^ 15 → put_field (put_field (put_field smp off len value) 24 8 method) 33 15 status ≡ put_field (put_field (put_field smp 24 8 method) 33 15 status) off len value
+status_put : (smp : List ℕ) (off len value method status : ℕ) → IsUnseenPut smp off len value → method < 2 ^ 8
+    → status < 2 ^ 15
+    → put_field (put_field (put_field smp off len value) 24 8 method) 33 15 status ≡ put_field (put_field (put_field smp 24 8 method) 33 15 status) off len value
 status_put smp off len value method status put small narrow =
     let apart = apart_from off len put.unseen in
     let x = put_field smp 24 8 method in
@@ -151,7 +156,8 @@ status_put smp off len value method status put small narrow =
     let second = put_swap x off len value 33 15 status (omega (arith, put.count, put.within)) (omega (arith, put.count)) put.fits narrow (beside off len 33 15 33 15 (apart_parts off len 33 15 apart.status) (omega arith) (omega arith)) in
     ap (λ (bytes : List ℕ). put_field bytes 33 15 status) first ∙ second
 
-reply_passes : (smp bytes : List ℕ) (off len value : ℕ) → IsUnseenPut smp off len value → IsAttribute bytes → reply_to (put_field smp off len value) (Ok bytes) ≡ put_field (reply_to smp (Ok bytes)) off len value
+reply_passes : (smp bytes : List ℕ) (off len value : ℕ) → IsUnseenPut smp off len value → IsAttribute bytes
+    → reply_to (put_field smp off len value) (Ok bytes) ≡ put_field (reply_to smp (Ok bytes)) off len value
 unfolding reply_to
 reply_passes smp bytes off len value put is =
     let method = reply_method smp in
@@ -165,7 +171,8 @@ reply_passes smp bytes off len value put is =
     ∙ ap (λ (w : List ℕ). put_field w 512 512 (number bytes)) (status_put smp off len value method 0 put (method_fits (is_set smp) (field smp 24 8)) (omega arith))
     ∙ put_swap z off len value 512 512 (number bytes) (omega (arith, put.count, put.within)) (omega (arith, put.count)) put.fits (attribute_fits bytes is) (beside off len 512 512 512 512 (apart_parts off len 512 512 apart.part) (omega arith) (omega arith))
 
-refusal_passes : (smp : List ℕ) (status : MadStatus) (off len value : ℕ) → IsUnseenPut smp off len value → reply_to (put_field smp off len value) (Err status) ≡ put_field (reply_to smp (Err status)) off len value
+refusal_passes : (smp : List ℕ) (status : MadStatus) (off len value : ℕ) → IsUnseenPut smp off len value
+    → reply_to (put_field smp off len value) (Err status) ≡ put_field (reply_to smp (Err status)) off len value
 unfolding reply_to
 refusal_passes smp status off len value put =
     let x = put_field smp off len value in

@@ -24,9 +24,11 @@ pub record IsSettled {S : Type 0} (getter : Getter S) (setter : Setter S) : Type
   -- nor does a Get
   pub get : (held : S) (smp : List ℕ) → is_set smp ≡ false → after setter held smp ≡ held
   -- nor what is refused
-  pub refused : (held : S) (smp : List ℕ) (status : MadStatus) → answer getter setter held smp ≡ Err status → after setter held smp ≡ held
+  pub refused : (held : S) (smp : List ℕ) (status : MadStatus) → answer getter setter held smp ≡ Err status
+      → after setter held smp ≡ held
   -- what a Set is answered with is what a Get of it right after is answered with
-  pub set : (held : S) (smp later bytes : List ℕ) → is_request smp ≡ true → answer getter setter held smp ≡ Ok bytes → IsGetOf smp later → answer getter setter (after setter held smp) later ≡ Ok bytes
+  pub set : (held : S) (smp later bytes : List ℕ) → is_request smp ≡ true → answer getter setter held smp ≡ Ok bytes
+      → IsGetOf smp later → answer getter setter (after setter held smp) later ≡ Ok bytes
 
 -- PortInfo without what a Set may change of a port that enforces partitions, or of one that does not
 abbrev pub unsettable : Bool → PortInfo → PortInfo
@@ -64,7 +66,8 @@ pub record CarriesRefusal (smp : List ℕ) (status : MadStatus) (reply : List �
 
 -- a reply carries the attribute or the refusal that answers, and all of the request beside
 pub record RepliesCarry : Type 0 where
-  pub attribute : (smp bytes : List ℕ) → length smp ≡ 256 → IsAttribute bytes → CarriesAttribute smp bytes (reply_to smp (Ok bytes))
+  pub attribute : (smp bytes : List ℕ) → length smp ≡ 256 → IsAttribute bytes
+      → CarriesAttribute smp bytes (reply_to smp (Ok bytes))
   pub refusal : (smp : List ℕ) (status : MadStatus) → length smp ≡ 256 → CarriesRefusal smp status (reply_to smp (Err status))
 
 -- no bit of the field is one that an agent reads or writes: it is of the path, say, or of the TransactionID
@@ -96,10 +99,13 @@ ComesBack smp off len value given = reply_to (put_field smp off len value) given
 -- what an agent does not see asks nothing, and comes back in the reply
 pub record UnseenPasses : Type 0 where
   pub asks : (smp : List ℕ) (off len value : ℕ) → IsUnseenPut smp off len value → AsksSame smp (put_field smp off len value)
-  pub reply : (smp bytes : List ℕ) (off len value : ℕ) → IsUnseenPut smp off len value → IsAttribute bytes → ComesBack smp off len value (Ok bytes)
-  pub refusal : (smp : List ℕ) (status : MadStatus) (off len value : ℕ) → IsUnseenPut smp off len value → ComesBack smp off len value (Err status)
+  pub reply : (smp bytes : List ℕ) (off len value : ℕ) → IsUnseenPut smp off len value → IsAttribute bytes
+      → ComesBack smp off len value (Ok bytes)
+  pub refusal : (smp : List ℕ) (status : MadStatus) (off len value : ℕ) → IsUnseenPut smp off len value
+      → ComesBack smp off len value (Err status)
 
 -- the agent of a node answers SMPs that ask the same alike, and holds the same afterwards
 pub record ReadsAlike {S : Type 0} (getter : Getter S) (setter : Setter S) : Type 0 where
-  pub answered : (held : S) (one other : List ℕ) → AsksSame one other → answer getter setter held other ≡ answer getter setter held one
+  pub answered : (held : S) (one other : List ℕ) → AsksSame one other
+      → answer getter setter held other ≡ answer getter setter held one
   pub held : (held : S) (one other : List ℕ) → AsksSame one other → after setter held other ≡ after setter held one

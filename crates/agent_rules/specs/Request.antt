@@ -45,7 +45,9 @@ is_version_1 smp = (field smp 0 8 == 1) && (field smp 16 8 == 1)
 -- the attribute that it names, or what every agent refuses it for: first its version, then its method
 unfoldable pub attribute_asked : List ℕ → Result SmpAttribute MadStatus
 attribute_asked smp =
-    if not (is_version_1 smp) then Err BadVersion else (if not (is_get smp || is_set smp) then Err MethodNotSupported else ok_or (smp_attribute_of (field smp 128 16)) AttributeNotSupported)
+    if not (is_version_1 smp) then Err BadVersion
+    else (if not (is_get smp || is_set smp) then Err MethodNotSupported
+    else ok_or (smp_attribute_of (field smp 128 16)) AttributeNotSupported)
 
 -- the method of the reply: GetResp to a Set, else the same method with the R bit
 abbrev pub reply_method : List ℕ → ℕ
@@ -67,4 +69,5 @@ reply_status (Err status) = mad_status_code status
 -- every field that has no bit of method, status and attribute is as it was
 abbrev pub KeepsRest : List ℕ → List ℕ → Type 0
 KeepsRest old new =
-    (off len : ℕ) → off + len ≤ 2048 → is_free off len (at 24 8 0 ∷ at 33 15 0 ∷ at 512 512 0 ∷ []) ≡ true → field new off len ≡ field old off len
+    (off len : ℕ) → off + len ≤ 2048 → is_free off len (at 24 8 0 ∷ at 33 15 0 ∷ at 512 512 0 ∷ []) ≡ true
+    → field new off len ≡ field old off len

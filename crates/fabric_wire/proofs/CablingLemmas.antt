@@ -5,7 +5,8 @@ use Rattle.fabric_parts.specs.declared.cable.Cable.{Cable}
 use Rattle.fabric_parts.specs.declared.cable.PortRef.{PortRef}
 use Rattle.fabric_parts.specs.Cable.{ends_at, is_same_port, far_end, other_end}
 
-by_ends : (first second : Bool) (other : Cable → PortRef) (cable : Cable) (rest : Option Cable) → other cable ≡ (if first then cable.second else cable.first)
+by_ends : (first second : Bool) (other : Cable → PortRef) (cable : Cable) (rest : Option Cable)
+    → other cable ≡ (if first then cable.second else cable.first)
     → cond first (Some cable.second) (cond second (Some cable.first) (option_map other rest)) ≡ option_map other (if first || second then Some cable else rest)
 by_ends true second other cable rest is = ap (λ (port : PortRef). Some port) (sym is)
 by_ends false true other cable rest is = ap (λ (port : PortRef). Some port) (sym is)

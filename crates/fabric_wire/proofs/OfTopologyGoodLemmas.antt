@@ -1,9 +1,10 @@
 -- The fabric of a topology is good: its GUIDs, the ports of its nodes, and its cables.
-use Rattle.std.proofs.Common.{ℕ, zero, suc, ◌≡◌, ◌+◌, ◌==◌, ◌∙◌, refl, Bool, true, false, not, List, [], ◌∷◌, map, flat_map, ◌&&◌, ◌||◌, arith}
+use Rattle.std.proofs.Common.{ℕ, zero, suc, ◌≡◌, ◌+◌, ◌==◌, ◌∙◌, refl, sym, Bool, true, false, not, List, [], ◌∷◌, map, flat_map, ◌&&◌, ◌||◌, arith}
 use Rattle.std.specs.List.{list_all, list_any, range_with_len, IsDistinct}
 use Rattle.std.specs.Str.{bytes_eq}
 use Rattle.std.proofs.lemmas.Bool.{and_from, and_left, and_parts, eq-eqb, not_from_false, not-true, or_from}
 use Rattle.std.proofs.lemmas.Bool.Decides.{nat_tests}
+use Rattle.std.proofs.Math.Bool.{or_assoc}
 use Rattle.std.proofs.lemmas.List.FromFn.{length-map-range_with_len}
 use Rattle.std.proofs.lemmas.Map.Keys.{IsDistinct-tail}
 use Rattle.agent_rules.specs.declared.power_up.TheConstants.{LINEAR_TABLE}
@@ -54,7 +55,8 @@ ports_hold : (cables : List Cable) (place : ℕ) (node : PlannedNode) (number co
 ports_hold cables place node number zero is = refl
 ports_hold cables place node number (suc count) is = and_from (is_description (named node.name)) _ is (ports_hold cables place node (number + 1) count is)
 
-holding : (of : NodeType) (cables : List Cable) (place : ℕ) (node : PlannedNode) → is_named node ≡ true → holds_attributes (node_of_type of cables place node) ≡ true
+holding : (of : NodeType) (cables : List Cable) (place : ℕ) (node : PlannedNode) → is_named node ≡ true
+    → holds_attributes (node_of_type of cables place node) ≡ true
 holding node_type.Switch cables place node is =
     and_from (is_description (named node.name)) _ (name_described node.name is) (all_alike is_byte 255 LINEAR_TABLE refl)
 holding node_type.ChannelAdapter cables place node is = ports_hold cables place node 1 node.ports (name_described node.name is)
@@ -67,7 +69,8 @@ right_there cables nodes cable ends joins =
     rw (port_there cables nodes cable.first, port_there cables nodes cable.second, switch_there cables nodes cable.first.node, switch_there cables nodes cable.second.node)
     (and_from _ _ both.0 (and_from _ _ both.1 joins))
 
-pub all_right : (built : List Cable) (nodes : List PlannedNode) (cables : List Cable) → list_all (ends_at_ports nodes) cables ≡ true → list_all (joins_right nodes) cables ≡ true
+pub all_right : (built : List Cable) (nodes : List PlannedNode) (cables : List Cable)
+    → list_all (ends_at_ports nodes) cables ≡ true → list_all (joins_right nodes) cables ≡ true
     → list_all (is_right (nodes_from built 0 nodes)) cables ≡ true
 all_right built nodes [] ends joins = refl
 all_right built nodes (cable ∷ cables) ends joins =
@@ -82,15 +85,11 @@ same_back m n = grind (arith, nat_tests)
 port_back : (one other : PortRef) → is_same_port one other ≡ is_same_port other one
 port_back one other = rw (same_back one.node other.node, same_back one.port other.port) refl
 
-either : (a b c : Bool) → (a || (b || c)) ≡ ((a || b) || c)
-either true b c = refl
-either false b c = refl
-
 ends_are : (port : PortRef) (cables : List Cable) → list_any (is_same_port port) (flat_map ends_of cables) ≡ is_cabled cables port
 ends_are port [] = refl
 ends_are port (cable ∷ cables) =
     rw (port_back port cable.first, port_back port cable.second, ends_are port cables)
-    (either (is_same_port cable.first port) (is_same_port cable.second port) (is_cabled cables port))
+    (sym (or_assoc (is_same_port cable.first port) (is_same_port cable.second port) (is_cabled cables port)))
 
 ends_apart : (nodes : List PlannedNode) (cable : Cable) → joins_right nodes cable ≡ true → is_same_port cable.first cable.second ≡ false
 ends_apart nodes cable joins =

@@ -33,12 +33,14 @@ node_from cables first (node ∷ nodes) (suc k) =
     let moved : (first + 1) + k ≡ first + suc k = omega arith in
     node_from cables (first + 1) nodes k ∙ ap (λ (place : ℕ). option_map (node_of cables place) (slice_get nodes k)) moved
 
-pub node_at : (cables : List Cable) (nodes : List PlannedNode) (k : ℕ) → slice_get (nodes_from cables 0 nodes) k ≡ option_map (node_of cables k) (slice_get nodes k)
+pub node_at : (cables : List Cable) (nodes : List PlannedNode) (k : ℕ)
+    → slice_get (nodes_from cables 0 nodes) k ≡ option_map (node_of cables k) (slice_get nodes k)
 node_at cables nodes k =
     node_from cables 0 nodes k ∙ ap (λ (place : ℕ). option_map (node_of cables place) (slice_get nodes k)) (zero-add k)
 
 -- what is read of a node that is made of another
-read_or : {X Y Z : Type 0} (f : Y → Z) (g : X → Y) (h : X → Z) (d : Z) (o : Option X) → ((x : X) → f (g x) ≡ h x) → option_map_or f (option_map g o) d ≡ option_map_or h o d
+read_or : {X Y Z : Type 0} (f : Y → Z) (g : X → Y) (h : X → Z) (d : Z) (o : Option X) → ((x : X) → f (g x) ≡ h x)
+    → option_map_or f (option_map g o) d ≡ option_map_or h o d
 read_or f g h d None same = refl
 read_or f g h d (Some x) same = same x
 
@@ -70,7 +72,8 @@ count_of node_type.Switch cables place node =
     omega (arith, all, links)
 count_of node_type.ChannelAdapter cables place node = length-map-range_with_len (adapter_port_of cables place node) 1 node.ports
 
-ports_there : (cables : List Cable) (nodes : List PlannedNode) (k : ℕ) → option_map_or port_count (slice_get (nodes_from cables 0 nodes) k) 0 ≡ ports_at nodes k
+ports_there : (cables : List Cable) (nodes : List PlannedNode) (k : ℕ)
+    → option_map_or port_count (slice_get (nodes_from cables 0 nodes) k) 0 ≡ ports_at nodes k
 ports_there cables nodes k =
     ap (λ (o : Option Node). option_map_or port_count o 0) (node_at cables nodes k)
     ∙ read_or port_count (node_of cables k) (λ node. node.ports) 0 (slice_get nodes k) (λ node. count_of node.node_type cables k node)
@@ -92,7 +95,8 @@ some_port node sized =
     leb-true 1 node.ports (and_parts (nat_le 1 node.ports) _ (and_parts (nat_le 1 node.guid) _ sized).1).0
 
 -- ---- the ports of the first cable are its alone
-free_from : (cable : Cable) (cables : List Cable) → list_any (shares_port cable) cables ≡ false → (is_cabled cables cable.first ≡ false) × (is_cabled cables cable.second ≡ false)
+free_from : (cable : Cable) (cables : List Cable) → list_any (shares_port cable) cables ≡ false
+    → (is_cabled cables cable.first ≡ false) × (is_cabled cables cable.second ≡ false)
 free_from cable [] h = (refl, refl)
 free_from cable (other ∷ cables) h =
     let parts = or_parts (shares_port cable other) _ h in
@@ -101,5 +105,6 @@ free_from cable (other ∷ cables) h =
     (or_from (ends_at cable.first other) _ ends.0 later.0, or_from (ends_at cable.second other) _ ends.1 later.1)
 
 -- no later cable ends at the ports of the first
-pub free_ends : (cable : Cable) (cables : List Cable) → IsDistinct shares_port (cable ∷ cables) → (is_cabled cables cable.first ≡ false) × (is_cabled cables cable.second ≡ false)
+pub free_ends : (cable : Cable) (cables : List Cable) → IsDistinct shares_port (cable ∷ cables)
+    → (is_cabled cables cable.first ≡ false) × (is_cabled cables cable.second ≡ false)
 free_ends cable cables own = free_from cable cables (none_shares shares_port cable cables own)

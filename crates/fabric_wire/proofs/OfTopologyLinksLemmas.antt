@@ -60,7 +60,8 @@ switch_at cables place (suc k) count info some there =
     switch_shows cables place (suc k) info (slice_get range k) (λ n h. let e = ranged 1 count k n h in omega (arith, e))
     (ap (option_map (λ port. port.info)) (sym found) ∙ there)
 
-adapter_shows : (cables : List Cable) (place : ℕ) (node : PlannedNode) (number : ℕ) (info : PortInfo) (found : Option ℕ) → ((there : ℕ) → found ≡ Some there → there ≡ number)
+adapter_shows : (cables : List Cable) (place : ℕ) (node : PlannedNode) (number : ℕ) (info : PortInfo) (found : Option ℕ)
+    → ((there : ℕ) → found ≡ Some there → there ≡ number)
     → option_map (λ (one : AdapterState). one.info) (option_map (adapter_port_of cables place node) found) ≡ Some info → Shows cables place number info
 adapter_shows cables place node number info None is there = cc
 adapter_shows cables place node number info (Some n) is there =

@@ -39,7 +39,8 @@ by_first cable cables a next here there =
     let same : is_same_port cable.first (port a cable.first.port) ≡ true = subst (λ (k : ℕ). is_same_port cable.first (port k cable.first.port) ≡ true) here (itself cable.first) in
     record { number = cable.first.port; there = cable.second; far = rw (same, same) refl; cabled = rw same refl; node = there }
 
-by_second : (cable : Cable) (cables : List Cable) (a next : ℕ) → (cable.first.node == cable.second.node) ≡ false → cable.second.node ≡ a → cable.first.node ≡ next
+by_second : (cable : Cable) (cables : List Cable) (a next : ℕ) → (cable.first.node == cable.second.node) ≡ false
+    → cable.second.node ≡ a → cable.first.node ≡ next
     → GoesOut (cable ∷ cables) a next
 by_second cable cables a next apart here there =
     let same : is_same_port cable.second (port a cable.second.port) ≡ true = subst (λ (k : ℕ). is_same_port cable.second (port k cable.second.port) ≡ true) here (itself cable.second) in
@@ -48,7 +49,8 @@ by_second cable cables a next apart here there =
     record { number = cable.second.port; there = cable.first; far = rw (other, same) (ap (λ (one : PortRef). Some one) turned); cabled = rw (other, same) refl; node = there }
 
 -- by a later cable, since the first does not end at its port
-not_end : (cable : Cable) (cables : List Cable) (at : PortRef) → is_cabled cables cable.first ≡ false → is_cabled cables cable.second ≡ false → is_cabled cables at ≡ true
+not_end : (cable : Cable) (cables : List Cable) (at : PortRef) → is_cabled cables cable.first ≡ false
+    → is_cabled cables cable.second ≡ false → is_cabled cables at ≡ true
     → ends_at at cable ≡ false
 not_end cable cables at first second cabled =
     or_from (is_same_port cable.first at) _ (is_other cable.first first) (is_other cable.second second)
@@ -60,7 +62,8 @@ not_end cable cables at first second cabled =
         by true h = absurd (false≢true (sym free ∙ ap (is_cabled cables) (same_port end at h) ∙ cabled))
         by false h = refl
 
-by_later : (cable : Cable) (cables : List Cable) (a next : ℕ) → is_cabled cables cable.first ≡ false → is_cabled cables cable.second ≡ false → GoesOut cables a next
+by_later : (cable : Cable) (cables : List Cable) (a next : ℕ) → is_cabled cables cable.first ≡ false
+    → is_cabled cables cable.second ≡ false → GoesOut cables a next
     → GoesOut (cable ∷ cables) a next
 by_later cable cables a next first second out =
     let other = not_end cable cables (port a out.number) first second out.cabled in
@@ -90,7 +93,8 @@ pub record Goes (nodes : List Node) (cables : List Cable) (here : PortRef) (b : 
   pub walked : walk nodes cables false here numbers ≡ Some ends
   pub arrives : (last_of here ends).node ≡ b
 
-goes_on : (nodes : List Node) (cables : List Cable) (here : PortRef) (next b : ℕ) (out : GoesOut cables here.node next) → list_all (is_right nodes) cables ≡ true → is_switch_at nodes here.node ≡ true
+goes_on : (nodes : List Node) (cables : List Cable) (here : PortRef) (next b : ℕ) (out : GoesOut cables here.node next)
+    → list_all (is_right nodes) cables ≡ true → is_switch_at nodes here.node ≡ true
     → Goes nodes cables out.there b → Goes nodes cables here b
 goes_on nodes cables here next b out right switch rest =
     let hopped = hop_is_far_end nodes cables false here out.number right switch ∙ out.far in
@@ -107,7 +111,8 @@ goes plan sound here (next ∷ steps) b walks =
     goes_on (nodes_from plan.cables 0 plan.nodes) plan.cables here next b out (all_right plan.cables plan.nodes plan.cables sound.lines.ends sound.lines.joins) (switch_there plan.cables plan.nodes here.node ∙ first.0)
     (goes plan sound out.there steps b (subst (λ (k : ℕ). is_walk plan.nodes plan.cables k steps b ≡ true) (sym out.node) second.1))
 
-leads_there : (plan : Plan) (a b : ℕ) (way : Goes (nodes_from plan.cables 0 plan.nodes) plan.cables (port a 0) b) → leads (fabric_of plan) a way.numbers b ≡ true
+leads_there : (plan : Plan) (a b : ℕ) (way : Goes (nodes_from plan.cables 0 plan.nodes) plan.cables (port a 0) b)
+    → leads (fabric_of plan) a way.numbers b ≡ true
 leads_there plan a b way = rw way.walked (eq-eqb (last_of (port a 0) way.ends).node b way.arrives)
 
 pub joined : TopologiesAreJoined

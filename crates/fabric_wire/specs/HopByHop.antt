@@ -22,7 +22,8 @@ pub record Visit : Type 0 where
 -- what the hop rules say there: those of the way out where its direction bit is 0, else those of the way back
 abbrev pub hop_rules : List Node → Visit → Step
 hop_rules nodes here =
-    if is_outgoing here.smp then outgoing (node_type_at nodes here.node) here.entered here.smp else returning (node_type_at nodes here.node) here.entered here.smp
+    if is_outgoing here.smp then outgoing (node_type_at nodes here.node) here.entered here.smp
+    else returning (node_type_at nodes here.node) here.entered here.smp
 
 -- by the rules the SMP leaves by a port, and the cable there leads to where it is next
 pub record Passes (fabric : FabricState) (here next : Visit) : Type 0 where
@@ -73,5 +74,6 @@ pub record GoesByHops (fabric : FabricState) (smp : List ℕ) : Type 0 where
   -- these replies come and no other
   pub replies : (reply : List ℕ) → exchange_reply fabric smp ≡ Some reply ↔ IsAnswered fabric smp reply
   -- the agent that it reaches may have changed; where it reaches none, nothing has
-  pub change : (at : PortRef) (request : List ℕ) → Reaches fabric smp at request → exchange_after fabric smp ≡ after_at fabric at request
+  pub change : (at : PortRef) (request : List ℕ) → Reaches fabric smp at request
+      → exchange_after fabric smp ≡ after_at fabric at request
   pub no_change : ((at : PortRef) (request : List ℕ) → Reaches fabric smp at request → ⊥) → exchange_after fabric smp ≡ fabric

@@ -18,4 +18,6 @@ node_type_at nodes place = if is_switch_at nodes place then Switch else ChannelA
 abbrev pub leads_home : List Node → List Cable → ℕ → List ℕ → ℕ → ℕ → Bool
 leads_home nodes cables manager smp zero node = node == manager
 leads_home nodes cables manager smp (suc left) node =
-    option_map_or (λ there. ((left == 0) || is_switch_at nodes there.node) && leads_home nodes cables manager smp left there.node) (far_end cables (record { node = node; port = return_port smp (suc left) })) false
+    option_map_or
+    (λ there. ((left == 0) || is_switch_at nodes there.node) && leads_home nodes cables manager smp left there.node)
+    (far_end cables (record { node = node; port = return_port smp (suc left) })) false

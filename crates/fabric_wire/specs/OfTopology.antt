@@ -39,7 +39,8 @@ adapter_port_of cables place node number =
 abbrev pub node_of_type : NodeType → List Cable → ℕ → PlannedNode → Node
 node_of_type node_type.Switch cables place node =
     Switch (switch_at_power_up node.guid (named node.name) (links_of cables place node.ports) LINEAR_TABLE MULTICAST_TABLE)
-node_of_type node_type.ChannelAdapter cables place node = Adapter (map (adapter_port_of cables place node) (range_with_len 1 node.ports))
+node_of_type node_type.ChannelAdapter cables place node =
+    Adapter (map (adapter_port_of cables place node) (range_with_len 1 node.ports))
 
 abbrev pub node_of : List Cable → ℕ → PlannedNode → Node
 node_of cables place node = node_of_type node.node_type cables place node

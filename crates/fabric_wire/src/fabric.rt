@@ -1,9 +1,10 @@
 //! The simulated fabric.
 
 ghost use Rattle.std.specs.Prelude.{◌≡◌, Some, IfOk};
+ghost use Rattle.smp_wire.specs.FabricState.{fabric_with};
 ghost use Rattle.smp_wire.specs.Good.{IsGood, ShowsLinks, SwitchesJoined};
-ghost use Rattle.fabric_wire.specs.OfTopology.{fabric_of};
 ghost use Rattle.smp_wire.specs.Walk.{exchange_after, exchange_reply};
+ghost use Rattle.fabric_wire.specs.OfTopology.{fabric_of};
 
 use crate::cabling::Cabling;
 use crate::hopping::{come_home, go_out};
@@ -66,9 +67,9 @@ impl Fabric {
 /// Takes an SMP out, has it answered, and takes its reply home.
 #[tactic(auto, unfolding(smp_wire::specs::Walk::exchange_reply, smp_wire::specs::Walk::exchange_after))]
 fn exchange(nodes: &mut [Node], cabling: &Cabling, manager: PortRef, sent: &Mad) -> Option<Mad>
-    requires { IsGood (record { nodes = nodes.old; cables = cabling.now; manager = manager }) }
-    ensures answer { result ≡ exchange_reply (record { nodes = nodes.old; cables = cabling.now; manager = manager }) sent.now }
-    ensures change { record { nodes = nodes.new; cables = cabling.now; manager = manager } ≡ exchange_after (record { nodes = nodes.old; cables = cabling.now; manager = manager }) sent.now }
+    requires { IsGood (fabric_with nodes.old cabling.now manager) }
+    ensures answer { result ≡ exchange_reply (fabric_with nodes.old cabling.now manager) sent.now }
+    ensures change { fabric_with nodes.new cabling.now manager ≡ exchange_after (fabric_with nodes.old cabling.now manager) sent.now }
 {
     if !is_sent(sent) {
         return None;

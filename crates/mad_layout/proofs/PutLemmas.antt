@@ -35,7 +35,8 @@ numbers_same (suc k) n m h g same =
     let b = div-add-mod' m 2 in
     omega arith
 
-same_by_bits : (xs ys : List ℕ) → AllBelowBase 256 xs → AllBelowBase 256 ys → length ys ≡ length xs → ((bit : ℕ) → bit < 8 * length xs → field xs bit 1 ≡ field ys bit 1) → xs ≡ ys
+same_by_bits : (xs ys : List ℕ) → AllBelowBase 256 xs → AllBelowBase 256 ys → length ys ≡ length xs
+    → ((bit : ℕ) → bit < 8 * length xs → field xs bit 1 ≡ field ys bit 1) → xs ≡ ys
 unfolding field
 same_by_bits xs ys below low long same =
     let size = 8 * length xs in
@@ -48,7 +49,8 @@ same_by_bits xs ys below low long same =
     ap (λ (n : ℕ). digits (number xs) n 1) (sym place) ∙ bit ∙ ap (λ (n : ℕ). digits (number ys) n 1) there))
 
 -- a bit of a field is a bit of what the field holds
-bit_of_field : (xs : List ℕ) (off len bit : ℕ) → off + len ≤ 8 * length xs → off ≤ bit → bit < off + len → field xs bit 1 ≡ digits (field xs off len) (off + len - (bit + 1)) 1
+bit_of_field : (xs : List ℕ) (off len bit : ℕ) → off + len ≤ 8 * length xs → off ≤ bit → bit < off + len
+    → field xs bit 1 ≡ digits (field xs off len) (off + len - (bit + 1)) 1
 unfolding field
 bit_of_field xs off len bit within from to =
     let n = number xs in
@@ -80,17 +82,22 @@ lies off len bit = elim (cases_lt bit off) [
 ]
 
 -- the bits of a field that was put
-bit_put : (xs : List ℕ) (off len v bit : ℕ) → off + len ≤ 8 * length xs → v < 2 ^ len → off ≤ bit → bit < off + len → field (put_field xs off len v) bit 1 ≡ digits v (off + len - (bit + 1)) 1
+bit_put : (xs : List ℕ) (off len v bit : ℕ) → off + len ≤ 8 * length xs → v < 2 ^ len → off ≤ bit → bit < off + len
+    → field (put_field xs off len v) bit 1 ≡ digits v (off + len - (bit + 1)) 1
 bit_put xs off len v bit within fits from to =
     let long = length-put_field xs off len v in
     bit_of_field (put_field xs off len v) off len bit (omega arith) from to
     ∙ ap (λ (n : ℕ). digits n (off + len - (bit + 1)) 1) (field-put_same xs off len v within fits)
 
-bit_kept : (xs : List ℕ) (off len v bit : ℕ) → off + len ≤ 8 * length xs → v < 2 ^ len → bit < 8 * length xs → (bit + 1 ≤ off) ⊎ (off + len ≤ bit) → field (put_field xs off len v) bit 1 ≡ field xs bit 1
+bit_kept : (xs : List ℕ) (off len v bit : ℕ) → off + len ≤ 8 * length xs → v < 2 ^ len → bit < 8 * length xs
+    → (bit + 1 ≤ off) ⊎ (off + len ≤ bit) → field (put_field xs off len v) bit 1 ≡ field xs bit 1
 bit_kept xs off len v bit within fits there apart =
     field-put_apart xs off len v bit 1 within (omega arith) fits apart
 
-swap_bit : (xs : List ℕ) (off len v off2 len2 v2 bit : ℕ) → off + len ≤ 8 * length xs → off2 + len2 ≤ 8 * length xs → v < 2 ^ len → v2 < 2 ^ len2 → (off2 + len2 ≤ off) ⊎ (off + len ≤ off2) → bit < 8 * length xs → Lies off len bit → Lies off2 len2 bit → field (put_field (put_field xs off len v) off2 len2 v2) bit 1 ≡ field (put_field (put_field xs off2 len2 v2) off len v) bit 1
+swap_bit : (xs : List ℕ) (off len v off2 len2 v2 bit : ℕ) → off + len ≤ 8 * length xs → off2 + len2 ≤ 8 * length xs
+    → v < 2 ^ len → v2 < 2 ^ len2 → (off2 + len2 ≤ off) ⊎ (off + len ≤ off2) → bit < 8 * length xs → Lies off len bit
+    → Lies off2 len2 bit
+    → field (put_field (put_field xs off len v) off2 len2 v2) bit 1 ≡ field (put_field (put_field xs off2 len2 v2) off len v) bit 1
 swap_bit xs off len v off2 len2 v2 bit within within2 fits fits2 apart there (inside from to) (inside from2 to2) =
     absurd (elim apart [ inl before ↦ omega arith | inr after ↦ omega arith ])
 swap_bit xs off len v off2 len2 v2 bit within within2 fits fits2 apart there (inside from to) (beside other) =
@@ -114,7 +121,9 @@ swap_bit xs off len v off2 len2 v2 bit within within2 fits fits2 apart there (be
     ∙ sym (bit_kept (put_field xs off2 len2 v2) off len v bit (omega arith) fits (omega arith) other)
 
 -- fields that have no bit in common are put in either order
-pub put_swap : (xs : List ℕ) (off len v off2 len2 v2 : ℕ) → off + len ≤ 8 * length xs → off2 + len2 ≤ 8 * length xs → v < 2 ^ len → v2 < 2 ^ len2 → (off2 + len2 ≤ off) ⊎ (off + len ≤ off2) → put_field (put_field xs off len v) off2 len2 v2 ≡ put_field (put_field xs off2 len2 v2) off len v
+pub put_swap : (xs : List ℕ) (off len v off2 len2 v2 : ℕ) → off + len ≤ 8 * length xs → off2 + len2 ≤ 8 * length xs
+    → v < 2 ^ len → v2 < 2 ^ len2 → (off2 + len2 ≤ off) ⊎ (off + len ≤ off2)
+    → put_field (put_field xs off len v) off2 len2 v2 ≡ put_field (put_field xs off2 len2 v2) off len v
 put_swap xs off len v off2 len2 v2 within within2 fits fits2 apart =
     let x = put_field xs off len v in
     let y = put_field xs off2 len2 v2 in

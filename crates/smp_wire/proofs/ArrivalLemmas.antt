@@ -47,14 +47,16 @@ pub put_below : (xs : List ℕ) (off len v : ℕ) → AllBelowBase 256 (put_fiel
 unfolding put_field
 put_below xs off len v = below_bytes _ _
 
-put_carries : (sent smp : List ℕ) (off len v : ℕ) → IsCarrier sent smp → off + len ≤ 2048 → v < 2 ^ len → is_unseen off len ≡ true → IsCarrier sent (put_field smp off len v)
+put_carries : (sent smp : List ℕ) (off len v : ℕ) → IsCarrier sent smp → off + len ≤ 2048 → v < 2 ^ len
+    → is_unseen off len ≡ true → IsCarrier sent (put_field smp off len v)
 put_carries sent smp off len v here within small unseen = record {
   asks = same_trans sent smp _ here.asks (unseen_passes.asks smp off len v (record { count = here.long; within = within; fits = small; unseen = unseen }));
   below = put_below smp off len v;
   long = length-put_field smp off len v ∙ here.long;
 }
 
-byte_carries : (sent smp : List ℕ) (k v : ℕ) → IsCarrier sent smp → k < 256 → v < 256 → is_unseen (8 * k) 8 ≡ true → IsCarrier sent (slice_set smp k v)
+byte_carries : (sent smp : List ℕ) (k v : ℕ) → IsCarrier sent smp → k < 256 → v < 256 → is_unseen (8 * k) 8 ≡ true
+    → IsCarrier sent (slice_set smp k v)
 byte_carries sent smp k v here inside small unseen =
     rw (byte_is_set smp k v here.below (omega (arith, here.long)) small) (put_carries sent smp (8 * k) 8 v here (omega arith) small unseen)
 
@@ -67,18 +69,21 @@ abbrev AreBytes : List PortRef → Type 0
 AreBytes [] = Unit {0}
 AreBytes (end ∷ ends) = (end.port < 256) × AreBytes ends
 
-noted_carries : (sent smp : List ℕ) (k : ℕ) (ends : List PortRef) → IsCarrier sent smp → k + length ends ≤ 64 → AreBytes ends → IsCarrier sent (with_return_ports k ends smp)
+noted_carries : (sent smp : List ℕ) (k : ℕ) (ends : List PortRef) → IsCarrier sent smp → k + length ends ≤ 64
+    → AreBytes ends → IsCarrier sent (with_return_ports k ends smp)
 noted_carries sent smp k [] here few bytes = here
 noted_carries sent smp k (end ∷ ends) here few bytes =
     noted_carries sent (with_return_port k end.port smp) (k + 1) ends (byte_carries sent smp (192 + k) end.port here (omega (arith, few)) bytes.0 (unseen_return k (omega (arith, few)))) (omega (arith, few)) bytes.1
 
-pub arrived_carries : (sent : List ℕ) (ends : List PortRef) → AllBelowBase 256 sent → length sent ≡ 256 → length ends ≡ count sent → count sent ≤ 63 → AreBytes ends → IsCarrier sent (arrived ends sent)
+pub arrived_carries : (sent : List ℕ) (ends : List PortRef) → AllBelowBase 256 sent → length sent ≡ 256
+    → length ends ≡ count sent → count sent ≤ 63 → AreBytes ends → IsCarrier sent (arrived ends sent)
 arrived_carries sent ends below long hops few bytes =
     byte_carries sent (with_return_ports 1 ends sent) 6 (count sent + 1)
     (noted_carries sent sent 1 ends (record { asks = record { request = refl; set = refl; attribute = refl; modifier = refl; setting = refl; linear_fdb_top = refl; words = refl; ports = refl }; below = below; long = long }) (omega (arith, hops, few)) bytes)
     (omega arith) (omega (arith, few)) refl
 
-pick : {X : Type 0} (p : X → Bool) (b : Bool) (y x : X) (rest : Option X) → (if b then Some y else rest) ≡ Some x → p y ≡ true → (rest ≡ Some x → p x ≡ true) → p x ≡ true
+pick : {X : Type 0} (p : X → Bool) (b : Bool) (y x : X) (rest : Option X) → (if b then Some y else rest) ≡ Some x
+    → p y ≡ true → (rest ≡ Some x → p x ≡ true) → p x ≡ true
 pick p true y x rest found here later = ap p (sym (same_Some y x found)) ∙ here
 pick p false y x rest found here later = later found
 
@@ -95,7 +100,8 @@ few_ports : (node : Node) → has_a_right_count node ≡ true → port_count nod
 few_ports (Switch held) h = below (num_ports held) 36 h
 few_ports (Adapter ports) h = let few = below (length ports) 8 h in omega (arith, few)
 
-few_at : (nodes : List Node) (found : Option Node) → ((node : Node) → found ≡ Some node → has_a_right_count node ≡ true) → option_map_or port_count found 0 ≤ 36
+few_at : (nodes : List Node) (found : Option Node)
+    → ((node : Node) → found ≡ Some node → has_a_right_count node ≡ true) → option_map_or port_count found 0 ≤ 36
 few_at nodes None right = omega arith
 few_at nodes (Some node) right = few_ports node (right node refl)
 
@@ -111,7 +117,8 @@ other_small fabric here cable true good right =
     port_small fabric.nodes cable.second good.counts (and_parts _ _ (and_parts _ _ right).1).0
 other_small fabric here cable false good right = port_small fabric.nodes cable.first good.counts (and_parts _ _ right).0
 
-far_small : (fabric : FabricState) (here there : PortRef) (found : Option Cable) → IsGood fabric → ((cable : Cable) → found ≡ Some cable → is_right fabric.nodes cable ≡ true)
+far_small : (fabric : FabricState) (here there : PortRef) (found : Option Cable) → IsGood fabric
+    → ((cable : Cable) → found ≡ Some cable → is_right fabric.nodes cable ≡ true)
     → option_map (other_end here) found ≡ Some there → there.port < 256
 far_small fabric here there None good right is = cc
 far_small fabric here there (Some cable) good right is =
@@ -122,7 +129,8 @@ pub end_small : (fabric : FabricState) (out there : PortRef) → IsGood fabric �
 end_small fabric out there good is =
     far_small fabric out there (find (λ cable. ends_at out cable) fabric.cables) good (λ cable found. find_all (is_right fabric.nodes) (λ one. ends_at out one) fabric.cables cable good.cables found) is
 
-hop_small : (fabric : FabricState) (starts : Bool) (here there : PortRef) (number : ℕ) → IsGood fabric → hop fabric.nodes fabric.cables starts here number ≡ Some there → there.port < 256
+hop_small : (fabric : FabricState) (starts : Bool) (here there : PortRef) (number : ℕ) → IsGood fabric
+    → hop fabric.nodes fabric.cables starts here number ≡ Some there → there.port < 256
 unfolding hop
 hop_small fabric starts here there number good is = if_small (hands_on fabric.nodes starts here && is_port fabric.nodes (record { node = here.node; port = number })) is
   where
@@ -141,7 +149,8 @@ walked_on fabric numbers there ends (Some some) small right is =
     let so = right some refl in
     rw (sym (same_Some _ _ is)) (ap suc so.0, (small, so.1))
 
-walked_from : (fabric : FabricState) (numbers : List ℕ) (ends : List PortRef) (next : Option PortRef) → ((there : PortRef) → next ≡ Some there → there.port < 256)
+walked_from : (fabric : FabricState) (numbers : List ℕ) (ends : List PortRef) (next : Option PortRef)
+    → ((there : PortRef) → next ≡ Some there → there.port < 256)
     → ((there : PortRef) (some : List PortRef) → walk fabric.nodes fabric.cables false there numbers ≡ Some some → WalksRight numbers some)
     → option_and_then (λ there. option_map (λ later. there ∷ later) (walk fabric.nodes fabric.cables false there numbers)) next ≡ Some ends → (length ends ≡ suc (length numbers)) × AreBytes ends
 walked_from fabric numbers ends None small right is = cc

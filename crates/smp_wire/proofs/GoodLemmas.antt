@@ -39,7 +39,8 @@ down_in : (X : Type 0) (f : X → Bool) (xs ys : List X) (i : ℕ) → length ys
     → option_map f (slice_get ys i) ≡ option_map f (slice_get xs i)
 down_in X f xs ys i same each = by_place (slice_get_cases xs i).1
   where
-    by_place : ((x : X) × (i < length xs) × (slice_get xs i ≡ Some x) × (get_or xs i x ≡ x)) ⊎ ((length xs ≤ i) × (slice_get xs i ≡ None)) → option_map f (slice_get ys i) ≡ option_map f (slice_get xs i)
+    by_place : ((x : X) × (i < length xs) × (slice_get xs i ≡ Some x) × (get_or xs i x ≡ x)) ⊎ ((length xs ≤ i) × (slice_get xs i ≡ None))
+        → option_map f (slice_get ys i) ≡ option_map f (slice_get xs i)
     by_place (inl there) = rw (there.2, slice_get-get_or ys i there.0 (rw same there.1)) (ap (λ (b : Bool). Some b) (each there.0 ∙ ap f there.3))
     by_place (inr past) = rw (past.1, slice_get_past ys i (rw same past.0)) refl
 
@@ -87,28 +88,33 @@ all_by p xs = sym (list_all-map (λ b. b) p xs)
 pub all_same : {X : Type 0} (p : X → Bool) (xs ys : List X) → map p ys ≡ map p xs → list_all p ys ≡ list_all p xs
 all_same p xs ys same = all_by p ys ∙ ap (list_all (λ b. b)) same ∙ sym (all_by p xs)
 
-pub get_same : {X Y : Type 0} (f : X → Y) (xs ys : List X) (k : ℕ) → map f ys ≡ map f xs → option_map f (slice_get ys k) ≡ option_map f (slice_get xs k)
+pub get_same : {X Y : Type 0} (f : X → Y) (xs ys : List X) (k : ℕ) → map f ys ≡ map f xs
+    → option_map f (slice_get ys k) ≡ option_map f (slice_get xs k)
 get_same f xs ys k same = sym (slice_get-map f ys k) ∙ ap (λ (zs : List _). slice_get zs k) same ∙ slice_get-map f xs k
 
 or_by : {X Y : Type 0} (f : X → Y) (d : Y) (o : Option X) → option_map_or f o d ≡ unwrap_or (option_map f o) d
 or_by f d None = refl
 or_by f d (Some x) = refl
 
-pub or_same : {X Y : Type 0} (f : X → Y) (d : Y) (xs ys : List X) (k : ℕ) → map f ys ≡ map f xs → option_map_or f (slice_get ys k) d ≡ option_map_or f (slice_get xs k) d
+pub or_same : {X Y : Type 0} (f : X → Y) (d : Y) (xs ys : List X) (k : ℕ) → map f ys ≡ map f xs
+    → option_map_or f (slice_get ys k) d ≡ option_map_or f (slice_get xs k) d
 or_same f d xs ys k same = or_by f d (slice_get ys k) ∙ ap (λ (o : Option _). unwrap_or o d) (get_same f xs ys k same) ∙ sym (or_by f d (slice_get xs k))
 
 -- the port of that number has the same answer
-down_unless : (none : Bool) (xs ys : List AdapterState) (k : ℕ) → map (λ (port : AdapterState). is_down port.info) ys ≡ map (λ (port : AdapterState). is_down port.info) xs
+down_unless : (none : Bool) (xs ys : List AdapterState) (k : ℕ)
+    → map (λ (port : AdapterState). is_down port.info) ys ≡ map (λ (port : AdapterState). is_down port.info) xs
     → option_map (λ info. is_down info) (option_map (λ (port : AdapterState). port.info) (if none then None else slice_get ys k)) ≡ option_map (λ info. is_down info) (option_map (λ (port : AdapterState). port.info) (if none then None else slice_get xs k))
 down_unless true xs ys k same = refl
 down_unless false xs ys k same =
     flat (λ port. port.info) (λ info. is_down info) (slice_get ys k) ∙ get_same (λ (port : AdapterState). is_down port.info) xs ys k same ∙ sym (flat (λ port. port.info) (λ info. is_down info) (slice_get xs k))
 
-down_of : (xs ys : List AdapterState) (number : ℕ) → map (λ (port : AdapterState). is_down port.info) ys ≡ map (λ (port : AdapterState). is_down port.info) xs
+down_of : (xs ys : List AdapterState) (number : ℕ)
+    → map (λ (port : AdapterState). is_down port.info) ys ≡ map (λ (port : AdapterState). is_down port.info) xs
     → down_at (Adapter ys) number ≡ down_at (Adapter xs) number
 down_of xs ys number same = down_unless (number == 0) xs ys (number - 1) same
 
-same_set : (ports : List AdapterState) (i : ℕ) (x y : AdapterState) → slice_get ports i ≡ Some x → IsSamePort x y → IsSameNode (Adapter ports) (Adapter (slice_set ports i y))
+same_set : (ports : List AdapterState) (i : ℕ) (x y : AdapterState) → slice_get ports i ≡ Some x → IsSamePort x y
+    → IsSameNode (Adapter ports) (Adapter (slice_set ports i y))
 same_set ports i x y there same =
     let next = slice_set ports i y in
     let long : length next ≡ length ports = length-set ports i y in
@@ -116,7 +122,8 @@ same_set ports i x y there same =
     let guid : node_guid (Adapter next) ≡ node_guid (Adapter ports) = or_same (λ (port : AdapterState). port.node_guid) 0 ports next 0 guids in
     let numbers = read_same (λ (port : AdapterState). port.number) ports i x y there same.number in
     let own : (g n : ℕ) → is_of g n y ≡ is_of g n x = λ g n. rw (same.guid, same.count) refl in
-    let all : (g n : ℕ) → list_all (is_of g n) next ≡ list_all (is_of g n) ports = λ g n. all_same (is_of g n) ports next (read_same (is_of g n) ports i x y there (own g n)) in
+    let all : (g n : ℕ)
+    → list_all (is_of g n) next ≡ list_all (is_of g n) ports = λ g n. all_same (is_of g n) ports next (read_same (is_of g n) ports i x y there (own g n)) in
     record {
       guid = guid;
       guids = read_same (λ (port : AdapterState). port.port_guid) ports i x y there same.own;

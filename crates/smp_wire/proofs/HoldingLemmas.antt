@@ -18,9 +18,10 @@ use Rattle.attr_tables.specs.PortInfo.{port_info_bytes}
 use Rattle.agent_rules.specs.Request.{asked, asked_ports, modifier_of}
 use Rattle.attr_tables.specs.declared.smp_attribute.SmpAttribute.{SmpAttribute}
 use Rattle.attr_tables.specs.declared.smp_attribute.SmpAttribute.TheVariants.{NodeDescription, NodeInfo, SwitchInfo, PortInfo, PKeyTable, LinearForwardingTable, MulticastForwardingTable}
-use Rattle.agent_rules.proofs.AgentLemmas.{after_cases, bind_done, bind_ok}
+use Rattle.result_words.proofs.StepLemmas.{bind_done, bind_ok}
+use Rattle.agent_rules.proofs.AgentLemmas.{after_cases}
 use Rattle.attr_tables.proofs.AttributeLemmas.{attributes}
-use Rattle.agent_rules.proofs.PortSettingLemmas.{taken_ok}
+use Rattle.agent_rules.proofs.GuardLemmas.{taken_ok}
 use Rattle.agent_rules.proofs.TableLemmas.{block_within}
 use Rattle.port_model.specs.AdapterState.{AdapterState}
 use Rattle.port_model.specs.Agent.{get as adapter_gives, is_own}
@@ -73,13 +74,15 @@ asked_small : (smp : List ℕ) → list_all is_byte (asked_ports smp) ≡ true
 unfolding asked_ports
 asked_small smp = list_all-map is_byte (λ k. asked smp (8 * k) 8) (range_with_len 0 64) ∙ fields_small smp (range_with_len 0 64)
 
-block_small : (block : ℕ) (entries linear : List ℕ) → list_all is_byte entries ≡ true → list_all is_byte linear ≡ true → list_all is_byte (with_block 64 block entries linear) ≡ true
+block_small : (block : ℕ) (entries linear : List ℕ) → list_all is_byte entries ≡ true → list_all is_byte linear ≡ true
+    → list_all is_byte (with_block 64 block entries linear) ≡ true
 unfolding with_block
 block_small block entries linear new old =
     all_joined is_byte (take (64 * block) linear) _ (all_cut is_byte (64 * block) linear old).0
     (all_joined is_byte entries _ new (all_cut is_byte (64 * block + 64) linear old).1)
 
-set_small : (held next : SwitchState) (smp : List ℕ) (attribute : SmpAttribute) → list_all is_byte held.linear ≡ true → switch_set held attribute smp ≡ Ok next → list_all is_byte next.linear ≡ true
+set_small : (held next : SwitchState) (smp : List ℕ) (attribute : SmpAttribute) → list_all is_byte held.linear ≡ true
+    → switch_set held attribute smp ≡ Ok next → list_all is_byte next.linear ≡ true
 unfolding switch_set
 set_small held next smp PortInfo small h = ap (λ (one : SwitchState). list_all is_byte one.linear) (sym (port_set held next smp h).same) ∙ small
 set_small held next smp PKeyTable small h = ap (λ (one : SwitchState). list_all is_byte one.linear) (sym (keys_are_set held next smp h).same) ∙ small
@@ -133,7 +136,8 @@ words_are block table bytes h =
     let t = taken_ok (has_block 32 block table) (word_bytes (block_of 32 block table)) bytes InvalidField h in
     subst IsAttribute t.1 (attributes.words (block_of 32 block table) (block_long 32 block table (omega arith) t.0))
 
-pub adapter_given : (held : AdapterState) (attribute : SmpAttribute) (modifier : ℕ) (bytes : List ℕ) → is_description held.description ≡ true → adapter_gives held attribute modifier ≡ Ok bytes → IsAttribute bytes
+pub adapter_given : (held : AdapterState) (attribute : SmpAttribute) (modifier : ℕ) (bytes : List ℕ)
+    → is_description held.description ≡ true → adapter_gives held attribute modifier ≡ Ok bytes → IsAttribute bytes
 unfolding adapter_gives
 adapter_given held NodeDescription modifier bytes is h = whole_is modifier held.description bytes (described held.description is) h
 adapter_given held NodeInfo modifier bytes is h = whole_is modifier _ bytes (attributes.node_info _) h
@@ -144,7 +148,8 @@ adapter_given held SwitchInfo modifier bytes is h = absurd (cc)
 adapter_given held LinearForwardingTable modifier bytes is h = absurd (cc)
 adapter_given held MulticastForwardingTable modifier bytes is h = absurd (cc)
 
-pub switch_given : (held : SwitchState) (n : ℕ) (attribute : SmpAttribute) (modifier : ℕ) (bytes : List ℕ) → holds_attributes (Switch held) ≡ true → switch_gives n held attribute modifier ≡ Ok bytes → IsAttribute bytes
+pub switch_given : (held : SwitchState) (n : ℕ) (attribute : SmpAttribute) (modifier : ℕ) (bytes : List ℕ)
+    → holds_attributes (Switch held) ≡ true → switch_gives n held attribute modifier ≡ Ok bytes → IsAttribute bytes
 unfolding switch_gives
 switch_given held n NodeDescription modifier bytes is h = whole_is modifier held.description bytes (described held.description (and_parts (is_description held.description) _ is).0) h
 switch_given held n NodeInfo modifier bytes is h = whole_is modifier _ bytes (attributes.node_info _) h
@@ -173,25 +178,30 @@ nothing_given bytes h = absurd (cc)
 same_given : (one other : Result (List ℕ) MadStatus) → Some one ≡ Some other → one ≡ other
 same_given one other h = cc
 
-port_given : (ports : List AdapterState) (i : ℕ) (found : Option AdapterState) (attribute : SmpAttribute) (modifier : ℕ) → list_all (λ port. is_description port.description) ports ≡ true
+port_given : (ports : List AdapterState) (i : ℕ) (found : Option AdapterState) (attribute : SmpAttribute) (modifier : ℕ)
+    → list_all (λ port. is_description port.description) ports ≡ true
     → slice_get ports i ≡ found → AreAttributes (option_map (λ port. adapter_gives port attribute modifier) found)
 port_given ports i None attribute modifier all there bytes h = absurd (cc)
 port_given ports i (Some port) attribute modifier all there bytes h =
     adapter_given port attribute modifier bytes (all_there (λ one. is_description one.description) ports i port all there) (same_given _ _ h)
 
-port_unless : (none : Bool) (ports : List AdapterState) (i : ℕ) (attribute : SmpAttribute) (modifier : ℕ) → list_all (λ port. is_description port.description) ports ≡ true
+port_unless : (none : Bool) (ports : List AdapterState) (i : ℕ) (attribute : SmpAttribute) (modifier : ℕ)
+    → list_all (λ port. is_description port.description) ports ≡ true
     → AreAttributes (option_map (λ port. adapter_gives port attribute modifier) (if none then None else slice_get ports i))
 port_unless true ports i attribute modifier all bytes h = absurd (cc)
 port_unless false ports i attribute modifier all bytes h = port_given ports i (slice_get ports i) attribute modifier all refl bytes h
 
-node_given : (node : Node) (n : ℕ) (attribute : SmpAttribute) (modifier : ℕ) → holds_attributes node ≡ true → AreAttributes (node_gives node n attribute modifier)
+node_given : (node : Node) (n : ℕ) (attribute : SmpAttribute) (modifier : ℕ) → holds_attributes node ≡ true
+    → AreAttributes (node_gives node n attribute modifier)
 node_given (Switch held) n attribute modifier is bytes h = switch_given held n attribute modifier bytes is (same_given _ _ h)
 node_given (Adapter ports) n attribute modifier is bytes h = port_unless (n == 0) ports (n - 1) attribute modifier is bytes h
 
-found_given : (nodes : List Node) (i n : ℕ) (found : Option Node) (attribute : SmpAttribute) (modifier : ℕ) → list_all holds_attributes nodes ≡ true → slice_get nodes i ≡ found
+found_given : (nodes : List Node) (i n : ℕ) (found : Option Node) (attribute : SmpAttribute) (modifier : ℕ)
+    → list_all holds_attributes nodes ≡ true → slice_get nodes i ≡ found
     → AreAttributes (option_and_then (λ node. node_gives node n attribute modifier) found)
 found_given nodes i n None attribute modifier all there bytes h = absurd (cc)
 found_given nodes i n (Some node) attribute modifier all there bytes h = node_given node n attribute modifier (all_there holds_attributes nodes i node all there) bytes h
 
-pub attributes_given : (fabric : FabricState) (at : PortRef) (attribute : SmpAttribute) (modifier : ℕ) → list_all holds_attributes fabric.nodes ≡ true → AreAttributes (gives_at fabric at attribute modifier)
+pub attributes_given : (fabric : FabricState) (at : PortRef) (attribute : SmpAttribute) (modifier : ℕ)
+    → list_all holds_attributes fabric.nodes ≡ true → AreAttributes (gives_at fabric at attribute modifier)
 attributes_given fabric at attribute modifier all bytes h = found_given fabric.nodes at.node at.port (slice_get fabric.nodes at.node) attribute modifier all refl bytes h

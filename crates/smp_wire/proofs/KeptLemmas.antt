@@ -96,11 +96,13 @@ good fabric smp was = stays_good fabric (exchange_after fabric smp) (after_excha
 joined : {X : Type 0} → Option (Option X) → Option X
 joined o = option_and_then (λ x. x) o
 
-down_by : (found : Option Node) (number : ℕ) → option_map (λ info. is_down info) (option_and_then (λ node. port_info_at node number) found) ≡ option_and_then (λ x. x) (option_map (λ node. down_at node number) found)
+down_by : (found : Option Node) (number : ℕ)
+    → option_map (λ info. is_down info) (option_and_then (λ node. port_info_at node number) found) ≡ option_and_then (λ x. x) (option_map (λ node. down_at node number) found)
 down_by None number = refl
 down_by (Some node) number = refl
 
-down_same : (old new : FabricState) → IsSame old new → (at : PortRef) → option_map (λ info. is_down info) (info_at new at) ≡ option_map (λ info. is_down info) (info_at old at)
+down_same : (old new : FabricState) → IsSame old new → (at : PortRef)
+    → option_map (λ info. is_down info) (info_at new at) ≡ option_map (λ info. is_down info) (info_at old at)
 down_same old new same at =
     down_by (slice_get new.nodes at.node) at.port ∙ ap (option_and_then (λ x. x)) (get_same (λ node. down_at node at.port) old.nodes new.nodes at.node (same.downs at.port)) ∙ sym (down_by (slice_get old.nodes at.node) at.port)
 
@@ -119,11 +121,13 @@ pub links : ExchangesKeepLinks
 links fabric smp was = stays_linked fabric (exchange_after fabric smp) (after_exchange fabric smp) was
 
 -- ---- walks
-hop_same : (old new : FabricState) → IsSame old new → (starts : Bool) (here : PortRef) (number : ℕ) → hop new.nodes new.cables starts here number ≡ hop old.nodes old.cables starts here number
+hop_same : (old new : FabricState) → IsSame old new → (starts : Bool) (here : PortRef) (number : ℕ)
+    → hop new.nodes new.cables starts here number ≡ hop old.nodes old.cables starts here number
 unfolding hop
 hop_same old new same starts here number = rw (same.cables, switch_same old new same here.node, port_same old new same (record { node = here.node; port = number })) refl
 
-walk_same : (old new : FabricState) → IsSame old new → (starts : Bool) (here : PortRef) (numbers : List ℕ) → walk new.nodes new.cables starts here numbers ≡ walk old.nodes old.cables starts here numbers
+walk_same : (old new : FabricState) → IsSame old new → (starts : Bool) (here : PortRef) (numbers : List ℕ)
+    → walk new.nodes new.cables starts here numbers ≡ walk old.nodes old.cables starts here numbers
 walk_same old new same starts here [] = refl
 walk_same old new same starts here (number ∷ numbers) =
     ap₂ option_and_then (λ place there. option_map (λ ends. there ∷ ends) (walk_same old new same false there numbers place)) (hop_same old new same starts here number)

@@ -41,7 +41,8 @@ pub record IsGetOf (attribute : SmpAttribute) (modifier : ℕ) (smp : List ℕ) 
   pub asked_is : attribute_asked smp ≡ Ok attribute
   pub modifier_is : modifier_of smp ≡ modifier
 
-replied_by : {S : Type 0} (getter : Getter S) (setter : Setter S) (held : S) (attribute : SmpAttribute) (modifier : ℕ) (smp : List ℕ) → IsGetOf attribute modifier smp
+replied_by : {S : Type 0} (getter : Getter S) (setter : Setter S) (held : S) (attribute : SmpAttribute) (modifier : ℕ) (smp : List ℕ)
+    → IsGetOf attribute modifier smp
     → reply_of getter setter held smp ≡ Some (reply_to smp (getter held attribute modifier))
 replied_by getter setter held attribute modifier smp asks = rw (asks.request, asks.asked_is, asks.set, asks.modifier_is) refl
 
@@ -73,14 +74,16 @@ code_named PKeyTable = refl
 code_named LinearForwardingTable = refl
 code_named MulticastForwardingTable = refl
 
-asks_attribute : (attribute : SmpAttribute) (modifier : ℕ) (path smp : List ℕ) → AsksFor attribute modifier path smp → attribute_asked smp ≡ Ok attribute
+asks_attribute : (attribute : SmpAttribute) (modifier : ℕ) (path smp : List ℕ) → AsksFor attribute modifier path smp
+    → attribute_asked smp ≡ Ok attribute
 unfolding attribute_asked
 asks_attribute attribute modifier path smp asks = rw (asks.version, asks.get, asks.attribute_id, code_named attribute) refl
 
 not_set : (n : ℕ) → (n == 1) ≡ true → (n == 2) ≡ false
 not_set n h = grind (arith, nat_tests, h)
 
-pub carrier_gets : (attribute : SmpAttribute) (modifier : ℕ) (path sent smp : List ℕ) → AsksFor attribute modifier path sent → IsCarrier sent smp → IsGetOf attribute modifier smp
+pub carrier_gets : (attribute : SmpAttribute) (modifier : ℕ) (path sent smp : List ℕ)
+    → AsksFor attribute modifier path sent → IsCarrier sent smp → IsGetOf attribute modifier smp
 carrier_gets attribute modifier path sent smp asks here = record {
   request = here.asks.request ∙ asks.request;
   set = here.asks.set ∙ not_set (field sent 24 8) asks.get;
@@ -134,7 +137,8 @@ learned_is fabric sent smp None long are reply = rw reply refl
 learned_is fabric sent smp (Some (Err status)) long are reply = rw reply (read_refused smp status long)
 learned_is fabric sent smp (Some (Ok bytes)) long are reply = rw reply (read_given smp bytes long (are bytes refl))
 
-told_by : (fabric : FabricState) (sent smp : List ℕ) (given : Option (Result (List ℕ) MadStatus)) → length smp ≡ 256 → AreAttributes given → exchange_after fabric sent ≡ fabric
+told_by : (fabric : FabricState) (sent smp : List ℕ) (given : Option (Result (List ℕ) MadStatus)) → length smp ≡ 256
+    → AreAttributes given → exchange_after fabric sent ≡ fabric
     → exchange_reply fabric sent ≡ option_map returned (option_map (λ one. reply_to smp one) given) → Tells fabric sent given
 told_by fabric sent smp given long are kept reply = record { unchanged = kept; learned = learned_is fabric sent smp given long are reply }
 
@@ -142,7 +146,8 @@ walk_is : (fabric : FabricState) (attribute : SmpAttribute) (modifier : ℕ) (pa
     → walk_of fabric smp ≡ walk fabric.nodes fabric.cables true fabric.manager path
 walk_is fabric attribute modifier path smp asks = rw (asks.sent, asks.path_is) refl
 
-by_walk : (fabric : FabricState) (attribute : SmpAttribute) (modifier : ℕ) (path smp : List ℕ) (walked : Option (List PortRef)) → IsGood fabric → AsksFor attribute modifier path smp
+by_walk : (fabric : FabricState) (attribute : SmpAttribute) (modifier : ℕ) (path smp : List ℕ) (walked : Option (List PortRef))
+    → IsGood fabric → AsksFor attribute modifier path smp
     → AllBelowBase 256 smp → length smp ≡ 256 → walk fabric.nodes fabric.cables true fabric.manager path ≡ walked
     → Tells fabric smp (option_and_then (λ ends. gives_at fabric (last_of fabric.manager ends) attribute modifier) walked)
 by_walk fabric attribute modifier path smp None good asks low long is =
@@ -161,7 +166,8 @@ pub gets_tell : GetsTell
 gets_tell fabric attribute modifier path smp good asks = by_walk fabric attribute modifier path smp (walk fabric.nodes fabric.cables true fabric.manager path) good asks asks.bytes asks.long refl
 
 -- ---- over a wire
-pub reads : (stood : Option FabricState) (attribute : SmpAttribute) (modifier : ℕ) (path smp : List ℕ) (learned : Option (List ℕ)) → AsksFor attribute modifier path smp
+pub reads : (stood : Option FabricState) (attribute : SmpAttribute) (modifier : ℕ) (path smp : List ℕ) (learned : Option (List ℕ))
+    → AsksFor attribute modifier path smp
     → ForSome stood (λ fabric. learned ≡ learned_by fabric smp) → ForSome stood (λ fabric. IsGood fabric → IsGiven (gives_along fabric path attribute modifier) learned)
 reads stood attribute modifier path smp learned asks told fabric stands good =
     rw (told fabric stands) (gets_tell fabric attribute modifier path smp good asks).learned

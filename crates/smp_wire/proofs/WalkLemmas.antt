@@ -88,7 +88,8 @@ stops nodes cables manager sent done at smp long few more under none =
     let next = rw (cut sent done long few more) at left in
     after_none nodes cables (count sent) (done + 1) (drop (done + 1) (path_of sent)) smp (hop nodes cables (done == 0) at (initial_port sent (done + 1))) none ∙ sym next
 
-goes : (nodes : List Node) (cables : List Cable) (hops : ℕ) (k : ℕ) (numbers : List ℕ) (smp : List ℕ) (there : PortRef) (next : Option PortRef) → next ≡ Some there
+goes : (nodes : List Node) (cables : List Cable) (hops : ℕ) (k : ℕ) (numbers : List ℕ) (smp : List ℕ) (there : PortRef) (next : Option PortRef)
+    → next ≡ Some there
     → option_map (there_with hops) (option_and_then (λ end. follow nodes cables false end (k + 1) numbers (with_return_port k end.port smp)) next) ≡ option_map (there_with hops) (follow nodes cables false there (k + 1) numbers (with_return_port k there.port smp))
 goes nodes cables hops k numbers smp there next is = rw is refl
 

@@ -21,7 +21,8 @@ pub walks : (fabric : FabricState) (smp : List ℕ) (ends : List PortRef) → wa
 walks fabric smp ends is = walks_by fabric smp ends (is_sent smp) refl is
 
 -- what comes to the end of the walk asks what was sent
-pub carried : (fabric : FabricState) (smp : List ℕ) (ends : List PortRef) → IsGood fabric → length smp ≡ 256 → AllBelowBase 256 smp → walk_of fabric smp ≡ Some ends → IsCarrier smp (arrived ends smp)
+pub carried : (fabric : FabricState) (smp : List ℕ) (ends : List PortRef) → IsGood fabric → length smp ≡ 256
+    → AllBelowBase 256 smp → walk_of fabric smp ≡ Some ends → IsCarrier smp (arrived ends smp)
 carried fabric smp ends good long below is =
     let so = walks fabric smp ends is in
     let few = (sent_parts smp so.sent).1 in
@@ -36,7 +37,8 @@ pub no_walk_reply : (fabric : FabricState) (smp : List ℕ) → walk_of fabric s
 unfolding exchange_reply
 no_walk_reply fabric smp is = rw is refl
 
-pub walk_after : (fabric : FabricState) (smp : List ℕ) (ends : List PortRef) → walk_of fabric smp ≡ Some ends → exchange_after fabric smp ≡ after_at fabric (last_of fabric.manager ends) (arrived ends smp)
+pub walk_after : (fabric : FabricState) (smp : List ℕ) (ends : List PortRef) → walk_of fabric smp ≡ Some ends
+    → exchange_after fabric smp ≡ after_at fabric (last_of fabric.manager ends) (arrived ends smp)
 unfolding exchange_after
 walk_after fabric smp ends is = rw is refl
 

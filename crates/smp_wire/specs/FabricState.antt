@@ -15,6 +15,10 @@ pub record FabricState : Type 0 where
   pub cables : List Cable
   pub manager : PortRef
 
+-- the fabric of these parts
+abbrev pub fabric_with : List Node → List Cable → PortRef → FabricState
+fabric_with nodes cables manager = record { nodes = nodes; cables = cables; manager = manager }
+
 -- ---- nodes
 abbrev pub is_switch : Node → Bool
 is_switch (Switch held) = true

@@ -71,15 +71,18 @@ learned_by fabric smp = option_and_then attribute_in (exchange_reply fabric smp)
 -- ---- what that is in a good fabric: what the agent at the end of the path gives
 abbrev pub node_gives : Node → ℕ → SmpAttribute → ℕ → Option (Result (List ℕ) MadStatus)
 node_gives (Switch held) number attribute modifier = Some (switch_gives number held attribute modifier)
-node_gives (Adapter ports) number attribute modifier = option_map (λ port. adapter_gives port attribute modifier) (adapter_port ports number)
+node_gives (Adapter ports) number attribute modifier =
+    option_map (λ port. adapter_gives port attribute modifier) (adapter_port ports number)
 
 abbrev pub gives_at : FabricState → PortRef → SmpAttribute → ℕ → Option (Result (List ℕ) MadStatus)
-gives_at fabric at attribute modifier = option_and_then (λ node. node_gives node at.port attribute modifier) (slice_get fabric.nodes at.node)
+gives_at fabric at attribute modifier =
+    option_and_then (λ node. node_gives node at.port attribute modifier) (slice_get fabric.nodes at.node)
 
 -- nothing where there is no walk, or no agent at its end
 abbrev pub gives_along : FabricState → List ℕ → SmpAttribute → ℕ → Option (Result (List ℕ) MadStatus)
 gives_along fabric path attribute modifier =
-    option_and_then (λ ends. gives_at fabric (last_of fabric.manager ends) attribute modifier) (walk fabric.nodes fabric.cables true fabric.manager path)
+    option_and_then (λ ends. gives_at fabric (last_of fabric.manager ends) attribute modifier)
+    (walk fabric.nodes fabric.cables true fabric.manager path)
 
 -- what was learned is what is given
 abbrev pub IsGiven : Option (Result (List ℕ) MadStatus) → Option (List ℕ) → Type 0

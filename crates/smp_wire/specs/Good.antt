@@ -49,7 +49,8 @@ is_of guid count port = (port.node_guid == guid) && (port.num_ports == count)
 abbrev pub is_in_order : Node → Bool
 is_in_order (Switch held) = true
 is_in_order (Adapter ports) =
-    list_all (is_of (node_guid (Adapter ports)) (length ports)) ports && bytes_eq (map (λ port. port.number) ports) (range_with_len 1 (length ports))
+    list_all (is_of (node_guid (Adapter ports)) (length ports)) ports
+    && bytes_eq (map (λ port. port.number) ports) (range_with_len 1 (length ports))
 
 -- ---- what agents give
 abbrev pub is_byte : ℕ → Bool
@@ -69,7 +70,10 @@ holds_attributes (Adapter ports) = list_all (λ port. is_description port.descri
 -- a cable joins ports of two different switches, or of a switch and an adapter
 abbrev pub is_right : List Node → Cable → Bool
 is_right nodes cable =
-    is_port nodes cable.first && (is_port nodes cable.second && (not (cable.first.node == cable.second.node) && (is_switch_at nodes cable.first.node || is_switch_at nodes cable.second.node)))
+    is_port nodes cable.first
+    && (is_port nodes cable.second
+    && (not (cable.first.node == cable.second.node)
+    && (is_switch_at nodes cable.first.node || is_switch_at nodes cable.second.node)))
 
 abbrev pub ends_of : Cable → List PortRef
 ends_of cable = cable.first ∷ cable.second ∷ []
@@ -100,14 +104,17 @@ info_at fabric at = option_and_then (λ node. port_info_at node at.port) (slice_
 -- a port is Down exactly where it has no cable
 abbrev pub ShowsLinks : FabricState → Type 0
 ShowsLinks fabric =
-    (at : PortRef) (info : PortInfo) → is_port fabric.nodes at ≡ true → info_at fabric at ≡ Some info → is_down info ≡ not (is_cabled fabric.cables at)
+    (at : PortRef) (info : PortInfo) → is_port fabric.nodes at ≡ true → info_at fabric at ≡ Some info
+    → is_down info ≡ not (is_cabled fabric.cables at)
 
 -- ---- that switches are joined: a cable may be taken away later, so this stands apart
 -- a walk out of these ports leads from one node to the other
 abbrev pub leads : FabricState → ℕ → List ℕ → ℕ → Bool
 leads fabric a numbers b =
-    option_map_or (λ ends. (last_of (record { node = a; port = 0 }) ends).node == b) (walk fabric.nodes fabric.cables false (record { node = a; port = 0 }) numbers) false
+    option_map_or (λ ends. (last_of (record { node = a; port = 0 }) ends).node == b)
+    (walk fabric.nodes fabric.cables false (record { node = a; port = 0 }) numbers) false
 
 abbrev pub SwitchesJoined : FabricState → Type 0
 SwitchesJoined fabric =
-    (a b : ℕ) → is_switch_at fabric.nodes a ≡ true → is_switch_at fabric.nodes b ≡ true → (numbers : List ℕ) × (leads fabric a numbers b ≡ true)
+    (a b : ℕ) → is_switch_at fabric.nodes a ≡ true → is_switch_at fabric.nodes b ≡ true
+    → (numbers : List ℕ) × (leads fabric a numbers b ≡ true)

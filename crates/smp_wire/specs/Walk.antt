@@ -19,13 +19,15 @@ abbrev pub hop_by : List Node → List Cable → Bool → PortRef → Option Por
 hop_by nodes cables may_hand_on out = if may_hand_on && is_port nodes out then far_end cables out else None
 
 unfoldable pub hop : List Node → List Cable → Bool → PortRef → ℕ → Option PortRef
-hop nodes cables starts here number = hop_by nodes cables (hands_on nodes starts here) (record { node = here.node; port = number })
+hop nodes cables starts here number =
+    hop_by nodes cables (hands_on nodes starts here) (record { node = here.node; port = number })
 
 -- hop by hop out of these ports: the ports by which the SMP comes in
 abbrev pub walk : List Node → List Cable → Bool → PortRef → List ℕ → Option (List PortRef)
 walk nodes cables starts here [] = Some []
 walk nodes cables starts here (number ∷ numbers) =
-    option_and_then (λ there. option_map (λ ends. there ∷ ends) (walk nodes cables false there numbers)) (hop nodes cables starts here number)
+    option_and_then (λ there. option_map (λ ends. there ∷ ends) (walk nodes cables false there numbers))
+    (hop nodes cables starts here number)
 
 -- where the walk ends; without a hop, at the port that it starts from
 abbrev pub last_of : PortRef → List PortRef → PortRef
@@ -64,7 +66,8 @@ returned smp = with_pointer 0 (turned_round smp)
 -- what the subnet manager gets for an SMP
 unfoldable pub exchange_reply : FabricState → List ℕ → Option (List ℕ)
 exchange_reply fabric smp =
-    option_and_then (λ ends. option_map returned (reply_at fabric (last_of fabric.manager ends) (arrived ends smp))) (walk_of fabric smp)
+    option_and_then (λ ends. option_map returned (reply_at fabric (last_of fabric.manager ends) (arrived ends smp)))
+    (walk_of fabric smp)
 
 -- what the fabric is after an SMP: the node at the end of its walk may have changed
 abbrev pub after_walk : FabricState → List ℕ → Option (List PortRef) → FabricState

@@ -15,9 +15,10 @@ use Rattle.attr_tables.specs.PortInfo.{port_info_bytes}
 use Rattle.agent_rules.specs.PortSetting.{port_info_after, port_setting}
 use Rattle.agent_rules.specs.Request.{asked, asked_ports, modifier_of}
 use Rattle.attr_tables.specs.SwitchInfo.{switch_info_bytes}
-use Rattle.agent_rules.proofs.AgentLemmas.{Shows, bind_done, bind_ok, guard_ok, passed}
-use Rattle.agent_rules.proofs.PortSettingLemmas.{taken_ok}
-use Rattle.agent_rules.proofs.TableLemmas.{block_differs, given, length-asked_ports, same_blocks, words_shown}
+use Rattle.result_words.proofs.StepLemmas.{bind_done, bind_ok, let_through}
+use Rattle.agent_rules.proofs.GuardLemmas.{passed, taken_ok}
+use Rattle.agent_rules.proofs.AgentLemmas.{Shows}
+use Rattle.agent_rules.proofs.TableLemmas.{block_differs, length-asked_ports, same_blocks, words_shown}
 use Rattle.switch_model.specs.declared.switch_port.SwitchPort.{SwitchPort}
 use Rattle.switch_model.specs.Agent.{get, is_mask_modifier, key_block, key_port, set_keys, set_linear, set_linear_top, mask_block, mask_position, masks_at, set_masks, part_at, set_port_info, set}
 use Rattle.switch_model.specs.SwitchState.{SwitchState}
@@ -28,7 +29,8 @@ part_is number [] part h = absurd (cc)
 part_is zero (x ∷ parts) part h = cc
 part_is (suc number) (x ∷ parts) part h = part_is number parts part h
 
-pub part_set : {X : Type 0} (number : ℕ) (parts : List X) (part next : X) → part_at number parts ≡ Ok part → part_at number (slice_set parts number next) ≡ Ok next
+pub part_set : {X : Type 0} (number : ℕ) (parts : List X) (part next : X) → part_at number parts ≡ Ok part
+    → part_at number (slice_set parts number next) ≡ Ok next
 part_set number [] part next h = absurd (cc)
 part_set zero (x ∷ parts) part next h = refl
 part_set (suc number) (x ∷ parts) part next h = part_set number parts part next h
@@ -116,7 +118,7 @@ masks_are_set held next smp h =
     let p = mask_position (modifier_of smp) in
     let a = bind_done (set_masks smp held.masks) (λ masks. record held { masks = masks }) next h in
     let b = bind_ok (masks_at (modifier_of smp) held.masks) (λ words. set_word_block (mask_block (modifier_of smp)) smp words >>= λ after. Ok (slice_set held.masks p after)) a.0 a.1 in
-    let g = guard_ok (is_mask_modifier (modifier_of smp)) (part_at p held.masks) InvalidField b.0 b.1 in
+    let g = let_through (is_mask_modifier (modifier_of smp)) (part_at p held.masks) InvalidField b.0 b.1 in
     let c = bind_done (set_word_block (mask_block (modifier_of smp)) smp b.0) (λ after. slice_set held.masks p after) a.0 b.2 in
     record {
       is_modifier = g.0;
@@ -128,33 +130,43 @@ masks_are_set held next smp h =
     }
 
 -- ---- what is set can be asked for
-port_shown : (in_port : ℕ) (held : SwitchState) (ports : List SwitchPort) (number : ℕ) (port : SwitchPort) → part_at number ports ≡ Ok port → (bytes : List ℕ) × (get in_port (record held { ports = ports }) PortInfo number ≡ Ok bytes)
+port_shown : (in_port : ℕ) (held : SwitchState) (ports : List SwitchPort) (number : ℕ) (port : SwitchPort)
+    → part_at number ports ≡ Ok port
+    → (bytes : List ℕ) × (get in_port (record held { ports = ports }) PortInfo number ≡ Ok bytes)
 unfolding get
 port_shown in_port held ports number port h =
     (port_info_bytes (shown_at in_port port.info), ap (λ (r : Result SwitchPort MadStatus). r >>= λ p. Ok (port_info_bytes (shown_at in_port p.info))) h)
 
-keys_shown : (in_port : ℕ) (held : SwitchState) (ports : List SwitchPort) (modifier : ℕ) (port : SwitchPort) (bytes : List ℕ) → part_at (key_port modifier) ports ≡ Ok port → word_block (key_block modifier) port.keys ≡ Ok bytes → get in_port (record held { ports = ports }) PKeyTable modifier ≡ Ok bytes
+keys_shown : (in_port : ℕ) (held : SwitchState) (ports : List SwitchPort) (modifier : ℕ) (port : SwitchPort) (bytes : List ℕ)
+    → part_at (key_port modifier) ports ≡ Ok port → word_block (key_block modifier) port.keys ≡ Ok bytes
+    → get in_port (record held { ports = ports }) PKeyTable modifier ≡ Ok bytes
 unfolding get
 keys_shown in_port held ports modifier port bytes h shown =
     ap (λ (r : Result SwitchPort MadStatus). r >>= λ p. word_block (key_block modifier) p.keys) h ∙ shown
 
-top_shown : (in_port : ℕ) (held : SwitchState) (info : Info) (modifier : ℕ) → (modifier == 0) ≡ true → (bytes : List ℕ) × (get in_port (record held { info = info }) SwitchInfo modifier ≡ Ok bytes)
+top_shown : (in_port : ℕ) (held : SwitchState) (info : Info) (modifier : ℕ) → (modifier == 0) ≡ true
+    → (bytes : List ℕ) × (get in_port (record held { info = info }) SwitchInfo modifier ≡ Ok bytes)
 unfolding get
 top_shown in_port held info modifier whole =
-    (switch_info_bytes info, given (modifier == 0) (switch_info_bytes info) InvalidField whole)
+    (switch_info_bytes info, passed (modifier == 0) (Ok (switch_info_bytes info)) InvalidField whole)
 
-linear_shown : (in_port : ℕ) (held : SwitchState) (linear : List ℕ) (block : ℕ) → has_block 64 block linear ≡ true → (bytes : List ℕ) × (get in_port (record held { linear = linear }) LinearForwardingTable block ≡ Ok bytes)
+linear_shown : (in_port : ℕ) (held : SwitchState) (linear : List ℕ) (block : ℕ) → has_block 64 block linear ≡ true
+    → (bytes : List ℕ) × (get in_port (record held { linear = linear }) LinearForwardingTable block ≡ Ok bytes)
 unfolding get
 linear_shown in_port held linear block there =
-    (block_of 64 block linear, given (has_block 64 block linear) (block_of 64 block linear) InvalidField there)
+    (block_of 64 block linear, passed (has_block 64 block linear) (Ok (block_of 64 block linear)) InvalidField there)
 
-masks_shown : (in_port : ℕ) (held : SwitchState) (masks : List (List ℕ)) (modifier : ℕ) (words bytes : List ℕ) → is_mask_modifier modifier ≡ true → part_at (mask_position modifier) masks ≡ Ok words → word_block (mask_block modifier) words ≡ Ok bytes → get in_port (record held { masks = masks }) MulticastForwardingTable modifier ≡ Ok bytes
+masks_shown : (in_port : ℕ) (held : SwitchState) (masks : List (List ℕ)) (modifier : ℕ) (words bytes : List ℕ)
+    → is_mask_modifier modifier ≡ true → part_at (mask_position modifier) masks ≡ Ok words
+    → word_block (mask_block modifier) words ≡ Ok bytes
+    → get in_port (record held { masks = masks }) MulticastForwardingTable modifier ≡ Ok bytes
 unfolding get
 masks_shown in_port held masks modifier words bytes is there shown =
     let whole : masks_at modifier masks ≡ Ok words = passed (is_mask_modifier modifier) (part_at (mask_position modifier) masks) InvalidField is ∙ there in
     ap (λ (r : Result (List ℕ) MadStatus). r >>= λ w. word_block (mask_block modifier) w) whole ∙ shown
 
-pub linear_differs : (block : ℕ) (smp linear : List ℕ) → has_block 64 block linear ≡ true → DiffersInBlock 64 block linear (with_block 64 block (asked_ports smp) linear)
+pub linear_differs : (block : ℕ) (smp linear : List ℕ) → has_block 64 block linear ≡ true
+    → DiffersInBlock 64 block linear (with_block 64 block (asked_ports smp) linear)
 linear_differs block smp linear there = block_differs 64 block (asked_ports smp) linear (omega arith) (length-asked_ports smp) there
 
 pub shows : (in_port : ℕ) → Shows (get in_port) set
@@ -192,7 +204,8 @@ shows in_port held next NodeDescription smp h = absurd (cc)
 shows in_port held next NodeInfo smp h = absurd (cc)
 
 -- ---- SMPs that ask the same
-pub takes_alike : (held : SwitchState) (attribute : SmpAttribute) (one other : List ℕ) → AsksSame one other → set held attribute other ≡ set held attribute one
+pub takes_alike : (held : SwitchState) (attribute : SmpAttribute) (one other : List ℕ) → AsksSame one other
+    → set held attribute other ≡ set held attribute one
 unfolding set
 takes_alike held SwitchInfo one other same = λ place. (if (same.modifier place == 0) && nat_lt (same.linear_fdb_top place) (length held.linear) then Ok (record held.info { linear_fdb_top = same.linear_fdb_top place }) else Err InvalidField) >>= λ info. Ok (record held { info = info })
 takes_alike held PortInfo one other same = λ place. (part_at (same.modifier place) held.ports >>= λ port. (port_info_after (nat_lt 0 (same.modifier place)) port.info (same.setting place) >>= λ info. Ok (slice_set held.ports (same.modifier place) (record port { info = info })))) >>= λ ports. Ok (record held { ports = ports })

@@ -93,11 +93,13 @@ set_keys smp ports = do
 -- LinearFDBTop, which is one of the LIDs that the table has
 abbrev pub set_linear_top : List ℕ → ℕ → Info → Result Info MadStatus
 set_linear_top smp lids info =
-    if (modifier_of smp == 0) && nat_lt (asked smp 48 16) lids then Ok (record info { linear_fdb_top = asked smp 48 16 }) else Err InvalidField
+    if (modifier_of smp == 0) && nat_lt (asked smp 48 16) lids then Ok (record info { linear_fdb_top = asked smp 48 16 })
+    else Err InvalidField
 
 abbrev pub set_linear : List ℕ → List ℕ → Result (List ℕ) MadStatus
 set_linear smp linear =
-    if has_block 64 (modifier_of smp) linear then Ok (with_block 64 (modifier_of smp) (asked_ports smp) linear) else Err InvalidField
+    if has_block 64 (modifier_of smp) linear then Ok (with_block 64 (modifier_of smp) (asked_ports smp) linear)
+    else Err InvalidField
 
 abbrev pub set_masks : List ℕ → List (List ℕ) → Result (List (List ℕ)) MadStatus
 set_masks smp masks = do

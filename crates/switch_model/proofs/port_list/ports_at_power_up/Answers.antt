@@ -10,7 +10,10 @@ use Rattle.switch_model.proofs.PortLemmas.{grown_fits, length-ports_from, ports_
 use Rattle.switch_model.proofs.port_list.ports_at_power_up.Goals as goal
 
 -- the list with the port for one more link
-step : (links : List Link) (i : ℕ) (d link : Link) (number : ℕ) (ports next : List SwitchPort) (port : SwitchPort) → i < length links → link ≡ get_or links i d → ports ≡ ports_from 0 (Internal ∷ take i links) → number ≡ length ports → port ≡ port_at_power_up number link → next ≡ ports ++ port ∷ [] → next ≡ ports_from 0 (Internal ∷ take (i + 1) links)
+step : (links : List Link) (i : ℕ) (d link : Link) (number : ℕ) (ports next : List SwitchPort) (port : SwitchPort)
+    → i < length links → link ≡ get_or links i d → ports ≡ ports_from 0 (Internal ∷ take i links)
+    → number ≡ length ports → port ≡ port_at_power_up number link → next ≡ ports ++ port ∷ []
+    → next ≡ ports_from 0 (Internal ∷ take (i + 1) links)
 step links i d link number ports next port h is so_far count made pushed =
     let all : number ≡ length (Internal ∷ take i links) = count ∙ ap length so_far ∙ length-ports_from 0 (Internal ∷ take i links) in
     let place : number ≡ 0 + length (Internal ∷ take i links) = omega arith in
