@@ -1,5 +1,5 @@
 -- What a reply carries.
-use Rattle.std.proofs.Common.{◌≡◌, ℕ, ◌+◌, ◌*◌, ◌-◌, ◌^◌, ◌<◌, List, length, take, drop, Ok, Err, ◌∙◌, arith}
+use Rattle.std.proofs.Common.{◌≡◌, ℕ, ◌^◌, ◌<◌, List, length, take, drop, Ok, Err, ◌∙◌, arith}
 use Rattle.std.specs.Int.Digits.{AllBelowBase}
 use Rattle.mad_layout.specs.Bits.{number, put_field}
 use Rattle.mad_layout.specs.MadStatus.{mad_status_code}

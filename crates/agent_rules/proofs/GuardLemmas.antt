@@ -1,5 +1,5 @@
 -- Guards: what a test lets through, and what is given where it holds.
-use Rattle.std.proofs.Common.{◌≡◌, Bool, true, false, if◌then◌else◌, Result, Ok, Err, refl}
+use Rattle.std.proofs.Common.{◌≡◌, Bool, true, if◌then◌else◌, Result, Ok, Err, refl}
 use Rattle.result_words.proofs.StepLemmas.{let_through, same_ok}
 
 -- a value that was let through

@@ -1,7 +1,6 @@
 -- An exchange as the nodes see it: each knows its own kind and the port by which an SMP came in, goes by the
 -- hop rules, and the SMP comes out at the other end of the cable (InfiniBand volume 1, chapter 14).
-use Rattle.std.specs.Prelude.{ℕ, ◌≡◌, ◌==◌, ◌↔◌, true, if◌then◌else◌, List, [], ◌∷◌, length, Some}
-use Rattle.std.specs.Int.Digits.{AllBelowBase}
+use Rattle.std.specs.Prelude.{ℕ, ◌≡◌, ◌==◌, ◌↔◌, true, if◌then◌else◌, List, [], ◌∷◌, Some}
 use Rattle.smp_route.specs.declared.hop.Hop.TheVariants.{Forward, ToAgent, ToManager}
 use Rattle.smp_route.specs.Hops.{Step, outgoing, returning}
 use Rattle.smp_route.specs.Places.{is_outgoing, turned_round}
@@ -9,7 +8,6 @@ use Rattle.fabric_parts.specs.declared.cable.PortRef.{PortRef}
 use Rattle.smp_wire.specs.declared.node.Node.{Node}
 use Rattle.fabric_parts.specs.Cable.{far_end}
 use Rattle.smp_wire.specs.FabricState.{FabricState, after_at, reply_at}
-use Rattle.smp_wire.specs.Good.{IsGood}
 use Rattle.fabric_wire.specs.Hopping.{node_type_at}
 use Rattle.smp_wire.specs.Walk.{exchange_after, exchange_reply}
 

@@ -1,5 +1,5 @@
 -- The fabric that a topology describes, at power-up.
-use Rattle.std.specs.Prelude.{ℕ, ◌+◌, ◌-◌, ◌++◌, if◌then◌else◌, List, map, length, replicate}
+use Rattle.std.specs.Prelude.{ℕ, ◌-◌, ◌++◌, if◌then◌else◌, List, map, length, replicate}
 use Rattle.std.specs.List.{enumerate_from, range_with_len}
 use Rattle.agent_rules.specs.declared.link.Link.{Link}
 use Rattle.agent_rules.specs.declared.link.Link.TheVariants.{Cabled, Uncabled}
@@ -16,7 +16,6 @@ use Rattle.topo_file.specs.Topology.{Plan}
 use Rattle.smp_wire.specs.declared.node.Node.{Node}
 use Rattle.smp_wire.specs.declared.node.Node.TheVariants.{Switch, Adapter}
 use Rattle.smp_wire.specs.FabricState.{FabricState}
-use Rattle.smp_wire.specs.Good.{IsGood, ShowsLinks, SwitchesJoined}
 
 -- a port has a link where a cable ends at it
 abbrev pub link_of : List Cable → ℕ → ℕ → Link

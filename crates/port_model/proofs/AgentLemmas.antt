@@ -1,5 +1,5 @@
 -- What a port gives and takes, case by case.
-use Rattle.std.proofs.Common.{◌≡◌, ℕ, Bool, true, false, if◌then◌else◌, Ok, Err, List, refl, subst}
+use Rattle.std.proofs.Common.{◌≡◌, ℕ, true, false, if◌then◌else◌, Ok, Err, List, refl, subst}
 use Rattle.mad_layout.specs.declared.status.MadStatus.TheVariants.{InvalidField}
 use Rattle.attr_tables.specs.declared.port_info.PortInfo.{PortInfo as Info}
 use Rattle.attr_tables.specs.declared.smp_attribute.SmpAttribute.{SmpAttribute}

@@ -1,5 +1,5 @@
 -- What a fabric is: its nodes, with what their agents hold, its cables, and the subnet manager's port.
-use Rattle.std.specs.Prelude.{ℕ, ◌-◌, ◌==◌, ◌&&◌, nat_le, Bool, true, false, if◌then◌else◌, List, length, slice_get, slice_set, Option, Some, None, option_map, find}
+use Rattle.std.specs.Prelude.{ℕ, ◌-◌, ◌==◌, ◌&&◌, nat_le, Bool, true, false, if◌then◌else◌, List, length, slice_get, slice_set, Option, Some, None}
 use Rattle.std.specs.Option.{option_and_then, option_map_or}
 use Rattle.port_model.specs.AdapterState.{AdapterState}
 use Rattle.port_model.specs.Agent.{agent_after as adapter_after, agent_reply as adapter_reply}

@@ -17,7 +17,6 @@ use Rattle.fabric_parts.specs.declared.cable.PortRef.{PortRef}
 use Rattle.smp_wire.specs.declared.node.Node.{Node}
 use Rattle.smp_wire.specs.declared.node.Node.TheVariants.{Switch, Adapter}
 use Rattle.smp_wire.specs.FabricState.{FabricState, adapter_port}
-use Rattle.smp_wire.specs.Good.{IsGood}
 use Rattle.smp_wire.specs.Walk.{exchange_after, exchange_reply, is_sent, last_of, path_of, walk}
 
 -- the 64 entries of the initial path; entry 0 is no hop's
