@@ -6,7 +6,7 @@ use Rattle.subnet_core.specs.declared.fault.RunFault.{RunFault}
 use Rattle.subnet_core.specs.declared.fault.RunFault.TheVariants as run
 use Rattle.subnet_core.specs.Listing.{listing_text}
 use Rattle.subnet_core.specs.Run.{report_of, subnet_of}
-use Rattle.subnet_core.specs.Script.{◌>>=◌}
+use Rattle.result_words.specs.Steps.{◌>>=◌}
 use Rattle.subnet_core.specs.Text.{report_text}
 use Rattle.fabric_cli.specs.declared.faults.Stop.{Stop}
 use Rattle.fabric_cli.specs.declared.serving.Texts.{Texts}
@@ -151,6 +151,6 @@ IsTold (Err (Run fault)) = Unit {0}
 IsTold _ = ⊥
 
 -- an output comes as it is, and a stop by its line
-abbrev pub Gives : {X : Type 0} → (X → List ℕ) → Ending → Result X Stop → Type 0
-Gives view ending (Ok output) = ending ≡ complete (view output)
-Gives view ending (Err stop) = Stops ending stop
+abbrev pub ComesTo : {X : Type 0} → (X → List ℕ) → Ending → Result X Stop → Type 0
+ComesTo view ending (Ok output) = ending ≡ complete (view output)
+ComesTo view ending (Err stop) = Stops ending stop

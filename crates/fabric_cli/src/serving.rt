@@ -4,7 +4,7 @@ ghost use Rattle.std.specs.Prelude.{ℕ, ◌≡◌, ◌≢◌, ◌⊎◌, Result
 ghost use Rattle.std.specs.Io.KnownBytes.{Appends};
 ghost use Rattle.fabric_cli.specs.Faults.{line_of, memory_line, status_of, IsOfFiles, IsOfRun, NamesUnread};
 ghost use Rattle.fabric_cli.specs.Files.{OpensAll, OpensInOrder};
-ghost use Rattle.fabric_cli.specs.Serving.{bytes_if_named, ending_by, ending_of, ending_with, listed, output_in, reported, texts_in, texts_of, work_bytes, work_of, Ends, Gives, IsRefused, IsTold, TellsStop};
+ghost use Rattle.fabric_cli.specs.Serving.{bytes_if_named, ending_by, ending_of, ending_with, listed, output_in, reported, texts_in, texts_of, work_bytes, work_of, Ends, ComesTo, IsRefused, IsTold, TellsStop};
 ghost use Rattle.std.specs.Option.{option_to_list};
 ghost use Rattle.fabric_cli.specs.Words.{asked_of, named_work, names, opened_for, script_names};
 ghost use Rattle.fabric_cli.specs.Writing.{AppendsPart, Tells};
@@ -92,7 +92,7 @@ fn output<'a, F: Files>(
         (opened_for (asked_of (map string_bytes words.entry.now))) }
     ensures all { IsTold result → OpensAll (F.opened files.old) (F.opened files.new)
         (opened_for (asked_of (map string_bytes words.entry.now))) }
-    ensures exact { IfSome (F.told files.old) (λ file. Gives (λ text. text.items)
+    ensures exact { IfSome (F.told files.old) (λ file. ComesTo (λ text. text.items)
         (ending_of file (map string_bytes words.entry.now)) result) }
     ensures unread { IfErr result (NamesUnread (F.told files.old) (F.reads files.old) (F.opened files.old) (F.opened files.new)
         (opened_for (asked_of (map string_bytes words.entry.now)))) }
@@ -111,7 +111,7 @@ fn output_of_files<'a, F: Files>(
 ) -> Result<Vec<u8>, Stop<'a>>
     ensures order { OpensInOrder (F.opened files.old) (F.opened files.new) (opened_for (Some (names asked.now))) }
     ensures all { IsTold result → OpensAll (F.opened files.old) (F.opened files.new) (opened_for (Some (names asked.now))) }
-    ensures exact { IfSome (F.told files.old) (λ file. Gives (λ text. text.items)
+    ensures exact { IfSome (F.told files.old) (λ file. ComesTo (λ text. text.items)
         (ending_with (texts_of file (names asked.now))) result) }
     ensures unread { IfErr result (NamesUnread (F.told files.old) (F.reads files.old) (F.opened files.old) (F.opened files.new) (opened_for (Some (names asked.now)))) }
 {
@@ -123,7 +123,7 @@ fn output_of_files<'a, F: Files>(
 
 /// The output over these texts.
 fn output_of_texts<'a>(alloc: Global, texts: &Texts) -> Result<Vec<u8>, Stop<'a>>
-    ensures exact { Gives (λ text. text.items) (ending_with (Ok (texts_in texts.now))) result }
+    ensures exact { ComesTo (λ text. text.items) (ending_with (Ok (texts_in texts.now))) result }
     ensures fault { IfErr result IsOfRun }
 {
     let topology = texts.topology.as_slice();
@@ -140,7 +140,7 @@ fn listed<'a>(
     topology: &[u8],
     partitions: Option<&[u8]>,
 ) -> Result<Vec<u8>, Stop<'a>>
-    ensures exact { Gives (λ text. text.items)
+    ensures exact { ComesTo (λ text. text.items)
         (ending_by (listed topology.now (option_copied partitions.entry))) result }
     ensures fault { IfErr result IsOfRun }
 {
@@ -160,7 +160,7 @@ fn reported<'a>(
     partitions: Option<&[u8]>,
     script: &[u8],
 ) -> Result<Vec<u8>, Stop<'a>>
-    ensures exact { Gives (λ text. text.items)
+    ensures exact { ComesTo (λ text. text.items)
         (ending_by (reported topology.now (option_copied partitions.entry) script.now)) result }
     ensures fault { IfErr result IsOfRun }
 {

@@ -146,7 +146,9 @@ fn fabric_command<'a>(alloc: Global) -> Result<Command<'a>, AllocError>
     let check = subnet_command(alloc, "check", ABOUT_CHECK, LISTING)?;
     let script = wanted(alloc, "SCRIPT", "The script: what ports send");
     let run = subnet_command(alloc, "run", ABOUT_RUN, REPORT)?.arg(script)?;
+    // Help and usage say `fabric`, whatever name the program's file has.
     let command = Command::new(alloc, "fabric")
+        .bin_name("fabric")?
         .version("0.1.0")
         .about(ABOUT)
         .after_help(STATUSES)

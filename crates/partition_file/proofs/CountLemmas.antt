@@ -6,8 +6,9 @@ use Rattle.std.proofs.lemmas.List.Elements.{filter_map-append}
 use Rattle.std.proofs.lemmas.List.Folds.{list_all-append}
 use Rattle.std.proofs.lemmas.List.Sums.{fold-append, sum_by-append}
 use Rattle.pkey_rules.specs.declared.key_table.TheConstants.{PARTITIONS}
+use Rattle.pkey_rules.specs.PKey.{default_base}
 use Rattle.partition_file.specs.declared.definition.Definition.{Definition}
-use Rattle.partition_file.specs.Counting.{default_base, further, has_base, keys_of, named, one_if_none, partition_count, with_base, with_key}
+use Rattle.partition_file.specs.Counting.{further, has_base, keys_of, named, one_if_none, partition_count, with_base, with_key}
 use Rattle.partition_file.specs.Sound.{AreCounted, are_within, is_sound_key}
 
 pub keys_more : (definitions : List Definition) (definition : Definition) → keys_of (definitions ++ definition ∷ []) ≡ keys_of definitions ++ definition.key ∷ []

@@ -4,10 +4,12 @@ use Rattle.std.specs.Option.{unwrap_or}
 use Rattle.std.proofs.lemmas.Bool.Decides.{nat_tests}
 use Rattle.std.proofs.lemmas.List.Sums.{fold-append, sum_by-cons}
 use Rattle.pkey_rules.specs.declared.key_table.TheConstants.{PARTITIONS}
+use Rattle.pkey_rules.specs.PKey.{default_base}
 use Rattle.partition_file.specs.declared.definition.Definition.{Definition}
-use Rattle.partition_file.specs.Counting.{default_base, has_base, keys_of, named, partition_count, with_base}
+use Rattle.partition_file.specs.Counting.{has_base, keys_of, named, partition_count, with_base}
 use Rattle.partition_file.specs.Partitions.{first_free, least_free, taken_after}
-use Rattle.partition_file.specs.Generated.{AllGetFree, GeneratedBasesAreFree, IsLeastFree}
+use Rattle.partition_file.specs.Generated.{AllGetFree, IsLeastFree}
+use Rattle.partition_file.specs.Laws.{GeneratedBasesAreFree}
 use Rattle.partition_file.proofs.SoundLemmas.{least_free_base, has_last}
 
 -- ---- what a search of a range finds

@@ -7,9 +7,11 @@ use Rattle.partition_file.specs.declared.fault.PartitionCause.TheVariants.{Unfin
 use Rattle.result_words.specs.AtLine.{AtLine, on_line}
 use Rattle.result_words.specs.Steps.{◌>>=◌}
 use Rattle.partition_file.specs.Pieces.{blanked, is_commented, line_after, piece_after, without_comments}
-use Rattle.partition_file.specs.Definitions.{Scanned, after, after_byte, at_end, is_inside, start, whole}
+use Rattle.partition_file.specs.Definitions.{after, after_byte, at_end, is_inside, whole}
+use Rattle.partition_file.specs.Scanned.{Scanned, start}
 use Rattle.partition_file.specs.Partitions.{partitions_in, partitions_of}
-use Rattle.partition_file.specs.Law.{CleanThroughout, EndRefuses, HasFaultAtEnd, HasFaultInside, InsideRefuses, IsClean, OnlySoRefused, is_fault_at}
+use Rattle.partition_file.specs.FirstFault.{HasFaultAtEnd, HasFaultInside, IsClean, is_fault_at}
+use Rattle.partition_file.specs.Laws.{CleanThroughout, EndRefuses, InsideRefuses, OnlySoRefused}
 use Rattle.result_words.proofs.StepLemmas.{bind_alike, bind_done_err, bind_refused, bind_twice, same_err}
 use Rattle.partition_file.proofs.TurnLemmas.{IsToldFor, clean_here, refused_here, told_here}
 

@@ -1,3 +1,4 @@
+-- The keys of a port: one of each partition that it is a member of, no two of one base.
 use Rattle.std.proofs.Common.{◌≡◌, ◌&&◌, ℕ, suc, ◌+◌, ◌<◌, ◌≤◌, Bool, true, false, cond, ◌==◌, ◌||◌, nat_eq, List, [], ◌∷◌, ◌++◌, length, map, drop, get_or, Option, Some, None, refl, ap, subst, ◌∙◌, arith, append_assoc, length-append, drop-cons}
 use Rattle.std.specs.List.{AllByRecursion, IsDistinct, list_all, cons_option}
 use Rattle.std.specs.Option.{option_to_list}
@@ -7,13 +8,14 @@ use Rattle.std.proofs.lemmas.List.{append-nil, length-map}
 use Rattle.std.proofs.lemmas.Map.Keys.{IsDistinct-head, IsDistinct-tail}
 use Rattle.pkey_rules.specs.declared.end_port.EndPort.{EndPort}
 use Rattle.pkey_rules.specs.declared.key_table.TheConstants.{PARTITIONS}
-use Rattle.pkey_rules.specs.PKey.{base_of}
+use Rattle.pkey_rules.specs.PKey.{base_of, is_base, key_of}
 use Rattle.pkey_rules.specs.KeyTable.{has_base}
+use Rattle.pkey_rules.proofs.PKeyLemmas.{key_has_base}
 use Rattle.partition_file.specs.declared.partition.Partition.{Partition}
 use Rattle.partition_file.proofs.SoundLemmas.{few_partitions}
-use Rattle.partition_file.specs.Members.{AreSoundHeadings, bases_in, heading_of, is_full_member, is_member, key_in, key_of, keys_in}
-use Rattle.partition_file.specs.declared.port_keys.Heading.{Heading}
-use Rattle.partition_file.specs.Sound.{IsSound, has_fit_group, all_bases, is_base}
+use Rattle.partition_file.specs.Members.{AreSoundHeadings, bases_in, heading_of, is_full_member, is_member, key_in, keys_in}
+use Rattle.partition_file.specs.declared.heading.Heading.{Heading}
+use Rattle.partition_file.specs.Sound.{IsSound, has_fit_group, all_bases}
 
 -- ---- the base of a key
 base_below : (base : ℕ) → is_base base ≡ true → base < 32768
@@ -21,10 +23,6 @@ base_below base h = grind (arith, nat_tests)
 
 base_above : (base : ℕ) → is_base base ≡ true → 1 ≤ base
 base_above base h = grind (arith, nat_tests)
-
-pub base_of_key : (base : ℕ) (full : Bool) → base < 32768 → base_of (key_of base full) ≡ base
-base_of_key base true h = omega arith
-base_of_key base false h = omega arith
 
 -- ---- what the loop over partitions keeps: the keys so far and those of the partitions that are left, no base of which is held
 abbrev pub AreFree : List ℕ → List ℕ → Type 0
@@ -77,7 +75,7 @@ KeyOf base None = Unit {0}
 KeyOf base (Some key) = base_of key ≡ base
 
 key_by : (base : ℕ) (b full : Bool) → base < 32768 → KeyOf base (cond b (Some (key_of base full)) None)
-key_by base true full h = base_of_key base full h
+key_by base true full h = key_has_base base full h
 key_by base false full h = tt
 
 pub key_of_partition : (port : EndPort) (partition : Partition) → is_base partition.base ≡ true → KeyOf partition.base (key_in port partition)

@@ -7,11 +7,12 @@ use Rattle.std.proofs.lemmas.List.Elements.{All-from_recursion}
 use Rattle.std.proofs.lemmas.Map.Keys.{IsDistinct-head, IsDistinct-tail}
 use Rattle.pkey_rules.specs.declared.end_port.EndPort.{EndPort}
 use Rattle.pkey_rules.specs.KeyTable.{find_base}
+use Rattle.pkey_rules.specs.PKey.{is_base}
 use Rattle.partition_file.specs.declared.partition.Partition.{Partition}
 use Rattle.partition_file.proofs.MemberLemmas.{KeyOf, key_of_partition}
-use Rattle.partition_file.specs.Keys.{KeysTellMembership}
+use Rattle.partition_file.specs.Laws.{KeysTellMembership}
 use Rattle.partition_file.specs.Members.{key_in, keys_in}
-use Rattle.partition_file.specs.Sound.{all_bases, is_base}
+use Rattle.partition_file.specs.Sound.{all_bases}
 
 eq_self : (n : ℕ) → (n == n) ≡ true
 eq_self n = eq-eqb n n refl

@@ -10,7 +10,8 @@ use Rattle.partition_file.specs.declared.fault.PartitionCause.{PartitionCause}
 use Rattle.result_words.specs.AtLine.{AtLine, on_line}
 use Rattle.result_words.specs.Steps.{◌>>=◌}
 use Rattle.partition_file.specs.Pieces.{folded, is_delimiter, is_line_end, line_after, piece_after, since}
-use Rattle.partition_file.specs.Definitions.{Scanned, after, after_byte, at_end, start, whole}
+use Rattle.partition_file.specs.Definitions.{after, after_byte, at_end, whole}
+use Rattle.partition_file.specs.Scanned.{Scanned, start}
 use Rattle.result_words.specs.Gives.{Fails}
 
 -- ---- the piece that is open, after one more byte

@@ -8,15 +8,16 @@ use Rattle.std.proofs.lemmas.List.{length-map}
 use Rattle.std.proofs.lemmas.List.Folds.{list_all-append}
 use Rattle.std.proofs.lemmas.List.Sums.{sum_by-cons}
 use Rattle.std.proofs.lemmas.Map.Keys.{IsDistinct-push}
+use Rattle.pkey_rules.specs.PKey.{default_base, is_base}
 use Rattle.partition_file.specs.declared.definition.Definition.{Definition}
 use Rattle.partition_file.specs.declared.partition.Partition.{Partition}
-use Rattle.partition_file.specs.Counting.{default_base, has_base, keys_of, named, partition_count, with_base}
+use Rattle.partition_file.specs.Counting.{has_base, keys_of, named, partition_count, with_base}
 use Rattle.partition_file.specs.Partitions.{Ruled, group_by, group_of, makes_group, base_for, bases_of, first_free, least_free, partition_of, partitions_in, rules_after, rules_of, taken_after}
 use Rattle.pkey_rules.specs.declared.key_table.TheConstants.{PARTITIONS}
 use Rattle.partition_file.specs.declared.flag.Flag.TheVariants.{Rate, Mtu, ServiceLevel, Scope}
 use Rattle.partition_file.specs.declared.flag.Flags.{Flags}
 use Rattle.partition_file.specs.Flags.{greatest}
-use Rattle.partition_file.specs.Sound.{AreSound, AreSoundBases, IsSound, are_within, fits, has_fit_group, is_within, all_bases, is_base, is_sound_key}
+use Rattle.partition_file.specs.Sound.{AreSound, AreSoundBases, IsSound, are_within, fits, has_fit_group, is_within, all_bases, is_sound_key}
 
 -- ---- bases alone
 abbrev pub bases_after : List ℕ → List (Option ℕ) → List ℕ

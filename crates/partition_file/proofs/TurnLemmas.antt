@@ -8,8 +8,12 @@ use Rattle.partition_file.specs.declared.piece.Delimiter.{Delimiter}
 use Rattle.result_words.specs.Steps.{unless}
 use Rattle.partition_file.specs.Pieces.{delimiter_of, is_allowed, piece_after}
 use Rattle.partition_file.specs.Cases.{fault_of, has_fault, in_turn}
-use Rattle.partition_file.specs.Definitions.{Scanned, after_byte, judged_at, next, place_of}
-use Rattle.partition_file.specs.Law.{faults_of, is_fault_at, turn}
+use Rattle.partition_file.specs.declared.token.Token.{Token}
+use Rattle.partition_file.specs.Definitions.{after_byte, judged_as, judged_at, next}
+use Rattle.partition_file.specs.Scanned.{Scanned}
+use Rattle.partition_file.specs.Tokens.{token_of}
+use Rattle.result_words.proofs.StepLemmas.{unless_err, unless_ok}
+use Rattle.partition_file.specs.FirstFault.{faults_of, is_fault_at, turn}
 use Rattle.partition_file.proofs.CaseLemmas.{none_there}
 
 -- ---- the first fault in turn
@@ -92,24 +96,25 @@ found_so holds None f h none k first = absurd (let gone = none refl in cc)
 found_so holds (Some g) f h none k first =
     ap (λ (x : PartitionCause). Some x) (both_ways g f (first_found holds in_turn 0 g f all_in_order h k (omega arith)) (first g (found_there holds in_turn g h)))
 
-told_so : (s : Scanned) (delimiter : Delimiter) (piece : List ℕ) (f : PartitionCause) → has_fault (place_of s) delimiter piece f ≡ true
-    → ((g : PartitionCause) → has_fault (place_of s) delimiter piece g ≡ true → turn f ≤ turn g) → fault_of (place_of s) delimiter piece ≡ Some f
+told_so : (s : Scanned) (delimiter : Delimiter) (token : Token) (f : PartitionCause) → has_fault s delimiter token f ≡ true
+    → ((g : PartitionCause) → has_fault s delimiter token g ≡ true → turn f ≤ turn g) → fault_of s delimiter token ≡ Some f
 unfolding fault_of
-told_so s delimiter piece f h first =
-    found_so (has_fault (place_of s) delimiter piece) (find (has_fault (place_of s) delimiter piece) in_turn) f refl (λ none. none_there (place_of s) delimiter piece none f) h first
+told_so s delimiter token f h first =
+    found_so (has_fault s delimiter token) (find (has_fault s delimiter token) in_turn) f refl (λ none. none_there s delimiter token none f) h first
 
-told_there : (s : Scanned) (delimiter : Delimiter) (piece : List ℕ) (f : PartitionCause) → fault_of (place_of s) delimiter piece ≡ Some f → has_fault (place_of s) delimiter piece f ≡ true
+told_there : (s : Scanned) (delimiter : Delimiter) (token : Token) (f : PartitionCause) → fault_of s delimiter token ≡ Some f → has_fault s delimiter token f ≡ true
 unfolding fault_of
-told_there s delimiter piece f h = found_there (has_fault (place_of s) delimiter piece) in_turn f h
+told_there s delimiter token f h = found_there (has_fault s delimiter token) in_turn f h
 
-told_first : (s : Scanned) (delimiter : Delimiter) (piece : List ℕ) (f g : PartitionCause) → fault_of (place_of s) delimiter piece ≡ Some f → has_fault (place_of s) delimiter piece g ≡ true → turn f ≤ turn g
+told_first : (s : Scanned) (delimiter : Delimiter) (token : Token) (f g : PartitionCause) → fault_of s delimiter token ≡ Some f → has_fault s delimiter token g ≡ true → turn f ≤ turn g
 unfolding fault_of
-told_first s delimiter piece f g h k = first_found (has_fault (place_of s) delimiter piece) in_turn 0 f g all_in_order h k (omega arith)
+told_first s delimiter token f g h k = first_found (has_fault s delimiter token) in_turn 0 f g all_in_order h k (omega arith)
 
 -- ---- one byte
 refused_at : (s : Scanned) (o : Option Delimiter) (allowed : Bool) (piece : List ℕ) (f : PartitionCause) → faults_of s o allowed piece f ≡ true
     → ((g : PartitionCause) → faults_of s o allowed piece g ≡ true → turn f ≤ turn g) → judged_at s o allowed piece ≡ Err f
-refused_at s (Some delimiter) allowed piece f h first = ap (λ (o : Option PartitionCause). unless o (next s delimiter piece)) (told_so s delimiter piece f h first)
+refused_at s (Some delimiter) allowed piece f h first =
+    ap (λ (o : Option PartitionCause). unless o (next s delimiter (token_of s.at piece) piece)) (told_so s delimiter (token_of s.at piece) f h first)
 refused_at s None true piece BadCharacter h first = absurd cc
 refused_at s None false piece BadCharacter h first = refl
 refused_at s None allowed piece BadNumber h first = absurd cc
@@ -131,13 +136,10 @@ pub record IsToldFor (holds : PartitionCause → Bool) (f : PartitionCause) : Ty
   pub there : holds f ≡ true
   pub first : (g : PartitionCause) → holds g ≡ true → turn f ≤ turn g
 
-told_by : (s : Scanned) (delimiter : Delimiter) (piece : List ℕ) (o : Option PartitionCause) (f : PartitionCause) → fault_of (place_of s) delimiter piece ≡ o → unless o (next s delimiter piece) ≡ Err f
-    → IsToldFor (has_fault (place_of s) delimiter piece) f
-told_by s delimiter piece None f h k = absurd cc
-told_by s delimiter piece (Some g) f h k =
-    let same : g ≡ f = grind arith in
-    let told : fault_of (place_of s) delimiter piece ≡ Some f = h ∙ ap (λ (x : PartitionCause). Some x) same in
-    record { there = told_there s delimiter piece f told; first = λ other k. told_first s delimiter piece f other told k }
+told_by : (s : Scanned) (delimiter : Delimiter) (token : Token) (piece : List ℕ) (f : PartitionCause) → judged_as s delimiter token piece ≡ Err f → IsToldFor (has_fault s delimiter token) f
+told_by s delimiter token piece f h =
+    let told : fault_of s delimiter token ≡ Some f = unless_err (fault_of s delimiter token) (next s delimiter token piece) f h in
+    record { there = told_there s delimiter token f told; first = λ other k. told_first s delimiter token f other told k }
 
 only_character : (s : Scanned) (piece : List ℕ) (g : PartitionCause) → faults_of s None false piece g ≡ true → turn BadCharacter ≤ turn g
 only_character s piece BadCharacter h = omega arith
@@ -151,7 +153,7 @@ only_character s piece Unfinished h = absurd cc
 only_character s piece BadFlagValue h = absurd cc
 
 told_at_byte : (s : Scanned) (o : Option Delimiter) (allowed : Bool) (piece : List ℕ) (f : PartitionCause) → judged_at s o allowed piece ≡ Err f → IsToldFor (faults_of s o allowed piece) f
-told_at_byte s (Some delimiter) allowed piece f h = told_by s delimiter piece (fault_of (place_of s) delimiter piece) f refl h
+told_at_byte s (Some delimiter) allowed piece f h = told_by s delimiter (token_of s.at piece) piece f h
 told_at_byte s None true piece f h = absurd cc
 told_at_byte s None false piece f h =
     let same : BadCharacter ≡ f = grind arith in
@@ -162,10 +164,6 @@ unfolding after_byte is_fault_at
 told_here s before byte f h =
     let told = told_at_byte s (delimiter_of byte) (is_allowed byte) (piece_after before) f h in
     record { there = told.there; first = told.first }
-
-clean_by : (s t : Scanned) (delimiter : Delimiter) (piece : List ℕ) (o : Option PartitionCause) → fault_of (place_of s) delimiter piece ≡ o → unless o (next s delimiter piece) ≡ Ok t → fault_of (place_of s) delimiter piece ≡ None
-clean_by s t delimiter piece None h k = h
-clean_by s t delimiter piece (Some f) h k = absurd cc
 
 no_character : (s : Scanned) (piece : List ℕ) (g : PartitionCause) → faults_of s None true piece g ≡ false
 no_character s piece BadCharacter = refl
@@ -179,7 +177,9 @@ no_character s piece Unfinished = refl
 no_character s piece BadFlagValue = refl
 
 clean_at_byte : (s t : Scanned) (o : Option Delimiter) (allowed : Bool) (piece : List ℕ) → judged_at s o allowed piece ≡ Ok t → (g : PartitionCause) → faults_of s o allowed piece g ≡ false
-clean_at_byte s t (Some delimiter) allowed piece h g = none_there (place_of s) delimiter piece (clean_by s t delimiter piece (fault_of (place_of s) delimiter piece) refl h) g
+clean_at_byte s t (Some delimiter) allowed piece h g =
+    let token = token_of s.at piece in
+    none_there s delimiter token (unless_ok (fault_of s delimiter token) (next s delimiter token piece) t h).0 g
 clean_at_byte s t None true piece h g = no_character s piece g
 clean_at_byte s t None false piece h g = absurd cc
 

@@ -1,6 +1,7 @@
 -- How many partitions definitions make.
 use Rattle.std.specs.Prelude.{ℕ, ◌+◌, Bool, ◌==◌, is_none, if◌then◌else◌, List, [], ◌∷◌, ◌++◌, length, map, fold, filter_map, count_by, Option, Some, None}
 use Rattle.std.specs.List.{list_any}
+use Rattle.pkey_rules.specs.PKey.{default_base}
 use Rattle.partition_file.specs.declared.definition.Definition.{Definition}
 
 abbrev pub has_base : ℕ → List ℕ → Bool
@@ -10,15 +11,11 @@ has_base base seen = list_any (λ other. other == base) seen
 abbrev pub with_base : List ℕ → ℕ → List ℕ
 with_base seen base = if has_base base seen then seen else seen ++ base ∷ []
 
--- the default partition is there whether a definition names it or not
-abbrev pub default_base : ℕ
-default_base = 32767
-
 -- the bases that are named
 abbrev pub named : List (Option ℕ) → List ℕ
 named keys = filter_map (λ key. key) keys
 
--- the default partition, one for each further base that is named, and one for each definition that names none
+-- the default partition, which is there whether a definition names it or not, one for each further base that is named, and one for each definition that names none
 abbrev pub partition_count : List (Option ℕ) → ℕ
 partition_count keys = length (fold with_base (default_base ∷ []) (named keys)) + count_by is_none keys
 

@@ -4,79 +4,62 @@ use Rattle.partition_file.specs.declared.fault.PartitionCause.{PartitionCause}
 use Rattle.partition_file.specs.declared.fault.PartitionCause.TheVariants.{BadCharacter, Unfinished}
 use Rattle.partition_file.specs.declared.piece.Delimiter.{Delimiter}
 use Rattle.partition_file.specs.declared.piece.Delimiter.TheVariants.{Equals, Comma, Colon, Semicolon}
-use Rattle.partition_file.specs.declared.part.Part.{Part}
-use Rattle.partition_file.specs.declared.part.Part.TheVariants as part
+use Rattle.partition_file.specs.declared.definition_part.Part.{Part}
+use Rattle.partition_file.specs.declared.definition_part.Part.TheVariants as part
 use Rattle.partition_file.specs.declared.item.Ports.{Ports}
-use Rattle.partition_file.specs.declared.item.Item.{Item}
-use Rattle.partition_file.specs.declared.flag.Flag.{Flag}
 use Rattle.partition_file.specs.declared.definition.Definition.{Definition}
 use Rattle.result_words.specs.AtLine.{AtLine, on_line}
 use Rattle.result_words.specs.Steps.{◌>>=◌, unless}
 use Rattle.partition_file.specs.Pieces.{without_comments, is_allowed, delimiter_of, is_equals, is_semicolon, piece_after, line_after}
-use Rattle.partition_file.specs.Flags.{flag_of, with_flag, with_value, is_full, is_full_by_default, no_flags}
-use Rattle.partition_file.specs.Ports.{ports_of}
-use Rattle.partition_file.specs.Counting.{keys_of}
-use Rattle.partition_file.specs.Cases.{Place, base_in, fault_of, is_empty, is_in_list}
-
--- `[Name][=PKey][,flag[=value]]..:[ports[=membership]][,..];`, where `at` is the part that the next delimiter ends, `current` the definition so far, `done` those before
-pub record Scanned : Type 0 where
-  pub at : Part
-  pub current : Definition
-  pub done : List Definition
-
-abbrev pub blank : Definition
-blank = record { name = []; key = None; flags = no_flags; items = [] }
-
-abbrev pub start : Scanned
-start = record { at = part.Name; current = blank; done = [] }
+use Rattle.partition_file.specs.Flags.{with_flag, with_setting, is_full_by_default}
+use Rattle.partition_file.specs.declared.token.Token.{Token}
+use Rattle.partition_file.specs.declared.token.Token.TheVariants.{Name, Key, FlagWord, FlagValue, ListWord, Membership}
+use Rattle.partition_file.specs.declared.token.Value.TheVariants.{Taken}
+use Rattle.partition_file.specs.Cases.{fault_of}
+use Rattle.partition_file.specs.Scanned.{Scanned, blank, start, is_in_list}
+use Rattle.partition_file.specs.Tokens.{is_empty, is_full, token_of}
 
 -- ---- the part that follows
-abbrev pub value_of : Option Flag → Part
-value_of (Some flag) = part.FlagValue flag
-value_of None = part.FlagWord
+abbrev pub after_equals : Token → Part
+after_equals (FlagWord (Some flag)) = part.FlagValue flag
+after_equals (ListWord (Some ports)) = part.Membership ports
+after_equals _ = part.Key
 
-abbrev pub membership_of : Option Ports → Part
-membership_of (Some ports) = part.Membership ports
-membership_of None = part.ListWord
-
-abbrev pub after_equals : Part → List ℕ → Part
-after_equals part.FlagWord piece = value_of (flag_of piece)
-after_equals part.ListWord piece = membership_of (ports_of piece)
-after_equals _ piece = part.Key
-
-abbrev pub part_after : Part → Delimiter → List ℕ → Part
-part_after at Equals piece = after_equals at piece
-part_after at Comma piece = if is_in_list at then part.ListWord else part.FlagWord
-part_after at Colon piece = part.ListWord
-part_after at Semicolon piece = part.Name
+abbrev pub part_after : Part → Delimiter → Token → Part
+part_after at Equals token = after_equals token
+part_after at Comma token = if is_in_list at then part.ListWord else part.FlagWord
+part_after at Colon token = part.ListWord
+part_after at Semicolon token = part.Name
 
 -- ---- the definition with one more piece
-abbrev pub with_item : List Item → Option Ports → Bool → List Item
-with_item listed (Some ports) full = listed ++ record { ports = ports; full = full } ∷ []
-with_item listed None full = listed
+abbrev pub with_item : Definition → Ports → Bool → Definition
+with_item d ports full = record d { items = d.items ++ record { ports = ports; full = full } ∷ [] }
 
-abbrev pub with_piece : Definition → Part → Delimiter → List ℕ → Definition
-with_piece d part.Name delimiter piece = record d { name = piece }
-with_piece d part.Key delimiter piece = record d { key = base_in piece }
-with_piece d part.FlagWord delimiter piece = if is_equals delimiter then d else record d { flags = with_flag (flag_of piece) d.flags }
-with_piece d (part.FlagValue flag) delimiter piece = record d { flags = with_value flag piece d.flags }
-with_piece d part.ListWord delimiter piece = if is_equals delimiter then d else record d { items = with_item d.items (ports_of piece) (is_full_by_default d.flags) }
-with_piece d (part.Membership ports) delimiter piece = record d { items = d.items ++ record { ports = ports; full = is_full piece } ∷ [] }
+-- what stands before `=` is a flag or a list word that its value ends
+abbrev pub with_piece : Definition → Token → Delimiter → List ℕ → Definition
+with_piece d (Name word) delimiter piece = record d { name = piece }
+with_piece d (Key base) delimiter piece = record d { key = base }
+with_piece d (FlagWord flag) delimiter piece = if is_equals delimiter then d else record d { flags = with_flag flag d.flags }
+with_piece d (FlagValue (Taken setting)) delimiter piece = record d { flags = with_setting setting d.flags }
+with_piece d (ListWord (Some ports)) delimiter piece = if is_equals delimiter then d else with_item d ports (is_full_by_default d.flags)
+with_piece d (Membership ports word) delimiter piece = with_item d ports (is_full word)
+with_piece d _ delimiter piece = d
 
 -- ---- the state after a piece that has no fault; `;` ends the definition
-abbrev pub moved : Scanned → Delimiter → List ℕ → Definition → Scanned
-moved s delimiter piece d =
-    if is_semicolon delimiter then record { at = part.Name; current = blank; done = s.done ++ d ∷ [] } else record { at = part_after s.at delimiter piece; current = d; done = s.done }
+abbrev pub moved : Scanned → Delimiter → Token → Definition → Scanned
+moved s delimiter token d =
+    if is_semicolon delimiter then record { at = part.Name; current = blank; done = s.done ++ d ∷ [] }
+    else record { at = part_after s.at delimiter token; current = d; done = s.done }
 
-unfoldable pub next : Scanned → Delimiter → List ℕ → Scanned
-next s delimiter piece = moved s delimiter piece (with_piece s.current s.at delimiter piece)
+unfoldable pub next : Scanned → Delimiter → Token → List ℕ → Scanned
+next s delimiter token piece = moved s delimiter token (with_piece s.current token delimiter piece)
 
--- what the faults of a piece are asked of
-abbrev pub place_of : Scanned → Place
-place_of s = record { at = s.at; flags = s.current.flags; key = s.current.key; before = keys_of s.done }
+abbrev pub judged_as : Scanned → Delimiter → Token → List ℕ → Result Scanned PartitionCause
+judged_as s delimiter token piece = unless (fault_of s delimiter token) (next s delimiter token piece)
 
+-- what the piece says is told by the part that it is
 abbrev pub judged : Scanned → Delimiter → List ℕ → Result Scanned PartitionCause
-judged s delimiter piece = unless (fault_of (place_of s) delimiter piece) (next s delimiter piece)
+judged s delimiter piece = judged_as s delimiter (token_of s.at piece) piece
 
 abbrev pub passed : Scanned → Bool → Result Scanned PartitionCause
 passed s true = Ok s

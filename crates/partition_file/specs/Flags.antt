@@ -1,9 +1,10 @@
 -- The flags of a definition.
-use Rattle.std.specs.Prelude.{ℕ, Bool, true, false, ◌==◌, ◌||◌, nat_le, if◌then◌else◌, List, codes, Option, Some, None, is_some, unwrap_or, bytes_eq}
+use Rattle.std.specs.Prelude.{ℕ, Bool, true, false, ◌==◌, ◌&&◌, ◌||◌, nat_le, if◌then◌else◌, List, codes, Option, Some, None, is_some, unwrap_or, bytes_eq}
 use Rattle.partition_file.specs.declared.flag.Flag.{Flag}
 use Rattle.partition_file.specs.declared.flag.Flag.TheVariants.{Ipoib, Indx0, Rate, Mtu, ServiceLevel, Scope, QKey, DefaultMembership}
 use Rattle.partition_file.specs.declared.flag.Flags.{Flags}
-use Rattle.partition_file.specs.Numbers.{number_up_to}
+use Rattle.partition_file.specs.declared.flag.Setting.{Setting}
+use Rattle.partition_file.specs.declared.flag.Setting.TheVariants as setting
 
 abbrev pub flag_of : List ℕ → Option Flag
 flag_of word =
@@ -39,32 +40,28 @@ greatest Scope = 15
 greatest QKey = 4294967295
 greatest DefaultMembership = 0
 
-abbrev pub is_offered : Flag → ℕ → Bool
-is_offered Rate n = (n == 2) || ((n == 3) || (n == 5))
-is_offered Mtu n = nat_le 1 n
-is_offered ServiceLevel n = true
-is_offered Scope n = true
-is_offered QKey n = true
-is_offered Ipoib n = false
-is_offered Indx0 n = false
-is_offered DefaultMembership n = false
-
-abbrev pub if_offered : Flag → Option ℕ → Option ℕ
-if_offered flag (Some n) = if is_offered flag n then Some n else None
-if_offered flag None = None
-
--- the number that a word gives this flag, if the flag takes it
-abbrev pub value_in : Flag → List ℕ → Option ℕ
-value_in flag word = if_offered flag (number_up_to (greatest flag) word)
-
-abbrev pub is_full : List ℕ → Bool
-is_full word = bytes_eq word (codes "full")
-
-abbrev pub is_limited : List ℕ → Bool
-is_limited word = bytes_eq word (codes "limited")
+-- the flag with the number as its value, if it takes that
+abbrev pub setting_of : Flag → ℕ → Option Setting
+setting_of Rate n = if (n == 2) || ((n == 3) || (n == 5)) then Some (setting.Rate n) else None
+setting_of Mtu n = if nat_le 1 n && nat_le n (greatest Mtu) then Some (setting.Mtu n) else None
+setting_of ServiceLevel n = if nat_le n (greatest ServiceLevel) then Some (setting.ServiceLevel n) else None
+setting_of Scope n = if nat_le n (greatest Scope) then Some (setting.Scope n) else None
+setting_of QKey n = if nat_le n (greatest QKey) then Some (setting.QKey n) else None
+setting_of Ipoib n = None
+setting_of Indx0 n = None
+setting_of DefaultMembership n = None
 
 abbrev pub no_flags : Flags
-no_flags = record { ipoib = false; indx0 = false; rate = None; mtu = None; service_level = None; scope = None; q_key = None; full_by_default = None }
+no_flags = record {
+  ipoib = false;
+  indx0 = false;
+  rate = None;
+  mtu = None;
+  service_level = None;
+  scope = None;
+  q_key = None;
+  full_by_default = None;
+}
 
 abbrev pub is_given : Flag → Flags → Bool
 is_given Ipoib flags = flags.ipoib
@@ -82,16 +79,14 @@ with_flag (Some Ipoib) flags = record flags { ipoib = true }
 with_flag (Some Indx0) flags = record flags { indx0 = true }
 with_flag _ flags = flags
 
--- the flags with this word as the value of one
-abbrev pub with_value : Flag → List ℕ → Flags → Flags
-with_value Ipoib word flags = flags
-with_value Indx0 word flags = flags
-with_value Rate word flags = record flags { rate = value_in Rate word }
-with_value Mtu word flags = record flags { mtu = value_in Mtu word }
-with_value ServiceLevel word flags = record flags { service_level = value_in ServiceLevel word }
-with_value Scope word flags = record flags { scope = value_in Scope word }
-with_value QKey word flags = record flags { q_key = value_in QKey word }
-with_value DefaultMembership word flags = record flags { full_by_default = Some (is_full word) }
+-- the flags with one more that has a value
+abbrev pub with_setting : Setting → Flags → Flags
+with_setting (setting.Rate n) flags = record flags { rate = Some n }
+with_setting (setting.Mtu n) flags = record flags { mtu = Some n }
+with_setting (setting.ServiceLevel n) flags = record flags { service_level = Some n }
+with_setting (setting.Scope n) flags = record flags { scope = Some n }
+with_setting (setting.QKey n) flags = record flags { q_key = Some n }
+with_setting (setting.FullByDefault full) flags = record flags { full_by_default = Some full }
 
 -- what an item is that says nothing of its membership
 abbrev pub is_full_by_default : Flags → Bool

@@ -1,9 +1,9 @@
 -- The bases that definitions get which name none.
-use Rattle.std.specs.Prelude.{ℕ, ◌≡◌, ◌<◌, ◌≤◌, true, false, List, [], ◌∷◌, filter_map, None}
+use Rattle.std.specs.Prelude.{ℕ, ◌≡◌, ◌<◌, ◌≤◌, true, false, List, [], ◌∷◌, None}
+use Rattle.pkey_rules.specs.PKey.{is_base}
 use Rattle.partition_file.specs.declared.definition.Definition.{Definition}
 use Rattle.partition_file.specs.Counting.{has_base}
 use Rattle.partition_file.specs.Partitions.{least_free, taken_after}
-use Rattle.partition_file.specs.Sound.{AreSound, is_base}
 
 -- it is a base that is not taken, and each smaller one is
 pub record IsLeastFree (base : ℕ) (taken : List ℕ) : Type 0 where
@@ -15,7 +15,3 @@ pub record IsLeastFree (base : ℕ) (taken : List ℕ) : Type 0 where
 abbrev pub AllGetFree : List ℕ → List Definition → Type 0
 AllGetFree taken [] = Unit {0}
 AllGetFree taken (definition ∷ rest) = (definition.key ≡ None → IsLeastFree (least_free taken) taken) × AllGetFree (taken_after taken definition.key) rest
-
--- what the whole file names is taken from the start
-abbrev pub GeneratedBasesAreFree : Type 0
-GeneratedBasesAreFree = (definitions : List Definition) → AreSound definitions → AllGetFree (filter_map (λ definition. definition.key) definitions) definitions

@@ -4,13 +4,15 @@ pub mod Numbers
 pub mod Flags
 pub mod Ports
 pub mod Counting
+pub mod Scanned
+pub mod Tokens
 pub mod Cases
 pub mod Definitions
 pub mod Partitions
 pub mod Sound
-pub mod Law
+pub mod FirstFault
 pub mod Generated
 pub mod Members
-pub mod Keys
+pub mod Laws
 pub use Rattle.text_words.specs.Lines
 pub use Rattle.text_words.specs.Number

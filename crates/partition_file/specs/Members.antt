@@ -1,13 +1,13 @@
 -- Who is a member of which partition, and how: the keys of each end port.
-use Rattle.std.specs.Prelude.{ℕ, ◌≡◌, ◌+◌, Bool, true, false, not, ◌==◌, ◌&&◌, if◌then◌else◌, List, [], ◌∷◌, map, filter_map, codes, Option, Some, None}
+use Rattle.std.specs.Prelude.{ℕ, ◌≡◌, Bool, true, false, not, ◌==◌, ◌&&◌, if◌then◌else◌, List, [], ◌∷◌, map, filter_map, codes, Option, Some, None}
 use Rattle.std.specs.List.{list_all, list_any}
 use Rattle.pkey_rules.specs.declared.end_port.EndPort.{EndPort}
+use Rattle.pkey_rules.specs.PKey.{default_base, key_of}
 use Rattle.partition_file.specs.declared.item.Ports.{Ports}
 use Rattle.partition_file.specs.declared.item.Ports.TheVariants.{All, ChannelAdapters, Switches, Routers, Manager, Guid}
 use Rattle.partition_file.specs.declared.item.Item.{Item}
 use Rattle.partition_file.specs.declared.partition.Partition.{Partition}
-use Rattle.partition_file.specs.declared.port_keys.Heading.{Heading}
-use Rattle.partition_file.specs.Counting.{default_base}
+use Rattle.partition_file.specs.declared.heading.Heading.{Heading}
 use Rattle.partition_file.specs.Partitions.{all_full, manager_full}
 use Rattle.partition_file.specs.Sound.{AreSoundBases, has_fit_group}
 
@@ -29,10 +29,6 @@ is_member port partition = list_any (λ item. lists port item) partition.items
 
 abbrev pub is_full_member : EndPort → Partition → Bool
 is_full_member port partition = list_any (λ item. item.full && lists port item) partition.items
-
--- a full member's key has its top bit set
-abbrev pub key_of : ℕ → Bool → ℕ
-key_of base full = if full then base + 32768 else base
 
 abbrev pub key_in : EndPort → Partition → Option ℕ
 key_in port partition = if is_member port partition then Some (key_of partition.base (is_full_member port partition)) else None

@@ -1,16 +1,17 @@
 -- The partitions that definitions make, and those of a text.
 use Rattle.std.specs.Prelude.{ℕ, ◌+◌, ◌/◌, ◌%◌, Bool, true, false, not, ◌==◌, if◌then◌else◌, List, [], ◌∷◌, ◌++◌, map, fold, find, filter_map, flat_map, codes, Option, Some, None, Result, Ok, option_map, unwrap_or}
 use Rattle.std.specs.List.{list_any, range_with_len}
+use Rattle.pkey_rules.specs.PKey.{default_base, base_of, key_of}
 use Rattle.partition_file.specs.declared.item.Ports.TheVariants.{All, Manager}
 use Rattle.partition_file.specs.declared.item.Item.{Item}
 use Rattle.partition_file.specs.declared.flag.Flags.{Flags}
 use Rattle.partition_file.specs.declared.definition.Definition.{Definition}
-use Rattle.partition_file.specs.declared.partition.Group.{Group}
+use Rattle.partition_file.specs.declared.broadcast_group.BroadcastGroup.{BroadcastGroup}
 use Rattle.partition_file.specs.declared.partition.Partition.{Partition}
 use Rattle.result_words.specs.AtLine.{AtLine}
 use Rattle.partition_file.specs.declared.fault.PartitionCause.{PartitionCause}
 use Rattle.result_words.specs.Steps.{◌>>=◌}
-use Rattle.partition_file.specs.Counting.{has_base, with_base, default_base}
+use Rattle.partition_file.specs.Counting.{has_base, with_base}
 use Rattle.partition_file.specs.Definitions.{definitions_of}
 
 -- ---- bases
@@ -59,7 +60,7 @@ abbrev pub name_of : List Ruled → ℕ → List ℕ
 name_of rules base = unwrap_or (option_map (λ rule. rule.definition.name) (find (is_of base) rules)) (codes "Default")
 
 -- the group that a rule with `ipoib` makes, by its own flags and by defaults
-abbrev pub group_by : Flags → Group
+abbrev pub group_by : Flags → BroadcastGroup
 group_by flags = record {
   rate = unwrap_or flags.rate 3;
   mtu = unwrap_or flags.mtu 4;
@@ -72,7 +73,7 @@ abbrev pub makes_group : ℕ → Ruled → Bool
 makes_group base rule = if is_of base rule then rule.definition.flags.ipoib else false
 
 -- the first rule with `ipoib` makes the group
-abbrev pub group_of : List Ruled → ℕ → Option Group
+abbrev pub group_of : List Ruled → ℕ → Option BroadcastGroup
 group_of rules base = option_map (λ rule. group_by rule.definition.flags) (find (makes_group base) rules)
 
 -- what all rules list, in order
@@ -111,7 +112,7 @@ partitions_of text = definitions_of text >>= λ definitions. Ok (partitions_in d
 
 -- ff1s:401b:kkkk:0000:0000:0000:ffff:ffff: the broadcast group of IP over InfiniBand (RFC 4391), with the scope s and the partition's full key k
 abbrev pub full_key : ℕ → ℕ
-full_key base = 32768 + base % 32768
+full_key base = key_of (base_of base) true
 
 abbrev pub mgid_of : ℕ → ℕ → List ℕ
 mgid_of scope base =

@@ -5,8 +5,8 @@ use Rattle.partition_file.specs.declared.item.Ports.TheVariants.{All, ChannelAda
 use Rattle.partition_file.specs.Numbers.{number_up_to}
 
 -- a word for ports, or the GUID of one
-abbrev pub ports_of : List ℕ → Option Ports
-ports_of word =
+abbrev pub ports_named : List ℕ → Option Ports
+ports_named word =
     if bytes_eq word (codes "ALL") then Some All
     else (if bytes_eq word (codes "ALL_CAS") then Some ChannelAdapters
     else (if bytes_eq word (codes "ALL_SWITCHES") then Some Switches

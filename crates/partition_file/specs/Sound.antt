@@ -2,19 +2,15 @@
 use Rattle.std.specs.Prelude.{ℕ, ◌≡◌, ◌≤◌, Bool, true, ◌&&◌, nat_eq, nat_le, List, [], ◌∷◌, ◌++◌, length, map, fold, count_by, is_none, slice_get, Option, Some, None}
 use Rattle.std.specs.List.{list_all, IsDistinct}
 use Rattle.pkey_rules.specs.declared.key_table.TheConstants.{PARTITIONS}
+use Rattle.pkey_rules.specs.PKey.{default_base, is_base}
 use Rattle.partition_file.specs.declared.definition.Definition.{Definition}
 use Rattle.partition_file.specs.declared.flag.Flag.TheVariants.{Rate, Mtu, ServiceLevel, Scope}
 use Rattle.partition_file.specs.declared.flag.Flags.{Flags}
-use Rattle.partition_file.specs.declared.partition.Group.{Group}
+use Rattle.partition_file.specs.declared.broadcast_group.BroadcastGroup.{BroadcastGroup}
 use Rattle.partition_file.specs.declared.partition.Partition.{Partition}
 use Rattle.partition_file.specs.Flags.{greatest}
-use Rattle.partition_file.specs.Counting.{default_base, keys_of, named, partition_count, with_base}
-use Rattle.partition_file.specs.Cases.{is_in_list}
-use Rattle.partition_file.specs.Definitions.{Scanned}
-
--- a base has 15 bits, and 0 names no partition
-abbrev pub is_base : ℕ → Bool
-is_base base = nat_le 1 base && nat_le base 32767
+use Rattle.partition_file.specs.Counting.{keys_of, named, partition_count, with_base}
+use Rattle.partition_file.specs.Scanned.{Scanned, is_in_list}
 
 abbrev pub is_sound_key : Option ℕ → Bool
 is_sound_key (Some base) = is_base base
@@ -58,10 +54,10 @@ pub record AreSoundBases (bases : List ℕ) : Type 0 where
   pub first : slice_get bases 0 ≡ Some default_base
 
 -- a group's parameters fit the fields of its records
-abbrev pub fits : Group → Bool
+abbrev pub fits : BroadcastGroup → Bool
 fits group = nat_le group.rate (greatest Rate) && (nat_le group.mtu (greatest Mtu) && (nat_le group.service_level (greatest ServiceLevel) && nat_le group.scope (greatest Scope)))
 
-abbrev pub has_fit_group : Option Group → Bool
+abbrev pub has_fit_group : Option BroadcastGroup → Bool
 has_fit_group (Some group) = fits group
 has_fit_group None = true
 

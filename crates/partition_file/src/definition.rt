@@ -1,16 +1,14 @@
 ghost use Rattle.std.specs.Prelude.{◌≡◌, ◌≤◌, ◌++◌, ◌∷◌, [], true, OnOk, OnErr, IfOk};
 ghost use Rattle.pkey_rules.specs.declared.key_table.TheConstants.{PARTITIONS};
 ghost use Rattle.partition_file.specs.Counting.{further, has_base, keys_of, one_if_none, partition_count, with_base, with_key};
-ghost use Rattle.partition_file.specs.Definitions.{blank};
+ghost use Rattle.partition_file.specs.Scanned.{blank};
 ghost use Rattle.partition_file.specs.Sound.{AreSound, are_within, is_sound_key};
 
 use crate::flag::Flags;
 use crate::item::ItemList;
+use pkey_rules::DEFAULT_BASE;
 use std::alloc::{AllocError, Global};
 use std::marker::Model;
-
-/// The base of the default partition, in which every port starts.
-pub(crate) const DEFAULT_BASE: u16 = 0x7fff;
 
 /// The name of a partition, which may be empty.
 #[derive(Debug, Drop)]

@@ -1,7 +1,5 @@
-ghost use Rattle.std.specs.Prelude.{◌≡◌, ◌<◌, ◌≤◌, IfSome};
-ghost use Rattle.partition_file.specs.Flags.{flag_of, greatest, is_full, is_full_by_default, is_given, is_limited, is_offered, no_flags, takes_value, value_in, with_flag, with_value};
-
-use crate::number::number_up_to;
+ghost use Rattle.std.specs.Prelude.{◌≡◌};
+ghost use Rattle.partition_file.specs.Flags.{flag_of, is_full_by_default, is_given, no_flags, setting_of, takes_value, with_flag, with_setting};
 
 /// A flag of a definition.
 #[derive(Clone, Copy, Debug, PartialEq, Eq)]
@@ -31,39 +29,32 @@ impl Flag {
         }
     }
 
-    fn greatest(self) -> u64
-        ensures { result ≡ greatest self }
+    /// This flag with the number as its value, if it takes that.
+    pub(crate) fn setting(self, number: u128) -> Option<Setting>
+        ensures { result ≡ setting_of self number }
     {
         match self {
-            Flag::Rate => 5,
-            Flag::Mtu => 4,
-            Flag::ServiceLevel | Flag::Scope => 15,
-            Flag::QKey => 0xffff_ffff,
-            Flag::Ipoib | Flag::Indx0 | Flag::DefaultMembership => 0,
-        }
-    }
-
-    fn is_offered(self, number: u64) -> bool
-        ensures { result ≡ is_offered self number }
-    {
-        match self {
-            Flag::Rate => number == 2 || number == 3 || number == 5,
-            Flag::Mtu => number >= 1,
-            Flag::ServiceLevel | Flag::Scope | Flag::QKey => true,
-            Flag::Ipoib | Flag::Indx0 | Flag::DefaultMembership => false,
-        }
-    }
-
-    /// The number that a word gives this flag, if the flag takes it.
-    pub(crate) fn value_in(self, word: &[u8]) -> Option<u64>
-        ensures value { result ≡ value_in self word.now }
-        ensures within { IfSome result (λ number. number ≤ greatest self) }
-    {
-        match number_up_to(self.greatest(), word) {
-            Some(number) if self.is_offered(number) => Some(number),
+            Flag::Rate if number == 2 || number == 3 || number == 5 => {
+                Some(Setting::Rate(number as u8))
+            }
+            Flag::Mtu if number >= 1 && number <= 4 => Some(Setting::Mtu(number as u8)),
+            Flag::ServiceLevel if number <= 15 => Some(Setting::ServiceLevel(number as u8)),
+            Flag::Scope if number <= 15 => Some(Setting::Scope(number as u8)),
+            Flag::QKey if number <= 0xffff_ffff => Some(Setting::QKey(number as u32)),
             _ => None,
         }
     }
+}
+
+/// A flag with its value.
+#[derive(Clone, Copy, Debug, PartialEq, Eq)]
+pub(crate) enum Setting {
+    Rate(u8),
+    Mtu(u8),
+    ServiceLevel(u8),
+    Scope(u8),
+    QKey(u32),
+    FullByDefault(bool),
 }
 
 /// The flag of this word.
@@ -89,18 +80,6 @@ pub(crate) fn flag_of(word: &[u8]) -> Option<Flag>
     } else {
         None
     }
-}
-
-pub(crate) fn is_full(word: &[u8]) -> bool
-    ensures { result ≡ is_full word.now }
-{
-    word == b"full".as_slice()
-}
-
-pub(crate) fn is_limited(word: &[u8]) -> bool
-    ensures { result ≡ is_limited word.now }
-{
-    word == b"limited".as_slice()
 }
 
 /// The flags that a definition has given so far.
@@ -164,34 +143,33 @@ impl Flags {
         }
     }
 
-    /// The flags with this word as the value of one.
-    pub(crate) fn with_value(self, flag: Flag, word: &[u8]) -> Flags
-        ensures { result ≡ with_value flag word.now self }
+    /// The flags with one more that has a value.
+    pub(crate) fn with_setting(self, setting: Setting) -> Flags
+        ensures { result ≡ with_setting setting self }
     {
-        match flag {
-            Flag::Ipoib | Flag::Indx0 => self,
-            Flag::Rate => Flags {
-                rate: byte_of(flag.value_in(word)),
+        match setting {
+            Setting::Rate(rate) => Flags {
+                rate: Some(rate),
                 ..self
             },
-            Flag::Mtu => Flags {
-                mtu: byte_of(flag.value_in(word)),
+            Setting::Mtu(mtu) => Flags {
+                mtu: Some(mtu),
                 ..self
             },
-            Flag::ServiceLevel => Flags {
-                service_level: byte_of(flag.value_in(word)),
+            Setting::ServiceLevel(level) => Flags {
+                service_level: Some(level),
                 ..self
             },
-            Flag::Scope => Flags {
-                scope: byte_of(flag.value_in(word)),
+            Setting::Scope(scope) => Flags {
+                scope: Some(scope),
                 ..self
             },
-            Flag::QKey => Flags {
-                q_key: word_of(flag.value_in(word)),
+            Setting::QKey(q_key) => Flags {
+                q_key: Some(q_key),
                 ..self
             },
-            Flag::DefaultMembership => Flags {
-                full_by_default: Some(is_full(word)),
+            Setting::FullByDefault(full) => Flags {
+                full_by_default: Some(full),
                 ..self
             },
         }
@@ -202,25 +180,5 @@ impl Flags {
         ensures { result ≡ is_full_by_default self }
     {
         self.full_by_default.unwrap_or(false)
-    }
-}
-
-fn byte_of(number: Option<u64>) -> Option<u8>
-    requires { IfSome number (λ n. n < 256) }
-    ensures { result ≡ number }
-{
-    match number {
-        Some(number) => Some(number as u8),
-        None => None,
-    }
-}
-
-fn word_of(number: Option<u64>) -> Option<u32>
-    requires { IfSome number (λ n. n < 4294967296) }
-    ensures { result ≡ number }
-{
-    match number {
-        Some(number) => Some(number as u32),
-        None => None,
     }
 }

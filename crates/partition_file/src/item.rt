@@ -1,5 +1,5 @@
 ghost use Rattle.std.specs.Prelude.{◌≡◌, ◌++◌, ◌∷◌, [], OnOk, IfOk};
-ghost use Rattle.partition_file.specs.Ports.{ports_of};
+ghost use Rattle.partition_file.specs.Ports.{ports_named};
 
 use crate::number::number_up_to;
 use std::alloc::{AllocError, Global};
@@ -23,8 +23,8 @@ pub enum Ports {
 }
 
 /// The ports that a word of a list names: a word for ports, or the GUID of one.
-pub(crate) fn ports_of(word: &[u8]) -> Option<Ports>
-    ensures { result ≡ ports_of word.now }
+pub(crate) fn ports_named(word: &[u8]) -> Option<Ports>
+    ensures { result ≡ ports_named word.now }
 {
     if word == b"ALL".as_slice() {
         Some(Ports::All)

@@ -3,17 +3,16 @@
 ghost use Rattle.std.specs.Prelude.{◌≡◌, ◌≤◌, ◌<◌, ◌++◌, true, false, Some, IfOk, length, map, option_to_list};
 ghost use Rattle.pkey_rules.specs.declared.key_table.TheConstants.{PARTITIONS};
 ghost use Rattle.pkey_rules.specs.KeyTable.{has_base};
-ghost use Rattle.partition_file.specs.Members.{heading_of, is_full_member, is_member, key_in, key_of, keys_in, lists, members_of};
-ghost use Rattle.partition_file.specs.Sound.{IsSound, is_base};
+ghost use Rattle.pkey_rules.specs.PKey.{is_base};
+ghost use Rattle.partition_file.specs.Members.{heading_of, is_full_member, is_member, key_in, keys_in, lists, members_of};
+ghost use Rattle.partition_file.specs.Sound.{IsSound};
 
+use crate::heading::Heading;
 use crate::item::{Item, Ports};
+use crate::member_keys::Members;
 use crate::partition::{Partition, Partitions};
-use crate::port_keys::{Heading, Members};
 use pkey_rules::{EndPort, KeyTable, PARTITIONS, PKey};
 use std::alloc::{AllocError, Global};
-
-/// The top bit of a P_Key: its holder is a full member.
-const FULL_MEMBER: u16 = 0x8000;
 
 fn lists(port: &EndPort, item: &Item) -> bool
     ensures { result ≡ lists port.now item.now }
@@ -48,15 +47,6 @@ fn is_full_member(port: &EndPort, partition: &Partition) -> bool
         .any(|item| item.full && lists(port, item))
 }
 
-fn key_of(base: u16, full: bool) -> Option<PKey>
-    requires low { 1 ≤ base }
-    requires high { base ≤ 32767 }
-    ensures { result ≡ Some (key_of base full) }
-{
-    let bits = if full { base + FULL_MEMBER } else { base };
-    PKey::new(bits).ok()
-}
-
 /// The key that an end port holds in a partition, if it is a member.
 fn key_in(port: &EndPort, partition: &Partition) -> Option<PKey>
     requires { is_base partition.now.base ≡ true }
@@ -65,7 +55,7 @@ fn key_in(port: &EndPort, partition: &Partition) -> Option<PKey>
     if !is_member(port, partition) {
         return None;
     }
-    key_of(partition.base, is_full_member(port, partition))
+    PKey::of_base(partition.base, is_full_member(port, partition)).ok()
 }
 
 /// Adds the key that an end port holds in a partition, if it is a member.

@@ -5,10 +5,12 @@ ghost use Rattle.partition_file.specs.Partitions.{bases_of, built_in, group_of, 
 ghost use Rattle.partition_file.specs.Members.{no_file};
 ghost use Rattle.partition_file.specs.Sound.{AreSound};
 
-use crate::base::{Rule, rules_of};
-use crate::definition::{DEFAULT_BASE, Definition, Name, add_base};
+use crate::broadcast_group::BroadcastGroup;
+use crate::definition::{Definition, Name, add_base};
 use crate::item::{Item, ItemList, Ports};
-use crate::partition::{Group, Partition, Partitions};
+use crate::partition::{Partition, Partitions};
+use crate::rules::{Rule, rules_of};
+use pkey_rules::DEFAULT_BASE;
 use std::alloc::{AllocError, Global};
 
 const ALL_FULL: Item = Item {
@@ -62,7 +64,7 @@ fn first_name<'a>(rules: &'a [Rule<'_>], base: u16) -> Option<&'a [u8]>
         .map(|rule| rule.name())
 }
 
-fn group_of(rules: &[Rule], base: u16) -> Option<Group>
+fn group_of(rules: &[Rule], base: u16) -> Option<BroadcastGroup>
     ensures { result ≡ group_of rules.now base }
 {
     rules

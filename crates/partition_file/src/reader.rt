@@ -35,7 +35,7 @@ fn definitions_of(alloc: Global, text: &[u8]) -> Result<DefinitionList, PartFaul
 /// The partitions that a text describes, or its first fault with the line.
 ///
 /// The fault is that of the shortest beginning of the text that has one at its last byte; the end of
-/// the text comes after all bytes. `specs/Law.antt` says so. Time is linear in the length of the text
+/// the text comes after all bytes. `specs/FirstFault.antt` says so. Time is linear in the length of the text
 /// and, for merging, in the number of definitions times that of partitions.
 #[tactic(auto, unfolding(crate::specs::Partitions::partitions_of))]
 pub fn read(alloc: Global, text: &[u8]) -> Result<Partitions, PartFault>

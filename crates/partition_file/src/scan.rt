@@ -4,17 +4,19 @@ ghost use Rattle.std.specs.Prelude.{◌≡◌, ◌≤◌, ◌<◌, true, None, I
 ghost use Rattle.partition_file.specs.Fault.{fault_in};
 ghost use Rattle.result_words.specs.AtLine.{on_line};
 ghost use Rattle.partition_file.specs.Pieces.{folded};
-ghost use Rattle.partition_file.specs.Cases.{fault_of, is_in_list, is_one_too_many};
+ghost use Rattle.partition_file.specs.Cases.{fault_of, is_one_too_many, key_here};
 ghost use Rattle.partition_file.specs.Counting.{keys_of};
-ghost use Rattle.partition_file.specs.Definitions.{after_byte, at_end, next, place_of, start, with_item, with_piece};
+ghost use Rattle.partition_file.specs.Definitions.{after_byte, at_end, next, with_item, with_piece};
+ghost use Rattle.partition_file.specs.Scanned.{start};
+ghost use Rattle.partition_file.specs.Tokens.{token_of};
 ghost use Rattle.result_words.specs.Gives.{Gives};
 
 use crate::definition::{Definition, DefinitionList, Name};
+use crate::definition_part::Part;
 use crate::fault::{PartFault, PartitionCause};
-use crate::flag::{flag_of, is_full};
-use crate::item::{Item, Ports, ports_of};
-use crate::part::{Part, base_in};
+use crate::item::{Item, Ports};
 use crate::piece::{Delimiter, delimiter_of, folded, is_allowed};
+use crate::token::{Token, Value};
 use pkey_rules::PARTITIONS;
 use std::alloc::{AllocError, Global};
 use std::marker::Model;
@@ -24,48 +26,45 @@ impl Definition {
     /// Takes one more piece.
     fn take_piece(
         &mut self,
-        part: Part,
+        token: Token,
         delimiter: Delimiter,
         piece: Vec<u8>,
     ) -> Result<(), AllocError>
-        ensures ok { OnOk result (self.new ≡ with_piece self.old part delimiter piece.items) }
-        ensures key { is_in_list part ≡ true → self.new.key ≡ self.old.key }
+        ensures ok { OnOk result (self.new ≡ with_piece self.old token delimiter piece.items) }
         ensures err_key { OnErr result (self.new.key ≡ self.old.key) }
         ensures err_flags { OnErr result (self.new.flags ≡ self.old.flags) }
     {
-        match part {
-            Part::Name => {
+        match token {
+            Token::Name(_) => {
                 self.name = Name::from_vec(piece);
                 Ok(())
             }
-            Part::Key => {
-                self.key = base_in(&piece);
+            Token::Key(base) => {
+                self.key = base;
                 Ok(())
             }
-            Part::FlagWord if delimiter.is_equals() => Ok(()),
-            Part::FlagWord => {
-                self.flags = self.flags.with_flag(flag_of(&piece));
+            Token::FlagWord(flag) if !delimiter.is_equals() => {
+                self.flags = self.flags.with_flag(flag);
                 Ok(())
             }
-            Part::FlagValue(flag) => {
-                self.flags = self.flags.with_value(flag, &piece);
+            Token::FlagValue(Value::Taken(setting)) => {
+                self.flags = self.flags.with_setting(setting);
                 Ok(())
             }
-            Part::ListWord if delimiter.is_equals() => Ok(()),
-            Part::ListWord => self.push_item(ports_of(&piece), self.flags.is_full_by_default()),
-            Part::Membership(ports) => self.push_item(Some(ports), is_full(&piece)),
+            Token::ListWord(Some(ports)) if !delimiter.is_equals() => {
+                self.push_item(ports, self.flags.is_full_by_default())
+            }
+            Token::Membership(ports, word) => self.push_item(ports, word.is_full()),
+            _ => Ok(()),
         }
     }
 
-    fn push_item(&mut self, ports: Option<Ports>, full: bool) -> Result<(), AllocError>
-        ensures ok { OnOk result (self.new ≡ record self.old { items = with_item self.old.items ports full }) }
+    fn push_item(&mut self, ports: Ports, full: bool) -> Result<(), AllocError>
+        ensures ok { OnOk result (self.new ≡ with_item self.old ports full) }
         ensures key { self.new.key ≡ self.old.key }
         ensures flags { self.new.flags ≡ self.old.flags }
     {
-        match ports {
-            Some(ports) => self.items.push(Item { ports, full }),
-            None => Ok(()),
-        }
+        self.items.push(Item { ports, full })
     }
 }
 
@@ -79,7 +78,7 @@ pub(crate) struct Scan {
 }
 
 impl Model for Scan {
-    ghost use Rattle.partition_file.specs.Definitions.{Scanned};
+    ghost use Rattle.partition_file.specs.Scanned.{Scanned};
     ghost use Rattle.partition_file.specs.Sound.{IsSoundSoFar};
 
     ghost Value = { Scanned };
@@ -102,46 +101,43 @@ impl Scan {
     }
 
     /// Whether the list that this delimiter begins is that of one partition too many.
-    fn is_one_too_many(&self, delimiter: Delimiter, piece: &[u8]) -> bool
-        ensures { result ≡ is_one_too_many self.now.at delimiter (keys_of self.now.done) self.now.current.key piece.now }
+    fn is_one_too_many(&self, delimiter: Delimiter, token: Token) -> bool
+        ensures { result ≡ is_one_too_many self.now.at delimiter (keys_of self.now.done) (key_here token self.now.current.key) }
     {
-        let key = self.part.key_here(self.current.key, piece);
+        let key = token.key_here(self.current.key);
         delimiter.is_colon() && !self.part.is_in_list() && self.done.count_with(key) > PARTITIONS
     }
 
-    /// The first fault in turn of a piece that ends at this delimiter.
+    /// The first fault in turn of a piece that says this and ends at this delimiter.
     #[tactic(auto, unfolding(crate::specs::Cases::fault_of, crate::specs::Cases::has_fault))]
-    fn fault_of(&self, delimiter: Delimiter, piece: &[u8]) -> Option<PartitionCause>
-        ensures { result ≡ fault_of (place_of self.now) delimiter piece.now }
+    fn fault_of(&self, delimiter: Delimiter, token: Token) -> Option<PartitionCause>
+        ensures { result ≡ fault_of self.now delimiter token }
     {
-        if self.part.is_both_membership(piece) {
+        if token.is_both_membership() {
             return Some(PartitionCause::BothMembership);
         }
-        if self.part.is_mgid_item(piece) {
+        if token.is_mgid_item() {
             return Some(PartitionCause::MgidItem);
         }
-        if self.part.is_bad_character(delimiter, piece) {
+        if token.is_bad_character(delimiter) {
             return Some(PartitionCause::BadCharacter);
         }
-        if self.part.is_bad_number(delimiter, piece) {
+        if token.is_bad_number(delimiter) {
             return Some(PartitionCause::BadNumber);
         }
-        if self.part.is_reserved_key(delimiter, piece) {
+        if token.is_reserved_key(delimiter) {
             return Some(PartitionCause::ReservedKey);
         }
-        if self.part.is_unknown_flag(delimiter, piece) {
+        if token.is_unknown_flag(delimiter) {
             return Some(PartitionCause::UnknownFlag);
         }
-        if self.is_one_too_many(delimiter, piece) {
+        if self.is_one_too_many(delimiter, token) {
             return Some(PartitionCause::TooManyPartitions);
         }
         if self.part.is_unfinished(delimiter) {
             return Some(PartitionCause::Unfinished);
         }
-        if self
-            .part
-            .is_bad_flag_value(delimiter, self.current.flags, piece)
-        {
+        if token.is_bad_flag_value(delimiter, self.current.flags) {
             return Some(PartitionCause::BadFlagValue);
         }
         None
@@ -153,14 +149,15 @@ impl Scan {
         &mut self,
         alloc: Global,
         delimiter: Delimiter,
+        token: Token,
         piece: Vec<u8>,
     ) -> Result<(), AllocError>
-        requires { fault_of (place_of self.old) delimiter piece.items ≡ None }
-        ensures { OnOk result (self.new ≡ next self.old delimiter piece.items) }
+        requires says { token ≡ token_of self.old.at piece.items }
+        requires clean { fault_of self.old delimiter token ≡ None }
+        ensures { OnOk result (self.new ≡ next self.old delimiter token piece.items) }
     {
-        let part = self.part;
-        let after = part.after(delimiter, &piece);
-        self.current.take_piece(part, delimiter, piece)?;
+        let after = self.part.after(delimiter, token);
+        self.current.take_piece(token, delimiter, piece)?;
         self.part = after;
         if delimiter.is_semicolon() {
             let whole = mem::replace(&mut self.current, Definition::blank(alloc));
@@ -190,10 +187,11 @@ impl Scan {
             });
         };
         let piece = folded(alloc, raw)?;
-        if let Some(cause) = self.fault_of(delimiter, &piece) {
+        let token = self.part.token_of(&piece);
+        if let Some(cause) = self.fault_of(delimiter, token) {
             return Err(PartFault::At { line, cause });
         }
-        self.go_on(alloc, delimiter, piece)?;
+        self.go_on(alloc, delimiter, token, piece)?;
         Ok(())
     }
 

@@ -1,1 +1,2 @@
 pub mod KeyTableLemmas
+pub mod PKeyLemmas

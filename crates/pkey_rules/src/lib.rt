@@ -16,4 +16,4 @@ mod tests;
 
 pub use crate::end_port::EndPort;
 pub use crate::key_table::{KeyTable, PARTITIONS, PushRefusal};
-pub use crate::p_key::{InvalidBase, PKey};
+pub use crate::p_key::{BASES, DEFAULT_BASE, InvalidBase, PKey, base_of, key_of};

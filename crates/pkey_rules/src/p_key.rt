@@ -1,5 +1,5 @@
-ghost use Rattle.std.specs.Prelude.{◌≡◌, ◌≢◌, ◌↔◌, IfOk, IsOk};
-ghost use Rattle.pkey_rules.specs.PKey.{base_of, is_full, matches};
+ghost use Rattle.std.specs.Prelude.{◌≡◌, ◌≢◌, ◌↔◌, ◌<◌, true, IfOk, IsOk};
+ghost use Rattle.pkey_rules.specs.PKey.{base_of, is_base, is_full, key_of, matches};
 
 use std::marker::Model;
 use thiserror::Error;
@@ -9,6 +9,28 @@ const BASE_BITS: u16 = 0x7fff;
 
 /// The top bit of a P_Key: its holder is a full member.
 const FULL_MEMBER: u16 = 0x8000;
+
+/// How many partitions the low 15 bits of a P_Key can tell apart, 0 counted, which is none.
+pub const BASES: u16 = 0x8000;
+
+/// The base of the default partition, in which every port starts.
+pub const DEFAULT_BASE: u16 = 0x7fff;
+
+/// The base of the partition that a key of these bits names; 0 names none.
+pub fn base_of(bits: u16) -> u16
+    ensures value { result ≡ base_of bits }
+    ensures within { result < 0x8000 }
+{
+    bits & BASE_BITS
+}
+
+/// The bits of the key that a full or a limited member holds in the partition of this base.
+pub fn key_of(base: u16, full: bool) -> u16
+    requires { base < 0x8000 }
+    ensures { result ≡ key_of base full }
+{
+    if full { base + FULL_MEMBER } else { base }
+}
 
 /// A valid partition key: 15 bits that name a partition, not all 0, below one bit of membership.
 ///
@@ -31,7 +53,7 @@ impl Model for PKey {
     ghost inverse = { λ n. record { bits = n } };
 }
 
-/// A P_Key whose low 15 bits are all 0 names no partition.
+/// The low 15 bits of a P_Key name a partition, and are not all 0.
 #[derive(Clone, Copy, Debug, PartialEq, Eq, Error)]
 #[error("a partition key has a base other than 0")]
 pub struct InvalidBase;
@@ -42,10 +64,27 @@ impl PKey {
         ensures valid { IsOk result ↔ (base_of bits ≢ 0) }
         ensures value { IfOk result (λ key. key ≡ bits) }
     {
-        if bits & BASE_BITS == 0 {
+        if base_of(bits) == 0 {
             return Err(InvalidBase);
         }
         Ok(PKey { bits })
+    }
+
+    /// The key that a full or a limited member holds in the partition of this base; an error where
+    /// the base is 0 or has more than 15 bits.
+    #[tactic(auto, using(crate::proofs::PKeyLemmas::key_has_base, crate::proofs::PKeyLemmas::key_tells_membership))]
+    pub fn of_base(base: u16, full: bool) -> Result<PKey, InvalidBase>
+        ensures valid { IsOk result ↔ (is_base base ≡ true) }
+        ensures value { IfOk result (λ key. key ≡ key_of base full) }
+        ensures base { IfOk result (λ key. base_of key ≡ base) }
+        ensures membership { IfOk result (λ key. is_full key ≡ full) }
+    {
+        if base == 0 || base >= BASES {
+            return Err(InvalidBase);
+        }
+        Ok(PKey {
+            bits: key_of(base, full),
+        })
     }
 
     /// The key as 16 bits.
@@ -60,7 +99,7 @@ impl PKey {
         ensures value { result ≡ base_of self }
         ensures valid { result ≢ 0 }
     {
-        self.bits & BASE_BITS
+        base_of(self.bits)
     }
 
     /// Whether the key is that of a full member; else it is that of a limited one.

@@ -1,5 +1,6 @@
 pub mod CommandLemmas
 pub mod HeadlineLemmas
 pub mod ListingLemmas
+pub mod PayloadLemmas
 pub mod PortLemmas
 pub mod TextLemmas

@@ -1,3 +1,4 @@
+-- The end ports of a topology: how many there are, their order, and the keys beside them.
 use Rattle.std.proofs.Common.{◌≡◌, ℕ, ◌+◌, ◌<◌, ◌≤◌, List, [], ◌∷◌, ◌++◌, length, take, get_or, insert, map, fold, nat_le, Option, Some, None, refl, inl, inr, ◌∙◌, ap, append-nil, length-append, lit≤, suc, arith, Iter, Global, Bor}
 use Rattle.std.specs.Iterator.{AlwaysYields}
 use Rattle.std.specs.List.{prefix_len, flat_map, enumerate_from, range_with_len, zip}
@@ -12,18 +13,18 @@ use Rattle.std.proofs.lemmas.List.{take_more}
 use Rattle.std.proofs.lemmas.List.Concat.{flat_map-append}
 use Rattle.std.proofs.lemmas.List.FromFn.{get_or-enumerate_from, length-enumerate_from, length-map-range_with_len, map-range_with_len_more}
 use Rattle.subnet_model.specs.declared.subnet_port.SubnetPort.{SubnetPort}
-use Rattle.topo_file.specs.declared.cable.PortRef.{PortRef}
+use Rattle.fabric_parts.specs.declared.cable.PortRef.{PortRef}
+use Rattle.fabric_parts.specs.declared.node_type.NodeType.{NodeType}
+use Rattle.fabric_parts.specs.declared.node_type.NodeType.TheVariants.{ChannelAdapter, Switch}
+use Rattle.fabric_parts.specs.Cable.{is_cabled}
 use Rattle.topo_file.specs.declared.node.Node.{Node}
-use Rattle.topo_file.specs.declared.node.NodeKind.{NodeKind}
-use Rattle.topo_file.specs.declared.node.NodeKind.TheVariants.{Switch, Adapter}
 use Rattle.topo_file.specs.Node.{adapter_ports, port_guids, switch_count}
-use Rattle.topo_file.specs.Cable.{is_cabled}
 use Rattle.topo_file.specs.Topology.{Plan}
 use Rattle.subnet_core.specs.declared.end_ports.Seat.{Seat}
 use Rattle.partition_file.specs.declared.partition.Partition.{Partition}
 use Rattle.partition_file.specs.Members.{keys_in}
 use Rattle.pkey_rules.specs.declared.end_port.EndPort.{EndPort}
-use Rattle.subnet_core.specs.Ports.{adapter_seats, end_ports, keyed, seat_if_cabled, seats, seats_at, seats_of_kind, with_port, with_seat}
+use Rattle.subnet_core.specs.Ports.{adapter_seats, end_ports, keyed, seat_if_cabled, seats, seats_at, seats_of_type, with_port, with_seat}
 
 -- behind the ports of lesser LIDs is the port's place
 pub insert_in_order : (ports : List SubnetPort) (port : SubnetPort) → insert ports (prefix_len (λ other. nat_le other.lid port.lid) ports) port ≡ with_port ports port
@@ -48,7 +49,7 @@ pair_same : (i j : ℕ) (a b : Node) → i ≡ j → a ≡ b → let p : ℕ × 
 pair_same i j a b e f = rw (e, f) refl
 
 -- one more node
-pub seats_more : (plan : Plan) (i : ℕ) (node : Node) → i < length plan.nodes → get_or plan.nodes i node ≡ node → flat_map (seats_at plan) (take (i + 1) (enumerate_from 0 plan.nodes)) ≡ flat_map (seats_at plan) (take i (enumerate_from 0 plan.nodes)) ++ seats_of_kind node.kind plan i node
+pub seats_more : (plan : Plan) (i : ℕ) (node : Node) → i < length plan.nodes → get_or plan.nodes i node ≡ node → flat_map (seats_at plan) (take (i + 1) (enumerate_from 0 plan.nodes)) ≡ flat_map (seats_at plan) (take i (enumerate_from 0 plan.nodes)) ++ seats_of_type node.node_type plan i node
 seats_more plan i node inside here =
     let all : List (ℕ × Node) = enumerate_from 0 plan.nodes in
     let within : i < length all = omega (arith, length-enumerate_from 0 plan.nodes) in
@@ -67,29 +68,29 @@ few_of_adapter : (plan : Plan) (node : Node) (ats : List PortRef) → length (fl
 few_of_adapter plan node [] = lit≤ tt
 few_of_adapter plan node (at ∷ ats) = omega (arith, length-append (seat_if_cabled plan node at) (flat_map (seat_if_cabled plan node) ats), one_at_most plan node at, few_of_adapter plan node ats)
 
-abbrev seat_bound : NodeKind → ℕ → ℕ
+abbrev seat_bound : NodeType → ℕ → ℕ
 seat_bound Switch ports = 1
-seat_bound Adapter ports = ports
+seat_bound ChannelAdapter ports = ports
 
-few_of_kind : (kind : NodeKind) (plan : Plan) (place : ℕ) (node : Node) → length (seats_of_kind kind plan place node) ≤ seat_bound kind node.ports
-few_of_kind Switch plan place node = lit≤ tt
-few_of_kind Adapter plan place node =
+few_of_type : (node_type : NodeType) (plan : Plan) (place : ℕ) (node : Node) → length (seats_of_type node_type plan place node) ≤ seat_bound node_type node.ports
+few_of_type Switch plan place node = lit≤ tt
+few_of_type ChannelAdapter plan place node =
     let f : ℕ → PortRef = λ number. record { node = place; port = number } in
     omega (arith, few_of_adapter plan node (map f (range_with_len 1 node.ports)), length-map-range_with_len f 1 node.ports)
 
-counted_of_kind : (kind : NodeKind) (node : Node) → node.kind ≡ kind → switch_count (node ∷ []) + port_guids kind node.ports ≡ seat_bound kind node.ports
-counted_of_kind Switch node e = rw e refl
-counted_of_kind Adapter node e = rw e (omega arith)
+counted_of_type : (node_type : NodeType) (node : Node) → node.node_type ≡ node_type → switch_count (node ∷ []) + port_guids node_type node.ports ≡ seat_bound node_type node.ports
+counted_of_type Switch node e = rw e refl
+counted_of_type ChannelAdapter node e = rw e (omega arith)
 
 few_from : (plan : Plan) (m : ℕ) (nodes : List Node) → length (flat_map (seats_at plan) (enumerate_from m nodes)) ≤ switch_count nodes + adapter_ports nodes
 few_from plan m [] = lit≤ tt
 few_from plan m (node ∷ nodes) =
     let rest = flat_map (seats_at plan) (enumerate_from (m + 1) nodes) in
     let split : length (flat_map (seats_at plan) (enumerate_from m (node ∷ nodes))) ≡ length (seats_at plan (m, node)) + length rest = length-append (seats_at plan (m, node)) rest in
-    let here : length (seats_at plan (m, node)) ≤ seat_bound node.kind node.ports = few_of_kind node.kind plan m node in
-    let counted : switch_count (node ∷ []) + port_guids node.kind node.ports ≡ seat_bound node.kind node.ports = counted_of_kind node.kind node refl in
+    let here : length (seats_at plan (m, node)) ≤ seat_bound node.node_type node.ports = few_of_type node.node_type plan m node in
+    let counted : switch_count (node ∷ []) + port_guids node.node_type node.ports ≡ seat_bound node.node_type node.ports = counted_of_type node.node_type node refl in
     let switches : switch_count (node ∷ nodes) ≡ switch_count (node ∷ []) + switch_count nodes = grind (arith, common_steps) in
-    let ports : adapter_ports (node ∷ nodes) ≡ port_guids node.kind node.ports + adapter_ports nodes = grind (arith, common_steps) in
+    let ports : adapter_ports (node ∷ nodes) ≡ port_guids node.node_type node.ports + adapter_ports nodes = grind (arith, common_steps) in
     omega (arith, few_from plan (m + 1) nodes)
 
 -- a subnet within the limits has few end ports

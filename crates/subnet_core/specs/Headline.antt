@@ -7,7 +7,7 @@ use Rattle.subnet_model.specs.declared.event.Event.{Event}
 use Rattle.subnet_model.specs.Isolation.{IsIsolated}
 use Rattle.subnet_core.specs.Ports.{ports_of}
 use Rattle.subnet_core.specs.Run.{partitions_for}
-use Rattle.subnet_core.specs.Script.{commands_of}
+use Rattle.subnet_core.specs.Script.{commands_in}
 
 -- Whatever fabric the topology describes, whatever partitions the file gives it, and whatever commands the
 -- script gives: at each port the events are those that the commands of the ports near it alone would bring
@@ -15,5 +15,5 @@ use Rattle.subnet_core.specs.Script.{commands_of}
 abbrev pub KeepsPartitionsApart : List ℕ → Option (List ℕ) → List ℕ → List Event → Type 0
 KeepsPartitionsApart topology partitions script events =
     (plan : Plan) (all : List Partition) (commands : List Command)
-    → topology_of topology ≡ Ok plan → partitions_for partitions ≡ Ok all → commands_of plan script ≡ Ok commands
+    → topology_of topology ≡ Ok plan → partitions_for partitions ≡ Ok all → commands_in plan script ≡ Ok commands
     → IsIsolated (ports_of all plan) commands events

@@ -1,7 +1,7 @@
 pub mod Fault
 pub mod Ports
-pub mod Reading
 pub mod Script
+pub mod Seen
 pub mod Run
 pub mod Text
 pub mod Listing

@@ -1,5 +1,5 @@
 -- The end ports of a subnet, as a topology has them, with the keys that its partitions give them.
-use Rattle.std.specs.Prelude.{ℕ, ◌+◌, Bool, true, false, List, [], ◌∷◌, map, fold, slice_get, nat_le, if◌then◌else◌}
+use Rattle.std.specs.Prelude.{ℕ, Bool, true, false, List, [], ◌∷◌, map, fold, slice_get, nat_le, if◌then◌else◌}
 use Rattle.std.specs.List.{flat_map, enumerate_from, range_with_len}
 use Rattle.std.specs.Option.{option_map_or}
 use Rattle.partition_file.specs.declared.partition.Partition.{Partition}
@@ -7,14 +7,13 @@ use Rattle.partition_file.specs.Members.{keys_in}
 use Rattle.pkey_rules.specs.declared.end_port.EndPort.{EndPort}
 use Rattle.subnet_model.specs.EndPorts.{lid_of}
 use Rattle.subnet_model.specs.declared.subnet_port.SubnetPort.{SubnetPort}
-use Rattle.subnet_model.specs.declared.subnet_port.PortKind.{PortKind}
-use Rattle.subnet_model.specs.declared.subnet_port.PortKind.TheVariants as port
-use Rattle.topo_file.specs.declared.cable.PortRef.{PortRef}
+use Rattle.fabric_parts.specs.declared.cable.PortRef.{PortRef}
+use Rattle.fabric_parts.specs.declared.node_type.NodeType.{NodeType}
+use Rattle.fabric_parts.specs.declared.node_type.NodeType.TheVariants.{ChannelAdapter, Switch}
+use Rattle.fabric_parts.specs.Cable.{is_cabled, is_same_port}
 use Rattle.topo_file.specs.declared.node.Node.{Node}
-use Rattle.topo_file.specs.declared.node.NodeKind.{NodeKind}
-use Rattle.topo_file.specs.declared.node.NodeKind.TheVariants as node
 use Rattle.subnet_core.specs.declared.end_ports.Seat.{Seat}
-use Rattle.topo_file.specs.Cable.{is_cabled, is_same_port}
+use Rattle.topo_file.specs.Node.{port_guid}
 use Rattle.topo_file.specs.Topology.{Plan}
 
 -- port 0 of a switch, which has the GUID of the switch
@@ -25,12 +24,12 @@ switch_seat place node = record {
   port = record { guid = node.guid; is_switch = true; is_sm = false };
 }
 
--- port p of an adapter of GUID g, which has the GUID g + p
+-- a port of an adapter, which has a GUID of its own
 abbrev pub adapter_seat : PortRef → Node → PortRef → Seat
 adapter_seat sm node at = record {
   place = at.node;
   number = at.port;
-  port = record { guid = node.guid + at.port; is_switch = false; is_sm = is_same_port at sm };
+  port = record { guid = port_guid node at.port; is_switch = false; is_sm = is_same_port at sm };
 }
 
 -- a port of an adapter is an end port if it has a cable
@@ -42,13 +41,13 @@ adapter_seats plan place node count =
     flat_map (seat_if_cabled plan node)
     (map (λ number. record { node = place; port = number }) (range_with_len 1 count))
 
-abbrev pub seats_of_kind : NodeKind → Plan → ℕ → Node → List Seat
-seats_of_kind node.Switch plan place node = switch_seat place node ∷ []
-seats_of_kind node.Adapter plan place node = adapter_seats plan place node node.ports
+abbrev pub seats_of_type : NodeType → Plan → ℕ → Node → List Seat
+seats_of_type Switch plan place node = switch_seat place node ∷ []
+seats_of_type ChannelAdapter plan place node = adapter_seats plan place node node.ports
 
 -- the end ports of the node at its place
 abbrev pub seats_at : Plan → ℕ × Node → List Seat
-seats_at plan placed = seats_of_kind placed.1.kind plan placed.0 placed.1
+seats_at plan placed = seats_of_type placed.1.node_type plan placed.0 placed.1
 
 -- the end ports of all nodes, one node after the other
 abbrev pub seats : Plan → List Seat
@@ -57,9 +56,9 @@ seats plan = flat_map (seats_at plan) (enumerate_from 0 plan.nodes)
 abbrev pub end_ports : List Seat → List EndPort
 end_ports all = map (λ seat. seat.port) all
 
-abbrev pub kind_of : Bool → PortKind
-kind_of true = port.Switch
-kind_of false = port.ChannelAdapter
+abbrev pub type_of : Bool → NodeType
+type_of true = Switch
+type_of false = ChannelAdapter
 
 -- the name of the node there
 abbrev pub name_at : List Node → ℕ → List ℕ
@@ -72,7 +71,7 @@ seated nodes keys lid seat = record {
   guid = seat.port.guid;
   node = name_at nodes seat.place;
   number = seat.number;
-  kind = kind_of seat.port.is_switch;
+  node_type = type_of seat.port.is_switch;
   keys = keys;
 }
 

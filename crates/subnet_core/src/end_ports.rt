@@ -1,15 +1,17 @@
 ghost use Rattle.std.specs.Prelude.{◌≡◌, ◌+◌, ◌^◌, ◌<◌, ◌≤◌, [], ◌∷◌, ◌++◌, length, map, nat_le, All, IfOk, OnOk};
 ghost use Rattle.std.specs.List.{prefix_len, zip};
 ghost use Rattle.partition_file.specs.Members.{heading_of};
-ghost use Rattle.topo_file.specs.Node.{HasGuids};
-ghost use Rattle.subnet_core.specs.Ports.{switch_seat, adapter_seat, seat_if_cabled, adapter_seats, seats_of_kind, seats, end_ports, kind_of, name_at, seated, with_port, with_seat, in_order, ports_of};
+ghost use Rattle.topo_file.specs.Node.{HasGuids, port_guid};
+ghost use Rattle.topo_file.specs.declared.node.TheConstants.{SWITCHES, ADAPTER_PORTS};
+ghost use Rattle.subnet_core.specs.Ports.{switch_seat, adapter_seat, seat_if_cabled, adapter_seats, seats_of_type, seats, end_ports, type_of, name_at, seated, with_port, with_seat, in_order, ports_of};
 ghost use Rattle.subnet_model.specs.EndPorts.{lid_of};
 
+use fabric_parts::{NodeType, PortRef};
 use partition_file::{Heading, Partitions, members};
 use pkey_rules::{EndPort, KeyTable, PARTITIONS};
 use std::alloc::{AllocError, Global};
-use subnet_model::{NodeName, PortKind, SubnetPort, lid_of};
-use topo_file::{Node, NodeKind, PortRef, Topology};
+use subnet_model::{NodeName, SubnetPort, lid_of};
+use topo_file::{Node, Topology};
 
 /// Where an end port stands: the place of its node in the topology, and its number there.
 #[derive(Clone, Copy, Debug)]
@@ -50,7 +52,7 @@ pub(crate) fn partitions_and_ports(
 
 fn seats(alloc: Global, topology: &Topology) -> Result<Vec<Seat>, AllocError>
     ensures value { IfOk result (λ all. all.items ≡ seats topology.now) }
-    ensures few { IfOk result (λ all. length all.items ≤ 320) }
+    ensures few { IfOk result (λ all. length all.items ≤ SWITCHES + ADAPTER_PORTS) }
 {
     let mut all = Vec::new(alloc);
     for (place, node) in topology.nodes().iter().enumerate() {
@@ -67,14 +69,14 @@ fn push_seats(
 ) -> Result<(), AllocError>
     requires { HasGuids node.now }
     ensures { OnOk result (all.new.items
-        ≡ all.old.items ++ seats_of_kind node.now.kind topology.now place node.now) }
+        ≡ all.old.items ++ seats_of_type node.now.node_type topology.now place node.now) }
 {
-    match node.kind {
-        NodeKind::Switch => {
+    match node.node_type {
+        NodeType::Switch => {
             all.push(switch_seat(place, node))?;
             Ok(())
         }
-        NodeKind::Adapter => push_adapter_seats(all, topology, place, node),
+        NodeType::ChannelAdapter => push_adapter_seats(all, topology, place, node),
     }
 }
 
@@ -98,7 +100,7 @@ fn push_adapter_seats(
     place: usize,
     node: &Node,
 ) -> Result<(), AllocError>
-    requires { node.now.guid + node.now.ports < 2 ^ 64 }
+    requires { port_guid node.now node.now.ports < 2 ^ 64 }
     ensures { OnOk result (all.new.items
         ≡ all.old.items ++ adapter_seats topology.now place node.now node.now.ports) }
 {
@@ -118,7 +120,7 @@ fn push_if_cabled(
     node: &Node,
     at: PortRef,
 ) -> Result<(), AllocError>
-    requires { node.now.guid + at.port < 2 ^ 64 }
+    requires { port_guid node.now at.port < 2 ^ 64 }
     ensures { OnOk result (all.new.items ≡ all.old.items ++ seat_if_cabled topology.now node.now at) }
 {
     if topology.is_cabled(at) {
@@ -128,14 +130,14 @@ fn push_if_cabled(
 }
 
 fn adapter_seat(sm: PortRef, node: &Node, at: PortRef) -> Seat
-    requires { node.now.guid + at.port < 2 ^ 64 }
+    requires { port_guid node.now at.port < 2 ^ 64 }
     ensures { result ≡ adapter_seat sm node.now at }
 {
     Seat {
         place: at.node,
         number: at.port,
         port: EndPort {
-            guid: node.guid + u64::from(at.port),
+            guid: node.port_guid(at.port),
             is_switch: false,
             is_sm: at == sm,
         },
@@ -155,7 +157,7 @@ fn in_order(
     seats: &[Seat],
     keys: Vec<KeyTable<PARTITIONS>>,
 ) -> Result<Vec<SubnetPort>, AllocError>
-    requires { length all.now ≤ 320 }
+    requires { length all.now ≤ SWITCHES + ADAPTER_PORTS }
     ensures { IfOk result (λ ports. ports.items ≡ in_order nodes.now all.now (zip seats.now keys.items)) }
 {
     let mut ports = Vec::new(alloc);
@@ -191,18 +193,18 @@ fn seated(nodes: &[Node], lid: u16, seat: &Seat, keys: KeyTable<PARTITIONS>) -> 
         guid: seat.port.guid,
         node: name_at(nodes, seat.place),
         number: seat.number,
-        kind: kind_of(seat.port.is_switch),
+        node_type: type_of(seat.port.is_switch),
         keys,
     }
 }
 
-fn kind_of(is_switch: bool) -> PortKind
-    ensures { result ≡ kind_of is_switch }
+fn type_of(is_switch: bool) -> NodeType
+    ensures { result ≡ type_of is_switch }
 {
     if is_switch {
-        PortKind::Switch
+        NodeType::Switch
     } else {
-        PortKind::ChannelAdapter
+        NodeType::ChannelAdapter
     }
 }
 

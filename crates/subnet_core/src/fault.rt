@@ -2,7 +2,6 @@
 
 ghost use Rattle.std.specs.Prelude.{◌≡◌};
 ghost use Rattle.subnet_core.specs.Fault.{code_of};
-ghost use Rattle.subnet_core.specs.declared.fault.ScriptError.TheVariants.{NoMemory, Fault};
 
 use partition_file::PartitionCause;
 use std::alloc::{AllocError, AllocFailed};
@@ -45,29 +44,6 @@ impl ScriptCause {
             ScriptCause::PayloadTooLong => "SF5",
             ScriptCause::BadField => "SF6",
         }
-    }
-}
-
-/// Why a line gave no command.
-#[derive(Clone, Copy, Debug, PartialEq, Eq)]
-pub(crate) enum ScriptError {
-    NoMemory,
-    Fault(ScriptCause),
-}
-
-impl From<AllocError> for ScriptError {
-    ghost from_gives = { λ _ e. e ≡ NoMemory };
-
-    fn from(_error: AllocError) -> ScriptError {
-        ScriptError::NoMemory
-    }
-}
-
-impl From<ScriptCause> for ScriptError {
-    ghost from_gives = { λ fault e. e ≡ Fault fault };
-
-    fn from(fault: ScriptCause) -> ScriptError {
-        ScriptError::Fault(fault)
     }
 }
 

@@ -19,27 +19,27 @@ pub(crate) fn listing_text(
     ensures { IfOk result (λ text. text.items ≡ listing_text headings.now ports.now) }
 {
     let mut text = Vec::new(alloc);
-    push_ports(&mut text, alloc, ports)?;
-    push_partitions(&mut text, alloc, headings, ports)?;
+    push_ports(&mut text, ports)?;
+    push_partitions(&mut text, headings, ports)?;
     Ok(text)
 }
 
-fn push_ports(text: &mut Vec<u8>, alloc: Global, ports: &[SubnetPort]) -> Result<(), AllocError>
+fn push_ports(text: &mut Vec<u8>, ports: &[SubnetPort]) -> Result<(), AllocError>
     ensures { OnOk result (text.new.items ≡ text.old.items ++ flat_map port_line ports.now) }
 {
     for port in ports {
-        push_port_line(text, alloc, port)?;
+        push_port_line(text, port)?;
     }
     Ok(())
 }
 
-fn push_port_line(text: &mut Vec<u8>, alloc: Global, port: &SubnetPort) -> Result<(), AllocError>
+fn push_port_line(text: &mut Vec<u8>, port: &SubnetPort) -> Result<(), AllocError>
     ensures { OnOk result (text.new.items ≡ text.old.items ++ port_line port.now) }
 {
     text.extend_from_slice(b"port ")?;
-    push_hex(text, alloc, &port.lid.to_be_bytes())?;
+    push_hex(text, &port.lid.to_be_bytes())?;
     text.extend_from_slice(b" ")?;
-    push_hex(text, alloc, &port.guid.to_be_bytes())?;
+    push_hex(text, &port.guid.to_be_bytes())?;
     text.extend_from_slice(b" ")?;
     push_port(text, port)?;
     text.push(b'\n')?;
@@ -48,7 +48,6 @@ fn push_port_line(text: &mut Vec<u8>, alloc: Global, port: &SubnetPort) -> Resul
 
 fn push_partitions(
     text: &mut Vec<u8>,
-    alloc: Global,
     headings: &[Heading],
     ports: &[SubnetPort],
 ) -> Result<(), AllocError>
@@ -56,14 +55,13 @@ fn push_partitions(
         ≡ text.old.items ++ flat_map (partition_text ports.now) (enumerate_from 0 headings.now)) }
 {
     for (number, heading) in headings.iter().enumerate() {
-        push_partition(text, alloc, number, heading, ports)?;
+        push_partition(text, number, heading, ports)?;
     }
     Ok(())
 }
 
 fn push_partition(
     text: &mut Vec<u8>,
-    alloc: Global,
     number: usize,
     heading: &Heading,
     ports: &[SubnetPort],
@@ -71,22 +69,17 @@ fn push_partition(
     ensures { OnOk result (text.new.items
         ≡ text.old.items ++ partition_text ports.now (number, heading.now)) }
 {
-    push_heading_line(text, alloc, number, heading)?;
-    push_members(text, alloc, heading.base, ports)
+    push_heading_line(text, number, heading)?;
+    push_members(text, heading.base, ports)
 }
 
-fn push_heading_line(
-    text: &mut Vec<u8>,
-    alloc: Global,
-    number: usize,
-    heading: &Heading,
-) -> Result<(), AllocError>
+fn push_heading_line(text: &mut Vec<u8>, number: usize, heading: &Heading) -> Result<(), AllocError>
     ensures { OnOk result (text.new.items ≡ text.old.items ++ heading_line number heading.now) }
 {
     text.extend_from_slice(b"partition ")?;
     push_decimal(text, number)?;
     text.extend_from_slice(b" ")?;
-    push_hex(text, alloc, &heading.base.to_be_bytes())?;
+    push_hex(text, &heading.base.to_be_bytes())?;
     text.extend_from_slice(b" ")?;
     text.extend_from_slice(shown_name(heading.name.as_bytes()))?;
     text.push(b'\n')?;
@@ -100,44 +93,29 @@ fn shown_name(name: &[u8]) -> &[u8]
     if name.is_empty() { b"-" } else { name }
 }
 
-fn push_members(
-    text: &mut Vec<u8>,
-    alloc: Global,
-    base: u16,
-    ports: &[SubnetPort],
-) -> Result<(), AllocError>
+fn push_members(text: &mut Vec<u8>, base: u16, ports: &[SubnetPort]) -> Result<(), AllocError>
     ensures { OnOk result (text.new.items ≡ text.old.items ++ flat_map (member_text base) ports.now) }
 {
     for port in ports {
-        push_member(text, alloc, base, port)?;
+        push_member(text, base, port)?;
     }
     Ok(())
 }
 
-fn push_member(
-    text: &mut Vec<u8>,
-    alloc: Global,
-    base: u16,
-    port: &SubnetPort,
-) -> Result<(), AllocError>
+fn push_member(text: &mut Vec<u8>, base: u16, port: &SubnetPort) -> Result<(), AllocError>
     ensures { OnOk result (text.new.items ≡ text.old.items ++ member_text base port.now) }
 {
     match port.keys.find_base(base) {
-        Some(key) => push_member_line(text, alloc, port, key),
+        Some(key) => push_member_line(text, port, key),
         None => Ok(()),
     }
 }
 
-fn push_member_line(
-    text: &mut Vec<u8>,
-    alloc: Global,
-    port: &SubnetPort,
-    key: PKey,
-) -> Result<(), AllocError>
+fn push_member_line(text: &mut Vec<u8>, port: &SubnetPort, key: PKey) -> Result<(), AllocError>
     ensures { OnOk result (text.new.items ≡ text.old.items ++ member_line port.now key) }
 {
     text.extend_from_slice(b"member ")?;
-    push_hex(text, alloc, &key.bits().to_be_bytes())?;
+    push_hex(text, &key.bits().to_be_bytes())?;
     text.extend_from_slice(b" ")?;
     push_port(text, port)?;
     text.push(b'\n')?;

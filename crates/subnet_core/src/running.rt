@@ -1,15 +1,16 @@
-ghost use Rattle.std.specs.Prelude.{◌≡◌, IfOk, IsOkUnless, OnOk};
+ghost use Rattle.std.specs.Prelude.{IfOk};
 ghost use Rattle.std.specs.Option.{option_copied};
-ghost use Rattle.subnet_model.specs.Report.{events_from, step};
+ghost use Rattle.result_words.specs.AtLine.{on_line};
 ghost use Rattle.subnet_core.specs.Headline.{KeepsPartitionsApart};
-ghost use Rattle.subnet_core.specs.Run.{RunGives, of_script, report_of, with_line};
-ghost use Rattle.subnet_core.specs.Script.{commands_of};
+ghost use Rattle.subnet_core.specs.Run.{RunGives, of_text, report_of};
+ghost use Rattle.subnet_core.specs.Script.{commands_in, with_line};
+ghost use Rattle.subnet_core.specs.declared.fault.RunFault.TheVariants.{Script};
 
 use crate::fault::RunFault;
 use crate::report::Report;
 use crate::subnet::{Subnet, bring_up};
 use std::alloc::Global;
-use subnet_model::{Command, Event};
+use subnet_model::Command;
 use text_words::Lines;
 
 /// Runs a script on the subnet of a topology under a partition file, or without one. All three texts
@@ -40,16 +41,15 @@ fn in_turn(
     ensures { RunGives (λ report. report) result
         (report_of topology.now (option_copied partitions.entry) script.now) }
 {
-    let mut subnet = bring_up(alloc, topology, partitions)?;
-    let commands = commands_of(alloc, &subnet, script)?;
-    let events = run_all(alloc, &mut subnet, &commands)?;
-    Ok(subnet.report(events))
+    let subnet = bring_up(alloc, topology, partitions)?;
+    let commands = commands_in(alloc, &subnet, script)?;
+    Ok(subnet.report(&commands)?)
 }
 
 /// The commands of a script, or its first fault.
-fn commands_of(alloc: Global, subnet: &Subnet, script: &[u8]) -> Result<Vec<Command>, RunFault>
+fn commands_in(alloc: Global, subnet: &Subnet, script: &[u8]) -> Result<Vec<Command>, RunFault>
     ensures { RunGives (λ commands. commands.items) result
-        (of_script (commands_of subnet.now.plan script.now)) }
+        (of_text Script (commands_in subnet.now.plan script.now)) }
 {
     let mut commands = Vec::new(alloc);
     let mut number = 0;
@@ -60,6 +60,7 @@ fn commands_of(alloc: Global, subnet: &Subnet, script: &[u8]) -> Result<Vec<Comm
     Ok(commands)
 }
 
+#[tactic(auto, unfolding(crate::specs::Script::with_line))]
 fn take_line(
     subnet: &Subnet,
     commands: &mut Vec<Command>,
@@ -67,25 +68,10 @@ fn take_line(
     line: &[u8],
 ) -> Result<(), RunFault>
     ensures { RunGives (λ _. commands.new.items) result
-        (with_line subnet.now.plan commands.old.items number line.now) }
+        (of_text Script (on_line number (with_line subnet.now.plan number commands.old.items line.now))) }
 {
     if let Some(command) = subnet.parse(number, line)? {
         commands.push(command)?;
     }
     Ok(())
-}
-
-/// The events of the commands, one command after the other.
-fn run_all(alloc: Global, subnet: &mut Subnet, commands: &[Command]) -> Result<Vec<Event>, RunFault>
-    ensures events { IfOk result (λ events.
-        events.items ≡ events_from (step subnet.old.ports) subnet.old.state commands.now) }
-    ensures ports { OnOk result (subnet.new.ports ≡ subnet.old.ports) }
-    ensures memory { IsOkUnless result RunFault.NoMemory }
-{
-    let mut events = Vec::new(alloc);
-    for command in commands {
-        let mut next = subnet.step(command)?;
-        events.append(&mut next)?;
-    }
-    Ok(events)
 }

@@ -1,81 +1,71 @@
-ghost use Rattle.std.specs.Prelude.{◌≡◌, ◌^◌, ◌≤◌, map, IfOk};
-ghost use Rattle.std.specs.Option.{ForSome};
+ghost use Rattle.std.specs.Prelude.{◌≡◌, ◌^◌, ◌≤◌, IfOk};
+ghost use Rattle.std.specs.Option.{ForSome, option_map};
+ghost use Rattle.result_words.specs.Gives.{seen_by};
 ghost use Rattle.topo_file.specs.Node.{ports_at};
-ghost use Rattle.hex.specs.Hex.{decode_of};
 ghost use Rattle.data_packet.specs.declared.payload.TheConstants.{PAYLOAD_BYTES};
-ghost use Rattle.subnet_core.specs.Reading.{Gives, GivesSeen};
-ghost use Rattle.subnet_core.specs.Script.{sender_at, sender_of, field_of, size_of, carried, bytes_or_fault, filled, payload_of, send_spelt, send_of, command_in, command_of};
+ghost use Rattle.subnet_core.specs.Seen.{written};
+ghost use Rattle.subnet_core.specs.Script.{command_of, field_of, fitting, payload_of, send_of, send_spelt, sender_at, sender_of, spelt, written_in};
 
-use crate::fault::{ScriptError, ScriptCause};
+use crate::fault::ScriptCause;
 use data_packet::{PAYLOAD_BYTES, Payload, QueuePair};
-use hex::FromHexError;
-use std::alloc::Global;
+use fabric_parts::PortRef;
+use hex::decode_to_slice;
 use subnet_model::{Command, SendCommand};
-use text_words::{cut_at, has_bad_character, number_in, port_in, words};
-use topo_file::{PortRef, Topology};
+use text_words::{Words, cut_at, number_in, port_in};
+use topo_file::Topology;
 
 /// The command that a line gives, with its LF where it has one and with its comment; none for a line
 /// without words.
-pub(crate) fn command_of(
-    alloc: Global,
-    topology: &Topology,
-    line: &[u8],
-) -> Result<Option<Command>, ScriptError>
-    ensures { Gives result (command_of topology.now line.now) }
+#[tactic(auto, unfolding(crate::specs::Script::command_of, crate::specs::Script::command_in))]
+pub(crate) fn command_of(topology: &Topology, line: &[u8]) -> Result<Option<Command>, ScriptCause>
+    ensures { result ≡ command_of topology.now line.now }
 {
-    if has_bad_character(line) {
-        return Err(ScriptError::Fault(ScriptCause::Malformed));
-    }
-    let words = words(alloc, line)?;
-    command_in(alloc, topology, &words)
-}
-
-#[tactic(auto, unfolding(crate::specs::Script::command_in))]
-fn command_in(
-    alloc: Global,
-    topology: &Topology,
-    words: &[&[u8]],
-) -> Result<Option<Command>, ScriptError>
-    ensures { Gives result (command_in topology.now (map (λ word. word.now) words.now)) }
-{
-    let [first, rest @ ..] = words else {
+    let mut words = Words::of(line).ok_or(ScriptCause::Malformed)?;
+    let Some(first) = words.next() else {
         return Ok(None);
     };
-    if *first != b"send".as_slice() {
-        return Err(ScriptError::Fault(ScriptCause::Malformed));
+    if first != b"send".as_slice() {
+        return Err(ScriptCause::Malformed);
     }
-    let command = send_of(alloc, topology, rest)?;
+    let command = send_of(topology, words)?;
     Ok(Some(command))
 }
 
 #[tactic(auto, unfolding(crate::specs::Script::send_of))]
-fn send_of(alloc: Global, topology: &Topology, words: &[&[u8]]) -> Result<Command, ScriptError>
-    ensures { Gives result (send_of topology.now (map (λ word. word.now) words.now)) }
+fn send_of(topology: &Topology, words: Words<'_>) -> Result<Command, ScriptCause>
+    ensures { result ≡ send_of topology.now words.entry }
 {
-    let [port, dlid, p_key, qp, payload] = words else {
-        return Err(ScriptError::Fault(ScriptCause::Malformed));
+    let mut words = words;
+    let (Some(port), Some(dlid), Some(p_key), Some(qp), Some(payload), None) = (
+        words.next(),
+        words.next(),
+        words.next(),
+        words.next(),
+        words.next(),
+        words.next(),
+    ) else {
+        return Err(ScriptCause::Malformed);
     };
-    send_spelt(alloc, topology, *port, *dlid, *p_key, *qp, *payload)
+    send_spelt(topology, port, dlid, p_key, qp, payload)
 }
 
 #[tactic(auto, unfolding(crate::specs::Script::send_spelt))]
 fn send_spelt(
-    alloc: Global,
     topology: &Topology,
     port: &[u8],
     dlid: &[u8],
     p_key: &[u8],
     qp: &[u8],
     payload: &[u8],
-) -> Result<Command, ScriptError>
-    ensures { Gives result (send_spelt topology.now port.now dlid.now p_key.now qp.now payload.now) }
+) -> Result<Command, ScriptCause>
+    ensures { result ≡ send_spelt topology.now port.now dlid.now p_key.now qp.now payload.now }
 {
     let port = sender_of(topology, port)?;
-    let size = carried(payload)?;
+    let written = fitting(written_in(payload))?;
     let dlid = word_field(dlid)?;
     let p_key = word_field(p_key)?;
     let destination_qp = queue_pair_field(qp)?;
-    let payload = payload_of(alloc, size, payload)?;
+    let payload = payload_of(written)?;
     Ok(Command::Send(SendCommand {
         port,
         dlid,
@@ -138,56 +128,56 @@ fn queue_pair_field(word: &[u8]) -> Result<QueuePair, ScriptCause>
     }
 }
 
-/// The size of a payload, if the word tells one, which may not be over what a packet carries.
-fn carried(word: &[u8]) -> Result<Option<usize>, ScriptCause>
-    ensures value { result ≡ carried word.now }
-    ensures fits { IfOk result (λ size. ForSome size (λ n. n ≤ PAYLOAD_BYTES)) }
+/// A payload as a word writes it.
+#[derive(Clone, Copy)]
+pub(crate) struct Written<'a> {
+    /// How many bytes it has.
+    size: u128,
+    /// The digits of its first bytes.
+    digits: &'a [u8],
+}
+
+fn written_in(word: &[u8]) -> Option<Written<'_>>
+    ensures { option_map written result ≡ written_in word.now }
 {
-    match size_of(word) {
-        Some(size) if size > PAYLOAD_BYTES as u128 => Err(ScriptCause::PayloadTooLong),
-        Some(size) => Ok(Some(size as usize)),
-        None => Ok(None),
+    let (size, digits) = cut_at(b':', word)?;
+    let size = number_in(size)?;
+    Some(Written { size, digits })
+}
+
+/// The same, unless it is more than a packet carries.
+fn fitting(shown: Option<Written<'_>>) -> Result<Option<Written<'_>>, ScriptCause>
+    ensures value { seen_by (option_map written) result ≡ fitting (option_map written shown.entry) }
+    ensures fits { IfOk result (λ it. ForSome it (λ w. w.size ≤ PAYLOAD_BYTES)) }
+{
+    match shown {
+        Some(shown) if shown.size > PAYLOAD_BYTES as u128 => Err(ScriptCause::PayloadTooLong),
+        _ => Ok(shown),
     }
 }
 
-fn size_of(word: &[u8]) -> Option<u128>
-    ensures { result ≡ size_of word.now }
+fn payload_of(shown: Option<Written<'_>>) -> Result<Payload, ScriptCause>
+    requires { ForSome shown (λ w. w.size ≤ PAYLOAD_BYTES) }
+    ensures { result ≡ payload_of (option_map written shown.entry) }
 {
-    let (size, _) = cut_at(b':', word)?;
-    number_in(size)
-}
-
-#[tactic(auto, unfolding(crate::specs::Script::payload_of))]
-fn payload_of(alloc: Global, size: Option<usize>, word: &[u8]) -> Result<Payload, ScriptError>
-    requires { ForSome size (λ n. n ≤ PAYLOAD_BYTES) }
-    ensures { Gives result (payload_of size word.now) }
-{
-    let Some(size) = size else {
-        return Err(ScriptError::Fault(ScriptCause::BadField));
-    };
-    let Some((_, digits)) = cut_at(b':', word) else {
-        return Err(ScriptError::Fault(ScriptCause::BadField));
-    };
-    let bytes = decoded(alloc, digits)?;
-    Ok(filled(size, &bytes)?)
-}
-
-fn decoded(alloc: Global, digits: &[u8]) -> Result<Vec<u8>, ScriptError>
-    ensures { GivesSeen (λ bytes. bytes.items) result (bytes_or_fault (decode_of digits.now)) }
-{
-    match hex::decode(alloc, digits) {
-        Ok(bytes) => Ok(bytes),
-        Err(FromHexError::OutOfMemory) => Err(ScriptError::NoMemory),
-        Err(_) => Err(ScriptError::Fault(ScriptCause::BadField)),
+    match shown {
+        Some(shown) => spelt(shown.size as usize, shown.digits),
+        None => Err(ScriptCause::BadField),
     }
 }
 
-fn filled(size: usize, bytes: &[u8]) -> Result<Payload, ScriptCause>
+/// So many bytes: those that the digits spell, and zero bytes behind them.
+fn spelt(size: usize, digits: &[u8]) -> Result<Payload, ScriptCause>
     requires { size ≤ PAYLOAD_BYTES }
-    ensures { result ≡ filled size bytes.now }
+    ensures { result ≡ spelt size digits.now }
 {
-    if bytes.len() > size {
+    let count = digits.len() / 2;
+    if count > size {
         return Err(ScriptCause::BadField);
     }
-    Ok(Payload::padded(bytes, size))
+    let mut bytes = [0; PAYLOAD_BYTES];
+    match decode_to_slice(digits, &mut bytes[..count]) {
+        Ok(()) => Ok(Payload::new(&bytes[..size])),
+        Err(_) => Err(ScriptCause::BadField),
+    }
 }

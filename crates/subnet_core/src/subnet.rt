@@ -3,16 +3,17 @@ ghost use Rattle.std.specs.Option.{option_copied};
 ghost use Rattle.topo_file.specs.Topology.{topology_of};
 ghost use Rattle.subnet_model.specs.Report.{step};
 ghost use Rattle.subnet_core.specs.Listing.{listing_text};
-ghost use Rattle.subnet_core.specs.Run.{RunGives, of_topology, parsed, partitions_for, subnet_of};
+ghost use Rattle.subnet_core.specs.Run.{RunGives, of_text, parsed, partitions_for, subnet_of, told};
+ghost use Rattle.subnet_core.specs.declared.fault.RunFault.TheVariants as run;
 
 use crate::end_ports::partitions_and_ports;
-use crate::fault::{RunFault, ScriptError, StepFault};
+use crate::fault::{RunFault, StepFault};
 use crate::report::Report;
 use crate::{listing, script};
 use partition_file::{Heading, PartFault, Partitions, no_file};
 use std::alloc::{AllocError, Global};
 use std::marker::Model;
-use subnet_model::{Command, Event, State, SubnetPort, step};
+use subnet_model::{Command, Event, State, SubnetPort, carry_out, step};
 use topo_file::{TopoFault, Topology};
 
 /// A subnet that was brought up and takes commands one by one.
@@ -64,7 +65,7 @@ pub fn bring_up(
 }
 
 fn topology_of(alloc: Global, text: &[u8]) -> Result<Topology, RunFault>
-    ensures { RunGives (λ topology. topology) result (of_topology (topology_of text.now)) }
+    ensures { RunGives (λ topology. topology) result (of_text run.Topology (topology_of text.now)) }
 {
     match topo_file::read(alloc, text) {
         Ok(topology) => Ok(topology),
@@ -100,10 +101,9 @@ impl Subnet {
     pub fn parse(&self, number: usize, line: &[u8]) -> Result<Option<Command>, RunFault>
         ensures { RunGives (λ command. command) result (parsed self.now.plan number line.now) }
     {
-        match script::command_of(self.alloc, &self.topology, line) {
+        match script::command_of(&self.topology, line) {
             Ok(command) => Ok(command),
-            Err(ScriptError::NoMemory) => Err(RunFault::NoMemory),
-            Err(ScriptError::Fault(cause)) => Err(RunFault::Script {
+            Err(cause) => Err(RunFault::Script {
                 line: number,
                 cause,
             }),
@@ -123,8 +123,9 @@ impl Subnet {
         if self.is_broken {
             return Err(StepFault::Broken);
         }
-        match step(self.alloc, &self.ports, &mut self.state, command) {
-            Ok(events) => Ok(events),
+        let mut events = Vec::new(self.alloc);
+        match step(&mut events, &self.ports, &mut self.state, command) {
+            Ok(()) => Ok(events),
             Err(_) => {
                 self.is_broken = true;
                 Err(StepFault::NoMemory)
@@ -132,10 +133,13 @@ impl Subnet {
         }
     }
 
-    /// What is told of a run: these events, at the ports of this subnet.
-    pub(crate) fn report(self, events: Vec<Event>) -> Report
-        ensures { result ≡ record { ports = self.ports; events = events.items } }
+    /// What is told of commands that are carried out one after another. Memory alone can be refused.
+    pub(crate) fn report(self, commands: &[Command]) -> Result<Report, AllocError>
+        ensures { IfOk result (λ report. report ≡ told self commands.now) }
     {
-        Report::new(self.alloc, self.ports, events)
+        let mut subnet = self;
+        let mut events = Vec::new(subnet.alloc);
+        carry_out(&mut events, &subnet.ports, &mut subnet.state, commands)?;
+        Ok(Report::new(subnet.alloc, subnet.ports, events))
     }
 }

@@ -1,10 +1,12 @@
-ghost use Rattle.std.specs.Prelude.{◌≡◌, ◌++◌, [], ◌∷◌, drop, OnOk, IfOk, decimal};
+ghost use Rattle.std.specs.Prelude.{◌≡◌, ◌≤◌, ◌*◌, ◌++◌, [], ◌∷◌, length, drop, OnOk, IfOk, decimal};
+ghost use Rattle.data_packet.specs.declared.payload.TheConstants.{PAYLOAD_BYTES};
 ghost use Rattle.std.specs.Int.{w16, w32, to_be_bytes};
 ghost use Rattle.subnet_model.specs.Delivery.{port_of};
 ghost use Rattle.hex.specs.Hex.{encode_lower};
 ghost use Rattle.subnet_core.specs.Text.{port_text, name_text, hex_text, trimmed, payload_text, packet_text, outcome_text, line_text, report_text};
 
-use data_packet::Packet;
+use data_packet::{PAYLOAD_BYTES, Packet};
+use hex::encode_to_slice;
 use itoa::Buffer;
 use std::alloc::{AllocError, Global};
 use subnet_model::{Event, Outcome, SubnetPort, port_of};
@@ -19,21 +21,16 @@ pub(crate) fn report_text(
 {
     let mut text = Vec::new(alloc);
     for event in events {
-        push_line(&mut text, alloc, ports, event)?;
+        push_line(&mut text, ports, event)?;
     }
     Ok(text)
 }
 
-fn push_line(
-    text: &mut Vec<u8>,
-    alloc: Global,
-    ports: &[SubnetPort],
-    event: &Event,
-) -> Result<(), AllocError>
+fn push_line(text: &mut Vec<u8>, ports: &[SubnetPort], event: &Event) -> Result<(), AllocError>
     ensures { OnOk result (text.new.items ≡ text.old.items ++ line_text ports.now event.now) }
 {
     push_name(text, ports, event.port)?;
-    push_outcome(text, alloc, &event.what)?;
+    push_outcome(text, &event.what)?;
     text.push(b'\n')?;
     Ok(())
 }
@@ -56,11 +53,11 @@ pub(crate) fn push_port(text: &mut Vec<u8>, port: &SubnetPort) -> Result<(), All
     push_decimal(text, usize::from(port.number))
 }
 
-fn push_outcome(text: &mut Vec<u8>, alloc: Global, what: &Outcome) -> Result<(), AllocError>
+fn push_outcome(text: &mut Vec<u8>, what: &Outcome) -> Result<(), AllocError>
     ensures { OnOk result (text.new.items ≡ text.old.items ++ outcome_text what.now) }
 {
     match what {
-        Outcome::Received(packet) => push_packet(text, alloc, packet),
+        Outcome::Received(packet) => push_packet(text, packet),
         Outcome::Refused(refusal) => {
             text.extend_from_slice(b" refused ")?;
             text.extend_from_slice(refusal.code().as_bytes())
@@ -68,46 +65,49 @@ fn push_outcome(text: &mut Vec<u8>, alloc: Global, what: &Outcome) -> Result<(),
     }
 }
 
-fn push_packet(text: &mut Vec<u8>, alloc: Global, packet: &Packet) -> Result<(), AllocError>
+fn push_packet(text: &mut Vec<u8>, packet: &Packet) -> Result<(), AllocError>
     ensures { OnOk result (text.new.items ≡ text.old.items ++ packet_text packet.now) }
 {
     text.extend_from_slice(b" recv ")?;
-    push_hex(text, alloc, &packet.slid.to_be_bytes())?;
+    push_hex(text, &packet.slid.to_be_bytes())?;
     text.extend_from_slice(b" ")?;
-    push_hex(text, alloc, &packet.dlid.to_be_bytes())?;
+    push_hex(text, &packet.dlid.to_be_bytes())?;
     text.extend_from_slice(b" ")?;
-    push_hex(text, alloc, &packet.p_key.bits().to_be_bytes())?;
+    push_hex(text, &packet.p_key.bits().to_be_bytes())?;
     text.extend_from_slice(b" ")?;
-    push_hex(
-        text,
-        alloc,
-        &packet.destination_qp.number().to_be_bytes()[1..],
-    )?;
+    push_hex(text, &packet.destination_qp.number().to_be_bytes()[1..])?;
     text.extend_from_slice(b" ")?;
-    push_payload(text, alloc, packet.payload.as_slice())
+    push_payload(text, packet.payload.as_slice())
 }
 
-/// `0x` and two digits a byte.
-pub(crate) fn push_hex(text: &mut Vec<u8>, alloc: Global, bytes: &[u8]) -> Result<(), AllocError>
+/// `0x` and two digits a byte, of at most 8 bytes.
+pub(crate) fn push_hex(text: &mut Vec<u8>, bytes: &[u8]) -> Result<(), AllocError>
+    requires { length bytes.now ≤ 8 }
     ensures { OnOk result (text.new.items ≡ text.old.items ++ hex_text bytes.now) }
 {
+    let mut digits = [0; 16];
     text.extend_from_slice(b"0x")?;
-    push_digits(text, alloc, bytes)
+    text.extend_from_slice(digits_of(bytes, &mut digits))
 }
 
-fn push_payload(text: &mut Vec<u8>, alloc: Global, bytes: &[u8]) -> Result<(), AllocError>
+fn push_payload(text: &mut Vec<u8>, bytes: &[u8]) -> Result<(), AllocError>
+    requires { length bytes.now ≤ PAYLOAD_BYTES }
     ensures { OnOk result (text.new.items ≡ text.old.items ++ payload_text bytes.now) }
 {
+    let mut digits = [0; 2 * PAYLOAD_BYTES];
     push_decimal(text, bytes.len())?;
     text.extend_from_slice(b":")?;
-    push_digits(text, alloc, trimmed(bytes))
+    text.extend_from_slice(digits_of(trimmed(bytes), &mut digits))
 }
 
-fn push_digits(text: &mut Vec<u8>, alloc: Global, bytes: &[u8]) -> Result<(), AllocError>
-    ensures { OnOk result (text.new.items ≡ text.old.items ++ encode_lower bytes.now) }
+/// Two digits a byte, written at the beginning of a room that is long enough.
+fn digits_of<'a>(bytes: &[u8], room: &'a mut [u8]) -> &'a [u8]
+    requires { 2 * length bytes.now ≤ length room.old }
+    ensures { result.now ≡ encode_lower bytes.now }
 {
-    let digits = hex::encode(alloc, bytes)?;
-    text.extend_from_slice(digits.as_bytes())
+    let digits = &mut room[..2 * bytes.len()];
+    let _ = encode_to_slice(bytes, digits);
+    digits
 }
 
 /// A number in decimal digits.
@@ -120,7 +120,8 @@ pub(crate) fn push_decimal(text: &mut Vec<u8>, number: usize) -> Result<(), Allo
 
 /// The bytes without the zero bytes at their end.
 fn trimmed(bytes: &[u8]) -> &[u8]
-    ensures { result.now ≡ trimmed bytes.now }
+    ensures value { result.now ≡ trimmed bytes.now }
+    ensures short { length result.now ≤ length bytes.now }
 {
     let mut end = bytes.len();
     while end > 0 && bytes[end - 1] == 0 {

@@ -13,7 +13,7 @@ returns c =
     c.in_ok-run.ensures.shape c.wanted-script.ensures.global
     ∙ ap₂ with_rule c.in_ok-subnet_command.ensures.words c.wanted-script.ensures.rule in
     let top_is : app_of c.subcommand_required.result ≡ fabric_top =
-    rw (c.subcommand_required.ensures, c.after_help.ensures, c.about.ensures, c.version.ensures) (ap with_settings c.new.ensures.app) in
+    rw (c.subcommand_required.ensures, c.after_help.ensures, c.about.ensures, c.version.ensures, c.in_ok-bin_name.ensures.0) (ap with_settings c.new.ensures.app) in
     let checks : app_of c.in_ok-subcommand.field-0 ≡ with_subcommand fabric_top check_command.top =
     adds_shape _ _ _ check_command c.in_ok-subcommand.ensures c.in_ok-check.ensures.words refl
     ∙ ap (λ (a : App). with_subcommand a check_command.top) top_is in

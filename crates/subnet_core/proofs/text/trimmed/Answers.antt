@@ -10,8 +10,8 @@ loop-end-preserved c =
     let within : c.loop-end.end ≤ length c.args.bytes.now = omega arith in
     (omega arith, trimmed_less c.args.bytes.now c.loop-end.end some within c.if-bytes-end-eq0.true ∙ c.loop-end.invariant.1)
 
-pub returns : goal.returns
-returns c = elim c.loop-end-test.branch [
+pub returns-clause-value : goal.returns-clause-value
+returns-clause-value c = elim c.loop-end-test.branch [
   | then-loop-end-test+else-bytes-end-eq0 w ↦
       let some : 0 < c.loop-end.end = omega arith in
       let within : c.loop-end.end ≤ length c.args.bytes.now = omega arith in

@@ -1,0 +1,44 @@
+//! What is so of every partition text and of all partitions. The functions do nothing; their clauses are the
+//! theorems.
+
+ghost use Rattle.partition_file.specs.Laws.{GeneratedBasesAreFree};
+ghost use Rattle.partition_file.specs.Laws.{KeysTellMembership};
+ghost use Rattle.partition_file.specs.Laws.{CleanThroughout, CommentsByBeginning, EndRefuses, InsideRefuses, OnlySoRefused};
+
+/// Which fault a partition text is refused for, as a law over the definitions that [`read`] meets.
+/// The function does nothing; its clauses are the theorem.
+///
+/// No byte of a clean beginning of a text has a fault. A text is refused exactly where
+/// a byte that follows a clean beginning has a fault, or all of it is clean and ends inside a
+/// definition; it is refused for that fault, the first in turn if the byte has several, with the
+/// line of that byte or of the end.
+///
+/// [`read`]: crate::read
+pub fn texts_are_refused_for_their_first_fault()
+    // The fault of a byte after a clean beginning is told, whatever follows.
+    ensures inside { InsideRefuses }
+    // So is the fault of the end.
+    ensures end { EndRefuses }
+    // No text is refused otherwise.
+    ensures only { OnlySoRefused }
+    // No byte of a clean beginning has a fault.
+    ensures clean { CleanThroughout }
+    // Comments don't matter to any of this.
+    ensures comments { CommentsByBeginning }
+{}
+
+/// The law of the bases of definitions that name none: each is one that no definition of the file
+/// names and none got before, and is the least such. With no more partitions than there may be,
+/// there always is one. The function does nothing; its clause is the theorem.
+pub fn generated_bases_are_free()
+    ensures { GeneratedBasesAreFree }
+{}
+
+/// The law of the keys that [`members`] gives: of each partition's base a port has the key that it has
+/// in that partition, and none where it is no member. The function does nothing; its clause is the
+/// theorem.
+///
+/// [`members`]: crate::members
+pub fn keys_tell_membership()
+    ensures { KeysTellMembership }
+{}
