@@ -1,8 +1,2 @@
 pub mod BlockLemmas
-pub mod RequestLemmas
-pub mod PortSettingLemmas
-pub mod AgentLemmas
-pub mod TableLemmas
-pub mod CarryLemmas
-pub mod PutLemmas
-pub mod UnseenLemmas
+pub mod AttributeLemmas

@@ -18,17 +18,6 @@ pub record StandsAt (size index block place : ℕ) : Type 0 where
   pub counted : size * block + place ≡ index
   pub within : place < size
 
--- every entry of a table stands at one place of one of its blocks
-pub record Tiles (size blocks index : ℕ) : Type 0 where
-  pub block : ℕ
-  pub place : ℕ
-  pub there : block < blocks
-  pub stands : StandsAt size index block place
-  pub alone : (b p : ℕ) → StandsAt size index b p → (b ≡ block) × (p ≡ place)
-
-abbrev pub BlocksTile : Type 0
-BlocksTile = (size entries blocks index : ℕ) → IsBlockCount size entries blocks → index < entries → Tiles size blocks index
-
 -- words of 16 bits as bytes, the high byte of each first
 unfoldable pub word_bytes : List ℕ → List ℕ
 word_bytes words = flat_map (bytes_high_first 2) words

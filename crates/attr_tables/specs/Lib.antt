@@ -1,4 +1,3 @@
-pub mod NodeType
 pub mod NodeInfo
 pub mod PortState
 pub mod PortPhysicalState
@@ -8,8 +7,5 @@ pub mod PortInfo
 pub mod SmpAttribute
 pub mod SwitchInfo
 pub mod Blocks
-pub mod PowerUp
-pub mod Request
-pub mod PortSetting
-pub mod Agent
-pub mod AgentLaws
+pub mod Attribute
+pub mod Laws

@@ -15,4 +15,11 @@ smp_attribute_code MulticastForwardingTable = 27
 -- the attribute of that code, if there is one
 abbrev pub smp_attribute_of : ℕ → Option SmpAttribute
 smp_attribute_of code =
-    if code == smp_attribute_code NodeDescription then Some NodeDescription else (if code == smp_attribute_code NodeInfo then Some NodeInfo else (if code == smp_attribute_code SwitchInfo then Some SwitchInfo else (if code == smp_attribute_code PortInfo then Some PortInfo else (if code == smp_attribute_code PKeyTable then Some PKeyTable else (if code == smp_attribute_code LinearForwardingTable then Some LinearForwardingTable else (if code == smp_attribute_code MulticastForwardingTable then Some MulticastForwardingTable else None))))))
+    if code == smp_attribute_code NodeDescription then Some NodeDescription
+    else (if code == smp_attribute_code NodeInfo then Some NodeInfo
+    else (if code == smp_attribute_code SwitchInfo then Some SwitchInfo
+    else (if code == smp_attribute_code PortInfo then Some PortInfo
+    else (if code == smp_attribute_code PKeyTable then Some PKeyTable
+    else (if code == smp_attribute_code LinearForwardingTable then Some LinearForwardingTable
+    else (if code == smp_attribute_code MulticastForwardingTable then Some MulticastForwardingTable
+    else None))))))

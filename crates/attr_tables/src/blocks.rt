@@ -1,5 +1,5 @@
 ghost use Rattle.std.specs.Prelude.{◌<◌};
-ghost use Rattle.attr_tables.specs.Blocks.{IsBlockCount, StandsAt, BlocksTile};
+ghost use Rattle.attr_tables.specs.Blocks.{IsBlockCount, StandsAt};
 
 /// How many ports a block of a linear forwarding table has.
 pub const PORTS_PER_BLOCK: usize = 64;
@@ -34,9 +34,3 @@ pub fn block_place<const SIZE: usize>(index: usize) -> BlockPlace
         place: index % SIZE,
     }
 }
-
-/// Every entry of a table stands at one place of one of its blocks. Its contract is that law; it does
-/// nothing.
-pub fn blocks_tile()
-    ensures { BlocksTile }
-{}

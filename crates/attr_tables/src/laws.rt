@@ -1,6 +1,6 @@
 ghost use Rattle.std.specs.Prelude.{◌≡◌, ◌<◌};
-ghost use Rattle.attr_tables.specs.AgentLaws.{RepliesCarry, SpellsAttributes, UnseenPasses};
 ghost use Rattle.attr_tables.specs.Blocks.{word_bytes};
+ghost use Rattle.attr_tables.specs.Laws.{AttributesAreSpelled, BlocksTile};
 ghost use Rattle.attr_tables.specs.NodeInfo.{node_info_bytes};
 ghost use Rattle.attr_tables.specs.PortInfo.{port_info, port_info_bytes};
 ghost use Rattle.attr_tables.specs.SwitchInfo.{switch_info_bytes};
@@ -60,18 +60,13 @@ pub fn word_block_reads_back(block: &WordBlock, bytes: &mut [u8; 64]) -> WordBlo
     WordBlock::read(bytes)
 }
 
-/// What records and blocks spell fills an attribute. Like the laws below it does nothing: its contract is
-/// the law.
+/// Every entry of a table stands at one place of one of its blocks. Like the law below it does nothing:
+/// its contract is the law.
+pub fn blocks_tile()
+    ensures { BlocksTile }
+{}
+
+/// What records and blocks spell fills an attribute.
 pub fn attributes_are_spelled()
-    ensures { SpellsAttributes }
-{}
-
-/// A reply carries the attribute or the refusal that answers, and all of the request beside.
-pub fn replies_carry()
-    ensures { RepliesCarry }
-{}
-
-/// What an agent neither reads nor writes, as the path, asks nothing of it and comes back in the reply.
-pub fn unseen_passes()
-    ensures { UnseenPasses }
+    ensures { AttributesAreSpelled }
 {}

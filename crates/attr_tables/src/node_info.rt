@@ -1,9 +1,9 @@
 ghost use Rattle.std.specs.Prelude.{◌≡◌, ◌<◌, Some, IfSome, replicate};
 ghost use Rattle.mad_layout.specs.Layout.{Holds, Fits, put_all, Spells};
 ghost use Rattle.attr_tables.specs.NodeInfo.{node_info, node_info_bytes};
-ghost use Rattle.attr_tables.specs.NodeType.{node_type_code};
+ghost use Rattle.fabric_parts.specs.NodeType.{node_type_code};
 
-use crate::node_type::NodeType;
+use fabric_parts::NodeType;
 use mad_layout::{read_fields, write_fields};
 
 /// What a node is, each field as its raw bits.

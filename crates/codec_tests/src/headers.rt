@@ -13,95 +13,97 @@ fn mad_with(first: usize, bytes: &[u8]) -> Mad
     mad
 }
 
+/// The bytes of a header, its fields, and the names of its method and status.
+const MAD_HEADERS: [([u8; 24], Header, Option<Method>, Option<MadStatus>); 3] = [
+    // an answer with a table of node records
+    (
+        [
+            0x01, // BaseVersion
+            0x03, // MgmtClass
+            0x02, // ClassVersion
+            0x92, // R, Method
+            0x00, 0x00, // Status
+            0x00, 0x00, // ClassSpecific
+            0x00, 0x00, 0x00, 0x00, 0x00, 0x00, 0x00, 0x04, // TransactionID
+            0x00, 0x11, // AttributeID
+            0x00, 0x00, // reserved
+            0x00, 0x00, 0x00, 0x00, // AttributeModifier
+        ],
+        Header {
+            base_version: 1,
+            mgmt_class: 0x03,
+            class_version: 2,
+            method: 0x92,
+            status: 0,
+            class_specific: 0,
+            transaction_id: 4,
+            attribute_id: 0x0011,
+            attribute_modifier: 0,
+        },
+        Some(Method::GetTableResp),
+        None,
+    ),
+    // a refusal for its version
+    (
+        [
+            0x01, // BaseVersion
+            0x03, // MgmtClass
+            0x02, // ClassVersion
+            0x81, // R, Method
+            0x00, 0x04, // Status
+            0x00, 0x00, // ClassSpecific
+            0x00, 0x00, 0x00, 0x00, 0x00, 0x00, 0x00, 0x05, // TransactionID
+            0x00, 0x00, // AttributeID
+            0x00, 0x00, // reserved
+            0x00, 0x00, 0x00, 0x00, // AttributeModifier
+        ],
+        Header {
+            base_version: 1,
+            mgmt_class: 0x03,
+            class_version: 2,
+            method: 0x81,
+            status: 0x0004,
+            class_specific: 0,
+            transaction_id: 5,
+            attribute_id: 0,
+            attribute_modifier: 0,
+        },
+        Some(Method::GetResp),
+        Some(MadStatus::BadVersion),
+    ),
+    // a refusal for its method, which has no name
+    (
+        [
+            0x01, // BaseVersion
+            0x03, // MgmtClass
+            0x02, // ClassVersion
+            0x93, // R, Method
+            0x00, 0x08, // Status
+            0x00, 0x00, // ClassSpecific
+            0x00, 0x00, 0x00, 0x00, 0x00, 0x00, 0x00, 0x06, // TransactionID
+            0x00, 0x00, // AttributeID
+            0x00, 0x00, // reserved
+            0x00, 0x00, 0x00, 0x00, // AttributeModifier
+        ],
+        Header {
+            base_version: 1,
+            mgmt_class: 0x03,
+            class_version: 2,
+            method: 0x93,
+            status: 0x0008,
+            class_specific: 0,
+            transaction_id: 6,
+            attribute_id: 0,
+            attribute_modifier: 0,
+        },
+        None,
+        Some(MadStatus::MethodNotSupported),
+    ),
+];
+
 #[test]
 fn mad_headers_read_and_write(rt: HostRuntime) {
-    let vectors = [
-        // an answer with a table of node records
-        (
-            [
-                0x01, // BaseVersion
-                0x03, // MgmtClass
-                0x02, // ClassVersion
-                0x92, // R, Method
-                0x00, 0x00, // Status
-                0x00, 0x00, // ClassSpecific
-                0x00, 0x00, 0x00, 0x00, 0x00, 0x00, 0x00, 0x04, // TransactionID
-                0x00, 0x11, // AttributeID
-                0x00, 0x00, // reserved
-                0x00, 0x00, 0x00, 0x00, // AttributeModifier
-            ],
-            Header {
-                base_version: 1,
-                mgmt_class: 0x03,
-                class_version: 2,
-                method: 0x92,
-                status: 0,
-                class_specific: 0,
-                transaction_id: 4,
-                attribute_id: 0x0011,
-                attribute_modifier: 0,
-            },
-            Some(Method::GetTableResp),
-            None,
-        ),
-        // a refusal for its version
-        (
-            [
-                0x01, // BaseVersion
-                0x03, // MgmtClass
-                0x02, // ClassVersion
-                0x81, // R, Method
-                0x00, 0x04, // Status
-                0x00, 0x00, // ClassSpecific
-                0x00, 0x00, 0x00, 0x00, 0x00, 0x00, 0x00, 0x05, // TransactionID
-                0x00, 0x00, // AttributeID
-                0x00, 0x00, // reserved
-                0x00, 0x00, 0x00, 0x00, // AttributeModifier
-            ],
-            Header {
-                base_version: 1,
-                mgmt_class: 0x03,
-                class_version: 2,
-                method: 0x81,
-                status: 0x0004,
-                class_specific: 0,
-                transaction_id: 5,
-                attribute_id: 0,
-                attribute_modifier: 0,
-            },
-            Some(Method::GetResp),
-            Some(MadStatus::BadVersion),
-        ),
-        // a refusal for its method, which has no name
-        (
-            [
-                0x01, // BaseVersion
-                0x03, // MgmtClass
-                0x02, // ClassVersion
-                0x93, // R, Method
-                0x00, 0x08, // Status
-                0x00, 0x00, // ClassSpecific
-                0x00, 0x00, 0x00, 0x00, 0x00, 0x00, 0x00, 0x06, // TransactionID
-                0x00, 0x00, // AttributeID
-                0x00, 0x00, // reserved
-                0x00, 0x00, 0x00, 0x00, // AttributeModifier
-            ],
-            Header {
-                base_version: 1,
-                mgmt_class: 0x03,
-                class_version: 2,
-                method: 0x93,
-                status: 0x0008,
-                class_specific: 0,
-                transaction_id: 6,
-                attribute_id: 0,
-                attribute_modifier: 0,
-            },
-            None,
-            Some(MadStatus::MethodNotSupported),
-        ),
-    ];
-    for (bytes, header, method, status) in vectors {
+    for (bytes, header, method, status) in MAD_HEADERS {
         let mad = mad_with(0, &bytes);
         let read = Header::read(&mad);
         assert_eq!(rt; read, header);
@@ -114,38 +116,40 @@ fn mad_headers_read_and_write(rt: HostRuntime) {
     }
 }
 
+/// RMPPVersion, RMPPType, RRespTime and RMPPFlags, RMPPStatus, SegmentNumber (4), PayloadLength (4), and
+/// what they say: the kind, the flags, the status, the segment's number and the payload's length.
+const RMPP_HEADERS: [([u8; 12], (u8, u8, u8, u32, u32)); 6] = [
+    // the first of three segments of node records, the second and the last; the only segment of a
+    // table without records; aborts, for too small a window and for too big a segment number
+    (
+        [0x01, 0x01, 0x03, 0x00, 0, 0, 0, 1, 0x00, 0x00, 0x01, 0xfc],
+        (1, 0b011, 0, 1, 0x1fc),
+    ),
+    (
+        [0x01, 0x01, 0x01, 0x00, 0, 0, 0, 2, 0x00, 0x00, 0x00, 0x00],
+        (1, 0b001, 0, 2, 0),
+    ),
+    (
+        [0x01, 0x01, 0x05, 0x00, 0, 0, 0, 3, 0x00, 0x00, 0x00, 0x44],
+        (1, 0b101, 0, 3, 0x44),
+    ),
+    (
+        [0x01, 0x01, 0x07, 0x00, 0, 0, 0, 1, 0x00, 0x00, 0x00, 0x14],
+        (1, 0b111, 0, 1, 0x14),
+    ),
+    (
+        [0x01, 0x04, 0x01, 0x7a, 0, 0, 0, 0, 0x00, 0x00, 0x00, 0x00],
+        (4, 0b001, 122, 0, 0),
+    ),
+    (
+        [0x01, 0x04, 0x01, 0x7b, 0, 0, 0, 0, 0x00, 0x00, 0x00, 0x00],
+        (4, 0b001, 123, 0, 0),
+    ),
+];
+
 #[test]
 fn rmpp_headers_read_and_write(rt: HostRuntime) {
-    let vectors = [
-        // the first of three segments of node records, the second and the last; the only segment of a
-        // table without records; aborts, for too small a window and for too big a segment number
-        (
-            [0x01, 0x01, 0x03, 0x00, 0, 0, 0, 1, 0x00, 0x00, 0x01, 0xfc],
-            (1, 0b011, 0, 1, 0x1fc),
-        ),
-        (
-            [0x01, 0x01, 0x01, 0x00, 0, 0, 0, 2, 0x00, 0x00, 0x00, 0x00],
-            (1, 0b001, 0, 2, 0),
-        ),
-        (
-            [0x01, 0x01, 0x05, 0x00, 0, 0, 0, 3, 0x00, 0x00, 0x00, 0x44],
-            (1, 0b101, 0, 3, 0x44),
-        ),
-        (
-            [0x01, 0x01, 0x07, 0x00, 0, 0, 0, 1, 0x00, 0x00, 0x00, 0x14],
-            (1, 0b111, 0, 1, 0x14),
-        ),
-        (
-            [0x01, 0x04, 0x01, 0x7a, 0, 0, 0, 0, 0x00, 0x00, 0x00, 0x00],
-            (4, 0b001, 122, 0, 0),
-        ),
-        (
-            [0x01, 0x04, 0x01, 0x7b, 0, 0, 0, 0, 0x00, 0x00, 0x00, 0x00],
-            (4, 0b001, 123, 0, 0),
-        ),
-    ];
-    // RMPPVersion, RMPPType, RRespTime and RMPPFlags, RMPPStatus, SegmentNumber (4), PayloadLength (4)
-    for (bytes, (kind, flags, status, segment_number, payload_length)) in vectors {
+    for (bytes, (kind, flags, status, segment_number, payload_length)) in RMPP_HEADERS {
         let mad = mad_with(24, &bytes);
         let read = RmppHeader::read(&mad);
         let header = RmppHeader {
@@ -172,35 +176,36 @@ fn rmpp_headers_read_and_write(rt: HostRuntime) {
     }
 }
 
+/// SM_Key (8), AttributeOffset (2), reserved (2), ComponentMask (8), and the offset and the mask.
+const ADMINISTRATION_FIELDS: [([u8; 20], u16, u64); 3] = [
+    // node records, then services: 112 and 176 bytes from one to the next
+    (
+        [
+            0, 0, 0, 0, 0, 0, 0, 0, 0x00, 0x0e, 0, 0, 0, 0, 0, 0, 0, 0, 0, 0,
+        ],
+        14,
+        0,
+    ),
+    (
+        [
+            0, 0, 0, 0, 0, 0, 0, 0, 0x00, 0x16, 0, 0, 0, 0, 0, 0, 0, 0, 0, 0,
+        ],
+        22,
+        0,
+    ),
+    // a multicast group that is joined by its MGID, PortGID, Q_Key and more
+    (
+        [
+            0, 0, 0, 0, 0, 0, 0, 0, 0x00, 0x00, 0, 0, 0, 0, 0, 0, 0x00, 0x01, 0x30, 0xc7,
+        ],
+        0,
+        0x130c7,
+    ),
+];
+
 #[test]
 fn administration_fields_read_and_write(rt: HostRuntime) {
-    let vectors = [
-        // node records, then services: 112 and 176 bytes from one to the next
-        (
-            [
-                0, 0, 0, 0, 0, 0, 0, 0, 0x00, 0x0e, 0, 0, 0, 0, 0, 0, 0, 0, 0, 0,
-            ],
-            14,
-            0,
-        ),
-        (
-            [
-                0, 0, 0, 0, 0, 0, 0, 0, 0x00, 0x16, 0, 0, 0, 0, 0, 0, 0, 0, 0, 0,
-            ],
-            22,
-            0,
-        ),
-        // a multicast group that is joined by its MGID, PortGID, Q_Key and more
-        (
-            [
-                0, 0, 0, 0, 0, 0, 0, 0, 0x00, 0x00, 0, 0, 0, 0, 0, 0, 0x00, 0x01, 0x30, 0xc7,
-            ],
-            0,
-            0x130c7,
-        ),
-    ];
-    // SM_Key (8), AttributeOffset (2), reserved (2), ComponentMask (8)
-    for (bytes, attribute_offset, component_mask) in vectors {
+    for (bytes, attribute_offset, component_mask) in ADMINISTRATION_FIELDS {
         let mad = mad_with(36, &bytes);
         let read = SaMad::read(&mad);
         let fields = SaMad {

@@ -3,15 +3,15 @@
 
 ghost use Rattle.std.specs.Prelude.{◌≤◌, ◌<◌, length};
 
+use crate::fixtures::fabric_of;
 use attr_tables::SmpAttribute;
 use fabric_wire::{Fabric, read_attribute};
 use std::alloc::Global;
 use std::process::Abort;
 use std::test::Fail;
-use topo_file::read;
 
-fn put(text: &mut Vec<u8>, word: &[u8]) -> Result<(), Fail> {
-    text.extend_from_slice(word).ok().ok_or("memory")?;
+fn put(text: &mut Vec<u8>, part: &[u8]) -> Result<(), Fail> {
+    text.extend_from_slice(part).ok().ok_or("memory")?;
     Ok(())
 }
 
@@ -24,10 +24,10 @@ fn put_number(text: &mut Vec<u8>, number: u16) -> Result<(), Fail> {
     Ok(())
 }
 
-/// Adds a line of such words, each with a number.
-fn put_line(text: &mut Vec<u8>, words: &[(&[u8], u16)], end: &[u8]) -> Result<(), Fail> {
-    for (word, number) in words {
-        put(text, *word)?;
+/// Adds a line of such parts, each with a number.
+fn put_line(text: &mut Vec<u8>, parts: &[(&[u8], u16)], end: &[u8]) -> Result<(), Fail> {
+    for (part, number) in parts {
+        put(text, *part)?;
         put_number(text, *number)?;
     }
     put(text, end)
@@ -62,8 +62,7 @@ fn text_of_the_fat_tree(alloc: Global) -> Result<Vec<u8>, Fail> {
 
 fn fat_tree(alloc: Global) -> Result<Fabric, Fail> {
     let text = text_of_the_fat_tree(alloc)?;
-    let topology = read(alloc, &text).ok().ok_or("the topology")?;
-    Ok(Fabric::new(alloc, &topology).ok().ok_or("memory")?)
+    fabric_of(alloc, &text)
 }
 
 /// Reads NodeInfo along 320 paths, of each as many hops as are asked for: to the leaf of the subnet

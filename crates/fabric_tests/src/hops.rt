@@ -2,7 +2,8 @@
 
 ghost use Rattle.std.specs.Prelude.{◌≤◌, length};
 
-use attr_tables::{NodeType, SmpAttribute};
+use attr_tables::SmpAttribute;
+use fabric_parts::NodeType;
 use fabric_wire::get_request;
 use smp_route::{Hop, back, outward, pointer_of, return_port_of};
 use std::test::Fail;

@@ -9,6 +9,8 @@ mod agents;
 #[cfg(test)]
 mod fat_tree;
 #[cfg(test)]
+mod fixtures;
+#[cfg(test)]
 mod hops;
 #[cfg(test)]
 mod random_fabrics;

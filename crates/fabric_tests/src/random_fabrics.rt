@@ -2,14 +2,13 @@
 
 ghost use Rattle.std.specs.Prelude.{◌<◌};
 
-use attr_tables::{LINEAR_TABLE, Link, MULTICAST_TABLE, SmpAttribute};
-use fabric_wire::{AdapterPorts, Fabric, Node, PlainWire, SmpWire, get_request};
+use crate::fixtures::plain_wire_of;
+use attr_tables::SmpAttribute;
+use fabric_wire::{Fabric, SmpWire, get_request};
 use mad_layout::{DrSmp, Mad};
-use port_model::AdapterPort;
 use std::alloc::Global;
 use std::test::Fail;
-use switch_model::Switch;
-use topo_file::{PortRef, Topology, read};
+use topo_file::read;
 
 /// Numbers that look like chance, the same in each run.
 #[derive(Drop)]
@@ -31,9 +30,9 @@ impl Chance {
     }
 }
 
-/// Adds a word that ends in a digit.
-fn put(text: &mut Vec<u8>, word: &[u8], digit: u8) -> Result<(), Fail> {
-    text.extend_from_slice(word).ok().ok_or("memory")?;
+/// Adds a name or a number of which the last digit is that one.
+fn put(text: &mut Vec<u8>, start: &[u8], digit: u8) -> Result<(), Fail> {
+    text.extend_from_slice(start).ok().ok_or("memory")?;
     text.push(digit.wrapping_add(b'0')).ok().ok_or("memory")?;
     Ok(())
 }
@@ -77,47 +76,6 @@ fn fabric_text(alloc: Global, chance: &mut Chance) -> Result<Vec<u8>, Fail> {
     }
     text.extend_from_slice(b"sm h0/1\n").ok().ok_or("memory")?;
     Ok(text)
-}
-
-fn link_of(topology: &Topology, node: usize, port: u8) -> Link {
-    if topology.is_cabled(PortRef { node, port }) {
-        Link::Cabled
-    } else {
-        Link::Uncabled
-    }
-}
-
-/// The nodes of such a topology at power-up, as the plain wire keeps them.
-fn plain_wire_of(alloc: Global, topology: &Topology) -> Result<PlainWire, Fail> {
-    let mut nodes = Vec::new(alloc);
-    for (place, node) in topology.nodes().iter().enumerate() {
-        let name = node.name.as_bytes();
-        if node.is_switch() {
-            let mut links = [Link::Uncabled; 8];
-            for port in 1..9u8 {
-                links[port as usize - 1] = link_of(topology, place, port);
-            }
-            let switch: Switch<LINEAR_TABLE, MULTICAST_TABLE> = Switch::new(
-                node.guid, name, &links,
-            );
-            nodes.push(Node::Switch(switch)).ok().ok_or("memory")?;
-        } else {
-            let mut ports = Vec::new(alloc);
-            for number in 1..3u8 {
-                let guid = node.guid.wrapping_add(u64::from(number));
-                let link = link_of(topology, place, number);
-                let port = AdapterPort::new(node.guid, 2, number, guid, name, link);
-                ports.push(port).ok().ok_or("memory")?;
-            }
-            let adapter = Node::Adapter(AdapterPorts::new(ports));
-            nodes.push(adapter).ok().ok_or("memory")?;
-        }
-    }
-    let mut cables = Vec::new(alloc);
-    for cable in topology.cables() {
-        cables.push(*cable).ok().ok_or("memory")?;
-    }
-    Ok(PlainWire::new(nodes, cables, topology.sm()))
 }
 
 const ATTRIBUTES: [SmpAttribute; 7] = [

@@ -8,19 +8,21 @@ use Rattle.mad_layout.proofs.LayoutLemmas.{field-put_same, length-put_field}
 use Rattle.smp_route.specs.declared.hop.Hop.{Hop}
 use Rattle.smp_route.specs.declared.hop.Hop.TheVariants.{Forward, ToAgent, ToManager, Discard}
 use Rattle.smp_route.specs.Places.{count, is_outgoing, turned_round, with_pointer}
-use Rattle.topo_file.specs.declared.cable.PortRef.{PortRef}
-use Rattle.fabric_wire.specs.declared.walking.Arrival.{Arrival}
-use Rattle.fabric_wire.specs.FabricState.{FabricState, after_at, far_end, reply_at}
-use Rattle.fabric_wire.specs.Good.{IsGood, is_right}
-use Rattle.fabric_wire.specs.HopByHop.{ComesHome, ExchangesGoByHops, Goes, IsAnswered, Passes, Reaches, Visit, hop_rules}
+use Rattle.fabric_parts.specs.declared.cable.PortRef.{PortRef}
+use Rattle.smp_wire.specs.declared.walking.Arrival.{Arrival}
+use Rattle.fabric_parts.specs.Cable.{far_end}
+use Rattle.smp_wire.specs.FabricState.{FabricState, after_at, reply_at}
+use Rattle.smp_wire.specs.Good.{IsGood, is_right}
+use Rattle.fabric_wire.specs.Laws.{ExchangesGoByHops}
+use Rattle.fabric_wire.specs.HopByHop.{ComesHome, Goes, IsAnswered, Passes, Reaches, Visit, hop_rules}
 use Rattle.fabric_wire.specs.Hopping.{node_type_at}
-use Rattle.fabric_wire.specs.Walk.{arrival_of, arrived, exchange_after, exchange_reply, last_of, path_of, returned, walk, walk_of}
+use Rattle.smp_wire.specs.Walk.{arrival_of, arrived, exchange_after, exchange_reply, last_of, path_of, returned, walk, walk_of}
 use Rattle.fabric_wire.proofs.ExchangeLemmas.{IsReady, ready_before}
 use Rattle.fabric_wire.proofs.HopByHopLemmas.{back_from, direction_kept, follows, found, is_sent_by, rules_back, rules_out, set_out as set_out_by}
-use Rattle.fabric_wire.proofs.ReplyLemmas.{replies}
-use Rattle.fabric_wire.proofs.WalkedLemmas.{carried, no_walk_after, no_walk_reply, walk_after, walk_reply, walks}
+use Rattle.smp_wire.proofs.ReplyLemmas.{replies}
+use Rattle.smp_wire.proofs.WalkedLemmas.{carried, no_walk_after, no_walk_reply, walk_after, walk_reply, walks}
 use Rattle.fabric_wire.proofs.ReturnLemmas.{IsComing, bare_port, came, goes, lost, set_out}
-use Rattle.fabric_wire.proofs.ArrivalLemmas.{put_below}
+use Rattle.smp_wire.proofs.ArrivalLemmas.{put_below}
 use Rattle.smp_route.specs.Hops.{Step}
 
 abbrev visit : PortRef → ℕ → List ℕ → Visit
@@ -41,7 +43,8 @@ rules_here fabric home reply done at entered smp is on =
 IsHome : FabricState → Bool → List ℕ → Visit → Type 0
 IsHome fabric home reply last = ((last.node == fabric.manager.node) ≡ home) × ((hop_rules fabric.nodes last).smp ≡ with_pointer 0 reply)
 
-back_follows : (fabric : FabricState) (home : Bool) (reply : List ℕ) (way : List Visit) (done : ℕ) (at : PortRef) (entered : ℕ) (smp : List ℕ) (last : Visit) → list_all (is_right fabric.nodes) fabric.cables ≡ true → IsBack reply
+back_follows : (fabric : FabricState) (home : Bool) (reply : List ℕ) (way : List Visit) (done : ℕ) (at : PortRef) (entered : ℕ) (smp : List ℕ) (last : Visit)
+    → list_all (is_right fabric.nodes) fabric.cables ≡ true → IsBack reply
     → IsComing fabric.nodes fabric.cables fabric.manager.node home reply done at entered smp
     → Goes fabric (visit at entered smp) way last → (hop_rules fabric.nodes last).hop ≡ ToManager → IsHome fabric home reply last
 unfolding IsHome
@@ -68,7 +71,8 @@ record FoundHome (fabric : FabricState) (reply : List ℕ) (here : Visit) : Type
   pub home : last.node ≡ fabric.manager.node
   pub smp_is : (hop_rules fabric.nodes last).smp ≡ with_pointer 0 reply
 
-home_by : (fabric : FabricState) (reply : List ℕ) (done : ℕ) (at : PortRef) (entered : ℕ) (smp : List ℕ) (hop : Hop) → list_all (is_right fabric.nodes) fabric.cables ≡ true → IsBack reply
+home_by : (fabric : FabricState) (reply : List ℕ) (done : ℕ) (at : PortRef) (entered : ℕ) (smp : List ℕ) (hop : Hop)
+    → list_all (is_right fabric.nodes) fabric.cables ≡ true → IsBack reply
     → IsComing fabric.nodes fabric.cables fabric.manager.node true reply done at entered smp
     → (back_from fabric.nodes (visit at entered smp)).hop ≡ hop
     → ((there : PortRef) (next : List ℕ) → IsComing fabric.nodes fabric.cables fabric.manager.node true reply (done + 1) there there.port next → FoundHome fabric reply (visit there there.port next))
@@ -83,7 +87,8 @@ home_by fabric reply done at entered smp Discard right back on to later =
     absurd (false≢true (lost fabric.nodes fabric.cables fabric.manager.node true reply done at entered smp right on Discard (sym to) (inr refl)))
 home_by fabric reply done at entered smp (Forward port) right back on to later = by_cable (far_end fabric.cables (record { node = at.node; port = port })) refl
   where
-    by_cable : (end : Option PortRef) → far_end fabric.cables (record { node = at.node; port = port }) ≡ end → FoundHome fabric reply (visit at entered smp)
+    by_cable : (end : Option PortRef) → far_end fabric.cables (record { node = at.node; port = port }) ≡ end
+        → FoundHome fabric reply (visit at entered smp)
     by_cable None is = absurd (false≢true (bare_port fabric.nodes fabric.cables fabric.manager.node true reply done at entered smp port right on to is))
     by_cable (Some there) is =
         let rules = rules_here fabric true reply done at entered smp back on in
@@ -92,14 +97,16 @@ home_by fabric reply done at entered smp (Forward port) right back on to later =
         let pass : Passes fabric (visit at entered smp) (visit there there.port left) = record { port = port; leaves = ap (λ (s : Step). s.hop) rules ∙ to; cable = is; as_left = sym (ap (λ (s : Step). s.smp) rules) } in
         record { way = visit there there.port left ∷ rest.way; last = rest.last; goes = (pass, rest.goes); to_manager = rest.to_manager; home = rest.home; smp_is = rest.smp_is }
 
-home_within : (fabric : FabricState) (reply : List ℕ) (fuel done : ℕ) (at : PortRef) (entered : ℕ) (smp : List ℕ) → list_all (is_right fabric.nodes) fabric.cables ≡ true → IsBack reply
+home_within : (fabric : FabricState) (reply : List ℕ) (fuel done : ℕ) (at : PortRef) (entered : ℕ) (smp : List ℕ)
+    → list_all (is_right fabric.nodes) fabric.cables ≡ true → IsBack reply
     → IsComing fabric.nodes fabric.cables fabric.manager.node true reply done at entered smp → count reply < done + fuel → FoundHome fabric reply (visit at entered smp)
 home_within fabric reply zero done at entered smp right back on few = let hops = on.hops in absurd (omega (arith, hops, few))
 home_within fabric reply (suc fuel) done at entered smp right back on few =
     home_by fabric reply done at entered smp _ right back on refl (λ there next on_there. home_within fabric reply fuel (done + 1) there there.port next right back on_there (omega (arith, few)))
 
 -- ---- what an agent answers comes home as the definition says
-coming : (fabric : FabricState) (agent : PortRef) (turned : List ℕ) → length turned ≡ 256 → IsReady fabric.nodes fabric.cables fabric.manager agent turned
+coming : (fabric : FabricState) (agent : PortRef) (turned : List ℕ) → length turned ≡ 256
+    → IsReady fabric.nodes fabric.cables fabric.manager agent turned
     → IsComing fabric.nodes fabric.cables fabric.manager.node true turned 0 agent 0 turned
 coming fabric agent turned long ready =
     subst (λ (home : Bool). IsComing fabric.nodes fabric.cables fabric.manager.node home turned 0 agent 0 turned) ready.home
@@ -111,7 +118,8 @@ turned_back answer long = record {
   back = ap (λ (bit : ℕ). bit == 0) (field-put_same answer 32 1 1 (omega (arith, long)) (omega arith));
 }
 
-comes : (fabric : FabricState) (agent : PortRef) (answer : List ℕ) → length answer ≡ 256 → IsReady fabric.nodes fabric.cables fabric.manager agent (turned_round answer)
+comes : (fabric : FabricState) (agent : PortRef) (answer : List ℕ) → length answer ≡ 256
+    → IsReady fabric.nodes fabric.cables fabric.manager agent (turned_round answer)
     → ComesHome fabric agent.node answer (returned answer)
 comes fabric agent answer long ready =
     let turned = turned_round answer in
@@ -119,7 +127,8 @@ comes fabric agent answer long ready =
     let home = home_within fabric turned (count turned + 1) 0 agent 0 turned ready.right (turned_back answer long) (coming fabric agent turned wide ready) (omega arith) in
     record { way = home.way; last = home.last; goes = home.goes; to_manager = home.to_manager; home = home.home; reply_is = sym home.smp_is }
 
-only_reply : (fabric : FabricState) (agent : PortRef) (answer reply : List ℕ) → length answer ≡ 256 → IsReady fabric.nodes fabric.cables fabric.manager agent (turned_round answer)
+only_reply : (fabric : FabricState) (agent : PortRef) (answer reply : List ℕ) → length answer ≡ 256
+    → IsReady fabric.nodes fabric.cables fabric.manager agent (turned_round answer)
     → ComesHome fabric agent.node answer reply → reply ≡ returned answer
 unfolding IsHome
 only_reply fabric agent answer reply long ready home =
@@ -128,7 +137,8 @@ only_reply fabric agent answer reply long ready home =
     home.reply_is ∙ (back_follows fabric true turned home.way 0 agent 0 turned home.last ready.right (turned_back answer long) (coming fabric agent turned wide ready) home.goes home.to_manager).1
 
 -- ---- the way out, as a walk
-not_dropped : (fabric : FabricState) (here last : Visit) (way : List Visit) → Goes fabric here way last → (hop_rules fabric.nodes last).hop ≡ ToAgent → (hop_rules fabric.nodes here).hop ≢ Discard
+not_dropped : (fabric : FabricState) (here last : Visit) (way : List Visit) → Goes fabric here way last
+    → (hop_rules fabric.nodes last).hop ≡ ToAgent → (hop_rules fabric.nodes here).hop ≢ Discard
 not_dropped fabric here last [] is to dropped =
     let clash : Discard ≡ ToAgent = sym dropped ∙ ap (λ (v : Visit). (hop_rules fabric.nodes v).hop) is ∙ to in
     cc
@@ -151,7 +161,8 @@ walks_to fabric smp at request (Some ends) is arrives =
     let same = same_Some _ _ arrives in
     record { ends = ends; is = is; at_is = ap (λ (a : Arrival). a.at) same; request_is = ap (λ (a : Arrival). a.smp) same }
 
-as_walk : (fabric : FabricState) (smp : List ℕ) (at : PortRef) (request : List ℕ) → IsGood fabric → length smp ≡ 256 → AllBelowBase 256 smp → Reaches fabric smp at request → WalksTo fabric smp at request
+as_walk : (fabric : FabricState) (smp : List ℕ) (at : PortRef) (request : List ℕ) → IsGood fabric → length smp ≡ 256
+    → AllBelowBase 256 smp → Reaches fabric smp at request → WalksTo fabric smp at request
 as_walk fabric smp at request good long below reaches =
     let start = visit fabric.manager 0 smp in
     let rules = rules_out fabric.nodes start reaches.outgoing in
@@ -160,7 +171,9 @@ as_walk fabric smp at request good long below reaches =
     let ends = follows fabric smp reaches.way 0 fabric.manager 0 smp reaches.last good (set_out_by fabric smp good long below sent) reaches.goes reaches.to_agent in
     walks_to fabric smp at request (walk fabric.nodes fabric.cables true fabric.manager (path_of smp)) (rw sent refl) (sym ends ∙ rw (reaches.at_is, reaches.request_is) refl)
 
-as_hops : (fabric : FabricState) (smp : List ℕ) (ends : List PortRef) → IsGood fabric → length smp ≡ 256 → AllBelowBase 256 smp → walk_of fabric smp ≡ Some ends → Reaches fabric smp (last_of fabric.manager ends) (arrived ends smp)
+as_hops : (fabric : FabricState) (smp : List ℕ) (ends : List PortRef) → IsGood fabric → length smp ≡ 256
+    → AllBelowBase 256 smp → walk_of fabric smp ≡ Some ends
+    → Reaches fabric smp (last_of fabric.manager ends) (arrived ends smp)
 as_hops fabric smp ends good long below is =
     let so = walks fabric smp ends is in
     let way = found fabric smp (arrival_of fabric.manager smp ends) good long below so.sent (ap (option_map (arrival_of fabric.manager smp)) so.walked) in
@@ -179,7 +192,8 @@ record IsAnswer (fabric : FabricState) (at : PortRef) (answer : List ℕ) : Type
   pub long : length answer ≡ 256
   pub ready : IsReady fabric.nodes fabric.cables fabric.manager at (turned_round answer)
 
-is_answer : (fabric : FabricState) (smp : List ℕ) (ends : List PortRef) (answer : List ℕ) → IsGood fabric → length smp ≡ 256 → AllBelowBase 256 smp → walk_of fabric smp ≡ Some ends
+is_answer : (fabric : FabricState) (smp : List ℕ) (ends : List PortRef) (answer : List ℕ) → IsGood fabric
+    → length smp ≡ 256 → AllBelowBase 256 smp → walk_of fabric smp ≡ Some ends
     → reply_at fabric (last_of fabric.manager ends) (arrived ends smp) ≡ Some answer → IsAnswer fabric (last_of fabric.manager ends) answer
 is_answer fabric smp ends answer good long below is answers =
     let so = walks fabric smp ends is in
@@ -187,7 +201,8 @@ is_answer fabric smp ends answer good long below is answers =
     record { long = reply.long; ready = ready_before fabric smp answer ends good so.sent below long so.walked reply.below reply.long reply.keeps }
 
 -- ---- a reply comes only where hops bring it
-answered_by : (fabric : FabricState) (smp reply : List ℕ) (ends : List PortRef) (answer : Option (List ℕ)) → IsGood fabric → length smp ≡ 256 → AllBelowBase 256 smp → walk_of fabric smp ≡ Some ends
+answered_by : (fabric : FabricState) (smp reply : List ℕ) (ends : List PortRef) (answer : Option (List ℕ))
+    → IsGood fabric → length smp ≡ 256 → AllBelowBase 256 smp → walk_of fabric smp ≡ Some ends
     → reply_at fabric (last_of fabric.manager ends) (arrived ends smp) ≡ answer → option_map returned answer ≡ Some reply → IsAnswered fabric smp reply
 answered_by fabric smp reply ends None good long below is answers replied = cc
 answered_by fabric smp reply ends (Some answer) good long below is answers replied =
@@ -202,13 +217,15 @@ answered_by fabric smp reply ends (Some answer) good long below is answers repli
       comes_home = subst (λ (home : List ℕ). ComesHome fabric at.node answer home) (same_Some _ _ replied) (comes fabric at answer one.long one.ready);
     }
 
-only_by_hops : (fabric : FabricState) (smp reply : List ℕ) (walked : Option (List PortRef)) → IsGood fabric → length smp ≡ 256 → AllBelowBase 256 smp → walk_of fabric smp ≡ walked
+only_by_hops : (fabric : FabricState) (smp reply : List ℕ) (walked : Option (List PortRef)) → IsGood fabric
+    → length smp ≡ 256 → AllBelowBase 256 smp → walk_of fabric smp ≡ walked
     → exchange_reply fabric smp ≡ Some reply → IsAnswered fabric smp reply
 only_by_hops fabric smp reply None good long below is replied = let none = no_walk_reply fabric smp is in cc
 only_by_hops fabric smp reply (Some ends) good long below is replied = answered_by fabric smp reply ends _ good long below is refl (sym (walk_reply fabric smp ends is) ∙ replied)
 
 -- ---- and wherever they do
-by_hops : (fabric : FabricState) (smp reply : List ℕ) → IsGood fabric → length smp ≡ 256 → AllBelowBase 256 smp → IsAnswered fabric smp reply → exchange_reply fabric smp ≡ Some reply
+by_hops : (fabric : FabricState) (smp reply : List ℕ) → IsGood fabric → length smp ≡ 256 → AllBelowBase 256 smp
+    → IsAnswered fabric smp reply → exchange_reply fabric smp ≡ Some reply
 by_hops fabric smp reply good long below answered =
     let way = as_walk fabric smp answered.at answered.request good long below answered.reaches in
     let at = last_of fabric.manager way.ends in
@@ -218,12 +235,14 @@ by_hops fabric smp reply good long below answered =
     walk_reply fabric smp way.ends way.is ∙ ap (option_map returned) answers ∙ ap (λ (reply : List ℕ). Some reply) (sym (only_reply fabric at answered.answer reply one.long one.ready home))
 
 -- ---- what the fabric is then
-changed : (fabric : FabricState) (smp : List ℕ) (at : PortRef) (request : List ℕ) → IsGood fabric → length smp ≡ 256 → AllBelowBase 256 smp → Reaches fabric smp at request → exchange_after fabric smp ≡ after_at fabric at request
+changed : (fabric : FabricState) (smp : List ℕ) (at : PortRef) (request : List ℕ) → IsGood fabric → length smp ≡ 256
+    → AllBelowBase 256 smp → Reaches fabric smp at request → exchange_after fabric smp ≡ after_at fabric at request
 changed fabric smp at request good long below reaches =
     let way = as_walk fabric smp at request good long below reaches in
     walk_after fabric smp way.ends way.is ∙ rw (way.at_is, way.request_is) refl
 
-unchanged : (fabric : FabricState) (smp : List ℕ) (walked : Option (List PortRef)) → IsGood fabric → length smp ≡ 256 → AllBelowBase 256 smp → walk_of fabric smp ≡ walked
+unchanged : (fabric : FabricState) (smp : List ℕ) (walked : Option (List PortRef)) → IsGood fabric → length smp ≡ 256
+    → AllBelowBase 256 smp → walk_of fabric smp ≡ walked
     → ((at : PortRef) (request : List ℕ) → Reaches fabric smp at request → ⊥) → exchange_after fabric smp ≡ fabric
 unchanged fabric smp None good long below is none = no_walk_after fabric smp is
 unchanged fabric smp (Some ends) good long below is none = absurd (none (last_of fabric.manager ends) (arrived ends smp) (as_hops fabric smp ends good long below is))

@@ -1,12 +1,12 @@
 -- The other end of a cable at a port.
 use Rattle.std.proofs.Common.{ℕ, suc, ◌≡◌, ◌-◌, ◌<◌, ◌≤◌, ◌∙◌, ◌||◌, ap, refl, sym, Bool, true, false, cond, if◌then◌else◌, List, ◌∷◌, drop, find, get_or, length, Option, Some, option_map, arith}
 use Rattle.std.proofs.Math.Seq.{drop-cons}
-use Rattle.topo_file.specs.declared.cable.Cable.{Cable}
-use Rattle.topo_file.specs.declared.cable.PortRef.{PortRef}
-use Rattle.topo_file.specs.Cable.{ends_at, is_same_port}
-use Rattle.fabric_wire.specs.FabricState.{far_end, other_end}
+use Rattle.fabric_parts.specs.declared.cable.Cable.{Cable}
+use Rattle.fabric_parts.specs.declared.cable.PortRef.{PortRef}
+use Rattle.fabric_parts.specs.Cable.{ends_at, is_same_port, far_end, other_end}
 
-by_ends : (first second : Bool) (other : Cable → PortRef) (cable : Cable) (rest : Option Cable) → other cable ≡ (if first then cable.second else cable.first)
+by_ends : (first second : Bool) (other : Cable → PortRef) (cable : Cable) (rest : Option Cable)
+    → other cable ≡ (if first then cable.second else cable.first)
     → cond first (Some cable.second) (cond second (Some cable.first) (option_map other rest)) ≡ option_map other (if first || second then Some cable else rest)
 by_ends true second other cable rest is = ap (λ (port : PortRef). Some port) (sym is)
 by_ends false true other cable rest is = ap (λ (port : PortRef). Some port) (sym is)

@@ -10,23 +10,23 @@ use Rattle.mad_layout.specs.Bits.{put_field}
 use Rattle.mad_layout.specs.Layout.{at, is_free}
 use Rattle.mad_layout.proofs.AlignedLemmas.{byte_is_field}
 use Rattle.mad_layout.proofs.LayoutLemmas.{field-put_apart, length-put_field}
-use Rattle.attr_tables.specs.Request.{KeepsRest}
+use Rattle.agent_rules.specs.Request.{KeepsRest}
 use Rattle.smp_route.specs.Places.{count, pointer, return_port, turned_round, with_return_port}
-use Rattle.topo_file.specs.declared.cable.Cable.{Cable}
-use Rattle.topo_file.specs.declared.cable.PortRef.{PortRef}
-use Rattle.fabric_wire.specs.declared.node.Node.{Node}
-use Rattle.fabric_wire.specs.declared.walking.Arrival.{Arrival}
-use Rattle.fabric_wire.specs.FabricState.{FabricState, far_end, is_switch_at, nodes_after}
-use Rattle.fabric_wire.specs.Good.{IsGood, is_right}
+use Rattle.fabric_parts.specs.declared.cable.Cable.{Cable}
+use Rattle.fabric_parts.specs.declared.cable.PortRef.{PortRef}
+use Rattle.smp_wire.specs.declared.node.Node.{Node}
+use Rattle.smp_wire.specs.declared.walking.Arrival.{Arrival}
+use Rattle.fabric_parts.specs.Cable.{far_end, is_same_port}
+use Rattle.smp_wire.specs.FabricState.{FabricState, is_switch_at, nodes_after}
+use Rattle.smp_wire.specs.Good.{IsGood, is_right}
 use Rattle.fabric_wire.specs.Hopping.{leads_home}
-use Rattle.fabric_wire.specs.Walk.{arrival_of, arrived, is_sent, last_of, path_of, walk, with_return_ports}
+use Rattle.smp_wire.specs.Walk.{arrival_of, arrived, is_sent, last_of, path_of, walk, with_return_ports}
 use Rattle.fabric_wire.proofs.HomeLemmas.{leads_alike, leads_by, walk_leads_home}
 use Rattle.fabric_wire.proofs.HopLemmas.{byte_kept, pointer_set}
-use Rattle.fabric_wire.proofs.KeptLemmas.{IsSame, after_found, stays_good, switch_same}
-use Rattle.fabric_wire.proofs.ArrivalLemmas.{arrived_carries, put_below, walks_right}
-use Rattle.fabric_wire.proofs.WalkLemmas.{path_length, sent_parts}
+use Rattle.smp_wire.proofs.KeptLemmas.{IsSame, after_found, stays_good, switch_same}
+use Rattle.smp_wire.proofs.ArrivalLemmas.{arrived_carries, put_below, walks_right}
+use Rattle.smp_wire.proofs.WalkLemmas.{path_length, sent_parts}
 use Rattle.fabric_wire.proofs.DistinctLemmas.{differ}
-use Rattle.topo_file.specs.Cable.{is_same_port}
 
 pub record IsReady (nodes : List Node) (cables : List Cable) (manager agent : PortRef) (smp : List ℕ) : Type 0 where
   pub right : list_all (is_right nodes) cables ≡ true
@@ -38,7 +38,8 @@ pub record IsReady (nodes : List Node) (cables : List Cable) (manager agent : Po
 abbrev pub IsKept : ℕ → Type 0
 IsKept k = (33 ≤ 8 * k) × (is_free (8 * k) 8 (at 24 8 0 ∷ at 33 15 0 ∷ at 512 512 0 ∷ []) ≡ true)
 
-kept_byte : (request reply : List ℕ) (k : ℕ) → AllBelowBase 256 request → AllBelowBase 256 reply → length request ≡ 256 → length reply ≡ 256 → KeepsRest request reply → k < 256 → IsKept k
+kept_byte : (request reply : List ℕ) (k : ℕ) → AllBelowBase 256 request → AllBelowBase 256 reply
+    → length request ≡ 256 → length reply ≡ 256 → KeepsRest request reply → k < 256 → IsKept k
     → slice_index (put_field reply 32 1 1) k ≡ slice_index request k
 kept_byte request reply k low low_reply long long_reply keeps inside kept =
     let turned = put_field reply 32 1 1 in
@@ -52,7 +53,8 @@ return_kept : (k : ℕ) → k < 64 → IsKept (192 + k)
 return_kept k low = (omega arith, grind (arith, nat_tests, low))
 
 -- ---- nodes that are as they were
-same_way : (old new : List Node) (cables : List Cable) (manager : ℕ) (smp : List ℕ) (left node : ℕ) → ((place : ℕ) → is_switch_at new place ≡ is_switch_at old place)
+same_way : (old new : List Node) (cables : List Cable) (manager : ℕ) (smp : List ℕ) (left node : ℕ)
+    → ((place : ℕ) → is_switch_at new place ≡ is_switch_at old place)
     → leads_home new cables manager smp left node ≡ leads_home old cables manager smp left node
 same_way old new cables manager smp zero node switches = refl
 same_way old new cables manager smp (suc left) node switches =
@@ -64,7 +66,8 @@ count_noted k [] smp = refl
 count_noted k (end ∷ ends) smp = count_noted (k + 1) ends (with_return_port k end.port smp) ∙ get_or-set_other smp (192 + k) 7 end.port 0 (λ e. omega (arith, e))
 
 -- over the nodes as they were
-pub ready_before : (fabric : FabricState) (sent reply : List ℕ) (ends : List PortRef) → IsGood fabric → is_sent sent ≡ true → AllBelowBase 256 sent → length sent ≡ 256
+pub ready_before : (fabric : FabricState) (sent reply : List ℕ) (ends : List PortRef) → IsGood fabric
+    → is_sent sent ≡ true → AllBelowBase 256 sent → length sent ≡ 256
     → walk fabric.nodes fabric.cables true fabric.manager (path_of sent) ≡ Some ends
     → AllBelowBase 256 reply → length reply ≡ 256 → KeepsRest (arrived ends sent) reply
     → IsReady fabric.nodes fabric.cables fabric.manager (last_of fabric.manager ends) (turned_round reply)
@@ -93,7 +96,8 @@ ready_before fabric sent reply ends good is low long walked low_reply long_reply
     record { right = good.cables; few = rw count_is few; pointer_is = rw count_is pointer_is; home = rw count_is home }
 
 -- and as they are then
-ready_at : (fabric : FabricState) (sent reply : List ℕ) (new : List Node) (ends : List PortRef) → IsGood fabric → is_sent sent ≡ true → AllBelowBase 256 sent → length sent ≡ 256
+ready_at : (fabric : FabricState) (sent reply : List ℕ) (new : List Node) (ends : List PortRef) → IsGood fabric
+    → is_sent sent ≡ true → AllBelowBase 256 sent → length sent ≡ 256
     → walk fabric.nodes fabric.cables true fabric.manager (path_of sent) ≡ Some ends
     → AllBelowBase 256 reply → length reply ≡ 256 → KeepsRest (arrived ends sent) reply
     → new ≡ nodes_after fabric.nodes (last_of fabric.manager ends) (arrived ends sent) (slice_get fabric.nodes (last_of fabric.manager ends).node)
@@ -111,7 +115,8 @@ ready_at fabric sent reply new ends good is low long walked low_reply long_reply
       home = same_way fabric.nodes new fabric.cables fabric.manager.node turned (count turned) agent.node (λ place. switch_same fabric (record fabric { nodes = new }) same place) ∙ before.home;
     }
 
-ready_by : (fabric : FabricState) (sent reply : List ℕ) (new : List Node) (arrival : Arrival) (walked : Option (List PortRef)) → IsGood fabric → is_sent sent ≡ true → AllBelowBase 256 sent → length sent ≡ 256
+ready_by : (fabric : FabricState) (sent reply : List ℕ) (new : List Node) (arrival : Arrival) (walked : Option (List PortRef))
+    → IsGood fabric → is_sent sent ≡ true → AllBelowBase 256 sent → length sent ≡ 256
     → walk fabric.nodes fabric.cables true fabric.manager (path_of sent) ≡ walked → Some arrival ≡ option_map (arrival_of fabric.manager sent) walked
     → AllBelowBase 256 reply → length reply ≡ 256 → KeepsRest arrival.smp reply
     → new ≡ nodes_after fabric.nodes arrival.at arrival.smp (slice_get fabric.nodes arrival.at.node)
@@ -121,7 +126,8 @@ ready_by fabric sent reply new arrival (Some ends) good is low long walked there
     let same : arrival ≡ arrival_of fabric.manager sent ends = same_Some _ _ there in
     rw same (ready_at fabric sent reply new ends good is low long walked low_reply long_reply (rw same at keeps) (rw same at new_is))
 
-pub ready : (fabric : FabricState) (sent reply : List ℕ) (new : List Node) (arrival : Arrival) → IsGood fabric → is_sent sent ≡ true → AllBelowBase 256 sent → length sent ≡ 256
+pub ready : (fabric : FabricState) (sent reply : List ℕ) (new : List Node) (arrival : Arrival) → IsGood fabric
+    → is_sent sent ≡ true → AllBelowBase 256 sent → length sent ≡ 256
     → Some arrival ≡ option_map (arrival_of fabric.manager sent) (walk fabric.nodes fabric.cables true fabric.manager (path_of sent))
     → AllBelowBase 256 reply → length reply ≡ 256 → KeepsRest arrival.smp reply
     → new ≡ nodes_after fabric.nodes arrival.at arrival.smp (slice_get fabric.nodes arrival.at.node)

@@ -7,14 +7,14 @@ use Rattle.std.proofs.lemmas.Bool.Decides.{nat_tests}
 use Rattle.std.proofs.lemmas.List.{get_or-set_other, get_or-set_same, length-set}
 use Rattle.std.proofs.lemmas.Option.{same_Some}
 use Rattle.smp_route.specs.Places.{return_port, with_return_port}
-use Rattle.topo_file.specs.declared.cable.Cable.{Cable}
-use Rattle.topo_file.specs.declared.cable.PortRef.{PortRef}
-use Rattle.topo_file.specs.Cable.{is_same_port}
-use Rattle.fabric_wire.specs.declared.node.Node.{Node}
-use Rattle.fabric_wire.specs.FabricState.{far_end, is_port, is_switch_at}
-use Rattle.fabric_wire.specs.Good.{ends_of, is_right}
+use Rattle.fabric_parts.specs.declared.cable.Cable.{Cable}
+use Rattle.fabric_parts.specs.declared.cable.PortRef.{PortRef}
+use Rattle.fabric_parts.specs.Cable.{is_same_port, far_end}
+use Rattle.smp_wire.specs.declared.node.Node.{Node}
+use Rattle.smp_wire.specs.FabricState.{is_port, is_switch_at}
+use Rattle.smp_wire.specs.Good.{ends_of, is_right}
 use Rattle.fabric_wire.specs.Hopping.{leads_home}
-use Rattle.fabric_wire.specs.Walk.{hands_on, hop, last_of, walk, with_return_ports}
+use Rattle.smp_wire.specs.Walk.{hands_on, hop, last_of, walk, with_return_ports}
 use Rattle.fabric_wire.proofs.CablingLemmas.{far_end_before}
 use Rattle.fabric_wire.proofs.DistinctLemmas.{all_differ}
 
@@ -36,7 +36,8 @@ not_any false false h = (refl, refl)
 Both : (PortRef → PortRef → Type 0) → Cable → Type 0
 Both P cable = P cable.first cable.second × P cable.second cable.first
 
-met : (P : PortRef → PortRef → Type 0) (cable : Cable) (a b : PortRef) (rest : Option PortRef) (first second : Bool) → is_same_port cable.first a ≡ first → is_same_port cable.second a ≡ second
+met : (P : PortRef → PortRef → Type 0) (cable : Cable) (a b : PortRef) (rest : Option PortRef) (first second : Bool)
+    → is_same_port cable.first a ≡ first → is_same_port cable.second a ≡ second
     → Both P cable → (rest ≡ Some b → P a b) → cond first (Some cable.second) (cond second (Some cable.first) rest) ≡ Some b → P a b
 unfolding Both
 met P cable a b rest true second f s both later is =
@@ -45,7 +46,8 @@ met P cable a b rest false true f s both later is =
     subst (λ (p : PortRef). P p b) (same_port cable.second a s) (subst (λ (p : PortRef). P cable.second p) (same_Some _ _ is) both.1)
 met P cable a b rest false false f s both later is = later is
 
-pub far_ends_meet : (P : PortRef → PortRef → Type 0) (test : Cable → Bool) → ((cable : Cable) → test cable ≡ true → P cable.first cable.second × P cable.second cable.first)
+pub far_ends_meet : (P : PortRef → PortRef → Type 0) (test : Cable → Bool)
+    → ((cable : Cable) → test cable ≡ true → P cable.first cable.second × P cable.second cable.first)
     → (cables : List Cable) (a b : PortRef) → list_all test cables ≡ true → far_end cables a ≡ Some b → P a b
 unfolding Both
 far_ends_meet P test each [] a b all is = cc
@@ -74,16 +76,19 @@ is_among cable a b end rest others false false same is later = rw (later is) (or
     or_both false false = refl
 
 -- the far end of a cable is an end of a cable
-far_is_end : (cables : List Cable) (a b end : PortRef) → is_same_port end b ≡ true → far_end cables a ≡ Some b → list_any (is_same_port end) (flat_map ends_of cables) ≡ true
+far_is_end : (cables : List Cable) (a b end : PortRef) → is_same_port end b ≡ true → far_end cables a ≡ Some b
+    → list_any (is_same_port end) (flat_map ends_of cables) ≡ true
 far_is_end [] a b end same is = cc
 far_is_end (cable ∷ cables) a b end same is =
     is_among cable a b end (far_end cables a) (list_any (is_same_port end) (flat_map ends_of cables)) (is_same_port cable.first a) (is_same_port cable.second a) same (far_end_before cable cables a ∙ is) (λ later. far_is_end cables a b end same later)
 
-apart_from : (cables : List Cable) (a b end : PortRef) (b_is : Bool) → is_same_port end b ≡ b_is → list_any (is_same_port end) (flat_map ends_of cables) ≡ false → far_end cables a ≡ Some b → b_is ≡ false
+apart_from : (cables : List Cable) (a b end : PortRef) (b_is : Bool) → is_same_port end b ≡ b_is
+    → list_any (is_same_port end) (flat_map ends_of cables) ≡ false → far_end cables a ≡ Some b → b_is ≡ false
 apart_from cables a b end true same none is = sym (far_is_end cables a b end same is) ∙ none
 apart_from cables a b end false same none is = refl
 
-back_by : (cable : Cable) (cables : List Cable) (a b : PortRef) (first second : Bool) → is_same_port cable.first a ≡ first → is_same_port cable.second a ≡ second
+back_by : (cable : Cable) (cables : List Cable) (a b : PortRef) (first second : Bool)
+    → is_same_port cable.first a ≡ first → is_same_port cable.second a ≡ second
     → is_same_port cable.first cable.second ≡ false
     → list_any (is_same_port cable.first) (flat_map ends_of cables) ≡ false → list_any (is_same_port cable.second) (flat_map ends_of cables) ≡ false
     → (far_end cables a ≡ Some b → far_end cables b ≡ Some a)
@@ -99,7 +104,8 @@ back_by cable cables a b false false f s apart alone other later is =
     let two = apart_from cables a b cable.second (is_same_port cable.second b) refl other is in
     sym (far_end_before cable cables b) ∙ rw (one, two) (later is)
 
-pub both_ways : (cables : List Cable) (a b : PortRef) → all_differ is_same_port (flat_map ends_of cables) ≡ true → far_end cables a ≡ Some b → far_end cables b ≡ Some a
+pub both_ways : (cables : List Cable) (a b : PortRef) → all_differ is_same_port (flat_map ends_of cables) ≡ true
+    → far_end cables a ≡ Some b → far_end cables b ≡ Some a
 both_ways [] a b once is = cc
 both_ways (cable ∷ cables) a b once is =
     let first = and_parts (not (is_same_port cable.first cable.second || list_any (is_same_port cable.first) (flat_map ends_of cables))) _ once in
@@ -119,7 +125,8 @@ from_1 n h = grind (arith, nat_tests, h)
 port_numbered : (nodes : List Node) (at : PortRef) → is_port nodes at ≡ true → (at.port == 0) ≡ false
 port_numbered nodes at h = from_1 at.port (and_parts (nat_le 1 at.port) _ h).0
 
-ends_numbered : (nodes : List Node) (cable : Cable) → is_right nodes cable ≡ true → AreNumbered cable.first cable.second × AreNumbered cable.second cable.first
+ends_numbered : (nodes : List Node) (cable : Cable) → is_right nodes cable ≡ true
+    → AreNumbered cable.first cable.second × AreNumbered cable.second cable.first
 ends_numbered nodes cable right =
     let one = and_parts (is_port nodes cable.first) _ right in
     let two = and_parts (is_port nodes cable.second) _ one.1 in
@@ -127,21 +134,25 @@ ends_numbered nodes cable right =
     let second = port_numbered nodes cable.second two.0 in
     ((first, second), (second, first))
 
-pub numbered : (nodes : List Node) (cables : List Cable) (a b : PortRef) → list_all (is_right nodes) cables ≡ true → far_end cables a ≡ Some b → AreNumbered a b
+pub numbered : (nodes : List Node) (cables : List Cable) (a b : PortRef) → list_all (is_right nodes) cables ≡ true
+    → far_end cables a ≡ Some b → AreNumbered a b
 numbered nodes cables a b right is = far_ends_meet AreNumbered (is_right nodes) (ends_numbered nodes) cables a b right is
 
 -- ---- a port with a cable is a port of its node
-ends_are_ports : (nodes : List Node) (cable : Cable) → is_right nodes cable ≡ true → (is_port nodes cable.first ≡ true) × (is_port nodes cable.second ≡ true)
+ends_are_ports : (nodes : List Node) (cable : Cable) → is_right nodes cable ≡ true
+    → (is_port nodes cable.first ≡ true) × (is_port nodes cable.second ≡ true)
 ends_are_ports nodes cable right =
     let one = and_parts (is_port nodes cable.first) _ right in
     (one.0, (and_parts (is_port nodes cable.second) _ one.1).0)
 
-pub cabled_is_port : (nodes : List Node) (cables : List Cable) (a b : PortRef) → list_all (is_right nodes) cables ≡ true → far_end cables a ≡ Some b → is_port nodes a ≡ true
+pub cabled_is_port : (nodes : List Node) (cables : List Cable) (a b : PortRef)
+    → list_all (is_right nodes) cables ≡ true → far_end cables a ≡ Some b → is_port nodes a ≡ true
 cabled_is_port nodes cables a b right is = far_ends_meet (λ end other. is_port nodes end ≡ true) (is_right nodes) (ends_are_ports nodes) cables a b right is
 
 -- ---- home
 -- two ways home that lead alike from every node, over nodes of the same kinds
-pub leads_by : (left : ℕ) (old new : List Node) (one other : ℕ → Bool) (found : Option PortRef) → ((place : ℕ) → is_switch_at new place ≡ is_switch_at old place) → ((node : ℕ) → one node ≡ other node)
+pub leads_by : (left : ℕ) (old new : List Node) (one other : ℕ → Bool) (found : Option PortRef)
+    → ((place : ℕ) → is_switch_at new place ≡ is_switch_at old place) → ((node : ℕ) → one node ≡ other node)
     → option_map_or (λ there. ((left == 0) || is_switch_at new there.node) && one there.node) found false ≡ option_map_or (λ there. ((left == 0) || is_switch_at old there.node) && other there.node) found false
 leads_by left old new one other None switches same = refl
 leads_by left old new one other (Some there) switches same = rw (switches there.node, same there.node) refl

@@ -3,25 +3,26 @@ use Rattle.std.proofs.Common.{ℕ, zero, suc, ◌≡◌, ◌≢◌, ◌+◌, ◌
 use Rattle.std.specs.List.{list_all}
 use Rattle.std.proofs.lemmas.Bool.{and_from, and_parts}
 use Rattle.std.proofs.lemmas.Bool.Decides.{nat_tests}
-use Rattle.attr_tables.specs.declared.node_type.NodeType.{NodeType}
+use Rattle.fabric_parts.specs.declared.node_type.NodeType.{NodeType}
 use Rattle.smp_route.specs.declared.hop.Hop.{Hop}
 use Rattle.smp_route.specs.declared.hop.Hop.TheVariants.{Forward, ToAgent, ToManager, Discard}
 use Rattle.smp_route.specs.Hops.{Step, outgoing, returning}
 use Rattle.smp_route.specs.Places.{count, is_outgoing, pointer, with_pointer, with_return_port}
-use Rattle.topo_file.specs.declared.cable.PortRef.{PortRef}
-use Rattle.fabric_wire.specs.declared.walking.Arrival.{Arrival}
-use Rattle.fabric_wire.specs.FabricState.{FabricState, far_end}
-use Rattle.fabric_wire.specs.Good.{IsGood, is_right}
+use Rattle.fabric_parts.specs.declared.cable.PortRef.{PortRef}
+use Rattle.smp_wire.specs.declared.walking.Arrival.{Arrival}
+use Rattle.fabric_parts.specs.Cable.{far_end}
+use Rattle.smp_wire.specs.FabricState.{FabricState}
+use Rattle.smp_wire.specs.Good.{IsGood, is_right}
 use Rattle.fabric_wire.specs.HopByHop.{Goes, Passes, Visit, agent_port, hop_rules}
-use Rattle.fabric_wire.specs.Walk.{arrival_of, is_sent, path_of, walk}
+use Rattle.smp_wire.specs.Walk.{arrival_of, is_sent, path_of, walk}
 use Rattle.fabric_wire.proofs.HomeLemmas.{numbered}
 use Rattle.fabric_wire.proofs.HopLemmas.{IsOnWay, Leaves, leaves, noted_by}
 use Rattle.fabric_wire.proofs.HopLemmas.Leaves.{arrives, drops, passes}
-use Rattle.fabric_wire.proofs.ArrivalLemmas.{end_small, port_small, put_below}
+use Rattle.smp_wire.proofs.ArrivalLemmas.{end_small, port_small, put_below}
 use Rattle.fabric_wire.proofs.OutwardLemmas.{arrived, bare_port, begun, goes, lost}
 use Rattle.fabric_wire.specs.Hopping.{node_type_at}
-use Rattle.fabric_wire.specs.declared.node.Node.{Node}
-use Rattle.topo_file.specs.declared.cable.Cable.{Cable}
+use Rattle.smp_wire.specs.declared.node.Node.{Node}
+use Rattle.fabric_parts.specs.declared.cable.Cable.{Cable}
 use Rattle.mad_layout.proofs.LayoutLemmas.{field-put_apart}
 use Rattle.mad_layout.proofs.AlignedLemmas.{byte_is_set}
 use Rattle.mad_layout.specs.Bits.{field}
@@ -46,7 +47,8 @@ pub rules_back : (nodes : List Node) (here : Visit) → is_outgoing here.smp ≡
 rules_back nodes here back = rw back refl
 
 -- ---- no hop changes the direction bit
-pub direction_kept : (smp : List ℕ) (k v : ℕ) → AllBelowBase 256 smp → length smp ≡ 256 → 5 ≤ k → k < 256 → v < 256 → is_outgoing (slice_set smp k v) ≡ is_outgoing smp
+pub direction_kept : (smp : List ℕ) (k v : ℕ) → AllBelowBase 256 smp → length smp ≡ 256 → 5 ≤ k → k < 256 → v < 256
+    → is_outgoing (slice_set smp k v) ≡ is_outgoing smp
 direction_kept smp k v below long later inside small =
     ap (λ (bit : ℕ). bit == 0)
     (ap (λ (xs : List ℕ). field xs 32 1) (byte_is_set smp k v below (omega (arith, long, inside)) small)
@@ -62,7 +64,8 @@ byte_out smp k v is long later inside small = record {
   out = direction_kept smp k v is.below long later inside small ∙ is.out;
 }
 
-noted_out : (hops p : ℕ) (at : PortRef) (smp : List ℕ) → IsOut smp → length smp ≡ 256 → hops ≤ 63 → p < 256 → at.port < 256 → IsOut (with_pointer p (noted_by hops at smp))
+noted_out : (hops p : ℕ) (at : PortRef) (smp : List ℕ) → IsOut smp → length smp ≡ 256 → hops ≤ 63 → p < 256
+    → at.port < 256 → IsOut (with_pointer p (noted_by hops at smp))
 noted_out zero p at smp is long few low small = byte_out smp 6 p is long (omega arith) (omega arith) low
 noted_out (suc done) p at smp is long few low small =
     let cleared = byte_out smp 6 0 is long (omega arith) (omega arith) (omega arith) in
@@ -70,7 +73,8 @@ noted_out (suc done) p at smp is long few low small =
     let noted = byte_out (with_pointer 0 smp) (192 + suc done) at.port cleared cleared_long (omega arith) (omega (arith, few)) small in
     byte_out (with_return_port (suc done) at.port (with_pointer 0 smp)) 6 p noted (length-set (with_pointer 0 smp) (192 + suc done) at.port ∙ cleared_long) (omega arith) (omega arith) low
 
-passes_out : (nodes : List Node) (cables : List Cable) (sent : List ℕ) (hops : ℕ) (at : PortRef) (smp : List ℕ) (step : Step) (port : ℕ) → Leaves nodes cables sent hops at smp step → step.hop ≡ Forward port
+passes_out : (nodes : List Node) (cables : List Cable) (sent : List ℕ) (hops : ℕ) (at : PortRef) (smp : List ℕ) (step : Step) (port : ℕ)
+    → Leaves nodes cables sent hops at smp step → step.hop ≡ Forward port
     → IsOut smp → length smp ≡ 256 → count sent ≤ 63 → at.port < 256 → IsOut step.smp
 passes_out nodes cables sent hops at smp step port (arrives over is) to out long few small =
     let clash : ToAgent ≡ Forward port = sym (ap (λ (s : Step). s.hop) is) ∙ to in
@@ -101,7 +105,8 @@ pub record GoesOut (fabric : FabricState) (sent : List ℕ) (hops : ℕ) (at : P
   pub small : at.port < 256
   pub agent : agent_port fabric.manager (visit at entered smp) ≡ at
 
-pub set_out : (fabric : FabricState) (sent : List ℕ) → IsGood fabric → length sent ≡ 256 → AllBelowBase 256 sent → is_sent sent ≡ true → GoesOut fabric sent 0 fabric.manager 0 sent
+pub set_out : (fabric : FabricState) (sent : List ℕ) → IsGood fabric → length sent ≡ 256 → AllBelowBase 256 sent
+    → is_sent sent ≡ true → GoesOut fabric sent 0 fabric.manager 0 sent
 set_out fabric sent good long below is = record {
   on = begun fabric.nodes fabric.cables fabric.manager sent long is;
   out = record { below = below; out = (and_parts _ _ is).0 };
@@ -109,7 +114,8 @@ set_out fabric sent good long below is = record {
   agent = refl;
 }
 
-goes_out : (fabric : FabricState) (sent : List ℕ) (hops : ℕ) (at : PortRef) (entered : ℕ) (smp : List ℕ) (next : Visit) (port : ℕ) → IsGood fabric → GoesOut fabric sent hops at entered smp
+goes_out : (fabric : FabricState) (sent : List ℕ) (hops : ℕ) (at : PortRef) (entered : ℕ) (smp : List ℕ) (next : Visit) (port : ℕ)
+    → IsGood fabric → GoesOut fabric sent hops at entered smp
     → (out_from fabric.nodes (visit at entered smp)).hop ≡ Forward port → far_end fabric.cables (record { node = at.node; port = port }) ≡ Some (record { node = next.node; port = next.entered })
     → next.smp ≡ (out_from fabric.nodes (visit at entered smp)).smp → GoesOut fabric sent (hops + 1) (record { node = next.node; port = next.entered }) next.entered next.smp
 goes_out fabric sent hops at entered smp next port good way to cable as_left =
@@ -123,7 +129,8 @@ goes_out fabric sent hops at entered smp next port good way to cable as_left =
     }
 
 -- ---- every way out to an agent ends where the walk does
-pub follows : (fabric : FabricState) (sent : List ℕ) (way : List Visit) (hops : ℕ) (at : PortRef) (entered : ℕ) (smp : List ℕ) (last : Visit) → IsGood fabric → GoesOut fabric sent hops at entered smp
+pub follows : (fabric : FabricState) (sent : List ℕ) (way : List Visit) (hops : ℕ) (at : PortRef) (entered : ℕ) (smp : List ℕ) (last : Visit)
+    → IsGood fabric → GoesOut fabric sent hops at entered smp
     → Goes fabric (visit at entered smp) way last → (hop_rules fabric.nodes last).hop ≡ ToAgent → Some (arrival_at fabric last) ≡ walk_ends fabric sent
 follows fabric sent [] hops at entered smp last good here is to =
     let rules = rules_out fabric.nodes (visit at entered smp) here.out.out in
@@ -145,10 +152,12 @@ pub record Found (fabric : FabricState) (arrival : Arrival) (here : Visit) : Typ
   pub to_agent : (hop_rules fabric.nodes last).hop ≡ ToAgent
   pub arrival_is : arrival ≡ arrival_at fabric last
 
-found_on : (fabric : FabricState) (arrival : Arrival) (here next : Visit) → Passes fabric here next → Found fabric arrival next → Found fabric arrival here
+found_on : (fabric : FabricState) (arrival : Arrival) (here next : Visit) → Passes fabric here next
+    → Found fabric arrival next → Found fabric arrival here
 found_on fabric arrival here next pass rest = record { way = next ∷ rest.way; last = rest.last; goes = (pass, rest.goes); to_agent = rest.to_agent; arrival_is = rest.arrival_is }
 
-found_by : (fabric : FabricState) (sent : List ℕ) (arrival : Arrival) (hops : ℕ) (at : PortRef) (entered : ℕ) (smp : List ℕ) (hop : Hop) → IsGood fabric → GoesOut fabric sent hops at entered smp
+found_by : (fabric : FabricState) (sent : List ℕ) (arrival : Arrival) (hops : ℕ) (at : PortRef) (entered : ℕ) (smp : List ℕ) (hop : Hop)
+    → IsGood fabric → GoesOut fabric sent hops at entered smp
     → walk_ends fabric sent ≡ Some arrival → (out_from fabric.nodes (visit at entered smp)).hop ≡ hop
     → ((next : Visit) → GoesOut fabric sent (hops + 1) (record { node = next.node; port = next.entered }) next.entered next.smp → Found fabric arrival next)
     → Found fabric arrival (visit at entered smp)
@@ -164,7 +173,8 @@ found_by fabric sent arrival hops at entered smp Discard good here ends to later
     cc
 found_by fabric sent arrival hops at entered smp (Forward port) good here ends to later = by_cable (far_end fabric.cables (record { node = at.node; port = port })) refl
   where
-    by_cable : (end : Option PortRef) → far_end fabric.cables (record { node = at.node; port = port }) ≡ end → Found fabric arrival (visit at entered smp)
+    by_cable : (end : Option PortRef) → far_end fabric.cables (record { node = at.node; port = port }) ≡ end
+        → Found fabric arrival (visit at entered smp)
     by_cable None is =
         let none = bare_port fabric.nodes fabric.cables fabric.manager sent hops at entered smp port good.cables here.on to is in
         cc
@@ -174,20 +184,23 @@ found_by fabric sent arrival hops at entered smp (Forward port) good here ends t
         let pass : Passes fabric (visit at entered smp) next = record { port = port; leaves = ap (λ (s : Step). s.hop) rules ∙ to; cable = is; as_left = sym (ap (λ (s : Step). s.smp) rules) } in
         found_on fabric arrival (visit at entered smp) next pass (later next (goes_out fabric sent hops at entered smp next port good here to is refl))
 
-found_within : (fabric : FabricState) (sent : List ℕ) (arrival : Arrival) (fuel hops : ℕ) (at : PortRef) (entered : ℕ) (smp : List ℕ) → IsGood fabric → GoesOut fabric sent hops at entered smp
+found_within : (fabric : FabricState) (sent : List ℕ) (arrival : Arrival) (fuel hops : ℕ) (at : PortRef) (entered : ℕ) (smp : List ℕ)
+    → IsGood fabric → GoesOut fabric sent hops at entered smp
     → walk_ends fabric sent ≡ Some arrival → count sent < hops + fuel → Found fabric arrival (visit at entered smp)
 found_within fabric sent arrival zero hops at entered smp good here ends few = let within = here.on.within in absurd (omega (arith, within, few))
 found_within fabric sent arrival (suc fuel) hops at entered smp good here ends few =
     found_by fabric sent arrival hops at entered smp _ good here ends refl
     (λ next on_there. found_within fabric sent arrival fuel (hops + 1) (record { node = next.node; port = next.entered }) next.entered next.smp good on_there ends (omega (arith, few)))
 
-pub found : (fabric : FabricState) (sent : List ℕ) (arrival : Arrival) → IsGood fabric → length sent ≡ 256 → AllBelowBase 256 sent → is_sent sent ≡ true → walk_ends fabric sent ≡ Some arrival
+pub found : (fabric : FabricState) (sent : List ℕ) (arrival : Arrival) → IsGood fabric → length sent ≡ 256
+    → AllBelowBase 256 sent → is_sent sent ≡ true → walk_ends fabric sent ≡ Some arrival
     → Found fabric arrival (visit fabric.manager 0 sent)
 found fabric sent arrival good long below is ends =
     found_within fabric sent arrival (count sent + 1) 0 fabric.manager 0 sent good (set_out fabric sent good long below is) ends (omega arith)
 
 -- ---- what the hop rules send from the subnet manager is at the beginning of its path
-begins_by : (node_type : NodeType) (smp : List ℕ) (long past start : Bool) → nat_lt 63 (count smp) ≡ long → nat_lt (count smp) (pointer smp) ≡ past → (pointer smp == 0) ≡ start
+begins_by : (node_type : NodeType) (smp : List ℕ) (long past start : Bool) → nat_lt 63 (count smp) ≡ long
+    → nat_lt (count smp) (pointer smp) ≡ past → (pointer smp == 0) ≡ start
     → (outgoing node_type 0 smp).hop ≢ Discard → (pointer smp == 0) && nat_le (count smp) 63 ≡ true
 begins_by node_type smp true past start l p s kept = absurd (kept (rw l refl))
 begins_by node_type smp false true start l p s kept = absurd (kept (rw (l, p) refl))

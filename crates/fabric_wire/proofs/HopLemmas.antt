@@ -1,22 +1,23 @@
 -- The hop rules lead an SMP along the walk of the definition.
-use Rattle.std.proofs.Common.{ℕ, zero, suc, ◌≡◌, ◌≢◌, ◌+◌, ◌<◌, ◌≤◌, ◌==◌, ◌∙◌, nat_lt, ap, refl, sym, ◌&&◌, Bool, true, false, if◌then◌else◌, List, length, slice_index, Option, Some, None, arith}
+use Rattle.std.proofs.Common.{ℕ, zero, suc, ◌≡◌, ◌≢◌, ◌+◌, ◌<◌, ◌≤◌, ◌==◌, ◌∙◌, ap, refl, sym, ◌&&◌, Bool, true, false, if◌then◌else◌, List, length, slice_index, Option, Some, None, arith}
 use Rattle.std.specs.List.{list_all}
-use Rattle.std.proofs.lemmas.Bool.{eqb-true, false≢true}
+use Rattle.std.proofs.lemmas.Bool.{eqb-true, false≢true, le-ltb}
 use Rattle.std.proofs.lemmas.Bool.Decides.{nat_tests}
 use Rattle.std.proofs.lemmas.List.{get_or-set_other, get_or-set_same, set-set, set_comm}
-use Rattle.attr_tables.specs.declared.node_type.NodeType.{NodeType}
+use Rattle.fabric_parts.specs.declared.node_type.NodeType.{NodeType}
 use Rattle.smp_route.specs.declared.hop.Hop.TheVariants.{Forward, ToAgent}
 use Rattle.smp_route.specs.Hops.{Step, by_port, discarded, handed_on, noted, outgoing}
 use Rattle.smp_route.specs.Places.{count, initial_port, pointer, with_pointer, with_return_port}
-use Rattle.topo_file.specs.declared.cable.Cable.{Cable}
-use Rattle.topo_file.specs.declared.cable.PortRef.{PortRef}
-use Rattle.fabric_wire.specs.declared.node.Node.{Node}
-use Rattle.fabric_wire.specs.FabricState.{far_end, is_port, is_switch_at}
-use Rattle.fabric_wire.specs.Good.{is_right}
+use Rattle.fabric_parts.specs.declared.cable.Cable.{Cable}
+use Rattle.fabric_parts.specs.declared.cable.PortRef.{PortRef}
+use Rattle.smp_wire.specs.declared.node.Node.{Node}
+use Rattle.fabric_parts.specs.Cable.{far_end}
+use Rattle.smp_wire.specs.FabricState.{is_port, is_switch_at}
+use Rattle.smp_wire.specs.Good.{is_right}
 use Rattle.fabric_wire.specs.Hopping.{node_type_at}
-use Rattle.fabric_wire.specs.Walk.{hands_on, hop}
+use Rattle.smp_wire.specs.Walk.{hands_on, hop}
 use Rattle.fabric_wire.proofs.HomeLemmas.{cabled_is_port, numbered}
-use Rattle.fabric_wire.proofs.WalkLemmas.{IsUnderWay}
+use Rattle.smp_wire.proofs.WalkLemmas.{IsUnderWay}
 
 -- ---- the bytes that hops change
 pub pointer_set : (smp : List ℕ) (p : ℕ) → length smp ≡ 256 → pointer (with_pointer p smp) ≡ p
@@ -57,9 +58,14 @@ pub record IsOnWay (nodes : List Node) (cables : List Cable) (manager : PortRef)
 
 -- ---- what a node does with it
 pub data Leaves (nodes : List Node) (cables : List Cable) (sent : List ℕ) (hops : ℕ) (at : PortRef) (smp : List ℕ) (step : Step) : Type 0 where
-  arrives : count sent ≤ hops → step ≡ record { hop = ToAgent; smp = with_pointer (count sent + 1) (noted_by hops at smp) } → Leaves nodes cables sent hops at smp step
-  passes : hops < count sent → hands_on nodes (hops == 0) at ≡ true → step ≡ record { hop = Forward (initial_port sent (hops + 1)); smp = with_pointer (hops + 1) (noted_by hops at smp) } → Leaves nodes cables sent hops at smp step
-  drops : hops < count sent → hop nodes cables (hops == 0) at (initial_port sent (hops + 1)) ≡ None → step ≡ discarded smp → Leaves nodes cables sent hops at smp step
+  arrives : count sent ≤ hops
+      → step ≡ record { hop = ToAgent; smp = with_pointer (count sent + 1) (noted_by hops at smp) }
+      → Leaves nodes cables sent hops at smp step
+  passes : hops < count sent → hands_on nodes (hops == 0) at ≡ true
+      → step ≡ record { hop = Forward (initial_port sent (hops + 1)); smp = with_pointer (hops + 1) (noted_by hops at smp) }
+      → Leaves nodes cables sent hops at smp step
+  drops : hops < count sent → hop nodes cables (hops == 0) at (initial_port sent (hops + 1)) ≡ None
+      → step ≡ discarded smp → Leaves nodes cables sent hops at smp step
 
 -- one hop leaves by one port
 pub same_port_out : (a b : ℕ) → Forward a ≡ Forward b → a ≡ b
@@ -70,11 +76,14 @@ bare_by : (cables : List Cable) (node : ℕ) (found : Option PortRef) → ((ther
 bare_by cables node None h = refl
 bare_by cables node (Some there) h = absurd (h there refl)
 
-pub port_0_is_bare : (nodes : List Node) (cables : List Cable) (node number : ℕ) → list_all (is_right nodes) cables ≡ true → (number == 0) ≡ true → far_end cables (record { node = node; port = number }) ≡ None
+pub port_0_is_bare : (nodes : List Node) (cables : List Cable) (node number : ℕ)
+    → list_all (is_right nodes) cables ≡ true → (number == 0) ≡ true
+    → far_end cables (record { node = node; port = number }) ≡ None
 port_0_is_bare nodes cables node number right zero_is =
     bare_by cables node (far_end cables (record { node = node; port = number })) (λ there is. false≢true (sym (numbered nodes cables (record { node = node; port = number }) there right is).0 ∙ zero_is))
 
-no_hop : (nodes : List Node) (cables : List Cable) (starts : Bool) (at : PortRef) (number : ℕ) → far_end cables (record { node = at.node; port = number }) ≡ None → hop nodes cables starts at number ≡ None
+no_hop : (nodes : List Node) (cables : List Cable) (starts : Bool) (at : PortRef) (number : ℕ)
+    → far_end cables (record { node = at.node; port = number }) ≡ None → hop nodes cables starts at number ≡ None
 unfolding hop
 no_hop nodes cables starts at number none = by (hands_on nodes starts at && is_port nodes (record { node = at.node; port = number }))
   where
@@ -82,7 +91,8 @@ no_hop nodes cables starts at number none = by (hands_on nodes starts at && is_p
     by true = none
     by false = refl
 
-not_handed : (nodes : List Node) (cables : List Cable) (starts : Bool) (at : PortRef) (number : ℕ) → hands_on nodes starts at ≡ false → hop nodes cables starts at number ≡ None
+not_handed : (nodes : List Node) (cables : List Cable) (starts : Bool) (at : PortRef) (number : ℕ)
+    → hands_on nodes starts at ≡ false → hop nodes cables starts at number ≡ None
 unfolding hop
 not_handed nodes cables starts at number is = rw is refl
 
@@ -92,30 +102,26 @@ bare_unless true found ports = refl
 bare_unless false None ports = refl
 bare_unless false (Some there) ports = absurd (false≢true (ports there refl))
 
-pub hop_is_far_end : (nodes : List Node) (cables : List Cable) (starts : Bool) (at : PortRef) (number : ℕ) → list_all (is_right nodes) cables ≡ true → hands_on nodes starts at ≡ true
+pub hop_is_far_end : (nodes : List Node) (cables : List Cable) (starts : Bool) (at : PortRef) (number : ℕ)
+    → list_all (is_right nodes) cables ≡ true → hands_on nodes starts at ≡ true
     → hop nodes cables starts at number ≡ far_end cables (record { node = at.node; port = number })
 unfolding hop
 hop_is_far_end nodes cables starts at number right is =
     rw is (bare_unless (is_port nodes (record { node = at.node; port = number })) (far_end cables (record { node = at.node; port = number })) (λ there found. cabled_is_port nodes cables (record { node = at.node; port = number }) there right found))
 
 -- ---- the rules of the way out
-short : (hops : ℕ) → hops ≤ 63 → nat_lt 63 hops ≡ false
-short hops few = grind (arith, nat_tests, few)
-
-not_past : (a b : ℕ) → b ≤ a → nat_lt a b ≡ false
-not_past a b h = grind (arith, nat_tests, h)
-
 -- from the node itself
 rule_sent : (node_type : NodeType) (smp : List ℕ) → pointer smp ≡ 0 → count smp ≤ 63
     → outgoing node_type 0 smp ≡ (if count smp == 0 then record { hop = ToAgent; smp = with_pointer 1 smp } else by_port (initial_port smp 1) (with_pointer 1 smp) smp)
-rule_sent node_type smp start few = rw (short (count smp) few, start, not_past (count smp) 0 (omega arith)) refl
+rule_sent node_type smp start few = rw (le-ltb 63 (count smp) few, start, le-ltb (count smp) 0 (omega arith)) refl
 
 -- from another node
-rule_came_in : (node_type : NodeType) (port done : ℕ) (smp : List ℕ) → (port == 0) ≡ false → pointer smp ≡ suc done → suc done ≤ count smp → count smp ≤ 63
+rule_came_in : (node_type : NodeType) (port done : ℕ) (smp : List ℕ) → (port == 0) ≡ false → pointer smp ≡ suc done
+    → suc done ≤ count smp → count smp ≤ 63
     → outgoing node_type port smp ≡ (if suc done == count smp then record { hop = ToAgent; smp = noted port smp } else handed_on node_type port smp)
 rule_came_in node_type port done smp numbered at within few =
     let later : (suc done == 0) ≡ false = grind (arith, nat_tests) in
-    rw (short (count smp) few, at, not_past (count smp) (suc done) within, numbered, later) refl
+    rw (le-ltb 63 (count smp) few, at, le-ltb (count smp) (suc done) within, numbered, later) refl
 
 -- what it writes
 noted_is : (port done : ℕ) (at : PortRef) (smp : List ℕ) (p : ℕ) → length smp ≡ 256 → pointer smp ≡ suc done → port ≡ at.port → p ≡ suc done + 1
@@ -143,7 +149,8 @@ from_manager_by nodes cables sent at smp false true step right is zero_is same p
 from_manager_by nodes cables sent at smp false false step right is zero_is same path rule =
     passes (some_hop (count sent) (ap (λ (n : ℕ). n == 0) (sym same) ∙ is)) refl (rule ∙ rw (is, zero_is, path) refl)
 
-from_manager : (nodes : List Node) (cables : List Cable) (manager : PortRef) (sent : List ℕ) (at : PortRef) (entered : ℕ) (smp : List ℕ) → list_all (is_right nodes) cables ≡ true
+from_manager : (nodes : List Node) (cables : List Cable) (manager : PortRef) (sent : List ℕ) (at : PortRef) (entered : ℕ) (smp : List ℕ)
+    → list_all (is_right nodes) cables ≡ true
     → IsOnWay nodes cables manager sent 0 at entered smp → Leaves nodes cables sent 0 at smp (outgoing (node_type_at nodes at.node) entered smp)
 from_manager nodes cables manager sent at entered smp right way =
     from_manager_by nodes cables sent at smp (count smp == 0) (initial_port smp 1 == 0) _ right refl refl way.count_is (way.path_is 1 (omega arith))
@@ -182,14 +189,16 @@ on_way_by nodes cables sent done at port smp false step right within last same p
     let more = not_last (suc done) (count sent) within (ap (λ (n : ℕ). suc done == n) (sym same) ∙ last) in
     handed_by nodes cables sent done at port smp (is_switch_at nodes at.node) (initial_port smp (suc done + 1) == 0) step right more refl refl (path more) here writes (rule ∙ rw last refl)
 
-on_way : (nodes : List Node) (cables : List Cable) (manager : PortRef) (sent : List ℕ) (done : ℕ) (at : PortRef) (entered : ℕ) (smp : List ℕ) → list_all (is_right nodes) cables ≡ true
+on_way : (nodes : List Node) (cables : List Cable) (manager : PortRef) (sent : List ℕ) (done : ℕ) (at : PortRef) (entered : ℕ) (smp : List ℕ)
+    → list_all (is_right nodes) cables ≡ true
     → IsOnWay nodes cables manager sent (suc done) at entered smp → Leaves nodes cables sent (suc done) at smp (outgoing (node_type_at nodes at.node) entered smp)
 on_way nodes cables manager sent done at entered smp right way =
     on_way_by nodes cables sent done at entered smp (suc done == count smp) _ right way.within refl way.count_is (λ more. way.path_is (suc done + 1) (omega (arith, more, way.few))) way.pointer_is
     (noted_is entered done at smp (suc done + 1) way.long way.pointer_is way.entered_is refl)
     (rule_came_in (node_type_at nodes at.node) entered done smp (ap (λ (n : ℕ). n == 0) way.entered_is ∙ way.is_numbered) way.pointer_is (rw way.count_is way.within) (rw way.count_is way.few))
 
-pub leaves : (nodes : List Node) (cables : List Cable) (manager : PortRef) (sent : List ℕ) (hops : ℕ) (at : PortRef) (entered : ℕ) (smp : List ℕ) → list_all (is_right nodes) cables ≡ true
+pub leaves : (nodes : List Node) (cables : List Cable) (manager : PortRef) (sent : List ℕ) (hops : ℕ) (at : PortRef) (entered : ℕ) (smp : List ℕ)
+    → list_all (is_right nodes) cables ≡ true
     → IsOnWay nodes cables manager sent hops at entered smp → Leaves nodes cables sent hops at smp (outgoing (node_type_at nodes at.node) entered smp)
 leaves nodes cables manager sent zero at entered smp right way = from_manager nodes cables manager sent at entered smp right way
 leaves nodes cables manager sent (suc done) at entered smp right way = on_way nodes cables manager sent done at entered smp right way

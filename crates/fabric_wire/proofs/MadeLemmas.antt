@@ -1,10 +1,10 @@
 -- A fabric whose parts are those of a topology's fabric is that fabric.
 use Rattle.std.proofs.Common.{◌≡◌, List}
-use Rattle.topo_file.specs.declared.cable.Cable.{Cable}
-use Rattle.topo_file.specs.declared.cable.PortRef.{PortRef}
+use Rattle.fabric_parts.specs.declared.cable.Cable.{Cable}
+use Rattle.fabric_parts.specs.declared.cable.PortRef.{PortRef}
 use Rattle.topo_file.specs.Topology.{Plan}
-use Rattle.fabric_wire.specs.declared.node.Node.{Node}
-use Rattle.fabric_wire.specs.FabricState.{FabricState}
+use Rattle.smp_wire.specs.declared.node.Node.{Node}
+use Rattle.smp_wire.specs.FabricState.{FabricState}
 use Rattle.fabric_wire.specs.OfTopology.{fabric_of}
 
 pub made : (P : FabricState → Type 0) (plan : Plan) (nodes : List Node) (cables : List Cable) (manager : PortRef)

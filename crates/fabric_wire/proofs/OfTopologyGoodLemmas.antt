@@ -1,23 +1,26 @@
 -- The fabric of a topology is good: its GUIDs, the ports of its nodes, and its cables.
-use Rattle.std.proofs.Common.{ℕ, zero, suc, ◌≡◌, ◌+◌, ◌==◌, ◌∙◌, refl, Bool, true, false, not, List, [], ◌∷◌, map, flat_map, ◌&&◌, ◌||◌, arith}
+use Rattle.std.proofs.Common.{ℕ, zero, suc, ◌≡◌, ◌+◌, ◌==◌, ◌∙◌, refl, sym, true, false, not, List, [], ◌∷◌, map, flat_map, ◌&&◌, arith}
 use Rattle.std.specs.List.{list_all, list_any, range_with_len, IsDistinct}
 use Rattle.std.specs.Str.{bytes_eq}
 use Rattle.std.proofs.lemmas.Bool.{and_from, and_left, and_parts, eq-eqb, not_from_false, not-true, or_from}
 use Rattle.std.proofs.lemmas.Bool.Decides.{nat_tests}
+use Rattle.std.proofs.Math.Bool.{or_assoc}
 use Rattle.std.proofs.lemmas.List.FromFn.{length-map-range_with_len}
 use Rattle.std.proofs.lemmas.Map.Keys.{IsDistinct-tail}
-use Rattle.attr_tables.specs.declared.power_up.TheConstants.{LINEAR_TABLE}
-use Rattle.topo_file.specs.declared.cable.Cable.{Cable}
-use Rattle.topo_file.specs.declared.cable.PortRef.{PortRef}
+use Rattle.agent_rules.specs.declared.power_up.TheConstants.{LINEAR_TABLE}
+use Rattle.fabric_parts.specs.declared.cable.Cable.{Cable}
+use Rattle.fabric_parts.specs.declared.cable.PortRef.{PortRef}
 use Rattle.topo_file.specs.declared.node.Node.{Node as PlannedNode}
-use Rattle.topo_file.specs.declared.node.NodeKind.{NodeKind}
-use Rattle.topo_file.specs.declared.node.NodeKind.TheVariants as kind
-use Rattle.topo_file.specs.Cable.{is_cabled, is_same_port}
+use Rattle.fabric_parts.specs.declared.node_type.NodeType.{NodeType}
+use Rattle.fabric_parts.specs.declared.node_type.NodeType.TheVariants as node_type
+use Rattle.fabric_parts.specs.Cable.{is_cabled, is_same_port}
 use Rattle.topo_file.specs.Node.{is_switch_at as is_planned_at}
 use Rattle.topo_file.specs.Sound.{ends_at_ports, is_named, is_sized, joins_right, shares_port}
-use Rattle.fabric_wire.specs.Good.{ends_of, has_a_right_count, holds_attributes, is_byte, is_description, is_in_order, is_of, is_right, node_guid}
-use Rattle.fabric_wire.specs.OfTopology.{TopologiesGiveGood, adapter_port_of, named, node_of, node_of_kind}
-use Rattle.fabric_wire.proofs.HoldingLemmas.{all_alike, name_described}
+use Rattle.smp_wire.specs.Good.{ends_of, has_a_right_count, holds_attributes, is_byte, is_description, is_in_order, is_of, is_right, node_guid}
+use Rattle.fabric_wire.specs.Laws.{TopologiesGiveGood}
+use Rattle.fabric_wire.specs.OfTopology.{adapter_port_of, named, node_of, node_of_type}
+use Rattle.smp_wire.proofs.HoldingLemmas.{all_alike}
+use Rattle.fabric_wire.proofs.NameLemmas.{name_described}
 use Rattle.fabric_wire.proofs.OfTopologyLemmas.{all_made, free_ends, nodes_from, port_there, right_count, switch_there}
 use Rattle.fabric_wire.proofs.OfTopologyGuidLemmas.{end_guids_differ, guid_of, node_guids_differ}
 use Rattle.fabric_wire.proofs.DistinctLemmas.{all_differ, distinct}
@@ -36,15 +39,15 @@ counted cables place node number zero = refl
 counted cables place node number (suc count) =
     and_from (number == number) _ (eq-eqb number number refl) (counted cables place node (number + 1) count)
 
-ordered : (of : NodeKind) (cables : List Cable) (place : ℕ) (node : PlannedNode) → node_guid (node_of_kind of cables place node) ≡ node.guid
-    → is_in_order (node_of_kind of cables place node) ≡ true
-ordered kind.Switch cables place node guid = refl
-ordered kind.Adapter cables place node guid =
+ordered : (of : NodeType) (cables : List Cable) (place : ℕ) (node : PlannedNode) → node_guid (node_of_type of cables place node) ≡ node.guid
+    → is_in_order (node_of_type of cables place node) ≡ true
+ordered node_type.Switch cables place node guid = refl
+ordered node_type.ChannelAdapter cables place node guid =
     let long = length-map-range_with_len (adapter_port_of cables place node) 1 node.ports in
     rw (guid, long) (and_from (list_all (is_of node.guid node.ports) (map (adapter_port_of cables place node) (range_with_len 1 node.ports))) _ (all_of cables place node 1 node.ports) (counted cables place node 1 node.ports))
 
 in_order : (cables : List Cable) (place : ℕ) (node : PlannedNode) → is_sized node ≡ true → is_in_order (node_of cables place node) ≡ true
-in_order cables place node sized = ordered node.kind cables place node (guid_of cables place node sized)
+in_order cables place node sized = ordered node.node_type cables place node (guid_of cables place node sized)
 
 -- ---- what agents give fills an attribute
 ports_hold : (cables : List Cable) (place : ℕ) (node : PlannedNode) (number count : ℕ) → is_description (named node.name) ≡ true
@@ -52,10 +55,11 @@ ports_hold : (cables : List Cable) (place : ℕ) (node : PlannedNode) (number co
 ports_hold cables place node number zero is = refl
 ports_hold cables place node number (suc count) is = and_from (is_description (named node.name)) _ is (ports_hold cables place node (number + 1) count is)
 
-holding : (of : NodeKind) (cables : List Cable) (place : ℕ) (node : PlannedNode) → is_named node ≡ true → holds_attributes (node_of_kind of cables place node) ≡ true
-holding kind.Switch cables place node is =
+holding : (of : NodeType) (cables : List Cable) (place : ℕ) (node : PlannedNode) → is_named node ≡ true
+    → holds_attributes (node_of_type of cables place node) ≡ true
+holding node_type.Switch cables place node is =
     and_from (is_description (named node.name)) _ (name_described node.name is) (all_alike is_byte 255 LINEAR_TABLE refl)
-holding kind.Adapter cables place node is = ports_hold cables place node 1 node.ports (name_described node.name is)
+holding node_type.ChannelAdapter cables place node is = ports_hold cables place node 1 node.ports (name_described node.name is)
 
 -- ---- a cable joins right ports
 right_there : (cables : List Cable) (nodes : List PlannedNode) (cable : Cable) → ends_at_ports nodes cable ≡ true → joins_right nodes cable ≡ true
@@ -65,7 +69,8 @@ right_there cables nodes cable ends joins =
     rw (port_there cables nodes cable.first, port_there cables nodes cable.second, switch_there cables nodes cable.first.node, switch_there cables nodes cable.second.node)
     (and_from _ _ both.0 (and_from _ _ both.1 joins))
 
-pub all_right : (built : List Cable) (nodes : List PlannedNode) (cables : List Cable) → list_all (ends_at_ports nodes) cables ≡ true → list_all (joins_right nodes) cables ≡ true
+pub all_right : (built : List Cable) (nodes : List PlannedNode) (cables : List Cable)
+    → list_all (ends_at_ports nodes) cables ≡ true → list_all (joins_right nodes) cables ≡ true
     → list_all (is_right (nodes_from built 0 nodes)) cables ≡ true
 all_right built nodes [] ends joins = refl
 all_right built nodes (cable ∷ cables) ends joins =
@@ -80,15 +85,11 @@ same_back m n = grind (arith, nat_tests)
 port_back : (one other : PortRef) → is_same_port one other ≡ is_same_port other one
 port_back one other = rw (same_back one.node other.node, same_back one.port other.port) refl
 
-either : (a b c : Bool) → (a || (b || c)) ≡ ((a || b) || c)
-either true b c = refl
-either false b c = refl
-
 ends_are : (port : PortRef) (cables : List Cable) → list_any (is_same_port port) (flat_map ends_of cables) ≡ is_cabled cables port
 ends_are port [] = refl
 ends_are port (cable ∷ cables) =
     rw (port_back port cable.first, port_back port cable.second, ends_are port cables)
-    (either (is_same_port cable.first port) (is_same_port cable.second port) (is_cabled cables port))
+    (sym (or_assoc (is_same_port cable.first port) (is_same_port cable.second port) (is_cabled cables port)))
 
 ends_apart : (nodes : List PlannedNode) (cable : Cable) → joins_right nodes cable ≡ true → is_same_port cable.first cable.second ≡ false
 ends_apart nodes cable joins =
@@ -116,7 +117,7 @@ good plan sound =
       end_guids = end_guids_differ plan.cables plan.nodes lines.sizes lines.own_guids;
       counts = all_made has_a_right_count is_sized plan.cables 0 plan.nodes (λ place node sized. right_count plan.cables place node sized) lines.sizes;
       order = all_made is_in_order is_sized plan.cables 0 plan.nodes (λ place node sized. in_order plan.cables place node sized) lines.sizes;
-      holdings = all_made holds_attributes is_named plan.cables 0 plan.nodes (λ place node is. holding node.kind plan.cables place node is) lines.names;
+      holdings = all_made holds_attributes is_named plan.cables 0 plan.nodes (λ place node is. holding node.node_type plan.cables place node is) lines.names;
       cables = all_right plan.cables plan.nodes plan.cables lines.ends lines.joins;
       once = distinct is_same_port (flat_map ends_of plan.cables) (all_once plan.nodes plan.cables lines.joins lines.own_ports);
       manager_port = port_there plan.cables plan.nodes plan.sm ∙ manager.1;

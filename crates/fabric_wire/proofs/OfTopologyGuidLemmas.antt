@@ -5,15 +5,15 @@ use Rattle.std.proofs.lemmas.Bool.{and_cases, and_from, and_parts, le-leb, leb-f
 use Rattle.std.proofs.lemmas.List.Concat.{flat_map_single}
 use Rattle.std.proofs.lemmas.List.Folds.{flat_map-map, list_all-append, list_any-append}
 use Rattle.std.proofs.lemmas.Map.Keys.{IsDistinct-tail}
-use Rattle.topo_file.specs.declared.cable.Cable.{Cable}
+use Rattle.fabric_parts.specs.declared.cable.Cable.{Cable}
 use Rattle.topo_file.specs.declared.node.Node.{Node as PlannedNode}
-use Rattle.topo_file.specs.declared.node.NodeKind.{NodeKind}
-use Rattle.topo_file.specs.declared.node.NodeKind.TheVariants as kind
+use Rattle.fabric_parts.specs.declared.node_type.NodeType.{NodeType}
+use Rattle.fabric_parts.specs.declared.node_type.NodeType.TheVariants as node_type
 use Rattle.topo_file.specs.Node.{last_guid, port_guids, shares_guid}
 use Rattle.topo_file.specs.Sound.{is_sized}
-use Rattle.fabric_wire.specs.declared.node.Node.TheVariants.{Adapter}
-use Rattle.fabric_wire.specs.Good.{AreGuids, end_port_guids, node_guid}
-use Rattle.fabric_wire.specs.OfTopology.{adapter_port_of, node_of, node_of_kind}
+use Rattle.smp_wire.specs.declared.node.Node.TheVariants.{Adapter}
+use Rattle.smp_wire.specs.Good.{AreGuids, end_port_guids, node_guid}
+use Rattle.fabric_wire.specs.OfTopology.{adapter_port_of, node_of, node_of_type}
 use Rattle.fabric_wire.proofs.OfTopologyLemmas.{nodes_from, some_port}
 use Rattle.fabric_wire.proofs.DistinctLemmas.{all_differ, distinct, none_shares}
 
@@ -39,7 +39,8 @@ other_guid guid first last other (inr over) is =
     let high = leb-true other last (and_parts (nat_le first other) _ is).1 in
     ne_eqb guid other (λ same. absurd (omega (arith, same, over, high)))
 
-none_is : (guid first last : ℕ) (guids : List ℕ) → (guid < first) ⊎ (last < guid) → list_all (is_in first last) guids ≡ true → list_any (λ other. guid == other) guids ≡ false
+none_is : (guid first last : ℕ) (guids : List ℕ) → (guid < first) ⊎ (last < guid)
+    → list_all (is_in first last) guids ≡ true → list_any (λ other. guid == other) guids ≡ false
 none_is guid first last [] out all = refl
 none_is guid first last (other ∷ guids) out all =
     let parts = and_parts (is_in first last other) _ all in
@@ -51,7 +52,8 @@ all_weaker p q (x ∷ xs) each all =
     let parts = and_parts (p x) (list_all p xs) all in
     and_from (q x) _ (each x parts.0) (all_weaker p q xs each parts.1)
 
-differ_both : (xs ys : List ℕ) → differ xs ≡ true → differ ys ≡ true → list_all (λ x. not (list_any (λ y. x == y) ys)) xs ≡ true → differ (xs ++ ys) ≡ true
+differ_both : (xs ys : List ℕ) → differ xs ≡ true → differ ys ≡ true
+    → list_all (λ x. not (list_any (λ y. x == y) ys)) xs ≡ true → differ (xs ++ ys) ≡ true
 differ_both [] ys one two apart = two
 differ_both (x ∷ xs) ys one two apart =
     let ones = and_parts (not (list_any (λ y. x == y) xs)) _ one in
@@ -66,7 +68,8 @@ all_guids of first nodes = flat_map (λ p. of p.0 p.1) (enumerate_from first nod
 abbrev HaveOwn : (ℕ → PlannedNode → List ℕ) → Type 0
 HaveOwn of = (place : ℕ) (node : PlannedNode) → is_sized node ≡ true → AreOwn node.guid (last_guid node) (of place node)
 
-out_of : (node other : PlannedNode) (guid : ℕ) → shares_guid node other ≡ false → is_in node.guid (last_guid node) guid ≡ true → (guid < other.guid) ⊎ (last_guid other < guid)
+out_of : (node other : PlannedNode) (guid : ℕ) → shares_guid node other ≡ false
+    → is_in node.guid (last_guid node) guid ≡ true → (guid < other.guid) ⊎ (last_guid other < guid)
 out_of node other guid apart is =
     let parts = and_parts (nat_le node.guid guid) _ is in
     let low = leb-true node.guid guid parts.0 in
@@ -76,7 +79,8 @@ out_of node other guid apart is =
       | inr under ↦ let past = leb-false other.guid (last_guid node) under in inl (omega (arith, past, high))
     ]
 
-none_later : (of : ℕ → PlannedNode → List ℕ) (first : ℕ) (nodes : List PlannedNode) (node : PlannedNode) (guid : ℕ) → HaveOwn of → list_all is_sized nodes ≡ true
+none_later : (of : ℕ → PlannedNode → List ℕ) (first : ℕ) (nodes : List PlannedNode) (node : PlannedNode) (guid : ℕ)
+    → HaveOwn of → list_all is_sized nodes ≡ true
     → list_any (λ other. shares_guid node other) nodes ≡ false → is_in node.guid (last_guid node) guid ≡ true → list_any (λ other. guid == other) (all_guids of first nodes) ≡ false
 none_later of first [] node guid own sized apart is = refl
 none_later of first (other ∷ nodes) node guid own sized apart is =
@@ -87,7 +91,8 @@ none_later of first (other ∷ nodes) node guid own sized apart is =
     (none_is guid other.guid (last_guid other) (of first other) (out_of node other guid parts.0 is) (own first other sizes.0).within)
     (none_later of (first + 1) nodes node guid own sizes.1 parts.1 is)
 
-all_different : (of : ℕ → PlannedNode → List ℕ) (first : ℕ) (nodes : List PlannedNode) → HaveOwn of → list_all is_sized nodes ≡ true → IsDistinct shares_guid nodes
+all_different : (of : ℕ → PlannedNode → List ℕ) (first : ℕ) (nodes : List PlannedNode) → HaveOwn of
+    → list_all is_sized nodes ≡ true → IsDistinct shares_guid nodes
     → differ (all_guids of first nodes) ≡ true
 all_different of first [] own sized apart = refl
 all_different of first (node ∷ nodes) own sized apart =
@@ -129,12 +134,13 @@ first_guid : (cables : List Cable) (place : ℕ) (node : PlannedNode) (count : �
 first_guid cables place node zero some = absurd (omega (arith, some))
 first_guid cables place node (suc k) some = refl
 
-guid_of_kind : (of : NodeKind) (cables : List Cable) (place : ℕ) (node : PlannedNode) → 1 ≤ node.ports → node_guid (node_of_kind of cables place node) ≡ node.guid
-guid_of_kind kind.Switch cables place node some = refl
-guid_of_kind kind.Adapter cables place node some = first_guid cables place node node.ports some
+guid_of_type : (of : NodeType) (cables : List Cable) (place : ℕ) (node : PlannedNode) → 1 ≤ node.ports
+    → node_guid (node_of_type of cables place node) ≡ node.guid
+guid_of_type node_type.Switch cables place node some = refl
+guid_of_type node_type.ChannelAdapter cables place node some = first_guid cables place node node.ports some
 
 pub guid_of : (cables : List Cable) (place : ℕ) (node : PlannedNode) → is_sized node ≡ true → node_guid (node_of cables place node) ≡ node.guid
-guid_of cables place node sized = guid_of_kind node.kind cables place node (some_port node sized)
+guid_of cables place node sized = guid_of_type node.node_type cables place node (some_port node sized)
 
 guid_own : (cables : List Cable) → HaveOwn (λ place node. node_guid (node_of cables place node) ∷ [])
 guid_own cables place node sized = rw (guid_of cables place node sized) (one_own node.guid (last_guid node) (omega arith))
@@ -152,14 +158,16 @@ abbrev port_guids_from : List Cable → ℕ → PlannedNode → ℕ → ℕ → 
 port_guids_from cables place node number count =
     end_port_guids (Adapter (map (adapter_port_of cables place node) (range_with_len number count)))
 
-ports_within : (cables : List Cable) (place : ℕ) (node : PlannedNode) (first last number count : ℕ) → first ≤ node.guid + number → node.guid + number + count ≤ last + 1
+ports_within : (cables : List Cable) (place : ℕ) (node : PlannedNode) (first last number count : ℕ)
+    → first ≤ node.guid + number → node.guid + number + count ≤ last + 1
     → list_all (is_in first last) (port_guids_from cables place node number count) ≡ true
 ports_within cables place node first last number zero low high = refl
 ports_within cables place node first last number (suc count) low high =
     and_from (is_in first last (node.guid + number)) _ (inside first last (node.guid + number) low (omega (arith, high)))
     (ports_within cables place node first last (number + 1) count (omega (arith, low)) (omega (arith, high)))
 
-ports_differ : (cables : List Cable) (place : ℕ) (node : PlannedNode) (number count : ℕ) → differ (port_guids_from cables place node number count) ≡ true
+ports_differ : (cables : List Cable) (place : ℕ) (node : PlannedNode) (number count : ℕ)
+    → differ (port_guids_from cables place node number count) ≡ true
 ports_differ cables place node number zero = refl
 ports_differ cables place node number (suc count) =
     let guid = node.guid + number in
@@ -169,9 +177,10 @@ ports_differ cables place node number (suc count) =
     (not_from_false _ (none_is guid (guid + 1) last (port_guids_from cables place node (number + 1) count) (inl (omega arith)) later))
     (ports_differ cables place node (number + 1) count)
 
-ends_of_kind : (of : NodeKind) (cables : List Cable) (place : ℕ) (node : PlannedNode) → AreOwn node.guid (node.guid + port_guids of node.ports) (end_port_guids (node_of_kind of cables place node))
-ends_of_kind kind.Switch cables place node = one_own node.guid (node.guid + 0) (omega arith)
-ends_of_kind kind.Adapter cables place node = record {
+ends_of_type : (of : NodeType) (cables : List Cable) (place : ℕ) (node : PlannedNode)
+    → AreOwn node.guid (node.guid + port_guids of node.ports) (end_port_guids (node_of_type of cables place node))
+ends_of_type node_type.Switch cables place node = one_own node.guid (node.guid + 0) (omega arith)
+ends_of_type node_type.ChannelAdapter cables place node = record {
   within = ports_within cables place node node.guid (node.guid + node.ports) 1 node.ports (omega arith) (omega arith);
   different = ports_differ cables place node 1 node.ports;
 }
@@ -181,4 +190,4 @@ pub end_guids_differ : (cables : List Cable) (nodes : List PlannedNode) → list
 end_guids_differ cables nodes sized apart =
     let of : ℕ → PlannedNode → List ℕ = λ place node. end_port_guids (node_of cables place node) in
     rw (flat_map-map end_port_guids (λ p. node_of cables p.0 p.1) (enumerate_from 0 nodes))
-    (guids_of of nodes (λ place node size. ends_of_kind node.kind cables place node) sized apart)
+    (guids_of of nodes (λ place node size. ends_of_type node.node_type cables place node) sized apart)

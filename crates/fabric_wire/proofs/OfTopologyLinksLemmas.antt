@@ -3,25 +3,23 @@ use Rattle.std.proofs.Common.{ℕ, zero, suc, ◌≡◌, ◌+◌, ◌-◌, ◌�
 use Rattle.std.specs.List.{range_with_len}
 use Rattle.std.specs.Option.{option_and_then}
 use Rattle.std.proofs.lemmas.Bool.{and_parts, leb-true, ne_eqb}
-use Rattle.std.proofs.lemmas.Option.{slice_get-map}
-use Rattle.std.proofs.lemmas.Option.{same_Some}
-use Rattle.attr_tables.specs.declared.link.Link.TheVariants.{Cabled, Uncabled, Internal}
-use Rattle.attr_tables.specs.declared.node_type.NodeType.{NodeType}
-use Rattle.attr_tables.specs.declared.node_type.NodeType.TheVariants as type
+use Rattle.std.proofs.lemmas.Option.{slice_get-map, same_Some}
+use Rattle.agent_rules.specs.declared.link.Link.TheVariants.{Cabled, Uncabled, Internal}
+use Rattle.fabric_parts.specs.declared.node_type.NodeType.{NodeType}
 use Rattle.attr_tables.specs.declared.port_info.PortInfo.{PortInfo}
-use Rattle.attr_tables.specs.PortSetting.{is_down}
-use Rattle.attr_tables.specs.PowerUp.{port_info_at_power_up}
+use Rattle.agent_rules.specs.PortSetting.{is_down}
+use Rattle.agent_rules.specs.PowerUp.{port_info_at_power_up}
 use Rattle.port_model.specs.AdapterState.{AdapterState}
 use Rattle.switch_model.specs.SwitchState.{port_at_power_up, ports_from}
 use Rattle.switch_model.proofs.PortLemmas.{ports_have_links}
-use Rattle.topo_file.specs.declared.cable.Cable.{Cable}
-use Rattle.topo_file.specs.declared.cable.PortRef.{PortRef}
+use Rattle.fabric_parts.specs.declared.cable.Cable.{Cable}
+use Rattle.fabric_parts.specs.declared.cable.PortRef.{PortRef}
 use Rattle.topo_file.specs.declared.node.Node.{Node as PlannedNode}
-use Rattle.topo_file.specs.declared.node.NodeKind.{NodeKind}
-use Rattle.topo_file.specs.declared.node.NodeKind.TheVariants as kind
-use Rattle.topo_file.specs.Cable.{is_cabled}
-use Rattle.fabric_wire.specs.Good.{port_info_at}
-use Rattle.fabric_wire.specs.OfTopology.{TopologiesShowLinks, adapter_port_of, link_of, links_of, node_of, node_of_kind}
+use Rattle.fabric_parts.specs.declared.node_type.NodeType.TheVariants as node_type
+use Rattle.fabric_parts.specs.Cable.{is_cabled}
+use Rattle.smp_wire.specs.Good.{port_info_at}
+use Rattle.fabric_wire.specs.Laws.{TopologiesShowLinks}
+use Rattle.fabric_wire.specs.OfTopology.{adapter_port_of, link_of, links_of, node_of, node_of_type}
 use Rattle.fabric_wire.proofs.OfTopologyLemmas.{node_at}
 
 abbrev port : ℕ → ℕ → PortRef
@@ -50,7 +48,7 @@ ranged first (suc count) (suc k) there found = let later = ranged (first + 1) co
 switch_shows : (cables : List Cable) (place number : ℕ) (info : PortInfo) (found : Option ℕ) → ((there : ℕ) → found ≡ Some there → there ≡ number)
     → option_map (λ port. port.info) (option_map (port_at_power_up number) (option_map (link_of cables place) found)) ≡ Some info → Shows cables place number info
 switch_shows cables place number info None is there = cc
-switch_shows cables place number info (Some n) is there = shows_link type.Switch cables place number n info (is n refl) there
+switch_shows cables place number info (Some n) is there = shows_link node_type.Switch cables place number n info (is n refl) there
 
 switch_at : (cables : List Cable) (place number count : ℕ) (info : PortInfo) → 1 ≤ number
     → option_map (λ port. port.info) (slice_get (ports_from 0 (Internal ∷ links_of cables place count)) number) ≡ Some info → Shows cables place number info
@@ -62,12 +60,13 @@ switch_at cables place (suc k) count info some there =
     switch_shows cables place (suc k) info (slice_get range k) (λ n h. let e = ranged 1 count k n h in omega (arith, e))
     (ap (option_map (λ port. port.info)) (sym found) ∙ there)
 
-adapter_shows : (cables : List Cable) (place : ℕ) (node : PlannedNode) (number : ℕ) (info : PortInfo) (found : Option ℕ) → ((there : ℕ) → found ≡ Some there → there ≡ number)
+adapter_shows : (cables : List Cable) (place : ℕ) (node : PlannedNode) (number : ℕ) (info : PortInfo) (found : Option ℕ)
+    → ((there : ℕ) → found ≡ Some there → there ≡ number)
     → option_map (λ (one : AdapterState). one.info) (option_map (adapter_port_of cables place node) found) ≡ Some info → Shows cables place number info
 adapter_shows cables place node number info None is there = cc
 adapter_shows cables place node number info (Some n) is there =
     let e = is n refl in
-    shows_link type.ChannelAdapter cables place number n info e (ap (λ (m : ℕ). Some (port_info_at_power_up type.ChannelAdapter m (link_of cables place n))) (sym e) ∙ there)
+    shows_link node_type.ChannelAdapter cables place number n info e (ap (λ (m : ℕ). Some (port_info_at_power_up node_type.ChannelAdapter m (link_of cables place n))) (sym e) ∙ there)
 
 adapter_at : (cables : List Cable) (place : ℕ) (node : PlannedNode) (number count : ℕ) (info : PortInfo) → 1 ≤ number
     → option_map (λ (one : AdapterState). one.info) (if number == 0 then None else slice_get (map (adapter_port_of cables place node) (range_with_len 1 count)) (number - 1)) ≡ Some info
@@ -79,15 +78,15 @@ adapter_at cables place node number count info some there =
     (ap (option_map (λ (one : AdapterState). one.info)) (sym (slice_get-map (adapter_port_of cables place node) range (number - 1))) ∙ (rw positive at there))
 
 -- ---- a node, and the fabric
-shows_kind : (of : NodeKind) (cables : List Cable) (place : ℕ) (node : PlannedNode) (number : ℕ) (info : PortInfo) → 1 ≤ number
-    → port_info_at (node_of_kind of cables place node) number ≡ Some info → Shows cables place number info
-shows_kind kind.Switch cables place node number info some there = switch_at cables place number node.ports info some there
-shows_kind kind.Adapter cables place node number info some there = adapter_at cables place node number node.ports info some there
+shows_type : (of : NodeType) (cables : List Cable) (place : ℕ) (node : PlannedNode) (number : ℕ) (info : PortInfo) → 1 ≤ number
+    → port_info_at (node_of_type of cables place node) number ≡ Some info → Shows cables place number info
+shows_type node_type.Switch cables place node number info some there = switch_at cables place number node.ports info some there
+shows_type node_type.ChannelAdapter cables place node number info some there = adapter_at cables place node number node.ports info some there
 
 shows : (cables : List Cable) (place number : ℕ) (info : PortInfo) (found : Option PlannedNode) → 1 ≤ number
     → option_and_then (λ node. port_info_at node number) (option_map (node_of cables place) found) ≡ Some info → Shows cables place number info
 shows cables place number info None some there = cc
-shows cables place number info (Some node) some there = shows_kind node.kind cables place node number info some there
+shows cables place number info (Some node) some there = shows_type node.node_type cables place node number info some there
 
 pub links : TopologiesShowLinks
 links plan at info is there =

@@ -3,19 +3,20 @@ use Rattle.std.proofs.Common.{ℕ, ◌≡◌, ◌==◌, ◌∙◌, ap, refl, sym
 use Rattle.std.specs.List.{list_all, list_any, IsDistinct}
 use Rattle.std.proofs.lemmas.Bool.{and_left, and_parts, eq-eqb, eqb-true, false≢true, not-true, or_cases, or_from}
 use Rattle.std.proofs.lemmas.Map.Keys.{IsDistinct-tail}
-use Rattle.topo_file.specs.declared.cable.Cable.{Cable}
-use Rattle.topo_file.specs.declared.cable.PortRef.{PortRef}
+use Rattle.fabric_parts.specs.declared.cable.Cable.{Cable}
+use Rattle.fabric_parts.specs.declared.cable.PortRef.{PortRef}
 use Rattle.topo_file.specs.declared.node.Node.{Node as PlannedNode}
-use Rattle.topo_file.specs.Cable.{ends_at, is_cabled, is_same_port}
+use Rattle.fabric_parts.specs.Cable.{ends_at, is_cabled, is_same_port, far_end, other_end}
 use Rattle.topo_file.specs.Connectivity.{is_walk, joins}
 use Rattle.topo_file.specs.Node.{is_switch_at as is_planned_at}
 use Rattle.topo_file.specs.Sound.{IsSound, joins_right, shares_port}
 use Rattle.topo_file.specs.Topology.{Plan}
-use Rattle.fabric_wire.specs.declared.node.Node.{Node}
-use Rattle.fabric_wire.specs.FabricState.{far_end, is_switch_at, other_end}
-use Rattle.fabric_wire.specs.Good.{is_right, leads}
-use Rattle.fabric_wire.specs.OfTopology.{TopologiesAreJoined, fabric_of}
-use Rattle.fabric_wire.specs.Walk.{last_of, walk}
+use Rattle.smp_wire.specs.declared.node.Node.{Node}
+use Rattle.smp_wire.specs.FabricState.{is_switch_at}
+use Rattle.smp_wire.specs.Good.{is_right, leads}
+use Rattle.fabric_wire.specs.Laws.{TopologiesAreJoined}
+use Rattle.fabric_wire.specs.OfTopology.{fabric_of}
+use Rattle.smp_wire.specs.Walk.{last_of, walk}
 use Rattle.fabric_wire.proofs.HomeLemmas.{itself, same_port}
 use Rattle.fabric_wire.proofs.HopLemmas.{hop_is_far_end}
 use Rattle.fabric_wire.proofs.OfTopologyGoodLemmas.{all_right}
@@ -38,7 +39,8 @@ by_first cable cables a next here there =
     let same : is_same_port cable.first (port a cable.first.port) ≡ true = subst (λ (k : ℕ). is_same_port cable.first (port k cable.first.port) ≡ true) here (itself cable.first) in
     record { number = cable.first.port; there = cable.second; far = rw (same, same) refl; cabled = rw same refl; node = there }
 
-by_second : (cable : Cable) (cables : List Cable) (a next : ℕ) → (cable.first.node == cable.second.node) ≡ false → cable.second.node ≡ a → cable.first.node ≡ next
+by_second : (cable : Cable) (cables : List Cable) (a next : ℕ) → (cable.first.node == cable.second.node) ≡ false
+    → cable.second.node ≡ a → cable.first.node ≡ next
     → GoesOut (cable ∷ cables) a next
 by_second cable cables a next apart here there =
     let same : is_same_port cable.second (port a cable.second.port) ≡ true = subst (λ (k : ℕ). is_same_port cable.second (port k cable.second.port) ≡ true) here (itself cable.second) in
@@ -47,7 +49,8 @@ by_second cable cables a next apart here there =
     record { number = cable.second.port; there = cable.first; far = rw (other, same) (ap (λ (one : PortRef). Some one) turned); cabled = rw (other, same) refl; node = there }
 
 -- by a later cable, since the first does not end at its port
-not_end : (cable : Cable) (cables : List Cable) (at : PortRef) → is_cabled cables cable.first ≡ false → is_cabled cables cable.second ≡ false → is_cabled cables at ≡ true
+not_end : (cable : Cable) (cables : List Cable) (at : PortRef) → is_cabled cables cable.first ≡ false
+    → is_cabled cables cable.second ≡ false → is_cabled cables at ≡ true
     → ends_at at cable ≡ false
 not_end cable cables at first second cabled =
     or_from (is_same_port cable.first at) _ (is_other cable.first first) (is_other cable.second second)
@@ -59,7 +62,8 @@ not_end cable cables at first second cabled =
         by true h = absurd (false≢true (sym free ∙ ap (is_cabled cables) (same_port end at h) ∙ cabled))
         by false h = refl
 
-by_later : (cable : Cable) (cables : List Cable) (a next : ℕ) → is_cabled cables cable.first ≡ false → is_cabled cables cable.second ≡ false → GoesOut cables a next
+by_later : (cable : Cable) (cables : List Cable) (a next : ℕ) → is_cabled cables cable.first ≡ false
+    → is_cabled cables cable.second ≡ false → GoesOut cables a next
     → GoesOut (cable ∷ cables) a next
 by_later cable cables a next first second out =
     let other = not_end cable cables (port a out.number) first second out.cabled in
@@ -89,7 +93,8 @@ pub record Goes (nodes : List Node) (cables : List Cable) (here : PortRef) (b : 
   pub walked : walk nodes cables false here numbers ≡ Some ends
   pub arrives : (last_of here ends).node ≡ b
 
-goes_on : (nodes : List Node) (cables : List Cable) (here : PortRef) (next b : ℕ) (out : GoesOut cables here.node next) → list_all (is_right nodes) cables ≡ true → is_switch_at nodes here.node ≡ true
+goes_on : (nodes : List Node) (cables : List Cable) (here : PortRef) (next b : ℕ) (out : GoesOut cables here.node next)
+    → list_all (is_right nodes) cables ≡ true → is_switch_at nodes here.node ≡ true
     → Goes nodes cables out.there b → Goes nodes cables here b
 goes_on nodes cables here next b out right switch rest =
     let hopped = hop_is_far_end nodes cables false here out.number right switch ∙ out.far in
@@ -106,7 +111,8 @@ goes plan sound here (next ∷ steps) b walks =
     goes_on (nodes_from plan.cables 0 plan.nodes) plan.cables here next b out (all_right plan.cables plan.nodes plan.cables sound.lines.ends sound.lines.joins) (switch_there plan.cables plan.nodes here.node ∙ first.0)
     (goes plan sound out.there steps b (subst (λ (k : ℕ). is_walk plan.nodes plan.cables k steps b ≡ true) (sym out.node) second.1))
 
-leads_there : (plan : Plan) (a b : ℕ) (way : Goes (nodes_from plan.cables 0 plan.nodes) plan.cables (port a 0) b) → leads (fabric_of plan) a way.numbers b ≡ true
+leads_there : (plan : Plan) (a b : ℕ) (way : Goes (nodes_from plan.cables 0 plan.nodes) plan.cables (port a 0) b)
+    → leads (fabric_of plan) a way.numbers b ≡ true
 leads_there plan a b way = rw way.walked (eq-eqb (last_of (port a 0) way.ends).node b way.arrives)
 
 pub joined : TopologiesAreJoined

@@ -6,21 +6,22 @@ use Rattle.smp_route.specs.declared.hop.Hop.{Hop}
 use Rattle.smp_route.specs.declared.hop.Hop.TheVariants.{Forward, ToAgent, ToManager, Discard}
 use Rattle.smp_route.specs.Hops.{Step, outgoing}
 use Rattle.smp_route.specs.Places.{count, initial_port, pointer, with_pointer, with_return_port}
-use Rattle.topo_file.specs.declared.cable.Cable.{Cable}
-use Rattle.topo_file.specs.declared.cable.PortRef.{PortRef}
-use Rattle.fabric_wire.specs.declared.node.Node.{Node}
-use Rattle.fabric_wire.specs.declared.walking.Arrival.{Arrival}
-use Rattle.fabric_wire.specs.FabricState.{far_end}
-use Rattle.fabric_wire.specs.Good.{is_right}
+use Rattle.fabric_parts.specs.declared.cable.Cable.{Cable}
+use Rattle.fabric_parts.specs.declared.cable.PortRef.{PortRef}
+use Rattle.smp_wire.specs.declared.node.Node.{Node}
+use Rattle.smp_wire.specs.declared.walking.Arrival.{Arrival}
+use Rattle.fabric_parts.specs.Cable.{far_end}
+use Rattle.smp_wire.specs.Good.{is_right}
 use Rattle.fabric_wire.specs.Hopping.{node_type_at}
-use Rattle.fabric_wire.specs.Walk.{arrival_of, hop, is_sent, path_of, walk}
-use Rattle.fabric_wire.proofs.WalkLemmas.{IsUnderWay, begins, ends, goes_on, sent_parts, stops}
+use Rattle.smp_wire.specs.Walk.{arrival_of, hop, is_sent, path_of, walk}
+use Rattle.smp_wire.proofs.WalkLemmas.{IsUnderWay, begins, ends, goes_on, sent_parts, stops}
 use Rattle.fabric_wire.proofs.HomeLemmas.{numbered}
 use Rattle.fabric_wire.proofs.HopLemmas.{IsOnWay, Leaves, byte_kept, byte_left, hop_is_far_end, leaves, noted_by, pointer_set, same_port_out}
 use Rattle.fabric_wire.proofs.HopLemmas.Leaves.{arrives, drops, passes}
 
 -- ---- the loop: at the beginning
-pub begun : (nodes : List Node) (cables : List Cable) (manager : PortRef) (sent : List ℕ) → length sent ≡ 256 → is_sent sent ≡ true → IsOnWay nodes cables manager sent 0 manager 0 sent
+pub begun : (nodes : List Node) (cables : List Cable) (manager : PortRef) (sent : List ℕ) → length sent ≡ 256
+    → is_sent sent ≡ true → IsOnWay nodes cables manager sent 0 manager 0 sent
 begun nodes cables manager sent long is =
     let parts = sent_parts sent is in
     record {
@@ -61,7 +62,8 @@ lost_by nodes cables manager sent hops at entered smp step way (passes more hand
 lost_by nodes cables manager sent hops at entered smp step way (drops more none is) to =
     stops nodes cables manager sent hops at (noted_by hops at smp) way.sent_long way.few more way.under none
 
-bare_port_by : (nodes : List Node) (cables : List Cable) (manager : PortRef) (sent : List ℕ) (hops : ℕ) (at : PortRef) (entered : ℕ) (smp : List ℕ) (step : Step) (number : ℕ) → list_all (is_right nodes) cables ≡ true
+bare_port_by : (nodes : List Node) (cables : List Cable) (manager : PortRef) (sent : List ℕ) (hops : ℕ) (at : PortRef) (entered : ℕ) (smp : List ℕ) (step : Step) (number : ℕ)
+    → list_all (is_right nodes) cables ≡ true
     → IsOnWay nodes cables manager sent hops at entered smp → Leaves nodes cables sent hops at smp step → step.hop ≡ Forward number → far_end cables (record { node = at.node; port = number }) ≡ None → Ends nodes cables manager sent None
 bare_port_by nodes cables manager sent hops at entered smp step number right way (arrives over is) to none =
     let clash : ToAgent ≡ Forward number = sym (ap (λ (s : Step). s.hop) is) ∙ to in
@@ -94,7 +96,8 @@ is_noted (suc done) at smp long here =
 cleared_again : (full : List ℕ) (p : ℕ) → pointer full ≡ 0 → with_pointer 0 (with_pointer p full) ≡ full
 cleared_again full p start = set-set full 6 p 0 ∙ rw (← start) (set-get_or full 6 0)
 
-way_on : (nodes : List Node) (cables : List Cable) (manager : PortRef) (sent : List ℕ) (hops : ℕ) (at there : PortRef) (entered number : ℕ) (smp : List ℕ) → list_all (is_right nodes) cables ≡ true
+way_on : (nodes : List Node) (cables : List Cable) (manager : PortRef) (sent : List ℕ) (hops : ℕ) (at there : PortRef) (entered number : ℕ) (smp : List ℕ)
+    → list_all (is_right nodes) cables ≡ true
     → IsOnWay nodes cables manager sent hops at entered smp → hops < count sent → hop nodes cables (hops == 0) at (initial_port sent (hops + 1)) ≡ Some there → far_end cables (record { node = at.node; port = number }) ≡ Some there
     → IsOnWay nodes cables manager sent (suc hops) there there.port (with_pointer (hops + 1) (noted_by hops at smp))
 way_on nodes cables manager sent hops at there entered number smp right way more hopped is =
@@ -117,7 +120,8 @@ way_on nodes cables manager sent hops at there entered number smp right way more
       is_numbered = (numbered nodes cables (record { node = at.node; port = number }) there right is).1;
     }
 
-goes_by : (nodes : List Node) (cables : List Cable) (manager : PortRef) (sent : List ℕ) (hops : ℕ) (at there : PortRef) (entered : ℕ) (smp : List ℕ) (step : Step) (number : ℕ) → list_all (is_right nodes) cables ≡ true
+goes_by : (nodes : List Node) (cables : List Cable) (manager : PortRef) (sent : List ℕ) (hops : ℕ) (at there : PortRef) (entered : ℕ) (smp : List ℕ) (step : Step) (number : ℕ)
+    → list_all (is_right nodes) cables ≡ true
     → IsOnWay nodes cables manager sent hops at entered smp → Leaves nodes cables sent hops at smp step → step.hop ≡ Forward number → far_end cables (record { node = at.node; port = number }) ≡ Some there
     → IsOnWay nodes cables manager sent (suc hops) there there.port step.smp
 goes_by nodes cables manager sent hops at there entered smp step number right way (arrives over is) to there_is =
@@ -134,22 +138,26 @@ goes_by nodes cables manager sent hops at there entered smp step number right wa
 abbrev Turn : List Node → PortRef → ℕ → List ℕ → Step
 Turn nodes at entered smp = outgoing (node_type_at nodes at.node) entered smp
 
-pub arrived : (nodes : List Node) (cables : List Cable) (manager : PortRef) (sent : List ℕ) (hops : ℕ) (at : PortRef) (entered : ℕ) (smp : List ℕ) → list_all (is_right nodes) cables ≡ true
+pub arrived : (nodes : List Node) (cables : List Cable) (manager : PortRef) (sent : List ℕ) (hops : ℕ) (at : PortRef) (entered : ℕ) (smp : List ℕ)
+    → list_all (is_right nodes) cables ≡ true
     → IsOnWay nodes cables manager sent hops at entered smp → (Turn nodes at entered smp).hop ≡ ToAgent → Ends nodes cables manager sent (Some (record { at = at; smp = (Turn nodes at entered smp).smp }))
 arrived nodes cables manager sent hops at entered smp right way to =
     arrived_by nodes cables manager sent hops at entered smp _ way (leaves nodes cables manager sent hops at entered smp right way) to
 
-pub lost : (nodes : List Node) (cables : List Cable) (manager : PortRef) (sent : List ℕ) (hops : ℕ) (at : PortRef) (entered : ℕ) (smp : List ℕ) → list_all (is_right nodes) cables ≡ true
+pub lost : (nodes : List Node) (cables : List Cable) (manager : PortRef) (sent : List ℕ) (hops : ℕ) (at : PortRef) (entered : ℕ) (smp : List ℕ)
+    → list_all (is_right nodes) cables ≡ true
     → IsOnWay nodes cables manager sent hops at entered smp → (given : Hop) → given ≡ (Turn nodes at entered smp).hop → (given ≡ ToManager) ⊎ (given ≡ Discard) → Ends nodes cables manager sent None
 lost nodes cables manager sent hops at entered smp right way given is to =
     lost_by nodes cables manager sent hops at entered smp _ way (leaves nodes cables manager sent hops at entered smp right way) (elim to [ inl one ↦ inl (sym is ∙ one) | inr other ↦ inr (sym is ∙ other) ])
 
-pub bare_port : (nodes : List Node) (cables : List Cable) (manager : PortRef) (sent : List ℕ) (hops : ℕ) (at : PortRef) (entered : ℕ) (smp : List ℕ) (number : ℕ) → list_all (is_right nodes) cables ≡ true
+pub bare_port : (nodes : List Node) (cables : List Cable) (manager : PortRef) (sent : List ℕ) (hops : ℕ) (at : PortRef) (entered : ℕ) (smp : List ℕ) (number : ℕ)
+    → list_all (is_right nodes) cables ≡ true
     → IsOnWay nodes cables manager sent hops at entered smp → (Turn nodes at entered smp).hop ≡ Forward number → far_end cables (record { node = at.node; port = number }) ≡ None → Ends nodes cables manager sent None
 bare_port nodes cables manager sent hops at entered smp number right way to none =
     bare_port_by nodes cables manager sent hops at entered smp _ number right way (leaves nodes cables manager sent hops at entered smp right way) to none
 
-pub goes : (nodes : List Node) (cables : List Cable) (manager : PortRef) (sent : List ℕ) (hops : ℕ) (at there : PortRef) (entered : ℕ) (smp : List ℕ) (number : ℕ) → list_all (is_right nodes) cables ≡ true
+pub goes : (nodes : List Node) (cables : List Cable) (manager : PortRef) (sent : List ℕ) (hops : ℕ) (at there : PortRef) (entered : ℕ) (smp : List ℕ) (number : ℕ)
+    → list_all (is_right nodes) cables ≡ true
     → IsOnWay nodes cables manager sent hops at entered smp → (Turn nodes at entered smp).hop ≡ Forward number → far_end cables (record { node = at.node; port = number }) ≡ Some there
     → IsOnWay nodes cables manager sent (hops + 1) there there.port (Turn nodes at entered smp).smp
 goes nodes cables manager sent hops at there entered smp number right way to is =

@@ -3,13 +3,14 @@ use Rattle.std.proofs.Common.{ℕ, ◌≡◌, ◌+◌, ◌-◌, ◌<◌, ◌≤�
 use Rattle.std.specs.List.{range_with_len}
 use Rattle.std.proofs.lemmas.List.{take_more}
 use Rattle.std.proofs.lemmas.List.FromFn.{map-range_with_len_more}
-use Rattle.topo_file.specs.declared.cable.Cable.{Cable}
+use Rattle.fabric_parts.specs.declared.cable.Cable.{Cable}
 use Rattle.topo_file.specs.declared.node.Node.{Node as PlannedNode}
-use Rattle.fabric_wire.specs.declared.node.Node.{Node}
+use Rattle.smp_wire.specs.declared.node.Node.{Node}
 use Rattle.fabric_wire.specs.OfTopology.{node_of}
 use Rattle.fabric_wire.proofs.OfTopologyLemmas.{nodes_from}
 
-pub one_port_more : {X : Type 0} (of : ℕ → X) (number : ℕ) (ports next : List X) (port : X) → 1 ≤ number → ports ≡ map of (range_with_len 1 (number - 1))
+pub one_port_more : {X : Type 0} (of : ℕ → X) (number : ℕ) (ports next : List X) (port : X) → 1 ≤ number
+    → ports ≡ map of (range_with_len 1 (number - 1))
     → port ≡ of number → next ≡ ports ++ port ∷ [] → next ≡ map of (range_with_len 1 (number + 1 - 1))
 one_port_more of number ports next port first so_far made pushed =
     let place : 1 + (number - 1) ≡ number = omega (arith, first) in
@@ -29,7 +30,8 @@ nodes_more cables first (one ∷ nodes) node =
     ap (λ (later : List Node). node_of cables first one ∷ later)
     (nodes_more cables (first + 1) nodes node ∙ ap (λ (k : ℕ). nodes_from cables (first + 1) nodes ++ node_of cables k node ∷ []) place)
 
-pub one_node_more : (cables : List Cable) (planned : List PlannedNode) (place : ℕ) (none : PlannedNode) (nodes next : List Node) (node : Node) → place < length planned
+pub one_node_more : (cables : List Cable) (planned : List PlannedNode) (place : ℕ) (none : PlannedNode) (nodes next : List Node) (node : Node)
+    → place < length planned
     → nodes ≡ nodes_from cables 0 (take place planned) → node ≡ node_of cables place (get_or planned place none) → next ≡ nodes ++ node ∷ []
     → next ≡ nodes_from cables 0 (take (place + 1) planned)
 one_node_more cables planned place none nodes next node within so_far made pushed =

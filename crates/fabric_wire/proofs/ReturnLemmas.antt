@@ -3,16 +3,17 @@ use Rattle.std.proofs.Common.{ℕ, zero, suc, ◌≡◌, ◌⊎◌, ◌+◌, ◌
 use Rattle.std.specs.List.{list_all}
 use Rattle.std.proofs.lemmas.Bool.Decides.{nat_tests}
 use Rattle.std.proofs.lemmas.List.{set-get_or, set-set}
-use Rattle.attr_tables.specs.declared.node_type.NodeType.{NodeType}
+use Rattle.fabric_parts.specs.declared.node_type.NodeType.{NodeType}
 use Rattle.smp_route.specs.declared.hop.Hop.{Hop}
 use Rattle.smp_route.specs.declared.hop.Hop.TheVariants.{Forward, ToAgent, ToManager, Discard}
 use Rattle.smp_route.specs.Hops.{Step, discarded, may_return, passes_back, returning, sent_back}
 use Rattle.smp_route.specs.Places.{count, pointer, return_port, with_pointer}
-use Rattle.topo_file.specs.declared.cable.Cable.{Cable}
-use Rattle.topo_file.specs.declared.cable.PortRef.{PortRef}
-use Rattle.fabric_wire.specs.declared.node.Node.{Node}
-use Rattle.fabric_wire.specs.FabricState.{far_end, is_switch_at}
-use Rattle.fabric_wire.specs.Good.{is_right}
+use Rattle.fabric_parts.specs.declared.cable.Cable.{Cable}
+use Rattle.fabric_parts.specs.declared.cable.PortRef.{PortRef}
+use Rattle.smp_wire.specs.declared.node.Node.{Node}
+use Rattle.fabric_parts.specs.Cable.{far_end}
+use Rattle.smp_wire.specs.FabricState.{is_switch_at}
+use Rattle.smp_wire.specs.Good.{is_right}
 use Rattle.fabric_wire.specs.Hopping.{leads_home, node_type_at}
 use Rattle.fabric_wire.proofs.HomeLemmas.{numbered}
 use Rattle.fabric_wire.proofs.HopLemmas.{byte_kept, pointer_set, port_0_is_bare, same_port_out}
@@ -36,7 +37,8 @@ pub record IsComing (nodes : List Node) (cables : List Cable) (manager : ℕ) (h
   pub leads : home ≡ hands_back nodes done left at.node && leads_home nodes cables manager reply left at.node
   pub enters : EntersBy done entered
 
-pub set_out : (nodes : List Node) (cables : List Cable) (manager : ℕ) (reply : List ℕ) (at : PortRef) → length reply ≡ 256 → count reply ≤ 63 → pointer reply ≡ count reply + 1
+pub set_out : (nodes : List Node) (cables : List Cable) (manager : ℕ) (reply : List ℕ) (at : PortRef)
+    → length reply ≡ 256 → count reply ≤ 63 → pointer reply ≡ count reply + 1
     → IsComing nodes cables manager (leads_home nodes cables manager reply (count reply) at.node) reply 0 at 0 reply
 set_out nodes cables manager reply at long few here = record {
   left = count reply;
@@ -50,7 +52,8 @@ set_out nodes cables manager reply at long few here = record {
 
 -- ---- the rules of the way back
 data Returns (cables : List Cable) (nodes : List Node) (manager : ℕ) (home : Bool) (reply : List ℕ) (done : ℕ) (at : PortRef) (smp : List ℕ) (step : Step) : Type 0 where
-  is_home : home ≡ (at.node == manager) → step ≡ record { hop = ToManager; smp = with_pointer 0 reply } → Returns cables nodes manager home reply done at smp step
+  is_home : home ≡ (at.node == manager) → step ≡ record { hop = ToManager; smp = with_pointer 0 reply }
+      → Returns cables nodes manager home reply done at smp step
   passes : (left : ℕ) → done + suc left ≡ count reply → home ≡ leads_home nodes cables manager reply (suc left) at.node
       → step ≡ record { hop = Forward (return_port reply (suc left)); smp = with_pointer (suc left) reply } → Returns cables nodes manager home reply done at smp step
   drops : home ≡ false → step ≡ discarded smp → Returns cables nodes manager home reply done at smp step
@@ -61,12 +64,12 @@ rule_may node_type entered smp may few is =
     let short : nat_lt 63 (count smp) ≡ false = grind (arith, nat_tests, few) in
     rw (short, is) refl
 
-by_kind : (nodes : List Node) (node left : ℕ) (switch last : Bool) → is_switch_at nodes node ≡ switch → (left == 0) ≡ last → (left + 1 == 1) ≡ last
+by_type : (nodes : List Node) (node left : ℕ) (switch last : Bool) → is_switch_at nodes node ≡ switch → (left == 0) ≡ last → (left + 1 == 1) ≡ last
     → passes_back (node_type_at nodes node) (left + 1) ≡ (left == 0) || is_switch_at nodes node
-by_kind nodes node left true true s l one = rw (s, l) refl
-by_kind nodes node left true false s l one = rw (s, l) refl
-by_kind nodes node left false true s l one = rw (s, l, one) refl
-by_kind nodes node left false false s l one = rw (s, l, one) refl
+by_type nodes node left true true s l one = rw (s, l) refl
+by_type nodes node left true false s l one = rw (s, l) refl
+by_type nodes node left false true s l one = rw (s, l, one) refl
+by_type nodes node left false false s l one = rw (s, l, one) refl
 
 last_hop : (left : ℕ) → (left + 1 == 1) ≡ (left == 0)
 last_hop zero = refl
@@ -80,7 +83,7 @@ may nodes zero left node entered smp enters here hops =
 may nodes (suc done) left node entered smp enters here hops =
     let some : nat_le 1 (left + 1) ≡ true = grind (arith, nat_tests) in
     let within : nat_le (left + 1) (count smp) ≡ true = grind (arith, nat_tests, hops) in
-    rw (enters, here, some, within) (by_kind nodes node left (is_switch_at nodes node) (left == 0) refl refl (last_hop left))
+    rw (enters, here, some, within) (by_type nodes node left (is_switch_at nodes node) (left == 0) refl refl (last_hop left))
 
 back_by : (cables : List Cable) (nodes : List Node) (manager : ℕ) (home : Bool) (reply : List ℕ) (done left : ℕ) (at : PortRef) (smp : List ℕ) (hands : Bool) (step : Step)
     → list_all (is_right nodes) cables ≡ true → length reply ≡ 256 → smp ≡ with_pointer (left + 1) reply → done + left ≡ count reply → home ≡ hands && leads_home nodes cables manager reply left at.node
@@ -113,7 +116,8 @@ back_by cables nodes manager home reply done (suc left) at smp true step right l
         drops (leads ∙ rw bare refl) (rule ∙ rw (here, not_last, before, port_is, none) refl)
     by_number false none = passes left hops leads (rule ∙ rw (here, not_last, before, port_is, none, nearer_is) refl)
 
-returns : (nodes : List Node) (cables : List Cable) (manager : ℕ) (home : Bool) (reply : List ℕ) (done : ℕ) (at : PortRef) (entered : ℕ) (smp : List ℕ) → list_all (is_right nodes) cables ≡ true
+returns : (nodes : List Node) (cables : List Cable) (manager : ℕ) (home : Bool) (reply : List ℕ) (done : ℕ) (at : PortRef) (entered : ℕ) (smp : List ℕ)
+    → list_all (is_right nodes) cables ≡ true
     → IsComing nodes cables manager home reply done at entered smp → Returns cables nodes manager home reply done at smp (returning (node_type_at nodes at.node) entered smp)
 returns nodes cables manager home reply done at entered smp right way =
     let here : pointer smp ≡ way.left + 1 = ap pointer way.smp_is ∙ pointer_set reply (way.left + 1) way.long in
@@ -152,7 +156,8 @@ bare_by nodes cables manager home reply done at smp step number (passes left hop
     sym (leads ∙ rw (same, none) refl)
 bare_by nodes cables manager home reply done at smp step number (drops leads is) to none = sym leads
 
-goes_by : (nodes : List Node) (cables : List Cable) (manager : ℕ) (home : Bool) (reply : List ℕ) (done : ℕ) (at there : PortRef) (entered : ℕ) (smp : List ℕ) (step : Step) (number : ℕ) → list_all (is_right nodes) cables ≡ true
+goes_by : (nodes : List Node) (cables : List Cable) (manager : ℕ) (home : Bool) (reply : List ℕ) (done : ℕ) (at there : PortRef) (entered : ℕ) (smp : List ℕ) (step : Step) (number : ℕ)
+    → list_all (is_right nodes) cables ≡ true
     → IsComing nodes cables manager home reply done at entered smp
     → Returns cables nodes manager home reply done at smp step → step.hop ≡ Forward number → far_end cables (record { node = at.node; port = number }) ≡ Some there
     → IsComing nodes cables manager home reply (suc done) there there.port step.smp
@@ -178,22 +183,26 @@ goes_by nodes cables manager home reply done at there entered smp step number ri
 abbrev Turn : List Node → PortRef → ℕ → List ℕ → Step
 Turn nodes at entered smp = returning (node_type_at nodes at.node) entered smp
 
-pub came : (nodes : List Node) (cables : List Cable) (manager : ℕ) (home : Bool) (reply : List ℕ) (done : ℕ) (at : PortRef) (entered : ℕ) (smp : List ℕ) → list_all (is_right nodes) cables ≡ true
+pub came : (nodes : List Node) (cables : List Cable) (manager : ℕ) (home : Bool) (reply : List ℕ) (done : ℕ) (at : PortRef) (entered : ℕ) (smp : List ℕ)
+    → list_all (is_right nodes) cables ≡ true
     → IsComing nodes cables manager home reply done at entered smp → (Turn nodes at entered smp).hop ≡ ToManager → ((at.node == manager) ≡ home) × ((Turn nodes at entered smp).smp ≡ with_pointer 0 reply)
 came nodes cables manager home reply done at entered smp right way to =
     came_by nodes cables manager home reply done at smp _ (returns nodes cables manager home reply done at entered smp right way) to
 
-pub lost : (nodes : List Node) (cables : List Cable) (manager : ℕ) (home : Bool) (reply : List ℕ) (done : ℕ) (at : PortRef) (entered : ℕ) (smp : List ℕ) → list_all (is_right nodes) cables ≡ true
+pub lost : (nodes : List Node) (cables : List Cable) (manager : ℕ) (home : Bool) (reply : List ℕ) (done : ℕ) (at : PortRef) (entered : ℕ) (smp : List ℕ)
+    → list_all (is_right nodes) cables ≡ true
     → IsComing nodes cables manager home reply done at entered smp → (given : Hop) → given ≡ (Turn nodes at entered smp).hop → (given ≡ ToAgent) ⊎ (given ≡ Discard) → false ≡ home
 lost nodes cables manager home reply done at entered smp right way given is to =
     lost_by nodes cables manager home reply done at smp _ (returns nodes cables manager home reply done at entered smp right way) (elim to [ inl one ↦ inl (sym is ∙ one) | inr other ↦ inr (sym is ∙ other) ])
 
-pub bare_port : (nodes : List Node) (cables : List Cable) (manager : ℕ) (home : Bool) (reply : List ℕ) (done : ℕ) (at : PortRef) (entered : ℕ) (smp : List ℕ) (number : ℕ) → list_all (is_right nodes) cables ≡ true
+pub bare_port : (nodes : List Node) (cables : List Cable) (manager : ℕ) (home : Bool) (reply : List ℕ) (done : ℕ) (at : PortRef) (entered : ℕ) (smp : List ℕ) (number : ℕ)
+    → list_all (is_right nodes) cables ≡ true
     → IsComing nodes cables manager home reply done at entered smp → (Turn nodes at entered smp).hop ≡ Forward number → far_end cables (record { node = at.node; port = number }) ≡ None → false ≡ home
 bare_port nodes cables manager home reply done at entered smp number right way to none =
     bare_by nodes cables manager home reply done at smp _ number (returns nodes cables manager home reply done at entered smp right way) to none
 
-pub goes : (nodes : List Node) (cables : List Cable) (manager : ℕ) (home : Bool) (reply : List ℕ) (done : ℕ) (at there : PortRef) (entered : ℕ) (smp : List ℕ) (number : ℕ) → list_all (is_right nodes) cables ≡ true
+pub goes : (nodes : List Node) (cables : List Cable) (manager : ℕ) (home : Bool) (reply : List ℕ) (done : ℕ) (at there : PortRef) (entered : ℕ) (smp : List ℕ) (number : ℕ)
+    → list_all (is_right nodes) cables ≡ true
     → IsComing nodes cables manager home reply done at entered smp → (Turn nodes at entered smp).hop ≡ Forward number → far_end cables (record { node = at.node; port = number }) ≡ Some there
     → IsComing nodes cables manager home reply (done + 1) there there.port (Turn nodes at entered smp).smp
 goes nodes cables manager home reply done at there entered smp number right way to is =

@@ -1,16 +1,15 @@
 -- An exchange as the nodes see it: each knows its own kind and the port by which an SMP came in, goes by the
 -- hop rules, and the SMP comes out at the other end of the cable (InfiniBand volume 1, chapter 14).
-use Rattle.std.specs.Prelude.{ℕ, ◌≡◌, ◌==◌, ◌↔◌, true, if◌then◌else◌, List, [], ◌∷◌, length, Some}
-use Rattle.std.specs.Int.Digits.{AllBelowBase}
+use Rattle.std.specs.Prelude.{ℕ, ◌≡◌, ◌==◌, ◌↔◌, true, if◌then◌else◌, List, [], ◌∷◌, Some}
 use Rattle.smp_route.specs.declared.hop.Hop.TheVariants.{Forward, ToAgent, ToManager}
 use Rattle.smp_route.specs.Hops.{Step, outgoing, returning}
 use Rattle.smp_route.specs.Places.{is_outgoing, turned_round}
-use Rattle.topo_file.specs.declared.cable.PortRef.{PortRef}
-use Rattle.fabric_wire.specs.declared.node.Node.{Node}
-use Rattle.fabric_wire.specs.FabricState.{FabricState, after_at, far_end, reply_at}
-use Rattle.fabric_wire.specs.Good.{IsGood}
+use Rattle.fabric_parts.specs.declared.cable.PortRef.{PortRef}
+use Rattle.smp_wire.specs.declared.node.Node.{Node}
+use Rattle.fabric_parts.specs.Cable.{far_end}
+use Rattle.smp_wire.specs.FabricState.{FabricState, after_at, reply_at}
 use Rattle.fabric_wire.specs.Hopping.{node_type_at}
-use Rattle.fabric_wire.specs.Walk.{exchange_after, exchange_reply}
+use Rattle.smp_wire.specs.Walk.{exchange_after, exchange_reply}
 
 -- an SMP at a node, to which it came by this port; port 0 is the node itself
 pub record Visit : Type 0 where
@@ -21,7 +20,8 @@ pub record Visit : Type 0 where
 -- what the hop rules say there: those of the way out where its direction bit is 0, else those of the way back
 abbrev pub hop_rules : List Node → Visit → Step
 hop_rules nodes here =
-    if is_outgoing here.smp then outgoing (node_type_at nodes here.node) here.entered here.smp else returning (node_type_at nodes here.node) here.entered here.smp
+    if is_outgoing here.smp then outgoing (node_type_at nodes here.node) here.entered here.smp
+    else returning (node_type_at nodes here.node) here.entered here.smp
 
 -- by the rules the SMP leaves by a port, and the cable there leads to where it is next
 pub record Passes (fabric : FabricState) (here next : Visit) : Type 0 where
@@ -72,9 +72,6 @@ pub record GoesByHops (fabric : FabricState) (smp : List ℕ) : Type 0 where
   -- these replies come and no other
   pub replies : (reply : List ℕ) → exchange_reply fabric smp ≡ Some reply ↔ IsAnswered fabric smp reply
   -- the agent that it reaches may have changed; where it reaches none, nothing has
-  pub change : (at : PortRef) (request : List ℕ) → Reaches fabric smp at request → exchange_after fabric smp ≡ after_at fabric at request
+  pub change : (at : PortRef) (request : List ℕ) → Reaches fabric smp at request
+      → exchange_after fabric smp ≡ after_at fabric at request
   pub no_change : ((at : PortRef) (request : List ℕ) → Reaches fabric smp at request → ⊥) → exchange_after fabric smp ≡ fabric
-
--- in every good fabric, for every SMP
-abbrev pub ExchangesGoByHops : Type 0
-ExchangesGoByHops = (fabric : FabricState) (smp : List ℕ) → IsGood fabric → length smp ≡ 256 → AllBelowBase 256 smp → GoesByHops fabric smp

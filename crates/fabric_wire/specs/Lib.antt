@@ -1,10 +1,5 @@
-pub mod FabricState
-pub mod Walk
 pub mod Hopping
 pub mod HopByHop
-pub mod Get
-pub mod Good
-pub mod Changes
 pub mod OfTopology
 pub mod TwoSwitches
-pub use Rattle.smp_route.specs.Places
+pub mod Laws

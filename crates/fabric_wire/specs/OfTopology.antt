@@ -1,22 +1,21 @@
 -- The fabric that a topology describes, at power-up.
-use Rattle.std.specs.Prelude.{ℕ, ◌+◌, ◌-◌, ◌++◌, if◌then◌else◌, List, map, length, replicate}
+use Rattle.std.specs.Prelude.{ℕ, ◌-◌, ◌++◌, if◌then◌else◌, List, map, length, replicate}
 use Rattle.std.specs.List.{enumerate_from, range_with_len}
-use Rattle.attr_tables.specs.declared.link.Link.{Link}
-use Rattle.attr_tables.specs.declared.link.Link.TheVariants.{Cabled, Uncabled}
-use Rattle.attr_tables.specs.declared.power_up.TheConstants.{LINEAR_TABLE, MULTICAST_TABLE}
+use Rattle.agent_rules.specs.declared.link.Link.{Link}
+use Rattle.agent_rules.specs.declared.link.Link.TheVariants.{Cabled, Uncabled}
+use Rattle.agent_rules.specs.declared.power_up.TheConstants.{LINEAR_TABLE, MULTICAST_TABLE}
 use Rattle.port_model.specs.AdapterState.{AdapterState, at_power_up as adapter_at_power_up}
 use Rattle.switch_model.specs.SwitchState.{at_power_up as switch_at_power_up}
-use Rattle.topo_file.specs.declared.cable.Cable.{Cable}
+use Rattle.fabric_parts.specs.declared.cable.Cable.{Cable}
 use Rattle.topo_file.specs.declared.node.Node.{Node as PlannedNode}
-use Rattle.topo_file.specs.declared.node.NodeKind.{NodeKind}
-use Rattle.topo_file.specs.declared.node.NodeKind.TheVariants as kind
-use Rattle.topo_file.specs.Cable.{is_cabled}
-use Rattle.topo_file.specs.Sound.{IsSound}
+use Rattle.fabric_parts.specs.declared.node_type.NodeType.{NodeType}
+use Rattle.fabric_parts.specs.declared.node_type.NodeType.TheVariants as node_type
+use Rattle.fabric_parts.specs.Cable.{is_cabled}
+use Rattle.topo_file.specs.Node.{port_guid}
 use Rattle.topo_file.specs.Topology.{Plan}
-use Rattle.fabric_wire.specs.declared.node.Node.{Node}
-use Rattle.fabric_wire.specs.declared.node.Node.TheVariants.{Switch, Adapter}
-use Rattle.fabric_wire.specs.FabricState.{FabricState}
-use Rattle.fabric_wire.specs.Good.{IsGood, ShowsLinks, SwitchesJoined}
+use Rattle.smp_wire.specs.declared.node.Node.{Node}
+use Rattle.smp_wire.specs.declared.node.Node.TheVariants.{Switch, Adapter}
+use Rattle.smp_wire.specs.FabricState.{FabricState}
 
 -- a port has a link where a cable ends at it
 abbrev pub link_of : List Cable → ℕ → ℕ → Link
@@ -30,19 +29,20 @@ links_of cables place count = map (λ number. link_of cables place number) (rang
 abbrev pub named : List ℕ → List ℕ
 named name = name ++ replicate (64 - length name) 0
 
--- port p of an adapter has the GUID that is p above the adapter's
+-- a port of an adapter
 abbrev pub adapter_port_of : List Cable → ℕ → PlannedNode → ℕ → AdapterState
 adapter_port_of cables place node number =
-    adapter_at_power_up node.guid node.ports number (node.guid + number) (named node.name) (link_of cables place number)
+    adapter_at_power_up node.guid node.ports number (port_guid node number) (named node.name) (link_of cables place number)
 
 -- the node there, of either kind
-abbrev pub node_of_kind : NodeKind → List Cable → ℕ → PlannedNode → Node
-node_of_kind kind.Switch cables place node =
+abbrev pub node_of_type : NodeType → List Cable → ℕ → PlannedNode → Node
+node_of_type node_type.Switch cables place node =
     Switch (switch_at_power_up node.guid (named node.name) (links_of cables place node.ports) LINEAR_TABLE MULTICAST_TABLE)
-node_of_kind kind.Adapter cables place node = Adapter (map (adapter_port_of cables place node) (range_with_len 1 node.ports))
+node_of_type node_type.ChannelAdapter cables place node =
+    Adapter (map (adapter_port_of cables place node) (range_with_len 1 node.ports))
 
 abbrev pub node_of : List Cable → ℕ → PlannedNode → Node
-node_of cables place node = node_of_kind node.kind cables place node
+node_of cables place node = node_of_type node.node_type cables place node
 
 -- the same nodes, cables and subnet manager's port
 abbrev pub fabric_of : Plan → FabricState
@@ -51,14 +51,3 @@ fabric_of plan = record {
   cables = plan.cables;
   manager = plan.sm;
 }
-
--- ---- at power-up the fabric of a topology is good, and its switches are joined
-abbrev pub TopologiesGiveGood : Type 0
-TopologiesGiveGood = (plan : Plan) → IsSound plan → IsGood (fabric_of plan)
-
-abbrev pub TopologiesAreJoined : Type 0
-TopologiesAreJoined = (plan : Plan) → IsSound plan → SwitchesJoined (fabric_of plan)
-
--- and its links show, sound or not
-abbrev pub TopologiesShowLinks : Type 0
-TopologiesShowLinks = (plan : Plan) → ShowsLinks (fabric_of plan)

@@ -1,16 +1,16 @@
 -- The topology of our examples: two switches A and B, joined by a cable, and four channel adapters.
 use Rattle.std.specs.Prelude.{ℕ, List, [], ◌∷◌, codes}
-use Rattle.topo_file.specs.declared.cable.Cable.{Cable}
-use Rattle.topo_file.specs.declared.cable.PortRef.{PortRef}
+use Rattle.fabric_parts.specs.declared.cable.Cable.{Cable}
+use Rattle.fabric_parts.specs.declared.cable.PortRef.{PortRef}
 use Rattle.topo_file.specs.declared.node.Node.{Node}
-use Rattle.topo_file.specs.declared.node.NodeKind.TheVariants as kind
+use Rattle.fabric_parts.specs.declared.node_type.NodeType.TheVariants as node_type
 use Rattle.topo_file.specs.Topology.{Plan}
 
 abbrev pub switch_of_four : List ℕ → ℕ → Node
-switch_of_four name guid = record { name = name; kind = kind.Switch; guid = guid; ports = 4 }
+switch_of_four name guid = record { name = name; node_type = node_type.Switch; guid = guid; ports = 4 }
 
 abbrev pub adapter_of_one : List ℕ → ℕ → Node
-adapter_of_one name guid = record { name = name; kind = kind.Adapter; guid = guid; ports = 1 }
+adapter_of_one name guid = record { name = name; node_type = node_type.ChannelAdapter; guid = guid; ports = 1 }
 
 abbrev pub port : ℕ → ℕ → PortRef
 port node number = record { node = node; port = number }

@@ -1,15 +1,14 @@
 //! The cables of a fabric, with the other end of the cable at a port looked up in constant time.
 
 ghost use Rattle.std.specs.Prelude.{◌≡◌, IfOk};
-ghost use Rattle.topo_file.specs.declared.cable.PortRef.{PortRef};
+ghost use Rattle.fabric_parts.specs.declared.cable.PortRef.{PortRef};
 ghost use Rattle.indexmap.specs.IndexMap.{get};
-ghost use Rattle.topo_file.specs.Cable.{is_same_port};
-ghost use Rattle.fabric_wire.specs.FabricState.{far_end};
+ghost use Rattle.fabric_parts.specs.Cable.{is_same_port, far_end};
 
+use fabric_parts::{Cable, PortRef};
 use indexmap::IndexMap;
 use std::alloc::{AllocError, Global};
 use std::marker::Model;
-use topo_file::{Cable, PortRef};
 
 /// The cables of a fabric.
 #[derive(Debug, Drop)]
@@ -22,10 +21,10 @@ pub(crate) struct Cabling {
 impl Model for Cabling {
     ghost use Rattle.std.specs.Prelude.{◌≡◌, List};
     ghost use Rattle.indexmap.specs.IndexMap.{get};
-    ghost use Rattle.topo_file.specs.declared.cable.Cable.{Cable};
-    ghost use Rattle.topo_file.specs.declared.cable.PortRef.{PortRef};
-    ghost use Rattle.topo_file.specs.Cable.{is_same_port};
-    ghost use Rattle.fabric_wire.specs.FabricState.{far_end};
+    ghost use Rattle.fabric_parts.specs.declared.cable.Cable.{Cable};
+    ghost use Rattle.fabric_parts.specs.declared.cable.PortRef.{PortRef};
+    ghost use Rattle.fabric_parts.specs.Cable.{is_same_port};
+    ghost use Rattle.fabric_parts.specs.Cable.{far_end};
 
     ghost Value = { List Cable };
 

@@ -1,21 +1,21 @@
 //! The simulated fabric.
 
 ghost use Rattle.std.specs.Prelude.{◌≡◌, Some, IfOk};
-ghost use Rattle.fabric_wire.specs.Good.{IsGood, ShowsLinks, SwitchesJoined};
+ghost use Rattle.smp_wire.specs.FabricState.{fabric_with};
+ghost use Rattle.smp_wire.specs.Good.{IsGood, ShowsLinks, SwitchesJoined};
+ghost use Rattle.smp_wire.specs.Walk.{exchange_after, exchange_reply};
 ghost use Rattle.fabric_wire.specs.OfTopology.{fabric_of};
-ghost use Rattle.fabric_wire.specs.Walk.{exchange_after, exchange_reply};
 
 use crate::cabling::Cabling;
 use crate::hopping::{come_home, go_out};
-use crate::node::Node;
 use crate::power_up::nodes_of;
-use crate::smp_wire::SmpWire;
-use crate::walking::{agent_at, is_sent};
+use fabric_parts::PortRef;
 use mad_layout::{Mad, known_bytes};
 use smp_route::turn_round;
+use smp_wire::{Node, SmpWire, agent_at, is_sent};
 use std::alloc::{AllocError, Global};
 use std::marker::Model;
-use topo_file::{PortRef, Topology};
+use topo_file::Topology;
 
 /// A fabric whose nodes hand SMPs on hop by hop, each of them knowing its own ports alone.
 #[derive(Debug, Drop)]
@@ -26,8 +26,8 @@ pub struct Fabric {
 }
 
 impl Model for Fabric {
-    ghost use Rattle.fabric_wire.specs.FabricState.{FabricState};
-    ghost use Rattle.fabric_wire.specs.Good.{IsGood};
+    ghost use Rattle.smp_wire.specs.FabricState.{FabricState};
+    ghost use Rattle.smp_wire.specs.Good.{IsGood};
 
     ghost Value = { FabricState };
 
@@ -65,11 +65,11 @@ impl Fabric {
 }
 
 /// Takes an SMP out, has it answered, and takes its reply home.
-#[tactic(auto, unfolding(crate::specs::Walk::exchange_reply, crate::specs::Walk::exchange_after))]
+#[tactic(auto, unfolding(smp_wire::specs::Walk::exchange_reply, smp_wire::specs::Walk::exchange_after))]
 fn exchange(nodes: &mut [Node], cabling: &Cabling, manager: PortRef, sent: &Mad) -> Option<Mad>
-    requires { IsGood (record { nodes = nodes.old; cables = cabling.now; manager = manager }) }
-    ensures answer { result ≡ exchange_reply (record { nodes = nodes.old; cables = cabling.now; manager = manager }) sent.now }
-    ensures change { record { nodes = nodes.new; cables = cabling.now; manager = manager } ≡ exchange_after (record { nodes = nodes.old; cables = cabling.now; manager = manager }) sent.now }
+    requires { IsGood (fabric_with nodes.old cabling.now manager) }
+    ensures answer { result ≡ exchange_reply (fabric_with nodes.old cabling.now manager) sent.now }
+    ensures change { fabric_with nodes.new cabling.now manager ≡ exchange_after (fabric_with nodes.old cabling.now manager) sent.now }
 {
     if !is_sent(sent) {
         return None;

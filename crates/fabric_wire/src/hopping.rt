@@ -3,17 +3,15 @@
 ghost use Rattle.std.specs.Prelude.{◌≡◌, ◌+◌, ◌≤◌, true, option_map};
 ghost use Rattle.std.specs.List.{list_all};
 ghost use Rattle.smp_route.specs.Places.{count, pointer, with_pointer};
-ghost use Rattle.fabric_wire.specs.Good.{is_right};
+ghost use Rattle.smp_wire.specs.Good.{is_right};
 ghost use Rattle.fabric_wire.specs.Hopping.{leads_home, node_type_at};
-ghost use Rattle.fabric_wire.specs.Walk.{arrival_of, is_sent, path_of, walk};
+ghost use Rattle.smp_wire.specs.Walk.{arrival_of, is_sent, path_of, walk};
 
 use crate::cabling::Cabling;
-use crate::node::Node;
-use crate::walking::{Arrival, is_switch_at};
-use attr_tables::NodeType;
+use fabric_parts::{NodeType, PortRef};
 use mad_layout::Mad;
 use smp_route::{Hop, MAX_HOPS, back, outward};
-use topo_file::PortRef;
+use smp_wire::{Arrival, Node, is_switch_at};
 
 /// How many nodes the longest path goes through, both of its ends counted.
 const NODES_ON_A_PATH: u8 = MAX_HOPS + 1;

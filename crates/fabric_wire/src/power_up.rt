@@ -2,17 +2,19 @@
 
 ghost use Rattle.std.specs.Prelude.{◌≡◌, ◌≤◌, ◌<◌, ◌+◌, ◌^◌, true, IfOk, map};
 ghost use Rattle.std.specs.List.{range_with_len};
-ghost use Rattle.topo_file.specs.declared.node.NodeKind.TheVariants as kind;
-ghost use Rattle.topo_file.specs.Node.{HasGuids, most_ports};
+ghost use Rattle.fabric_parts.specs.declared.node_type.NodeType.TheVariants as node_type;
+ghost use Rattle.fabric_parts.specs.NodeType.{most_ports};
+ghost use Rattle.topo_file.specs.Node.{HasGuids, port_guid};
 ghost use Rattle.topo_file.specs.Sound.{is_sized};
-ghost use Rattle.fabric_wire.specs.OfTopology.{adapter_port_of, fabric_of, link_of, links_of, node_of, node_of_kind};
+ghost use Rattle.fabric_wire.specs.OfTopology.{adapter_port_of, fabric_of, link_of, links_of, node_of, node_of_type};
 
-use crate::node::{AdapterPorts, Node};
-use attr_tables::{LINEAR_TABLE, Link, MULTICAST_TABLE};
+use agent_rules::{LINEAR_TABLE, Link, MULTICAST_TABLE};
+use fabric_parts::{NodeType, PortRef};
 use port_model::AdapterPort;
+use smp_wire::{AdapterPorts, Node};
 use std::alloc::{AllocError, Global};
 use switch_model::Switch;
-use topo_file::{Node as PlannedNode, NodeKind, PortRef, Topology};
+use topo_file::{Node as PlannedNode, Topology};
 
 /// The nodes of the fabric that a topology describes, at power-up, in its order. Memory alone can be
 /// refused.
@@ -38,9 +40,9 @@ fn node_of(
     requires guids { HasGuids node.now }
     ensures { IfOk result (λ built. built ≡ node_of topology.now.cables place node.now) }
 {
-    match node.kind {
-        NodeKind::Switch => switch_of(alloc, topology, place, node),
-        NodeKind::Adapter => adapter_of(alloc, topology, place, node),
+    match node.node_type {
+        NodeType::Switch => switch_of(alloc, topology, place, node),
+        NodeType::ChannelAdapter => adapter_of(alloc, topology, place, node),
     }
 }
 
@@ -51,8 +53,8 @@ fn switch_of(
     place: usize,
     node: &PlannedNode,
 ) -> Result<Node, AllocError>
-    requires { node.now.ports ≤ most_ports kind.Switch }
-    ensures { IfOk result (λ built. built ≡ node_of_kind NodeKind.Switch topology.now.cables place node.now) }
+    requires { node.now.ports ≤ most_ports node_type.Switch }
+    ensures { IfOk result (λ built. built ≡ node_of_type NodeType.Switch topology.now.cables place node.now) }
 {
     let links = links_of(alloc, topology, place, node.ports)?;
     let switch = Switch::<LINEAR_TABLE, MULTICAST_TABLE>::new(
@@ -69,9 +71,9 @@ fn adapter_of(
     place: usize,
     node: &PlannedNode,
 ) -> Result<Node, AllocError>
-    requires guids { node.now.guid + node.now.ports < 2 ^ 64 }
-    requires few { node.now.ports ≤ most_ports kind.Adapter }
-    ensures { IfOk result (λ built. built ≡ node_of_kind NodeKind.Adapter topology.now.cables place node.now) }
+    requires guids { port_guid node.now node.now.ports < 2 ^ 64 }
+    requires few { node.now.ports ≤ most_ports node_type.ChannelAdapter }
+    ensures { IfOk result (λ built. built ≡ node_of_type NodeType.ChannelAdapter topology.now.cables place node.now) }
 {
     let ports = adapter_ports_of(alloc, topology, place, node)?;
     Ok(Node::Adapter(AdapterPorts::new(ports)))
@@ -84,8 +86,8 @@ fn adapter_ports_of(
     place: usize,
     node: &PlannedNode,
 ) -> Result<Vec<AdapterPort>, AllocError>
-    requires guids { node.now.guid + node.now.ports < 2 ^ 64 }
-    requires few { node.now.ports ≤ most_ports kind.Adapter }
+    requires guids { port_guid node.now node.now.ports < 2 ^ 64 }
+    requires few { node.now.ports ≤ most_ports node_type.ChannelAdapter }
     ensures { IfOk result (λ ports. ports.items ≡ map (adapter_port_of topology.now.cables place node.now) (range_with_len 1 node.now.ports)) }
 {
     let mut ports = Vec::with_capacity(alloc, node.ports as usize)?;
@@ -96,14 +98,14 @@ fn adapter_ports_of(
 }
 
 fn adapter_port_of(topology: &Topology, place: usize, node: &PlannedNode, number: u8) -> AdapterPort
-    requires { node.now.guid + number < 2 ^ 64 }
+    requires { port_guid node.now number < 2 ^ 64 }
     ensures { result ≡ adapter_port_of topology.now.cables place node.now number }
 {
     AdapterPort::new(
         node.guid,
         node.ports,
         number,
-        node.guid + u64::from(number),
+        node.port_guid(number),
         node.name.as_bytes(),
         link_of(topology, place, number),
     )
@@ -116,7 +118,7 @@ fn links_of(
     place: usize,
     count: u8,
 ) -> Result<Vec<Link>, AllocError>
-    requires { count ≤ most_ports kind.Switch }
+    requires { count ≤ most_ports node_type.Switch }
     ensures { IfOk result (λ links. links.items ≡ links_of topology.now.cables place count) }
 {
     (1..count + 1)

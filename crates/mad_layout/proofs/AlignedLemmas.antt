@@ -12,7 +12,8 @@ use Rattle.mad_layout.specs.Bits.{number, bit_of, digits, field, replaced, put_f
 use Rattle.mad_layout.proofs.NumberLemmas.{number_below, number_bytes, number_of_big, number_same, below_bytes, below_parts}
 use Rattle.mad_layout.proofs.WindowLemmas.{cut_at, field_from_window, put_is}
 
-window_below : (xs : List ℕ) (first count : ℕ) → AllBelowBase 256 xs → first + count ≤ length xs → number (take count (drop first xs)) < 2 ^ (8 * count)
+window_below : (xs : List ℕ) (first count : ℕ) → AllBelowBase 256 xs → first + count ≤ length xs
+    → number (take count (drop first xs)) < 2 ^ (8 * count)
 window_below xs first count below within =
     let c = cut_at xs first count within in
     let P : List ℕ → Type 0 = AllBelowBase 256 in
@@ -20,14 +21,17 @@ window_below xs first count below within =
     let inner = below_parts (take count (drop first xs)) (drop count (drop first xs)) parts.1 in
     rw (ap (λ (n : ℕ). 2 ^ (8 * n)) c.window) at (number_below (take count (drop first xs)) inner.0)
 
-pub field_aligned : (xs : List ℕ) (first count off len : ℕ) → AllBelowBase 256 xs → first + count ≤ length xs → off ≡ 8 * first → len ≡ 8 * count → number (take count (drop first xs)) ≡ field xs off len
+pub field_aligned : (xs : List ℕ) (first count off len : ℕ) → AllBelowBase 256 xs → first + count ≤ length xs
+    → off ≡ 8 * first → len ≡ 8 * count → number (take count (drop first xs)) ≡ field xs off len
 field_aligned xs first count off len below within starts wide =
     let w = number (take count (drop first xs)) in
     let small : w < 2 ^ len = rw (ap (λ (n : ℕ). 2 ^ n) (sym wide)) at (window_below xs first count below within) in
     let whole : digits w 0 len ≡ w = mod-eq_of_lt (rw (div-one w) small) ∙ div-one w in
     sym whole ∙ field_from_window xs first count off len 0 below within (omega arith) (omega arith)
 
-pub put_aligned : (xs t : List ℕ) (first count off len v : ℕ) → AllBelowBase 256 xs → AllBelowBase 256 t → length t ≡ count → first + count ≤ length xs → off ≡ 8 * first → len ≡ 8 * count → number t ≡ v → take first xs ++ (t ++ drop count (drop first xs)) ≡ put_field xs off len v
+pub put_aligned : (xs t : List ℕ) (first count off len v : ℕ) → AllBelowBase 256 xs → AllBelowBase 256 t
+    → length t ≡ count → first + count ≤ length xs → off ≡ 8 * first → len ≡ 8 * count → number t ≡ v
+    → take first xs ++ (t ++ drop count (drop first xs)) ≡ put_field xs off len v
 put_aligned xs t first count off len v below fits long within starts wide e =
     let w = number (take count (drop first xs)) in
     let small : w < 2 ^ len = rw (ap (λ (n : ℕ). 2 ^ n) (sym wide)) at (window_below xs first count below within) in
@@ -35,14 +39,19 @@ put_aligned xs t first count off len v below fits long within starts wide e =
     let whole : v ≡ replaced w 0 len v = rw none (omega arith) in
     put_is xs t first count off len 0 v below fits long within (omega arith) (omega arith) (e ∙ whole)
 
-pub big_aligned : (xs ys : List ℕ) (first count off len : ℕ) → AllBelowBase 256 xs → ys ≡ take (length xs - first) (drop first xs) → first + count ≤ length xs → off ≡ 8 * first → len ≡ 8 * count → big_from 0 count ys ≡ field xs off len
+pub big_aligned : (xs ys : List ℕ) (first count off len : ℕ) → AllBelowBase 256 xs
+    → ys ≡ take (length xs - first) (drop first xs) → first + count ≤ length xs → off ≡ 8 * first → len ≡ 8 * count
+    → big_from 0 count ys ≡ field xs off len
 big_aligned xs ys first count off len below e within starts wide =
     let d = length-drop first xs in
     ap (λ (zs : List ℕ). big_from 0 count zs) (e ∙ take_rest xs first)
     ∙ number_of_big count (drop first xs) (omega arith)
     ∙ field_aligned xs first count off len below within starts wide
 
-pub put_big : (xs t : List ℕ) (first count off len v : ℕ) → AllBelowBase 256 xs → t ≡ bytes_high_first count v ++ drop count (take (length xs - first) (drop first xs)) → first + count ≤ length xs → off ≡ 8 * first → len ≡ 8 * count → v < 2 ^ len → take first xs ++ (t ++ drop (length xs - first) (drop first xs)) ≡ put_field xs off len v
+pub put_big : (xs t : List ℕ) (first count off len v : ℕ) → AllBelowBase 256 xs
+    → t ≡ bytes_high_first count v ++ drop count (take (length xs - first) (drop first xs))
+    → first + count ≤ length xs → off ≡ 8 * first → len ≡ 8 * count → v < 2 ^ len
+    → take first xs ++ (t ++ drop (length xs - first) (drop first xs)) ≡ put_field xs off len v
 put_big xs t first count off len v below e within starts wide small =
     let r = drop first xs in
     let d = length-drop first xs in
@@ -56,7 +65,9 @@ put_big xs t first count off len v below e within starts wide small =
     ∙ put_aligned xs (bytes_high_first count v) first count off len v below (below_bytes count v) (length-bytes_high_first count v) within starts wide value
 
 -- bytes whose number a field holds stand there
-pub bytes_stand : (xs part : List ℕ) (first count : ℕ) → AllBelowBase 256 xs → AllBelowBase 256 part → first + count ≤ length xs → length part ≡ count → number part ≡ field xs (8 * first) (8 * count) → take count (drop first xs) ≡ part
+pub bytes_stand : (xs part : List ℕ) (first count : ℕ) → AllBelowBase 256 xs → AllBelowBase 256 part
+    → first + count ≤ length xs → length part ≡ count → number part ≡ field xs (8 * first) (8 * count)
+    → take count (drop first xs) ≡ part
 bytes_stand xs part first count below fits within long e =
     let c = cut_at xs first count within in
     let P : List ℕ → Type 0 = AllBelowBase 256 in
@@ -64,7 +75,8 @@ bytes_stand xs part first count below fits within long e =
     let inner = below_parts (take count (drop first xs)) (drop count (drop first xs)) parts.1 in
     number_same (take count (drop first xs)) part inner.0 fits (c.window ∙ sym long) (field_aligned xs first count (8 * first) (8 * count) below within refl refl ∙ sym e)
 
-pub field_of_part : (xs : List ℕ) (first count off len : ℕ) → AllBelowBase 256 xs → first + count ≤ length xs → off + len ≤ 8 * count → field (take count (drop first xs)) off len ≡ field xs (8 * first + off) len
+pub field_of_part : (xs : List ℕ) (first count off len : ℕ) → AllBelowBase 256 xs → first + count ≤ length xs
+    → off + len ≤ 8 * count → field (take count (drop first xs)) off len ≡ field xs (8 * first + off) len
 unfolding field
 field_of_part xs first count off len below within inside =
     let c = cut_at xs first count within in

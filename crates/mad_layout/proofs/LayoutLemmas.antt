@@ -1,20 +1,24 @@
 -- The laws of layouts, over any list of places.
 use Rattle.std.proofs.Common.{◌≡◌, ℕ, zero, suc, ◌+◌, ◌*◌, ◌-◌, ◌/◌, ◌%◌, ◌^◌, ◌<◌, ◌≤◌, true, ◌&&◌, ◌⊎◌, inl, inr, nat_le, List, [], ◌∷◌, length, replicate, refl, sym, ◌∙◌, ap, subst, arith}
 use Rattle.std.specs.Int.{bytes_high_first}
+use Rattle.std.specs.Int.Digits.{AllBelowBase}
 use Rattle.std.proofs.lemmas.Nat.{shr-shr, shr_high, mod_low, field_of, pow_pos, mod_below}
 use Rattle.std.proofs.lemmas.List.{length-replicate}
-use Rattle.std.proofs.lemmas.Bool.{and_parts, or_cases}
-use Rattle.std.proofs.lemmas.Bool.Decides.{nat_tests}
+use Rattle.std.proofs.lemmas.Bool.{and_parts, leb-true, or_cases}
 use Rattle.std.proofs.Math.Pow.{mod-mod-pow}
 use Rattle.std.proofs.Math.Nat.{div-eq_of_lt, mod-eq_of_lt}
 use Rattle.byteorder.specs.Numbers.{length-bytes_high_first}
 use Rattle.mad_layout.specs.Bits.{number, digits, field, replaced, put_field}
 use Rattle.mad_layout.specs.Layout.{Place, Holds, Fits, put_all, is_apart, is_free, is_layout, Spells, Sets}
-use Rattle.mad_layout.proofs.NumberLemmas.{number_bytes, number_cons}
+use Rattle.mad_layout.proofs.NumberLemmas.{below_bytes, number_bytes, number_cons}
 
 pub length-put_field : (xs : List ℕ) (off len v : ℕ) → length (put_field xs off len v) ≡ length xs
 unfolding put_field
 length-put_field xs off len v = length-bytes_high_first (length xs) (replaced (number xs) (8 * length xs - (off + len)) len v)
+
+pub put_below : (xs : List ℕ) (off len v : ℕ) → AllBelowBase 256 (put_field xs off len v)
+unfolding put_field
+put_below xs off len v = below_bytes (length xs) (replaced (number xs) (8 * length xs - (off + len)) len v)
 
 -- digits of a number that is cut to more digits than they reach
 digits_of_cut : (n k low len : ℕ) → low + len ≤ k → digits (n % 2 ^ k) low len ≡ digits n low len
@@ -58,7 +62,8 @@ digits_replaced_below n low len v l k h =
     ∙ digits_of_cut n low l k h
 
 -- a field of the bytes that a field was put into, as digits
-field_of_put : (xs : List ℕ) (off len v o l : ℕ) → o + l ≤ 8 * length xs → field (put_field xs off len v) o l ≡ digits (replaced (number xs) (8 * length xs - (off + len)) len v) (8 * length xs - (o + l)) l
+field_of_put : (xs : List ℕ) (off len v o l : ℕ) → o + l ≤ 8 * length xs
+    → field (put_field xs off len v) o l ≡ digits (replaced (number xs) (8 * length xs - (off + len)) len v) (8 * length xs - (o + l)) l
 unfolding field put_field
 field_of_put xs off len v o l h =
     let x = replaced (number xs) (8 * length xs - (off + len)) len v in
@@ -71,7 +76,8 @@ pub field-put_same : (xs : List ℕ) (off len v : ℕ) → off + len ≤ 8 * len
 field-put_same xs off len v h g =
     field_of_put xs off len v off len h ∙ digits_replaced_same (number xs) (8 * length xs - (off + len)) len v g
 
-pub field-put_apart : (xs : List ℕ) (off len v o l : ℕ) → off + len ≤ 8 * length xs → o + l ≤ 8 * length xs → v < 2 ^ len → (o + l ≤ off) ⊎ (off + len ≤ o) → field (put_field xs off len v) o l ≡ field xs o l
+pub field-put_apart : (xs : List ℕ) (off len v o l : ℕ) → off + len ≤ 8 * length xs → o + l ≤ 8 * length xs
+    → v < 2 ^ len → (o + l ≤ off) ⊎ (off + len ≤ o) → field (put_field xs off len v) o l ≡ field xs o l
 unfolding field
 field-put_apart xs off len v o l h g f apart =
     let low = 8 * length xs - (off + len) in
@@ -87,14 +93,11 @@ length-put_all xs [] = refl
 length-put_all xs (p ∷ ps) =
     length-put_all (put_field xs p.off p.len p.value) ps ∙ length-put_field xs p.off p.len p.value
 
-le_from : (a b : ℕ) → nat_le a b ≡ true → a ≤ b
-le_from a b h = grind (arith, nat_tests)
-
 apart_parts : (off len : ℕ) (p : Place) → is_apart off len p ≡ true → (off + len ≤ p.off) ⊎ (p.off + p.len ≤ off)
 apart_parts off len p h =
     elim (or_cases (nat_le (off + len) p.off) (nat_le (p.off + p.len) off) h) [
-      | inl before ↦ inl (le_from (off + len) p.off before)
-      | inr after ↦ inr (le_from (p.off + p.len) off after)
+      | inl before ↦ inl (leb-true (off + len) p.off before)
+      | inr after ↦ inr (leb-true (p.off + p.len) off after)
     ]
 
 -- what `is_layout` says of a first place
@@ -107,14 +110,16 @@ first_of_layout : (size : ℕ) (p : Place) (ps : List Place) → is_layout size 
 first_of_layout size p ps h =
     let a = and_parts (nat_le (p.off + p.len) size) (is_free p.off p.len ps && is_layout size ps) h in
     let b = and_parts (is_free p.off p.len ps) (is_layout size ps) a.1 in
-    record { within = le_from (p.off + p.len) size a.0; free = b.0; rest = b.1 }
+    record { within = leb-true (p.off + p.len) size a.0; free = b.0; rest = b.1 }
 
 -- the same layout test after a field was put
-moved : (xs : List ℕ) (p : Place) (ps : List Place) → is_layout (8 * length xs) ps ≡ true → is_layout (8 * length (put_field xs p.off p.len p.value)) ps ≡ true
+moved : (xs : List ℕ) (p : Place) (ps : List Place) → is_layout (8 * length xs) ps ≡ true
+    → is_layout (8 * length (put_field xs p.off p.len p.value)) ps ≡ true
 moved xs p ps h = ap (λ (n : ℕ). is_layout (8 * n) ps) (length-put_field xs p.off p.len p.value) ∙ h
 
 -- a field that is free of the layout stays
-pub stays : (xs : List ℕ) (ps : List Place) (off len : ℕ) → is_layout (8 * length xs) ps ≡ true → Fits ps → off + len ≤ 8 * length xs → is_free off len ps ≡ true → field (put_all xs ps) off len ≡ field xs off len
+pub stays : (xs : List ℕ) (ps : List Place) (off len : ℕ) → is_layout (8 * length xs) ps ≡ true → Fits ps
+    → off + len ≤ 8 * length xs → is_free off len ps ≡ true → field (put_all xs ps) off len ≡ field xs off len
 stays xs [] off len layout fits within free = refl
 stays xs (p ∷ ps) off len layout fits within free =
     let first = first_of_layout (8 * length xs) p ps layout in

@@ -2,3 +2,4 @@ pub mod NumberLemmas
 pub mod WindowLemmas
 pub mod AlignedLemmas
 pub mod LayoutLemmas
+pub mod PutLemmas

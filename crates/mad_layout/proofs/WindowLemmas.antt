@@ -52,7 +52,9 @@ cut_at xs first count h =
       rest = omega arith;
     }
 
-pub field_from_window : (xs : List ℕ) (first count off len low : ℕ) → AllBelowBase 256 xs → first + count ≤ length xs → off + len + low ≡ 8 * (first + count) → 8 * first ≤ off → digits (number (take count (drop first xs))) low len ≡ field xs off len
+pub field_from_window : (xs : List ℕ) (first count off len low : ℕ) → AllBelowBase 256 xs → first + count ≤ length xs
+    → off + len + low ≡ 8 * (first + count) → 8 * first ≤ off
+    → digits (number (take count (drop first xs))) low len ≡ field xs off len
 unfolding field
 field_from_window xs first count off len low below within ends starts =
     let c = cut_at xs first count within in
@@ -101,7 +103,9 @@ replaced_high a w low len s v =
     ap (λ (y : ℕ). y % 2 ^ low) f ∙ add-mul-mod_self_right w (a * 2 ^ s * 2 ^ len) (2 ^ low) in
     rw (high, rest, p) (spread (w / 2 ^ (low + len)) a (2 ^ s) (2 ^ len) (2 ^ low) v (w % 2 ^ low) (2 ^ (low + len)) q)
 
-put_law : (a w t r : List ℕ) (low len s v : ℕ) → AllBelowBase 256 r → length t ≡ length w → 8 * length w ≡ s + (low + len) → number t ≡ replaced (number w) low len v → number (a ++ (t ++ r)) ≡ replaced (number (a ++ (w ++ r))) (8 * length r + low) len v
+put_law : (a w t r : List ℕ) (low len s v : ℕ) → AllBelowBase 256 r → length t ≡ length w
+    → 8 * length w ≡ s + (low + len) → number t ≡ replaced (number w) low len v
+    → number (a ++ (t ++ r)) ≡ replaced (number (a ++ (w ++ r))) (8 * length r + low) len v
 put_law a w t r low len s v below same wide e =
     let k = 8 * length r in
     let old = parts_number a w r in
@@ -119,7 +123,10 @@ put_law a w t r low len s v below same wide e =
     ∙ ap (λ (n : ℕ). replaced n (k + low) len v) (sym old)
 
 -- the window rewritten where it stands is the field set
-pub put_is : (xs t : List ℕ) (first count off len low v : ℕ) → AllBelowBase 256 xs → AllBelowBase 256 t → length t ≡ count → first + count ≤ length xs → off + len + low ≡ 8 * (first + count) → 8 * first ≤ off → number t ≡ replaced (number (take count (drop first xs))) low len v → take first xs ++ (t ++ drop count (drop first xs)) ≡ put_field xs off len v
+pub put_is : (xs t : List ℕ) (first count off len low v : ℕ) → AllBelowBase 256 xs → AllBelowBase 256 t
+    → length t ≡ count → first + count ≤ length xs → off + len + low ≡ 8 * (first + count) → 8 * first ≤ off
+    → number t ≡ replaced (number (take count (drop first xs))) low len v
+    → take first xs ++ (t ++ drop count (drop first xs)) ≡ put_field xs off len v
 unfolding put_field
 put_is xs t first count off len low v below fits long within ends starts e =
     let c = cut_at xs first count within in

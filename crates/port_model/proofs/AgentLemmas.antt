@@ -1,21 +1,24 @@
 -- What a port gives and takes, case by case.
-use Rattle.std.proofs.Common.{◌≡◌, ℕ, Bool, true, false, if◌then◌else◌, Ok, Err, List, refl, subst}
+use Rattle.std.proofs.Common.{◌≡◌, ℕ, true, false, if◌then◌else◌, Ok, Err, List, refl, subst}
 use Rattle.mad_layout.specs.declared.status.MadStatus.TheVariants.{InvalidField}
 use Rattle.attr_tables.specs.declared.port_info.PortInfo.{PortInfo as Info}
 use Rattle.attr_tables.specs.declared.smp_attribute.SmpAttribute.{SmpAttribute}
 use Rattle.attr_tables.specs.declared.smp_attribute.SmpAttribute.TheVariants.{NodeDescription, NodeInfo, SwitchInfo, PortInfo, PKeyTable, LinearForwardingTable, MulticastForwardingTable}
-use Rattle.attr_tables.specs.Agent.{◌>>=◌, shown_at, word_block_set}
+use Rattle.result_words.specs.Steps.{◌>>=◌}
+use Rattle.agent_rules.specs.Agent.{shown_at, set_word_block}
 use Rattle.attr_tables.specs.Blocks.{has_block, with_block}
 use Rattle.attr_tables.specs.PortInfo.{port_info_bytes}
-use Rattle.attr_tables.specs.AgentLaws.{AsksSame}
-use Rattle.attr_tables.specs.PortSetting.{port_info_after, port_setting}
-use Rattle.attr_tables.specs.Request.{attribute_asked, modifier_of}
-use Rattle.attr_tables.proofs.AgentLemmas.{Shows, after_cases, bind_done, guard_ok}
-use Rattle.attr_tables.proofs.PortSettingLemmas.{down_stays, unsettable_stays}
-use Rattle.attr_tables.proofs.TableLemmas.{no_difference, words_differ, words_shown}
+use Rattle.agent_rules.specs.Laws.{AsksSame}
+use Rattle.agent_rules.specs.PortSetting.{port_info_after, port_setting}
+use Rattle.agent_rules.specs.Request.{attribute_asked, modifier_of}
+use Rattle.result_words.proofs.StepLemmas.{bind_done, let_through}
+use Rattle.agent_rules.proofs.GuardLemmas.{passed}
+use Rattle.agent_rules.proofs.AgentLemmas.{Shows, after_cases}
+use Rattle.agent_rules.proofs.PortSettingLemmas.{down_stays, unsettable_stays}
+use Rattle.agent_rules.proofs.TableLemmas.{no_difference, words_differ, words_shown}
 use Rattle.port_model.specs.AdapterState.{AdapterState}
 use Rattle.port_model.specs.Agent.{agent_after, get, is_own, set, set_port_info}
-use Rattle.port_model.specs.Laws.{ChangesAtMost}
+use Rattle.port_model.specs.Changes.{ChangesAtMost}
 
 -- what a Set of PortInfo leads to
 record InfoSet (held next : AdapterState) (smp : List ℕ) : Type 0 where
@@ -27,34 +30,32 @@ record InfoSet (held next : AdapterState) (smp : List ℕ) : Type 0 where
 info_set : (held next : AdapterState) (smp : List ℕ) → set held PortInfo smp ≡ Ok next → InfoSet held next smp
 unfolding set
 info_set held next smp h =
-    let g = guard_ok (is_own held (modifier_of smp)) (set_port_info held smp) InvalidField next h in
+    let g = let_through (is_own held (modifier_of smp)) (set_port_info held smp) InvalidField next h in
     let b = bind_done (port_info_after false held.info (port_setting smp)) (λ info. record held { info = info }) next g.1 in
     record { own = g.0; after = b.0; taken = b.1; same = b.2 }
 
 -- what a Set of the key table leads to
 record KeysSet (held next : AdapterState) (smp : List ℕ) : Type 0 where
   after : List ℕ
-  taken : word_block_set (modifier_of smp) smp held.keys ≡ Ok after
+  taken : set_word_block (modifier_of smp) smp held.keys ≡ Ok after
   same : record held { keys = after } ≡ next
 
 keys_set : (held next : AdapterState) (smp : List ℕ) → set held PKeyTable smp ≡ Ok next → KeysSet held next smp
 unfolding set
 keys_set held next smp h =
-    let b = bind_done (word_block_set (modifier_of smp) smp held.keys) (λ keys. record held { keys = keys }) next h in
+    let b = bind_done (set_word_block (modifier_of smp) smp held.keys) (λ keys. record held { keys = keys }) next h in
     record { after = b.0; taken = b.1; same = b.2 }
 
 -- ---- what is set can be asked for
-own_given : (b : Bool) (bytes : List ℕ) → b ≡ true → (if b then Ok bytes else Err InvalidField) ≡ Ok bytes
-own_given true bytes h = refl
-own_given false bytes h = absurd (cc)
-
-info_shown : (held : AdapterState) (info : Info) (modifier : ℕ) → is_own held modifier ≡ true → (bytes : List ℕ) × (get (record held { info = info }) PortInfo modifier ≡ Ok bytes)
+info_shown : (held : AdapterState) (info : Info) (modifier : ℕ) → is_own held modifier ≡ true
+    → (bytes : List ℕ) × (get (record held { info = info }) PortInfo modifier ≡ Ok bytes)
 unfolding get
 info_shown held info modifier own =
     let bytes = port_info_bytes (shown_at held.number info) in
-    (bytes, own_given (is_own held modifier) bytes own)
+    (bytes, passed (is_own held modifier) (Ok bytes) InvalidField own)
 
-keys_shown : (held : AdapterState) (keys smp : List ℕ) → word_block_set (modifier_of smp) smp held.keys ≡ Ok keys → (bytes : List ℕ) × (get (record held { keys = keys }) PKeyTable (modifier_of smp) ≡ Ok bytes)
+keys_shown : (held : AdapterState) (keys smp : List ℕ) → set_word_block (modifier_of smp) smp held.keys ≡ Ok keys
+    → (bytes : List ℕ) × (get (record held { keys = keys }) PKeyTable (modifier_of smp) ≡ Ok bytes)
 unfolding get
 keys_shown held keys smp h = words_shown (modifier_of smp) smp held.keys keys h
 
@@ -90,7 +91,9 @@ nothing_changes held smp =
       key_block = no_difference 32 (modifier_of smp) held.keys;
     }
 
-info_changes : (held : AdapterState) (info : Info) (smp : List ℕ) → attribute_asked smp ≡ Ok PortInfo → port_info_after false held.info (port_setting smp) ≡ Ok info → ChangesAtMost held (record held { info = info }) smp
+info_changes : (held : AdapterState) (info : Info) (smp : List ℕ) → attribute_asked smp ≡ Ok PortInfo
+    → port_info_after false held.info (port_setting smp) ≡ Ok info
+    → ChangesAtMost held (record held { info = info }) smp
 info_changes held info smp asked taken =
     record {
       node_guid = refl;
@@ -105,7 +108,8 @@ info_changes held info smp asked taken =
       key_block = no_difference 32 (modifier_of smp) held.keys;
     }
 
-keys_change : (held : AdapterState) (keys smp : List ℕ) → attribute_asked smp ≡ Ok PKeyTable → word_block_set (modifier_of smp) smp held.keys ≡ Ok keys → ChangesAtMost held (record held { keys = keys }) smp
+keys_change : (held : AdapterState) (keys smp : List ℕ) → attribute_asked smp ≡ Ok PKeyTable
+    → set_word_block (modifier_of smp) smp held.keys ≡ Ok keys → ChangesAtMost held (record held { keys = keys }) smp
 keys_change held keys smp asked taken =
     record {
       node_guid = refl;
@@ -120,7 +124,8 @@ keys_change held keys smp asked taken =
       key_block = words_differ (modifier_of smp) smp held.keys keys taken;
     }
 
-set_changes : (held next : AdapterState) (smp : List ℕ) (attribute : SmpAttribute) → attribute_asked smp ≡ Ok attribute → set held attribute smp ≡ Ok next → ChangesAtMost held next smp
+set_changes : (held next : AdapterState) (smp : List ℕ) (attribute : SmpAttribute)
+    → attribute_asked smp ≡ Ok attribute → set held attribute smp ≡ Ok next → ChangesAtMost held next smp
 unfolding set
 set_changes held next smp PortInfo asked h =
     let s = info_set held next smp h in
@@ -143,7 +148,8 @@ changes_at_most held smp =
     after_cases set held smp P (nothing_changes held smp) (λ attribute next asked h. set_changes held next smp attribute asked h)
 
 -- ---- SMPs that ask the same
-pub takes_alike : (held : AdapterState) (attribute : SmpAttribute) (one other : List ℕ) → AsksSame one other → set held attribute other ≡ set held attribute one
+pub takes_alike : (held : AdapterState) (attribute : SmpAttribute) (one other : List ℕ) → AsksSame one other
+    → set held attribute other ≡ set held attribute one
 unfolding set
 takes_alike held PortInfo one other same = λ place. if is_own held (same.modifier place) then (port_info_after false held.info (same.setting place) >>= λ info. Ok (record held { info = info })) else Err InvalidField
 takes_alike held PKeyTable one other same = λ place. (if has_block 32 (same.modifier place) held.keys then Ok (with_block 32 (same.modifier place) (same.words place) held.keys) else Err InvalidField) >>= λ keys. Ok (record held { keys = keys })

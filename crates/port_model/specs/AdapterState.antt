@@ -1,9 +1,9 @@
 -- What one port of a channel adapter holds.
 use Rattle.std.specs.Prelude.{ℕ, List}
-use Rattle.attr_tables.specs.declared.link.Link.{Link}
-use Rattle.attr_tables.specs.declared.node_type.NodeType.TheVariants.{ChannelAdapter}
+use Rattle.agent_rules.specs.declared.link.Link.{Link}
+use Rattle.fabric_parts.specs.declared.node_type.NodeType.TheVariants.{ChannelAdapter}
 use Rattle.attr_tables.specs.declared.port_info.PortInfo.{PortInfo}
-use Rattle.attr_tables.specs.PowerUp.{keys_at_power_up, port_info_at_power_up}
+use Rattle.agent_rules.specs.PowerUp.{keys_at_power_up, port_info_at_power_up}
 
 pub record AdapterState : Type 0 where
   pub node_guid : ℕ

@@ -3,15 +3,16 @@
 use Rattle.std.specs.Prelude.{ℕ, ◌==◌, Bool, false, ◌||◌, if◌then◌else◌, List, Option, Result, Ok, Err}
 use Rattle.mad_layout.specs.declared.status.MadStatus.{MadStatus}
 use Rattle.mad_layout.specs.declared.status.MadStatus.TheVariants.{AttributeNotSupported, InvalidField}
-use Rattle.attr_tables.specs.declared.node_type.NodeType.TheVariants.{ChannelAdapter}
+use Rattle.fabric_parts.specs.declared.node_type.NodeType.TheVariants.{ChannelAdapter}
 use Rattle.attr_tables.specs.declared.smp_attribute.SmpAttribute.{SmpAttribute}
 use Rattle.attr_tables.specs.declared.smp_attribute.SmpAttribute.TheVariants.{NodeDescription, NodeInfo, SwitchInfo, PortInfo, PKeyTable, LinearForwardingTable, MulticastForwardingTable}
-use Rattle.attr_tables.specs.Agent.{◌>>=◌, after, reply_of, shown_at, whole, word_block, word_block_set}
+use Rattle.result_words.specs.Steps.{◌>>=◌}
+use Rattle.agent_rules.specs.Agent.{after, reply_of, shown_at, whole, word_block, set_word_block}
 use Rattle.attr_tables.specs.NodeInfo.{node_info_bytes}
 use Rattle.attr_tables.specs.PortInfo.{port_info_bytes}
-use Rattle.attr_tables.specs.PortSetting.{port_setting, port_info_after}
-use Rattle.attr_tables.specs.PowerUp.{node_info_of}
-use Rattle.attr_tables.specs.Request.{modifier_of}
+use Rattle.agent_rules.specs.PortSetting.{port_setting, port_info_after}
+use Rattle.agent_rules.specs.PowerUp.{node_info_of}
+use Rattle.agent_rules.specs.Request.{modifier_of}
 use Rattle.port_model.specs.AdapterState.{AdapterState}
 
 -- PortInfo's modifier names this port: 0, or its number
@@ -38,7 +39,7 @@ set_port_info held smp = do
 
 abbrev pub set_keys : AdapterState → List ℕ → Result AdapterState MadStatus
 set_keys held smp = do
-  keys ← word_block_set (modifier_of smp) smp held.keys
+  keys ← set_word_block (modifier_of smp) smp held.keys
   Ok (record held { keys = keys })
 
 unfoldable pub set : AdapterState → SmpAttribute → List ℕ → Result AdapterState MadStatus

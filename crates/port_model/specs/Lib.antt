@@ -1,3 +1,4 @@
 pub mod AdapterState
 pub mod Agent
+pub mod Changes
 pub mod Laws

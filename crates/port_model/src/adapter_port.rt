@@ -1,16 +1,18 @@
 ghost use Rattle.std.specs.Prelude.{◌≡◌, ◌≢◌, ◌≤◌, true, ◌-◌, ◌++◌, ◌||◌, length, replicate, is_some, unwrap_or, IfOk};
 ghost use Rattle.mad_layout.specs.Bits.{field};
-ghost use Rattle.attr_tables.specs.Agent.{Leaves, answer, held_after};
-ghost use Rattle.attr_tables.specs.AgentLaws.{IsAttribute};
-ghost use Rattle.attr_tables.specs.Request.{KeepsRest};
+ghost use Rattle.agent_rules.specs.Agent.{Leaves, answer, held_after};
+ghost use Rattle.attr_tables.specs.Attribute.{IsAttribute};
+ghost use Rattle.agent_rules.specs.Request.{KeepsRest};
 ghost use Rattle.port_model.specs.AdapterState.{at_power_up};
 ghost use Rattle.port_model.specs.Agent.{agent_after, agent_reply, get, is_own, set, set_keys, set_port_info};
 
-use attr_tables::{
-    Link, NodeDescription, NodeType, PortInfo, PortSetting, SmpAttribute, attribute_asked,
-    is_request, is_set, keys_at_power_up, modifier_of, node_info_of, port_info_after,
-    port_info_at_power_up, put_reply, set_word_block, shown_at, whole, word_block_at,
+use agent_rules::{
+    Link, PortSetting, attribute_asked, is_request, is_set, keys_at_power_up, modifier_of,
+    node_info_of, port_info_after, port_info_at_power_up, put_reply, set_word_block, shown_at,
+    whole, word_block_at,
 };
+use attr_tables::{NodeDescription, PortInfo, SmpAttribute};
+use fabric_parts::NodeType;
 use mad_layout::{Mad, MadStatus};
 use pkey_rules::PARTITIONS;
 use std::marker::Model;

@@ -2,7 +2,7 @@
 //!
 //! [`AdapterPort::agent`] answers an SMP: its clauses say, by the definitions of `specs/Agent.antt`,
 //! whether there is a reply, each bit of it, and what the port holds from then on. A wire needs to know
-//! nothing else. What all agents share stands in `attr_tables`. The attributes are those of the
+//! nothing else. What all agents share stands in `agent_rules`. The attributes are those of the
 //! InfiniBand Architecture Specification, volume 1, chapter 14; what a port holds at power-up is ours.
 #![tactic(auto)]
 

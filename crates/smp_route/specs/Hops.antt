@@ -1,8 +1,8 @@
 -- The hops of directed-route SMPs (InfiniBand volume 1, chapter 14), at one node: where the SMP goes from
 -- there, and what it is then. A discarded SMP is left as it came.
 use Rattle.std.specs.Prelude.{ℕ, ◌+◌, ◌-◌, ◌==◌, ◌||◌, ◌&&◌, nat_lt, nat_le, if◌then◌else◌, Bool, true, not, List}
-use Rattle.attr_tables.specs.declared.node_type.NodeType.{NodeType}
-use Rattle.attr_tables.specs.declared.node_type.NodeType.TheVariants.{ChannelAdapter, Switch}
+use Rattle.fabric_parts.specs.declared.node_type.NodeType.{NodeType}
+use Rattle.fabric_parts.specs.declared.node_type.NodeType.TheVariants.{ChannelAdapter, Switch}
 use Rattle.smp_route.specs.declared.hop.Hop.{Hop}
 use Rattle.smp_route.specs.declared.hop.Hop.TheVariants.{Forward, ToAgent, ToManager, Discard}
 use Rattle.smp_route.specs.Places.{pointer, count, initial_port, return_port, with_pointer, with_return_port}
@@ -46,12 +46,15 @@ handed_on Switch port smp = by_port (initial_port smp (pointer smp + 1)) (noted 
 -- from another node: at the end of its path it goes to the agent
 abbrev pub came_in : NodeType → ℕ → List ℕ → Step
 came_in node_type port smp =
-    if pointer smp == 0 then discarded smp else (if pointer smp == count smp then record { hop = ToAgent; smp = noted port smp } else handed_on node_type port smp)
+    if pointer smp == 0 then discarded smp
+    else (if pointer smp == count smp then record { hop = ToAgent; smp = noted port smp } else handed_on node_type port smp)
 
 -- port 0: from the node itself
 abbrev pub outgoing : NodeType → ℕ → List ℕ → Step
 outgoing node_type port smp =
-    if is_too_long smp || nat_lt (count smp) (pointer smp) then discarded smp else (if not (port == 0) then came_in node_type port smp else (if pointer smp == 0 then sent smp else discarded smp))
+    if is_too_long smp || nat_lt (count smp) (pointer smp) then discarded smp
+    else (if not (port == 0) then came_in node_type port smp
+    else (if pointer smp == 0 then sent smp else discarded smp))
 
 -- ---- returning
 -- the SMP with its pointer one hop back
@@ -61,7 +64,8 @@ nearer smp = with_pointer (pointer smp - 1) smp
 -- with no hop left it is at the manager's node, else it leaves by the port by which it came in
 abbrev pub sent_back : List ℕ → Step
 sent_back smp =
-    if pointer smp == 1 then record { hop = ToManager; smp = nearer smp } else by_port (return_port smp (pointer smp - 1)) (nearer smp) smp
+    if pointer smp == 1 then record { hop = ToManager; smp = nearer smp }
+    else by_port (return_port smp (pointer smp - 1)) (nearer smp) smp
 
 -- what comes from another node only a switch hands on; the last hop ends at either kind of node
 abbrev pub passes_back : NodeType → ℕ → Bool
@@ -71,7 +75,8 @@ passes_back Switch pointer = true
 -- from the agent the pointer is one past the path, from another node within it
 abbrev pub may_return : NodeType → ℕ → List ℕ → Bool
 may_return node_type port smp =
-    if port == 0 then pointer smp == count smp + 1 else nat_le 1 (pointer smp) && (nat_le (pointer smp) (count smp) && passes_back node_type (pointer smp))
+    if port == 0 then pointer smp == count smp + 1
+    else nat_le 1 (pointer smp) && (nat_le (pointer smp) (count smp) && passes_back node_type (pointer smp))
 
 abbrev pub returning : NodeType → ℕ → List ℕ → Step
 returning node_type port smp = if not (is_too_long smp) && may_return node_type port smp then sent_back smp else discarded smp

@@ -1,7 +1,7 @@
 //! An SMP on its way from the subnet manager.
 
 ghost use Rattle.std.specs.Prelude.{◌≡◌, ◌≤◌};
-ghost use Rattle.attr_tables.specs.declared.node_type.NodeType.TheVariants.{Switch};
+ghost use Rattle.fabric_parts.specs.declared.node_type.NodeType.TheVariants.{Switch};
 ghost use Rattle.smp_route.specs.Places.{pointer, count};
 ghost use Rattle.smp_route.specs.Hops.{noted, outgoing, sent, came_in, handed_on};
 
@@ -9,7 +9,7 @@ use crate::fields::{
     MAX_HOPS, count_of, initial_port_of, pointer_of, set_pointer, set_return_port,
 };
 use crate::hop::Hop;
-use attr_tables::NodeType;
+use fabric_parts::NodeType;
 use mad_layout::Mad;
 
 /// Takes an outgoing SMP that came to a node of this type by `in_port`, 0 for the node itself, and answers

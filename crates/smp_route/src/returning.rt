@@ -6,7 +6,7 @@ ghost use Rattle.smp_route.specs.Hops.{may_return, passes_back, returning, sent_
 
 use crate::fields::{MAX_HOPS, count_of, pointer_of, return_port_of, set_pointer};
 use crate::hop::Hop;
-use attr_tables::NodeType;
+use fabric_parts::NodeType;
 use mad_layout::Mad;
 
 /// Takes a returning SMP that came to a node of this type by `in_port`, 0 for the node's own agent, and

@@ -4,20 +4,22 @@ use Rattle.std.proofs.Math.ListN.{length-set}
 use Rattle.attr_tables.specs.declared.port_info.PortInfo.{PortInfo as Port}
 use Rattle.attr_tables.specs.declared.smp_attribute.SmpAttribute.{SmpAttribute}
 use Rattle.attr_tables.specs.declared.smp_attribute.SmpAttribute.TheVariants.{NodeDescription, NodeInfo, SwitchInfo, PortInfo, PKeyTable, LinearForwardingTable, MulticastForwardingTable}
-use Rattle.attr_tables.specs.Agent.{word_block_set}
-use Rattle.attr_tables.specs.PortSetting.{port_info_after, port_setting}
-use Rattle.attr_tables.specs.Request.{attribute_asked, modifier_of}
-use Rattle.attr_tables.proofs.AgentLemmas.{after_cases}
-use Rattle.attr_tables.proofs.PortSettingLemmas.{down_stays, unsettable_stays}
-use Rattle.attr_tables.proofs.TableLemmas.{no_difference, words_differ}
+use Rattle.agent_rules.specs.Agent.{set_word_block}
+use Rattle.agent_rules.specs.PortSetting.{port_info_after, port_setting}
+use Rattle.agent_rules.specs.Request.{attribute_asked, modifier_of}
+use Rattle.agent_rules.proofs.AgentLemmas.{after_cases}
+use Rattle.agent_rules.proofs.PortSettingLemmas.{down_stays, unsettable_stays}
+use Rattle.agent_rules.proofs.TableLemmas.{no_difference, words_differ}
 use Rattle.switch_model.specs.declared.switch_port.SwitchPort.{SwitchPort}
 use Rattle.switch_model.specs.Agent.{agent_after, key_block, key_port, mask_block, mask_position, part_at, set}
-use Rattle.switch_model.specs.Laws.{ChangesAtMost, MasksChangeAtMost, PortChangesAtMost}
+use Rattle.switch_model.specs.Changes.{ChangesAtMost, MasksChangeAtMost, PortChangesAtMost}
 use Rattle.switch_model.specs.SwitchState.{SwitchState}
 use Rattle.switch_model.proofs.AgentLemmas.{keys_are_set, linear_differs, linear_is_set, masks_are_set, part_is, port_set, top_set}
 
 -- where one part is set, all parts change at most as that one may
-each_part : {X : Type 0} (parts : List X) (number : ℕ) (part next none : X) (P : ℕ → X → X → Type 0) → slice_get parts number ≡ Some part → ((k : ℕ) (x : X) → P k x x) → P number part next → (k : ℕ) → P k (get_or parts k none) (get_or (slice_set parts number next) k none)
+each_part : {X : Type 0} (parts : List X) (number : ℕ) (part next none : X) (P : ℕ → X → X → Type 0)
+    → slice_get parts number ≡ Some part → ((k : ℕ) (x : X) → P k x x) → P number part next → (k : ℕ)
+    → P k (get_or parts k none) (get_or (slice_set parts number next) k none)
 each_part [] number part next none P there same here k = absurd (cc)
 each_part (x ∷ parts) zero part next none P there same here zero =
     let e : part ≡ x = cc in
@@ -47,7 +49,9 @@ neither : {X : Type 0} {A B : Type 0} → A → B → (A → ⊥) ⊎ (B → ⊥
 neither a b (inl not_a) = absurd (not_a a)
 neither a b (inr not_b) = absurd (not_b b)
 
-info_changes : (smp : List ℕ) (port : SwitchPort) (info : Port) → attribute_asked smp ≡ Ok PortInfo → port_info_after (nat_lt 0 (modifier_of smp)) port.info (port_setting smp) ≡ Ok info → PortChangesAtMost smp (modifier_of smp) port (record port { info = info })
+info_changes : (smp : List ℕ) (port : SwitchPort) (info : Port) → attribute_asked smp ≡ Ok PortInfo
+    → port_info_after (nat_lt 0 (modifier_of smp)) port.info (port_setting smp) ≡ Ok info
+    → PortChangesAtMost smp (modifier_of smp) port (record port { info = info })
 info_changes smp port info is taken =
     record {
       info = λ other. neither is refl other;
@@ -57,7 +61,9 @@ info_changes smp port info is taken =
       key_block = no_difference 32 (key_block (modifier_of smp)) port.keys;
     }
 
-keys_change : (smp : List ℕ) (port : SwitchPort) (keys : List ℕ) → attribute_asked smp ≡ Ok PKeyTable → word_block_set (key_block (modifier_of smp)) smp port.keys ≡ Ok keys → PortChangesAtMost smp (key_port (modifier_of smp)) port (record port { keys = keys })
+keys_change : (smp : List ℕ) (port : SwitchPort) (keys : List ℕ) → attribute_asked smp ≡ Ok PKeyTable
+    → set_word_block (key_block (modifier_of smp)) smp port.keys ≡ Ok keys
+    → PortChangesAtMost smp (key_port (modifier_of smp)) port (record port { keys = keys })
 keys_change smp port keys is taken =
     record {
       info = λ other. refl;
@@ -67,7 +73,9 @@ keys_change smp port keys is taken =
       key_block = words_differ (key_block (modifier_of smp)) smp port.keys keys taken;
     }
 
-masks_change : (smp words masks : List ℕ) → attribute_asked smp ≡ Ok MulticastForwardingTable → word_block_set (mask_block (modifier_of smp)) smp words ≡ Ok masks → MasksChangeAtMost smp (mask_position (modifier_of smp)) words masks
+masks_change : (smp words masks : List ℕ) → attribute_asked smp ≡ Ok MulticastForwardingTable
+    → set_word_block (mask_block (modifier_of smp)) smp words ≡ Ok masks
+    → MasksChangeAtMost smp (mask_position (modifier_of smp)) words masks
 masks_change smp words masks is taken =
     record { masks = λ other. neither is refl other; block = words_differ (mask_block (modifier_of smp)) smp words masks taken }
 
@@ -87,7 +95,9 @@ nothing_changes held smp =
     }
 
 -- the list of ports with one of them set
-ports_change : (held : SwitchState) (smp : List ℕ) (number : ℕ) (port next : SwitchPort) → part_at number held.ports ≡ Ok port → PortChangesAtMost smp number port next → ChangesAtMost held (record held { ports = slice_set held.ports number next }) smp
+ports_change : (held : SwitchState) (smp : List ℕ) (number : ℕ) (port next : SwitchPort)
+    → part_at number held.ports ≡ Ok port → PortChangesAtMost smp number port next
+    → ChangesAtMost held (record held { ports = slice_set held.ports number next }) smp
 ports_change held smp number port next there here =
     record {
       node_guid = refl;
@@ -102,7 +112,8 @@ ports_change held smp number port next there here =
       masks = λ position. masks_same smp position (get_or held.masks position []);
     }
 
-set_changes : (held next : SwitchState) (smp : List ℕ) (attribute : SmpAttribute) → attribute_asked smp ≡ Ok attribute → set held attribute smp ≡ Ok next → ChangesAtMost held next smp
+set_changes : (held next : SwitchState) (smp : List ℕ) (attribute : SmpAttribute) → attribute_asked smp ≡ Ok attribute
+    → set held attribute smp ≡ Ok next → ChangesAtMost held next smp
 unfolding set
 set_changes held next smp PortInfo is h =
     let s = port_set held next smp h in

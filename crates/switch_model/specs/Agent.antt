@@ -4,16 +4,17 @@ use Rattle.std.specs.Prelude.{ℕ, ◌/◌, ◌%◌, ◌^◌, ◌==◌, Bool, �
 use Rattle.std.specs.Option.{ok_or}
 use Rattle.mad_layout.specs.declared.status.MadStatus.{MadStatus}
 use Rattle.mad_layout.specs.declared.status.MadStatus.TheVariants.{AttributeNotSupported, InvalidField}
-use Rattle.attr_tables.specs.declared.node_type.NodeType.TheVariants.{Switch}
+use Rattle.fabric_parts.specs.declared.node_type.NodeType.TheVariants.{Switch}
 use Rattle.attr_tables.specs.declared.smp_attribute.SmpAttribute.{SmpAttribute}
 use Rattle.attr_tables.specs.declared.smp_attribute.SmpAttribute.TheVariants.{NodeDescription, NodeInfo, SwitchInfo, PortInfo, PKeyTable, LinearForwardingTable, MulticastForwardingTable}
-use Rattle.attr_tables.specs.Agent.{◌>>=◌, after, reply_of, shown_at, whole, word_block, word_block_set}
+use Rattle.result_words.specs.Steps.{◌>>=◌}
+use Rattle.agent_rules.specs.Agent.{after, reply_of, shown_at, whole, word_block, set_word_block}
 use Rattle.attr_tables.specs.Blocks.{block_of, has_block, with_block}
 use Rattle.attr_tables.specs.NodeInfo.{node_info_bytes}
 use Rattle.attr_tables.specs.PortInfo.{port_info_bytes}
-use Rattle.attr_tables.specs.PortSetting.{port_setting, port_info_after}
-use Rattle.attr_tables.specs.PowerUp.{node_info_of}
-use Rattle.attr_tables.specs.Request.{asked, asked_ports, modifier_of}
+use Rattle.agent_rules.specs.PortSetting.{port_setting, port_info_after}
+use Rattle.agent_rules.specs.PowerUp.{node_info_of}
+use Rattle.agent_rules.specs.Request.{asked, asked_ports, modifier_of}
 use Rattle.attr_tables.specs.SwitchInfo.{switch_info_bytes}
 use Rattle.attr_tables.specs.declared.switch_info.SwitchInfo.{SwitchInfo as Info}
 use Rattle.switch_model.specs.declared.switch_port.SwitchPort.{SwitchPort}
@@ -47,21 +48,21 @@ masks_at modifier masks =
     if is_mask_modifier modifier then part_at (mask_position modifier) masks else Err InvalidField
 
 -- ---- what is given for a Get that came in at this port
-abbrev pub port_info_get : ℕ → ℕ → List SwitchPort → Result (List ℕ) MadStatus
-port_info_get in_port number ports = do
+abbrev pub get_port_info : ℕ → ℕ → List SwitchPort → Result (List ℕ) MadStatus
+get_port_info in_port number ports = do
   port ← part_at number ports
   Ok (port_info_bytes (shown_at in_port port.info))
 
-abbrev pub keys_get : ℕ → List SwitchPort → Result (List ℕ) MadStatus
-keys_get modifier ports = do
+abbrev pub get_keys : ℕ → List SwitchPort → Result (List ℕ) MadStatus
+get_keys modifier ports = do
   port ← part_at (key_port modifier) ports
   word_block (key_block modifier) port.keys
 
-abbrev pub linear_get : ℕ → List ℕ → Result (List ℕ) MadStatus
-linear_get block linear = if has_block 64 block linear then Ok (block_of 64 block linear) else Err InvalidField
+abbrev pub get_linear : ℕ → List ℕ → Result (List ℕ) MadStatus
+get_linear block linear = if has_block 64 block linear then Ok (block_of 64 block linear) else Err InvalidField
 
-abbrev pub masks_get : ℕ → List (List ℕ) → Result (List ℕ) MadStatus
-masks_get modifier masks = do
+abbrev pub get_masks : ℕ → List (List ℕ) → Result (List ℕ) MadStatus
+get_masks modifier masks = do
   words ← masks_at modifier masks
   word_block (mask_block modifier) words
 
@@ -70,49 +71,51 @@ get in_port held NodeDescription modifier = whole modifier held.description
 get in_port held NodeInfo modifier =
     whole modifier (node_info_bytes (node_info_of Switch (num_ports held) held.node_guid held.node_guid in_port))
 get in_port held SwitchInfo modifier = whole modifier (switch_info_bytes held.info)
-get in_port held PortInfo modifier = port_info_get in_port modifier held.ports
-get in_port held PKeyTable modifier = keys_get modifier held.ports
-get in_port held LinearForwardingTable modifier = linear_get modifier held.linear
-get in_port held MulticastForwardingTable modifier = masks_get modifier held.masks
+get in_port held PortInfo modifier = get_port_info in_port modifier held.ports
+get in_port held PKeyTable modifier = get_keys modifier held.ports
+get in_port held LinearForwardingTable modifier = get_linear modifier held.linear
+get in_port held MulticastForwardingTable modifier = get_masks modifier held.masks
 
 -- ---- what is held after a Set
 -- only ports from 1 on can enforce partitions
-abbrev pub port_info_set : List ℕ → List SwitchPort → Result (List SwitchPort) MadStatus
-port_info_set smp ports = do
+abbrev pub set_port_info : List ℕ → List SwitchPort → Result (List SwitchPort) MadStatus
+set_port_info smp ports = do
   port ← part_at (modifier_of smp) ports
   info ← port_info_after (nat_lt 0 (modifier_of smp)) port.info (port_setting smp)
   Ok (slice_set ports (modifier_of smp) (record port { info = info }))
 
-abbrev pub keys_set : List ℕ → List SwitchPort → Result (List SwitchPort) MadStatus
-keys_set smp ports = do
+abbrev pub set_keys : List ℕ → List SwitchPort → Result (List SwitchPort) MadStatus
+set_keys smp ports = do
   port ← part_at (key_port (modifier_of smp)) ports
-  keys ← word_block_set (key_block (modifier_of smp)) smp port.keys
+  keys ← set_word_block (key_block (modifier_of smp)) smp port.keys
   Ok (slice_set ports (key_port (modifier_of smp)) (record port { keys = keys }))
 
 -- LinearFDBTop, which is one of the LIDs that the table has
-abbrev pub linear_top_set : List ℕ → ℕ → Info → Result Info MadStatus
-linear_top_set smp lids info =
-    if (modifier_of smp == 0) && nat_lt (asked smp 48 16) lids then Ok (record info { linear_fdb_top = asked smp 48 16 }) else Err InvalidField
+abbrev pub set_linear_top : List ℕ → ℕ → Info → Result Info MadStatus
+set_linear_top smp lids info =
+    if (modifier_of smp == 0) && nat_lt (asked smp 48 16) lids then Ok (record info { linear_fdb_top = asked smp 48 16 })
+    else Err InvalidField
 
-abbrev pub linear_set : List ℕ → List ℕ → Result (List ℕ) MadStatus
-linear_set smp linear =
-    if has_block 64 (modifier_of smp) linear then Ok (with_block 64 (modifier_of smp) (asked_ports smp) linear) else Err InvalidField
+abbrev pub set_linear : List ℕ → List ℕ → Result (List ℕ) MadStatus
+set_linear smp linear =
+    if has_block 64 (modifier_of smp) linear then Ok (with_block 64 (modifier_of smp) (asked_ports smp) linear)
+    else Err InvalidField
 
-abbrev pub masks_set : List ℕ → List (List ℕ) → Result (List (List ℕ)) MadStatus
-masks_set smp masks = do
+abbrev pub set_masks : List ℕ → List (List ℕ) → Result (List (List ℕ)) MadStatus
+set_masks smp masks = do
   words ← masks_at (modifier_of smp) masks
-  next ← word_block_set (mask_block (modifier_of smp)) smp words
+  next ← set_word_block (mask_block (modifier_of smp)) smp words
   Ok (slice_set masks (mask_position (modifier_of smp)) next)
 
 unfoldable pub set : SwitchState → SmpAttribute → List ℕ → Result SwitchState MadStatus
 set held SwitchInfo smp =
-    linear_top_set smp (length held.linear) held.info >>= λ info. Ok (record held { info = info })
-set held PortInfo smp = port_info_set smp held.ports >>= λ ports. Ok (record held { ports = ports })
-set held PKeyTable smp = keys_set smp held.ports >>= λ ports. Ok (record held { ports = ports })
+    set_linear_top smp (length held.linear) held.info >>= λ info. Ok (record held { info = info })
+set held PortInfo smp = set_port_info smp held.ports >>= λ ports. Ok (record held { ports = ports })
+set held PKeyTable smp = set_keys smp held.ports >>= λ ports. Ok (record held { ports = ports })
 set held LinearForwardingTable smp =
-    linear_set smp held.linear >>= λ linear. Ok (record held { linear = linear })
+    set_linear smp held.linear >>= λ linear. Ok (record held { linear = linear })
 set held MulticastForwardingTable smp =
-    masks_set smp held.masks >>= λ masks. Ok (record held { masks = masks })
+    set_masks smp held.masks >>= λ masks. Ok (record held { masks = masks })
 set held NodeDescription smp = Err AttributeNotSupported
 set held NodeInfo smp = Err AttributeNotSupported
 

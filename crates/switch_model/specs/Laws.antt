@@ -1,56 +1,20 @@
--- What an SMP changes of a switch: at most what it names.
-use Rattle.std.specs.Prelude.{ℕ, ◌≡◌, ◌≢◌, ◌⊎◌, nat_lt, List, [], ◌∷◌, length, get_or, slice_get, option_map, Ok, IfOk}
+-- What holds of the agent of a switch, and of its ports at power-up.
+use Rattle.std.specs.Prelude.{ℕ, ◌≡◌, List, ◌∷◌, slice_get, option_map, IfOk}
 use Rattle.mad_layout.specs.Bits.{put_field}
-use Rattle.attr_tables.specs.Agent.{answer}
-use Rattle.attr_tables.specs.declared.link.Link.{Link}
-use Rattle.attr_tables.specs.declared.link.Link.TheVariants.{Internal}
-use Rattle.attr_tables.specs.declared.smp_attribute.SmpAttribute.TheVariants.{SwitchInfo, PortInfo, PKeyTable, LinearForwardingTable, MulticastForwardingTable}
-use Rattle.attr_tables.specs.declared.switch_info.SwitchInfo.{SwitchInfo as Info}
-use Rattle.attr_tables.specs.AgentLaws.{DiffersInBlock, IsAttribute, IsSettled, IsUnseenPut, ReadsAlike, unsettable}
-use Rattle.attr_tables.specs.PortSetting.{is_down}
-use Rattle.attr_tables.specs.Request.{attribute_asked, modifier_of}
-use Rattle.switch_model.specs.declared.switch_port.SwitchPort.{SwitchPort}
-use Rattle.switch_model.specs.Agent.{agent_after, agent_reply, get, set, key_block, key_port, mask_block, mask_position}
+use Rattle.attr_tables.specs.Attribute.{IsAttribute}
+use Rattle.agent_rules.specs.declared.link.Link.{Link}
+use Rattle.agent_rules.specs.declared.link.Link.TheVariants.{Internal}
+use Rattle.agent_rules.specs.Agent.{answer}
+use Rattle.agent_rules.specs.Laws.{IsSettled, IsUnseenPut, ReadsAlike}
+use Rattle.switch_model.specs.Agent.{agent_after, agent_reply, get, set}
+use Rattle.switch_model.specs.Changes.{ChangesAtMost}
 use Rattle.switch_model.specs.SwitchState.{SwitchState, port_at_power_up, ports_from}
 
--- the port of that number before and after
-pub record PortChangesAtMost (smp : List ℕ) (number : ℕ) (old new : SwitchPort) : Type 0 where
-  -- PortInfo only where it asks for this port's, and never a field that cannot be set
-  pub info : (attribute_asked smp ≢ Ok PortInfo) ⊎ (number ≢ modifier_of smp) → new.info ≡ old.info
-  pub unsettable : unsettable (nat_lt 0 number) new.info ≡ unsettable (nat_lt 0 number) old.info
-  -- a port is Down where it was Down
-  pub down : is_down new.info ≡ is_down old.info
-  -- the key table only where it asks for this port's, and then in the block that it names
-  pub keys : (attribute_asked smp ≢ Ok PKeyTable) ⊎ (number ≢ key_port (modifier_of smp)) → new.keys ≡ old.keys
-  pub key_block : DiffersInBlock 32 (key_block (modifier_of smp)) old.keys new.keys
-
--- the masks of that position before and after
-pub record MasksChangeAtMost (smp : List ℕ) (position : ℕ) (old new : List ℕ) : Type 0 where
-  pub masks : (attribute_asked smp ≢ Ok MulticastForwardingTable) ⊎ (position ≢ mask_position (modifier_of smp)) → new ≡ old
-  pub block : DiffersInBlock 32 (mask_block (modifier_of smp)) old new
-
--- SwitchInfo without what a Set of it may change
-abbrev pub without_top : Info → Info
-without_top info = record info { linear_fdb_top = 0 }
-
-pub record ChangesAtMost (held next : SwitchState) (smp : List ℕ) : Type 0 where
-  -- never what the switch is
-  pub node_guid : next.node_guid ≡ held.node_guid
-  pub description : next.description ≡ held.description
-  pub num_ports : length next.ports ≡ length held.ports
-  -- SwitchInfo only where it asks for SwitchInfo, and then LinearFDBTop alone
-  pub info : attribute_asked smp ≢ Ok SwitchInfo → next.info ≡ held.info
-  pub top : without_top next.info ≡ without_top held.info
-  pub ports : (number : ℕ) (none : SwitchPort) → PortChangesAtMost smp number (get_or held.ports number none) (get_or next.ports number none)
-  -- the linear forwarding table only where it asks for that, and then in the block that it names
-  pub linear : attribute_asked smp ≢ Ok LinearForwardingTable → next.linear ≡ held.linear
-  pub linear_block : DiffersInBlock 64 (modifier_of smp) held.linear next.linear
-  pub positions : length next.masks ≡ length held.masks
-  pub masks : (position : ℕ) → MasksChangeAtMost smp position (get_or held.masks position []) (get_or next.masks position [])
-
+-- an SMP changes at most what it names
 abbrev pub SmpsChangeWhatTheyName : Type 0
 SmpsChangeWhatTheyName = (held : SwitchState) (smp : List ℕ) → ChangesAtMost held (agent_after held smp) smp
 
+-- what sets nothing changes nothing, and what is set is there, as it is shown at the same port
 abbrev pub SmpsSettle : Type 0
 SmpsSettle = (in_port : ℕ) → IsSettled (get in_port) set
 
@@ -62,9 +26,12 @@ SmpsAreReadAlike = (in_port : ℕ) → ReadsAlike (get in_port) set
 -- one; what answers the SMP fills an attribute, as `agent` says of whatever it answers
 abbrev pub UnseenComesBack : Type 0
 UnseenComesBack =
-    (held : SwitchState) (in_port : ℕ) (smp : List ℕ) (off len value : ℕ) → IsUnseenPut smp off len value → IfOk (answer (get in_port) set held smp) IsAttribute → agent_reply held in_port (put_field smp off len value) ≡ option_map (λ reply. put_field reply off len value) (agent_reply held in_port smp)
+    (held : SwitchState) (in_port : ℕ) (smp : List ℕ) (off len value : ℕ) → IsUnseenPut smp off len value
+    → IfOk (answer (get in_port) set held smp) IsAttribute
+    → agent_reply held in_port (put_field smp off len value) ≡ option_map (λ reply. put_field reply off len value) (agent_reply held in_port smp)
 
 -- each port of a new switch has what its link gives it, port 0 that of the inside
 abbrev pub PortsHaveTheirLinks : Type 0
 PortsHaveTheirLinks =
-    (links : List Link) (number : ℕ) → slice_get (ports_from 0 (Internal ∷ links)) number ≡ option_map (port_at_power_up number) (slice_get (Internal ∷ links) number)
+    (links : List Link) (number : ℕ)
+    → slice_get (ports_from 0 (Internal ∷ links)) number ≡ option_map (port_at_power_up number) (slice_get (Internal ∷ links) number)

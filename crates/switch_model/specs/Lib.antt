@@ -1,3 +1,4 @@
 pub mod SwitchState
 pub mod Agent
+pub mod Changes
 pub mod Laws

@@ -2,12 +2,12 @@
 use Rattle.std.specs.Prelude.{ℕ, ◌+◌, ◌-◌, List, [], ◌∷◌, length, replicate}
 use Rattle.std.specs.List.{All}
 use Rattle.mad_layout.specs.Layout.{Fits}
-use Rattle.attr_tables.specs.declared.link.Link.{Link}
-use Rattle.attr_tables.specs.declared.link.Link.TheVariants.{Internal}
-use Rattle.attr_tables.specs.declared.node_type.NodeType.TheVariants.{Switch}
+use Rattle.agent_rules.specs.declared.link.Link.{Link}
+use Rattle.agent_rules.specs.declared.link.Link.TheVariants.{Internal}
+use Rattle.fabric_parts.specs.declared.node_type.NodeType.TheVariants.{Switch}
 use Rattle.attr_tables.specs.declared.switch_info.SwitchInfo.{SwitchInfo}
 use Rattle.attr_tables.specs.PortInfo.{port_info}
-use Rattle.attr_tables.specs.PowerUp.{keys_at_power_up, port_info_at_power_up, switch_info_at_power_up}
+use Rattle.agent_rules.specs.PowerUp.{keys_at_power_up, port_info_at_power_up, switch_info_at_power_up}
 use Rattle.switch_model.specs.declared.switch_port.SwitchPort.{SwitchPort}
 
 pub record SwitchState : Type 0 where

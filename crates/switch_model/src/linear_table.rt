@@ -1,14 +1,15 @@
 ghost use Rattle.std.specs.Prelude.{◌≡◌};
-ghost use Rattle.attr_tables.specs.Agent.{Leaves};
-ghost use Rattle.switch_model.specs.Agent.{linear_get, linear_set, linear_top_set};
+ghost use Rattle.agent_rules.specs.Agent.{Leaves};
+ghost use Rattle.switch_model.specs.Agent.{get_linear, set_linear, set_linear_top};
 
-use attr_tables::{PORTS_PER_BLOCK, SwitchInfo, asked_linear_fdb_top, asked_ports, modifier_of};
+use agent_rules::{asked_linear_fdb_top, asked_ports, modifier_of};
+use attr_tables::{PORTS_PER_BLOCK, SwitchInfo};
 use mad_layout::{Mad, MadStatus};
 
 /// The block of that number of a linear forwarding table.
 #[tactic(auto, unfolding(attr_tables::specs::Blocks::block_of))]
-pub fn linear_get(block: usize, linear: &[u8]) -> Result<[u8; 64], MadStatus>
-    ensures { result ≡ linear_get block linear.now }
+pub fn get_linear(block: usize, linear: &[u8]) -> Result<[u8; 64], MadStatus>
+    ensures { result ≡ get_linear block linear.now }
 {
     if block >= linear.len() / PORTS_PER_BLOCK {
         return Err(MadStatus::InvalidField);
@@ -21,8 +22,8 @@ pub fn linear_get(block: usize, linear: &[u8]) -> Result<[u8; 64], MadStatus>
 
 /// Sets the block of a linear forwarding table that the SMP names.
 #[tactic(auto, unfolding(attr_tables::specs::Blocks::with_block))]
-pub fn linear_set(smp: &Mad, linear: &mut [u8]) -> Result<(), MadStatus>
-    ensures { Leaves result linear.old linear.new (linear_set smp.now linear.old) }
+pub fn set_linear(smp: &Mad, linear: &mut [u8]) -> Result<(), MadStatus>
+    ensures { Leaves result linear.old linear.new (set_linear smp.now linear.old) }
 {
     let block = modifier_of(smp) as usize;
     if block >= linear.len() / PORTS_PER_BLOCK {
@@ -34,8 +35,8 @@ pub fn linear_set(smp: &Mad, linear: &mut [u8]) -> Result<(), MadStatus>
 }
 
 /// Sets LinearFDBTop of a switch whose table has so many LIDs.
-pub fn linear_top_set(smp: &Mad, lids: usize, info: &mut SwitchInfo) -> Result<(), MadStatus>
-    ensures set { Leaves result info.old info.new (linear_top_set smp.now lids info.old) }
+pub fn set_linear_top(smp: &Mad, lids: usize, info: &mut SwitchInfo) -> Result<(), MadStatus>
+    ensures set { Leaves result info.old info.new (set_linear_top smp.now lids info.old) }
     ensures life_time_value { info.new.life_time_value ≡ info.old.life_time_value }
 {
     if modifier_of(smp) != 0 {

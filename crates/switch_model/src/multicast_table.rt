@@ -1,19 +1,19 @@
 ghost use Rattle.std.specs.Prelude.{◌≡◌};
-ghost use Rattle.attr_tables.specs.Agent.{Leaves};
-ghost use Rattle.switch_model.specs.Agent.{is_mask_modifier, mask_block, mask_position, masks_get, masks_set};
+ghost use Rattle.agent_rules.specs.Agent.{Leaves};
+ghost use Rattle.switch_model.specs.Agent.{is_mask_modifier, mask_block, mask_position, get_masks, set_masks};
 
-use attr_tables::{modifier_of, set_word_block, word_block_at};
+use agent_rules::{modifier_of, set_word_block, word_block_at};
 use mad_layout::{Mad, MadStatus};
 
 /// How many positions a multicast forwarding table has: each has a mask of 16 ports.
 pub const POSITIONS: usize = 3;
 
 /// The block of masks that the modifier names.
-pub fn masks_get<const MFT: usize>(
+pub fn get_masks<const MFT: usize>(
     modifier: u32,
     masks: &[[u16; MFT]; POSITIONS],
 ) -> Result<[u8; 64], MadStatus>
-    ensures { result ≡ masks_get modifier masks.now }
+    ensures { result ≡ get_masks modifier masks.now }
 {
     let position = mask_position(modifier);
     if !is_mask_modifier(modifier) || position >= POSITIONS {
@@ -23,11 +23,11 @@ pub fn masks_get<const MFT: usize>(
 }
 
 /// Sets the block of masks that the SMP names.
-pub fn masks_set<const MFT: usize>(
+pub fn set_masks<const MFT: usize>(
     smp: &Mad,
     masks: &mut [[u16; MFT]; POSITIONS],
 ) -> Result<(), MadStatus>
-    ensures { Leaves result masks.old masks.new (masks_set smp.now masks.old) }
+    ensures { Leaves result masks.old masks.new (set_masks smp.now masks.old) }
 {
     let modifier = modifier_of(smp);
     let position = mask_position(modifier);

@@ -1,25 +1,25 @@
 ghost use Rattle.std.specs.Prelude.{◌≡◌, ◌≤◌, ◌/◌, ◌%◌, ◌^◌, ◌∷◌, length};
-ghost use Rattle.attr_tables.specs.Agent.{Leaves};
-ghost use Rattle.switch_model.specs.Agent.{key_block, key_port, keys_get, keys_set, port_info_get, port_info_set};
+ghost use Rattle.agent_rules.specs.Agent.{Leaves};
+ghost use Rattle.switch_model.specs.Agent.{key_block, key_port, get_keys, set_keys, get_port_info, set_port_info};
 ghost use Rattle.switch_model.specs.SwitchState.{AllFit, ports_from};
 ghost use Rattle.switch_model.specs.declared.switch.TheConstants.{PORTS};
 
 use crate::switch::PORTS_WITH_0;
 use crate::switch_port::SwitchPort;
-use arrayvec::ArrayVec;
-use attr_tables::{
+use agent_rules::{
     Link, PortSetting, modifier_of, port_info_after, set_word_block, shown_at, word_block_at,
 };
+use arrayvec::ArrayVec;
 use mad_layout::{Mad, MadStatus};
 
 /// PortInfo of the port of that number, as it is shown to who comes in at that other port.
-pub fn port_info_get(
+pub fn get_port_info(
     in_port: u8,
     number: usize,
     ports: &[SwitchPort],
 ) -> Result<[u8; 64], MadStatus>
     requires { AllFit ports.now }
-    ensures { result ≡ port_info_get in_port number ports.now }
+    ensures { result ≡ get_port_info in_port number ports.now }
 {
     if number >= ports.len() {
         return Err(MadStatus::InvalidField);
@@ -28,8 +28,8 @@ pub fn port_info_get(
 }
 
 /// The block of a port's key table that the modifier names.
-pub fn keys_get(modifier: u32, ports: &[SwitchPort]) -> Result<[u8; 64], MadStatus>
-    ensures { result ≡ keys_get modifier ports.now }
+pub fn get_keys(modifier: u32, ports: &[SwitchPort]) -> Result<[u8; 64], MadStatus>
+    ensures { result ≡ get_keys modifier ports.now }
 {
     let number = key_port(modifier);
     if number >= ports.len() {
@@ -40,9 +40,9 @@ pub fn keys_get(modifier: u32, ports: &[SwitchPort]) -> Result<[u8; 64], MadStat
 
 /// Sets PortInfo of the port that the SMP names. Port 0 cannot enforce partitions.
 #[tactic(auto, using(crate::proofs::PortLemmas::set_fits))]
-pub fn port_info_set(smp: &Mad, ports: &mut [SwitchPort]) -> Result<(), MadStatus>
+pub fn set_port_info(smp: &Mad, ports: &mut [SwitchPort]) -> Result<(), MadStatus>
     requires { AllFit ports.old }
-    ensures set { Leaves result ports.old ports.new (port_info_set smp.now ports.old) }
+    ensures set { Leaves result ports.old ports.new (set_port_info smp.now ports.old) }
     ensures fits { AllFit ports.new }
 {
     let number = modifier_of(smp) as usize;
@@ -56,9 +56,9 @@ pub fn port_info_set(smp: &Mad, ports: &mut [SwitchPort]) -> Result<(), MadStatu
 
 /// Sets the block of a port's key table that the SMP names.
 #[tactic(auto, using(crate::proofs::PortLemmas::set_fits))]
-pub fn keys_set(smp: &Mad, ports: &mut [SwitchPort]) -> Result<(), MadStatus>
+pub fn set_keys(smp: &Mad, ports: &mut [SwitchPort]) -> Result<(), MadStatus>
     requires { AllFit ports.old }
-    ensures set { Leaves result ports.old ports.new (keys_set smp.now ports.old) }
+    ensures set { Leaves result ports.old ports.new (set_keys smp.now ports.old) }
     ensures fits { AllFit ports.new }
 {
     let modifier = modifier_of(smp);

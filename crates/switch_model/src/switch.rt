@@ -1,21 +1,23 @@
 ghost use Rattle.std.specs.Prelude.{◌≡◌, ◌≢◌, ◌≤◌, true, ◌<◌, ◌-◌, ◌+◌, ◌*◌, ◌++◌, length, replicate, is_some, unwrap_or, IfOk};
 ghost use Rattle.mad_layout.specs.Bits.{field};
-ghost use Rattle.attr_tables.specs.Agent.{Leaves, answer, held_after};
-ghost use Rattle.attr_tables.specs.AgentLaws.{IsAttribute};
-ghost use Rattle.attr_tables.specs.Request.{KeepsRest};
+ghost use Rattle.agent_rules.specs.Agent.{Leaves, answer, held_after};
+ghost use Rattle.attr_tables.specs.Attribute.{IsAttribute};
+ghost use Rattle.agent_rules.specs.Request.{KeepsRest};
 ghost use Rattle.switch_model.specs.Agent.{agent_after, agent_reply, get, set};
 ghost use Rattle.switch_model.specs.SwitchState.{at_power_up, num_ports};
 ghost use Rattle.switch_model.specs.declared.switch.TheConstants.{PORTS};
 
-use crate::linear_table::{linear_get, linear_set, linear_top_set};
-use crate::multicast_table::{POSITIONS, masks_get, masks_set};
-use crate::port_list::{keys_get, keys_set, port_info_get, port_info_set, ports_at_power_up};
+use crate::linear_table::{get_linear, set_linear, set_linear_top};
+use crate::multicast_table::{POSITIONS, get_masks, set_masks};
+use crate::port_list::{get_keys, get_port_info, ports_at_power_up, set_keys, set_port_info};
 use crate::switch_port::SwitchPort;
-use arrayvec::ArrayVec;
-use attr_tables::{
-    Link, NodeDescription, NodeType, SmpAttribute, SwitchInfo, attribute_asked, is_request, is_set,
-    modifier_of, node_info_of, put_reply, switch_info_at_power_up, whole,
+use agent_rules::{
+    Link, attribute_asked, is_request, is_set, modifier_of, node_info_of, put_reply,
+    switch_info_at_power_up, whole,
 };
+use arrayvec::ArrayVec;
+use attr_tables::{NodeDescription, SmpAttribute, SwitchInfo};
+use fabric_parts::NodeType;
 use mad_layout::{Mad, MadStatus};
 use std::marker::Model;
 
@@ -129,10 +131,10 @@ impl<const LFT: usize, const MFT: usize> Switch<LFT, MFT> {
             SmpAttribute::NodeDescription => whole(modifier, self.description.node_string),
             SmpAttribute::NodeInfo => self.node_info(in_port, modifier),
             SmpAttribute::SwitchInfo => whole(modifier, self.info.to_bytes()),
-            SmpAttribute::PortInfo => port_info_get(in_port, modifier as usize, &self.ports),
-            SmpAttribute::PKeyTable => keys_get(modifier, &self.ports),
-            SmpAttribute::LinearForwardingTable => linear_get(modifier as usize, &self.linear),
-            SmpAttribute::MulticastForwardingTable => masks_get(modifier, &self.masks),
+            SmpAttribute::PortInfo => get_port_info(in_port, modifier as usize, &self.ports),
+            SmpAttribute::PKeyTable => get_keys(modifier, &self.ports),
+            SmpAttribute::LinearForwardingTable => get_linear(modifier as usize, &self.linear),
+            SmpAttribute::MulticastForwardingTable => get_masks(modifier, &self.masks),
         }
     }
 
@@ -151,11 +153,11 @@ impl<const LFT: usize, const MFT: usize> Switch<LFT, MFT> {
         ensures { Leaves result self.old self.new (set self.old attribute smp.now) }
     {
         match attribute {
-            SmpAttribute::SwitchInfo => linear_top_set(smp, LFT, &mut self.info),
-            SmpAttribute::PortInfo => port_info_set(smp, &mut self.ports),
-            SmpAttribute::PKeyTable => keys_set(smp, &mut self.ports),
-            SmpAttribute::LinearForwardingTable => linear_set(smp, &mut self.linear),
-            SmpAttribute::MulticastForwardingTable => masks_set(smp, &mut self.masks),
+            SmpAttribute::SwitchInfo => set_linear_top(smp, LFT, &mut self.info),
+            SmpAttribute::PortInfo => set_port_info(smp, &mut self.ports),
+            SmpAttribute::PKeyTable => set_keys(smp, &mut self.ports),
+            SmpAttribute::LinearForwardingTable => set_linear(smp, &mut self.linear),
+            SmpAttribute::MulticastForwardingTable => set_masks(smp, &mut self.masks),
             SmpAttribute::NodeDescription | SmpAttribute::NodeInfo => {
                 Err(MadStatus::AttributeNotSupported)
             }

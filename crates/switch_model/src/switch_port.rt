@@ -3,7 +3,9 @@ ghost use Rattle.mad_layout.specs.Layout.{Fits};
 ghost use Rattle.attr_tables.specs.PortInfo.{port_info};
 ghost use Rattle.switch_model.specs.SwitchState.{port_at_power_up};
 
-use attr_tables::{Link, NodeType, PortInfo, keys_at_power_up, port_info_at_power_up};
+use agent_rules::{Link, keys_at_power_up, port_info_at_power_up};
+use attr_tables::PortInfo;
+use fabric_parts::NodeType;
 use pkey_rules::PARTITIONS;
 
 /// What a port of a switch holds.

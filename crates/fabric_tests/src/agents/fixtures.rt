@@ -2,7 +2,8 @@
 
 ghost use Rattle.std.specs.Prelude.{◌+◌, ◌≤◌, length};
 
-use attr_tables::{LINEAR_TABLE, Link, MULTICAST_TABLE, SmpAttribute};
+use agent_rules::{LINEAR_TABLE, Link, MULTICAST_TABLE};
+use attr_tables::SmpAttribute;
 use mad_layout::{DrSmp, Header, Mad, Method};
 use port_model::AdapterPort;
 use switch_model::Switch;

@@ -1,37 +1,30 @@
-//! What new nodes give for a Get, as byte vectors.
+//! What new nodes give for a Get.
 
 use crate::agents::fixtures::{
     adapter_port, adapter_port_info, attribute_with, get, reply, switch,
 };
+use agent_rules::{node_info_of, switch_info_at_power_up};
 use attr_tables::SmpAttribute;
+use fabric_parts::NodeType;
 use mad_layout::{DrSmp, Header};
 
-#[test]
-fn a_new_adapter_port_gives_its_attributes(rt: HostRuntime) {
-    let node_info = attribute_with(
-        0,
-        &[
-            0x01, // BaseVersion
-            0x01, // ClassVersion
-            0x01, // NodeType
-            0x01, // NumPorts
-            0, 0, 0, 0, 0, 0, 0x01, 0x00, // SystemImageGUID
-            0, 0, 0, 0, 0, 0, 0x01, 0x00, // NodeGUID
-            0, 0, 0, 0, 0, 0, 0x01, 0x01, // PortGUID
-            0x00, 0x20, // PartitionCap
-            0x00, 0x00, // DeviceID
-            0x00, 0x00, 0x00, 0x00, // Revision
-            0x01, // LocalPortNum
-        ],
-    );
-    let vectors = [
+/// An attribute, by the modifier, and its bytes.
+type Row = (SmpAttribute, u32, [u8; 64]);
+
+fn rows_of_an_adapter_port() -> [Row; 5] {
+    let node_info = node_info_of(NodeType::ChannelAdapter, 1, 0x100, 0x101, 1);
+    [
         (SmpAttribute::NodeDescription, 0, attribute_with(0, b"h0")),
-        (SmpAttribute::NodeInfo, 0, node_info),
+        (SmpAttribute::NodeInfo, 0, node_info.to_bytes()),
         (SmpAttribute::PortInfo, 0, adapter_port_info(2)),
         (SmpAttribute::PortInfo, 1, adapter_port_info(2)),
         (SmpAttribute::PKeyTable, 0, attribute_with(0, &[0xff, 0xff])),
-    ];
-    for (attribute, modifier, bytes) in vectors {
+    ]
+}
+
+#[test]
+fn a_new_adapter_port_gives_its_attributes(rt: HostRuntime) {
+    for (attribute, modifier, bytes) in rows_of_an_adapter_port() {
         let mut port = adapter_port();
         let sent = get(attribute, modifier);
         let mut smp = sent;
@@ -40,53 +33,24 @@ fn a_new_adapter_port_gives_its_attributes(rt: HostRuntime) {
     }
 }
 
-#[test]
-fn a_new_switch_gives_its_attributes(rt: HostRuntime) {
-    let switch_info = attribute_with(
-        0,
-        &[
-            0x02, 0x00, // LinearFDBCap
-            0x00, 0x00, // RandomFDBCap
-            0x04, 0x00, // MulticastFDBCap
-            0x00, 0x00, // LinearFDBTop
-            0x00, // DefaultPort
-            0x00, // DefaultMulticastPrimaryPort
-            0x00, // DefaultMulticastNotPrimaryPort
-            0x90, // LifeTimeValue, PortStateChange
-            0x00, 0x00, // LIDsPerPort
-            0x00, 0x20, // PartitionEnforcementCap
-            0xc0, // InboundEnforcementCap, OutboundEnforcementCap
-        ],
-    );
-    let node_info = attribute_with(
-        0,
-        &[
-            0x01, // BaseVersion
-            0x01, // ClassVersion
-            0x02, // NodeType
-            0x04, // NumPorts
-            0, 0, 0, 0, 0, 0, 0x00, 0x10, // SystemImageGUID
-            0, 0, 0, 0, 0, 0, 0x00, 0x10, // NodeGUID
-            0, 0, 0, 0, 0, 0, 0x00, 0x10, // PortGUID
-            0x00, 0x20, // PartitionCap
-            0x00, 0x00, // DeviceID
-            0x00, 0x00, 0x00, 0x00, // Revision
-            0x03, // LocalPortNum, the port by which the SMP came
-        ],
-    );
-    let vectors = [
+/// Asked at port 3.
+fn rows_of_a_switch() -> [Row; 6] {
+    let node_info = node_info_of(NodeType::Switch, 4, 0x10, 0x10, 3);
+    let switch_info = switch_info_at_power_up();
+    let first_key = attribute_with(0, &[0xff, 0xff]);
+    [
         (SmpAttribute::NodeDescription, 0, attribute_with(0, b"A")),
-        (SmpAttribute::NodeInfo, 0, node_info),
-        (SmpAttribute::SwitchInfo, 0, switch_info),
-        (
-            SmpAttribute::PKeyTable,
-            0x0004_0000,
-            attribute_with(0, &[0xff, 0xff]),
-        ),
+        (SmpAttribute::NodeInfo, 0, node_info.to_bytes()),
+        (SmpAttribute::SwitchInfo, 0, switch_info.to_bytes()),
+        (SmpAttribute::PKeyTable, 0x0004_0000, first_key),
         (SmpAttribute::LinearForwardingTable, 7, [0xff; 64]),
         (SmpAttribute::MulticastForwardingTable, 0x2000_001f, [0; 64]),
-    ];
-    for (attribute, modifier, bytes) in vectors {
+    ]
+}
+
+#[test]
+fn a_new_switch_gives_its_attributes(rt: HostRuntime) {
+    for (attribute, modifier, bytes) in rows_of_a_switch() {
         let mut node = switch();
         let sent = get(attribute, modifier);
         let mut smp = sent;
@@ -95,10 +59,12 @@ fn a_new_switch_gives_its_attributes(rt: HostRuntime) {
     }
 }
 
+/// A port of a switch, and its PortState and PortPhysicalState in their bytes.
+const STATES: [(u32, u8, u8); 3] = [(0, 0x14, 0x50), (1, 0x12, 0x50), (4, 0x11, 0x20)];
+
 #[test]
 fn ports_of_a_new_switch_are_told_by_the_modifier(rt: HostRuntime) {
-    // port, PortState and PortPhysicalState
-    for (number, state, physical) in [(0, 0x14, 0x50), (1, 0x12, 0x50), (4, 0x11, 0x20)] {
+    for (number, state, physical) in STATES {
         let mut node = switch();
         let mut smp = get(SmpAttribute::PortInfo, number);
         assert!(rt; node.agent(2, &mut smp));

@@ -1,27 +1,23 @@
 //! What agents refuse, in order, and what they leave without a reply.
 
-use crate::agents::fixtures::{
-    adapter_port, adapter_port_info, attribute_with, get, reply, set, switch, with_byte,
-};
+use crate::agents::fixtures::{adapter_port, attribute_with, get, reply, set, switch, with_byte};
 use attr_tables::SmpAttribute;
-use mad_layout::DrSmp;
+use mad_layout::{DrSmp, Mad};
 
-#[test]
-fn an_adapter_port_refuses_in_order(rt: HostRuntime) {
+/// What an adapter port refuses: the request, and the method and the status of its reply, in the order of
+/// the checks.
+fn refused_by_an_adapter_port() -> [(Mad, u8, u8); 16] {
     let lmc_1 = attribute_with(34, &[0x01]);
-    let class_version_2 = with_byte(get(SmpAttribute::NodeInfo, 0), 2, 2);
-    let method_3 = with_byte(get(SmpAttribute::NodeInfo, 0), 3, 0x03);
-    let vectors = [
+    let node_info = get(SmpAttribute::NodeInfo, 0);
+    let class_version_2 = with_byte(node_info, 2, 2);
+    let method_3 = with_byte(node_info, 3, 0x03);
+    [
         (class_version_2, 0x81, 0x04),
-        (with_byte(get(SmpAttribute::NodeInfo, 0), 0, 2), 0x81, 0x04),
+        (with_byte(node_info, 0, 2), 0x81, 0x04),
         (with_byte(class_version_2, 3, 0x03), 0x83, 0x04),
         (method_3, 0x83, 0x08),
         (with_byte(method_3, 17, 0x13), 0x83, 0x08),
-        (
-            with_byte(get(SmpAttribute::NodeInfo, 0), 17, 0x13),
-            0x81,
-            0x0c,
-        ),
+        (with_byte(node_info, 17, 0x13), 0x81, 0x0c),
         (get(SmpAttribute::SwitchInfo, 0), 0x81, 0x0c),
         (get(SmpAttribute::LinearForwardingTable, 0), 0x81, 0x0c),
         (get(SmpAttribute::MulticastForwardingTable, 0), 0x81, 0x0c),
@@ -32,50 +28,53 @@ fn an_adapter_port_refuses_in_order(rt: HostRuntime) {
         (get(SmpAttribute::PKeyTable, 1), 0x81, 0x1c),
         (get(SmpAttribute::PKeyTable, 0x0001_0000), 0x81, 0x1c),
         (set(SmpAttribute::PortInfo, 0, lmc_1), 0x81, 0x1c),
-    ];
-    for (sent, method, status) in vectors {
+    ]
+}
+
+#[test]
+fn an_adapter_port_refuses_in_order(rt: HostRuntime) {
+    for (sent, method, status) in refused_by_an_adapter_port() {
         let mut port = adapter_port();
         let mut smp = sent;
         assert!(rt; port.agent(&mut smp));
         assert_eq!(rt; smp, reply(sent, method, status, None));
-        // and nothing has changed
-        let mut after = get(SmpAttribute::PortInfo, 0);
-        assert!(rt; port.agent(&mut after));
-        assert_eq!(rt; DrSmp::read(&after).data, adapter_port_info(2));
     }
+}
+
+/// What a switch does not have: an attribute, and its modifier.
+const REFUSED_GETS: [(SmpAttribute, u32); 8] = [
+    (SmpAttribute::PortInfo, 5),
+    (SmpAttribute::PKeyTable, 0x0005_0000),
+    (SmpAttribute::PKeyTable, 0x0004_0001),
+    (SmpAttribute::LinearForwardingTable, 8),
+    (SmpAttribute::MulticastForwardingTable, 32),
+    (SmpAttribute::MulticastForwardingTable, 0x3000_0000),
+    (SmpAttribute::MulticastForwardingTable, 0x0000_0200),
+    (SmpAttribute::MulticastForwardingTable, 0x0800_0000),
+];
+
+fn refused_sets() -> [(Mad, u8); 4] {
+    // LinearFDBTop 512
+    let top = attribute_with(6, &[0x02, 0x00]);
+    let past_the_table = set(SmpAttribute::LinearForwardingTable, 0x0001_0000, [1; 64]);
+    [
+        (set(SmpAttribute::NodeInfo, 0, [0; 64]), 0x0c),
+        (set(SmpAttribute::SwitchInfo, 0, top), 0x1c),
+        (set(SmpAttribute::SwitchInfo, 1, [0; 64]), 0x1c),
+        (past_the_table, 0x1c),
+    ]
 }
 
 #[test]
 fn a_switch_refuses_what_it_does_not_have(rt: HostRuntime) {
-    // LinearFDBTop 512
-    let top = attribute_with(6, &[0x02, 0x00]);
-    let vectors = [
-        (set(SmpAttribute::NodeInfo, 0, [0; 64]), 0x0c),
-        (set(SmpAttribute::SwitchInfo, 0, top), 0x1c),
-        (set(SmpAttribute::SwitchInfo, 1, [0; 64]), 0x1c),
-        (get(SmpAttribute::PortInfo, 5), 0x1c),
-        (get(SmpAttribute::PKeyTable, 0x0005_0000), 0x1c),
-        (get(SmpAttribute::PKeyTable, 0x0004_0001), 0x1c),
-        (get(SmpAttribute::LinearForwardingTable, 8), 0x1c),
-        (
-            set(SmpAttribute::LinearForwardingTable, 0x0001_0000, [1; 64]),
-            0x1c,
-        ),
-        (get(SmpAttribute::MulticastForwardingTable, 32), 0x1c),
-        (
-            get(SmpAttribute::MulticastForwardingTable, 0x3000_0000),
-            0x1c,
-        ),
-        (
-            get(SmpAttribute::MulticastForwardingTable, 0x0000_0200),
-            0x1c,
-        ),
-        (
-            get(SmpAttribute::MulticastForwardingTable, 0x0800_0000),
-            0x1c,
-        ),
-    ];
-    for (sent, status) in vectors {
+    for (attribute, modifier) in REFUSED_GETS {
+        let mut node = switch();
+        let sent = get(attribute, modifier);
+        let mut smp = sent;
+        assert!(rt; node.agent(1, &mut smp));
+        assert_eq!(rt; smp, reply(sent, 0x81, 0x1c, None));
+    }
+    for (sent, status) in refused_sets() {
         let mut node = switch();
         let mut smp = sent;
         assert!(rt; node.agent(1, &mut smp));

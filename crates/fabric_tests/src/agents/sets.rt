@@ -3,30 +3,33 @@
 use crate::agents::fixtures::{
     adapter_port, adapter_port_info, attribute_with, get, reply, set, switch, with_byte,
 };
-use attr_tables::{Link, NodeInfo, NodeType, PortInfo, PortState, SmpAttribute, SwitchInfo};
+use agent_rules::Link;
+use attr_tables::{NodeInfo, PortInfo, PortState, SmpAttribute, SwitchInfo};
+use fabric_parts::NodeType;
 use mad_layout::{DrSmp, Header, MadStatus};
 use port_model::AdapterPort;
+
+/// The state that is asked for, the status, the state afterwards.
+const STEPS: [(u8, u8, u8); 13] = [
+    (4, 0x1c, 2),
+    (1, 0x1c, 2),
+    (2, 0x1c, 2),
+    (0, 0x00, 2),
+    (3, 0x00, 3),
+    (3, 0x00, 3),
+    (0, 0x00, 3),
+    (2, 0x1c, 3),
+    (4, 0x00, 4),
+    (4, 0x00, 4),
+    (3, 0x1c, 4),
+    (5, 0x1c, 4),
+    (0, 0x00, 4),
+];
 
 #[test]
 fn a_port_goes_from_initialize_over_armed_to_active(rt: HostRuntime) {
     let mut port = adapter_port();
-    // the state that is asked for, the status, the state afterwards
-    let steps = [
-        (4, 0x1c, 2),
-        (1, 0x1c, 2),
-        (2, 0x1c, 2),
-        (0, 0x00, 2),
-        (3, 0x00, 3),
-        (3, 0x00, 3),
-        (0, 0x00, 3),
-        (2, 0x1c, 3),
-        (4, 0x00, 4),
-        (4, 0x00, 4),
-        (3, 0x1c, 4),
-        (5, 0x1c, 4),
-        (0, 0x00, 4),
-    ];
-    for (asked, status, state) in steps {
+    for (asked, status, state) in STEPS {
         let sent = set(SmpAttribute::PortInfo, 1, adapter_port_info(asked));
         let mut smp = sent;
         assert!(rt; port.agent(&mut smp));
@@ -70,7 +73,7 @@ fn a_set_of_port_info_takes_what_it_may(rt: HostRuntime) {
     assert!(rt; node.agent(4, &mut smp));
     assert_eq!(rt; Header::read(&smp).status, 0);
     let info = PortInfo::read(&DrSmp::read(&smp).data);
-    let before = attr_tables::port_info_at_power_up(NodeType::Switch, 4, Link::Cabled);
+    let before = agent_rules::port_info_at_power_up(NodeType::Switch, 4, Link::Cabled);
     let after = PortInfo {
         gid_prefix: 0xffffffffffffffff,
         lid: 0x1234,
@@ -93,25 +96,25 @@ fn a_set_of_port_info_takes_what_it_may(rt: HostRuntime) {
     );
 }
 
-#[test]
-fn tables_of_a_switch_are_set_by_blocks(rt: HostRuntime) {
-    let mut node = switch();
-    let vectors = [
-        (
-            SmpAttribute::PKeyTable,
-            0x0002_0000,
-            0x0001_0000,
-            attribute_with(0, &[0xff, 0xff]),
-        ),
+/// A table, the block of it that is set, another, and what that holds.
+fn blocks() -> [(SmpAttribute, u32, u32, [u8; 64]); 3] {
+    let keys = attribute_with(0, &[0xff, 0xff]);
+    [
+        (SmpAttribute::PKeyTable, 0x0002_0000, 0x0001_0000, keys),
         (SmpAttribute::LinearForwardingTable, 1, 0, [0xff; 64]),
         (
             SmpAttribute::MulticastForwardingTable,
             0x1000_0001,
-            0x0000_0001,
+            1,
             [0; 64],
         ),
-    ];
-    for (attribute, there, elsewhere, before) in vectors {
+    ]
+}
+
+#[test]
+fn tables_of_a_switch_are_set_by_blocks(rt: HostRuntime) {
+    let mut node = switch();
+    for (attribute, there, elsewhere, before) in blocks() {
         let bytes = attribute_with(0, &[0x7f, 0xff, 0x80, 0x01]);
         let sent = set(attribute, there, bytes);
         let mut smp = sent;
@@ -136,7 +139,7 @@ fn only_linear_fdb_top_of_switch_info_is_taken(rt: HostRuntime) {
     assert_eq!(rt; Header::read(&smp).status, 0);
     let after = SwitchInfo {
         linear_fdb_top: 511,
-        ..attr_tables::switch_info_at_power_up()
+        ..agent_rules::switch_info_at_power_up()
     };
     assert_eq!(rt; SwitchInfo::read(&DrSmp::read(&smp).data), after);
 }

@@ -1,4 +1,4 @@
-use Rattle.attr_tables.proofs.CarryLemmas.{attributes}
+use Rattle.attr_tables.proofs.AttributeLemmas.{attributes}
 use Rattle.attr_tables.proofs.laws.attributes_are_spelled.Goals as goal
 
 pub returns : goal.returns

@@ -1,6 +1,6 @@
 use Rattle.std.proofs.Common.{◌≡◌, ◌∙◌, sym, length}
 use Rattle.std.proofs.lemmas.Bool.{false≢true}
-use Rattle.fabric_wire.specs.FabricState.{FabricState}
+use Rattle.smp_wire.specs.FabricState.{FabricState}
 use Rattle.fabric_wire.proofs.ExchangeLemmas.{ready}
 use Rattle.fabric_wire.proofs.fabric.exchange.Goals as goal
 

@@ -1,5 +1,5 @@
 use Rattle.std.proofs.Common.{ap, ◌∙◌}
-use Rattle.fabric_wire.specs.declared.node.Node.TheVariants.{Switch}
+use Rattle.smp_wire.specs.declared.node.Node.TheVariants.{Switch}
 use Rattle.switch_model.specs.SwitchState.{SwitchState}
 use Rattle.fabric_wire.proofs.power_up.switch_of.Goals as goal
 

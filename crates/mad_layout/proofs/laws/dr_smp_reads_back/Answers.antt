@@ -5,7 +5,8 @@ use Rattle.mad_layout.specs.Layout.{Holds}
 use Rattle.mad_layout.proofs.AlignedLemmas.{same_bit}
 use Rattle.mad_layout.proofs.laws.dr_smp_reads_back.Goals as goal
 
-same_smp : (a b : DrSmp) (bytes : List ℕ) → Holds bytes (dr_smp a) → Holds bytes (dr_smp b) → a.«data» ≡ b.«data» → a.initial_path ≡ b.initial_path → a.return_path ≡ b.return_path → a ≡ b
+same_smp : (a b : DrSmp) (bytes : List ℕ) → Holds bytes (dr_smp a) → Holds bytes (dr_smp b) → a.«data» ≡ b.«data»
+    → a.initial_path ≡ b.initial_path → a.return_path ≡ b.return_path → a ≡ b
 same_smp a b bytes h g d i r =
     let e = same_bit a.direction b.direction (h.0 ∙ sym g.0) in
     let f : a.status ≡ b.status = h.1.0 ∙ sym g.1.0 in

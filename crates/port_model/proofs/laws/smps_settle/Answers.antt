@@ -1,4 +1,4 @@
-use Rattle.attr_tables.proofs.AgentLemmas.{settled}
+use Rattle.agent_rules.proofs.AgentLemmas.{settled}
 use Rattle.port_model.specs.Agent.{get, set}
 use Rattle.port_model.proofs.AgentLemmas.{shows}
 use Rattle.port_model.proofs.laws.smps_settle.Goals as goal

@@ -1,4 +1,4 @@
-use Rattle.attr_tables.proofs.AgentLemmas.{reads_alike}
+use Rattle.agent_rules.proofs.AgentLemmas.{reads_alike}
 use Rattle.switch_model.specs.Agent.{get, set}
 use Rattle.switch_model.proofs.AgentLemmas.{takes_alike}
 use Rattle.switch_model.proofs.laws.smps_are_read_alike.Goals as goal

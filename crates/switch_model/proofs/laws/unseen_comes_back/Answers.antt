@@ -1,4 +1,4 @@
-use Rattle.attr_tables.proofs.AgentLemmas.{reads_alike, reply_passes}
+use Rattle.agent_rules.proofs.AgentLemmas.{reads_alike, reply_passes}
 use Rattle.switch_model.specs.Agent.{agent_reply, get, set}
 use Rattle.switch_model.proofs.AgentLemmas.{takes_alike}
 use Rattle.switch_model.proofs.laws.unseen_comes_back.Goals as goal

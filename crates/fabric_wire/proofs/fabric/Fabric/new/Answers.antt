@@ -1,5 +1,5 @@
 use Rattle.std.proofs.Common.{◌∙◌}
-use Rattle.fabric_wire.specs.Good.{IsGood, ShowsLinks, SwitchesJoined}
+use Rattle.smp_wire.specs.Good.{IsGood, ShowsLinks, SwitchesJoined}
 use Rattle.fabric_wire.proofs.MadeLemmas.{made}
 use Rattle.fabric_wire.proofs.OfTopologyGoodLemmas.{good}
 use Rattle.fabric_wire.proofs.OfTopologyLinksLemmas.{links}

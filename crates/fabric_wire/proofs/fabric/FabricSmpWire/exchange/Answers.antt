@@ -1,7 +1,7 @@
 use Rattle.std.proofs.Common.{◌≡◌, ◌∙◌, ap, drop, length, sym}
 use Rattle.std.proofs.Math.Seq.{take-append_seam}
-use Rattle.fabric_wire.specs.FabricState.{FabricState}
-use Rattle.fabric_wire.proofs.KeptLemmas.{good}
+use Rattle.smp_wire.specs.FabricState.{FabricState}
+use Rattle.smp_wire.proofs.KeptLemmas.{good}
 use Rattle.fabric_wire.proofs.fabric.FabricSmpWire.exchange.Goals as goal
 
 -- the vector holds the nodes that the slice holds

@@ -1,4 +1,4 @@
-use Rattle.attr_tables.proofs.AgentLemmas.{refused_stays}
+use Rattle.agent_rules.proofs.AgentLemmas.{refused_stays}
 use Rattle.port_model.specs.Agent.{get, set}
 use Rattle.port_model.proofs.AgentLemmas.{shows}
 use Rattle.port_model.proofs.adapter_port.AdapterPort.agent.Goals as goal

@@ -1,4 +1,4 @@
-use Rattle.attr_tables.proofs.AgentLemmas.{refused_stays}
+use Rattle.agent_rules.proofs.AgentLemmas.{refused_stays}
 use Rattle.switch_model.specs.Agent.{get, set}
 use Rattle.switch_model.proofs.AgentLemmas.{shows}
 use Rattle.switch_model.proofs.switch.Switch.agent.Goals as goal

@@ -1,6 +1,0 @@
-use Rattle.std.proofs.Common.{arith}
-use Rattle.attr_tables.proofs.PortSettingLemmas.{shown_fits}
-use Rattle.attr_tables.proofs.shared_gets.with_local_port.Goals as goal
-
-pub returns-clause-fits : goal.returns-clause-fits
-returns-clause-fits c = shown_fits c.args.port c.args.info.now c.requires (omega arith)

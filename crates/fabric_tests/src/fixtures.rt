@@ -1,0 +1,99 @@
+//! The two-switch fabric, and any topology's fabric over either wire.
+
+use agent_rules::{LINEAR_TABLE, Link, MULTICAST_TABLE};
+use fabric_parts::PortRef;
+use fabric_wire::{AdapterPorts, Fabric, Node, PlainWire};
+use port_model::AdapterPort;
+use std::alloc::Global;
+use std::test::Fail;
+use switch_model::{PORTS, Switch};
+use topo_file::{Node as PlannedNode, Topology, read};
+
+/// A and B with ports 3 joined, h0 and h1 on A, h2 and h3 on B, and the subnet manager on h0.
+pub const TWO_SWITCHES: &[u8] = b"switch A 0x10 4
+switch B 0x20 4
+adapter h0 0x100 1
+adapter h1 0x110 1
+adapter h2 0x120 1
+adapter h3 0x130 1
+cable A/1 h0/1
+cable A/2 h1/1
+cable A/3 B/3
+cable B/1 h2/1
+cable B/2 h3/1
+sm h0/1
+";
+
+/// The fabric that a text describes.
+pub fn fabric_of(alloc: Global, text: &[u8]) -> Result<Fabric, Fail> {
+    let topology = read(alloc, text).ok().ok_or("the topology")?;
+    Ok(Fabric::new(alloc, &topology).ok().ok_or("memory")?)
+}
+
+/// The two-switch fabric, hop by hop.
+pub fn two_switch_fabric(alloc: Global) -> Result<Fabric, Fail> {
+    fabric_of(alloc, TWO_SWITCHES)
+}
+
+/// The same, over the plain wire.
+pub fn two_switch_wire(alloc: Global) -> Result<PlainWire, Fail> {
+    let topology = read(alloc, TWO_SWITCHES).ok().ok_or("the topology")?;
+    plain_wire_of(alloc, &topology)
+}
+
+fn link_of(topology: &Topology, node: usize, port: u8) -> Link {
+    if topology.is_cabled(PortRef { node, port }) {
+        Link::Cabled
+    } else {
+        Link::Uncabled
+    }
+}
+
+fn switch_of(topology: &Topology, place: usize, node: &PlannedNode) -> Node {
+    let mut links = [Link::Uncabled; PORTS];
+    for port in 1..PORTS as u8 + 1 {
+        links[port as usize - 1] = link_of(topology, place, port);
+    }
+    let count = usize::from(node.ports).min(PORTS);
+    let switch: Switch<LINEAR_TABLE, MULTICAST_TABLE> = Switch::new(
+        node.guid,
+        node.name.as_bytes(),
+        &links[..count],
+    );
+    Node::Switch(switch)
+}
+
+fn adapter_of(
+    alloc: Global,
+    topology: &Topology,
+    place: usize,
+    node: &PlannedNode,
+) -> Result<Node, Fail> {
+    let mut ports = Vec::new(alloc);
+    for number in 1..node.ports.saturating_add(1) {
+        let guid = node.guid.wrapping_add(u64::from(number));
+        let link = link_of(topology, place, number);
+        let name = node.name.as_bytes();
+        let port = AdapterPort::new(node.guid, node.ports, number, guid, name, link);
+        ports.push(port).ok().ok_or("memory")?;
+    }
+    Ok(Node::Adapter(AdapterPorts::new(ports)))
+}
+
+/// The nodes of a topology at power-up and its cables, as the plain wire keeps them.
+pub fn plain_wire_of(alloc: Global, topology: &Topology) -> Result<PlainWire, Fail> {
+    let mut nodes = Vec::new(alloc);
+    for (place, node) in topology.nodes().iter().enumerate() {
+        let made = if node.is_switch() {
+            switch_of(topology, place, node)
+        } else {
+            adapter_of(alloc, topology, place, node)?
+        };
+        nodes.push(made).ok().ok_or("memory")?;
+    }
+    let mut cables = Vec::new(alloc);
+    for cable in topology.cables() {
+        cables.push(*cable).ok().ok_or("memory")?;
+    }
+    Ok(PlainWire::new(nodes, cables, topology.sm()))
+}

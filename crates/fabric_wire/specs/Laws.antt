@@ -1,0 +1,26 @@
+-- What holds of every fabric of a topology, and of every exchange hop by hop.
+use Rattle.std.specs.Prelude.{ℕ, ◌≡◌, List, length}
+use Rattle.std.specs.Int.Digits.{AllBelowBase}
+use Rattle.topo_file.specs.Sound.{IsSound}
+use Rattle.topo_file.specs.Topology.{Plan}
+use Rattle.smp_wire.specs.FabricState.{FabricState}
+use Rattle.smp_wire.specs.Good.{IsGood, ShowsLinks, SwitchesJoined}
+use Rattle.fabric_wire.specs.HopByHop.{GoesByHops}
+use Rattle.fabric_wire.specs.OfTopology.{fabric_of}
+
+-- the walk that answers an SMP in a good fabric is the way that the hop rules take it
+abbrev pub ExchangesGoByHops : Type 0
+ExchangesGoByHops =
+    (fabric : FabricState) (smp : List ℕ) → IsGood fabric → length smp ≡ 256 → AllBelowBase 256 smp → GoesByHops fabric smp
+
+-- at power-up the fabric of a topology is good
+abbrev pub TopologiesGiveGood : Type 0
+TopologiesGiveGood = (plan : Plan) → IsSound plan → IsGood (fabric_of plan)
+
+-- its switches are joined
+abbrev pub TopologiesAreJoined : Type 0
+TopologiesAreJoined = (plan : Plan) → IsSound plan → SwitchesJoined (fabric_of plan)
+
+-- and its links show, whether the plan is sound or not
+abbrev pub TopologiesShowLinks : Type 0
+TopologiesShowLinks = (plan : Plan) → ShowsLinks (fabric_of plan)

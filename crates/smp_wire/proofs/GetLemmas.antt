@@ -1,0 +1,152 @@
+-- What a Get that is spelled asks for, to the bit.
+use Rattle.std.proofs.Common.{ℕ, ◌≡◌, ◌≤◌, ◌+◌, ◌-◌, ◌∙◌, ap, refl, sym, true, false, List, ◌∷◌, ◌++◌, length, take, drop, replicate, slice_range, arith}
+use Rattle.std.specs.Int.Digits.{AllBelowBase}
+use Rattle.std.proofs.lemmas.Bool.Decides.{nat_tests}
+use Rattle.std.proofs.lemmas.List.{drop-drop, drop-replicate, drop-take, take-take}
+use Rattle.std.proofs.Math.Seq.{take-append_seam}
+use Rattle.mad_layout.specs.Bits.{bit_of, field, number}
+use Rattle.mad_layout.specs.Layout.{Holds, Sets}
+use Rattle.mad_layout.specs.DrSmp.{dr_smp}
+use Rattle.mad_layout.specs.MadHeader.{mad_header}
+use Rattle.mad_layout.specs.declared.dr_smp.DrSmp.{DrSmp}
+use Rattle.mad_layout.specs.declared.mad_header.Header.{Header}
+use Rattle.attr_tables.specs.declared.smp_attribute.SmpAttribute.{SmpAttribute}
+use Rattle.attr_tables.specs.SmpAttribute.{smp_attribute_code}
+use Rattle.smp_wire.specs.Get.{AsksFor, path_entries, plain_get}
+use Rattle.mad_layout.proofs.AlignedLemmas.{byte_is_field}
+use Rattle.mad_layout.proofs.LayoutLemmas.{field_zeros, number_zeros}
+use Rattle.smp_route.specs.Places.{count, pointer}
+use Rattle.agent_rules.specs.Request.{is_request, is_version_1, is_get}
+use Rattle.smp_wire.specs.Walk.{is_sent, path_of}
+
+pub requests : (smp : List ℕ) → field smp 8 8 ≡ 129 → field smp 24 8 ≡ 1 → is_request smp ≡ true
+unfolding is_request
+requests smp class method = rw (class, method) refl
+
+pub of_version_1 : (smp : List ℕ) → field smp 0 8 ≡ 1 → field smp 16 8 ≡ 1 → is_version_1 smp ≡ true
+of_version_1 smp base class = rw (base, class) refl
+
+pub gets : (smp : List ℕ) → field smp 24 8 ≡ 1 → is_get smp ≡ true
+gets smp method = rw method refl
+
+pub count_is : (smp : List ℕ) (n : ℕ) → AllBelowBase 256 smp → length smp ≡ 256 → n ≡ field smp 56 8 → count smp ≡ n
+count_is smp n below long is = byte_is_field smp 7 below (omega (arith, long)) ∙ sym is
+
+pub pointer_is : (smp : List ℕ) → AllBelowBase 256 smp → length smp ≡ 256 → 0 ≡ field smp 48 8 → pointer smp ≡ 0
+pointer_is smp below long is = byte_is_field smp 6 below (omega (arith, long)) ∙ sym is
+
+pub is_sent_by : (smp : List ℕ) (n : ℕ) → 0 ≡ field smp 32 1 → pointer smp ≡ 0 → count smp ≡ n → n ≤ 63 → is_sent smp ≡ true
+is_sent_by smp n out at_start hops few = rw (← out, at_start, hops) (grind (arith, nat_tests, few))
+
+pub path_is : (smp initial path : List ℕ) → length smp ≡ 256 → slice_range smp 128 192 ≡ initial → take (length path) (drop 1 initial) ≡ path
+    → count smp ≡ length path → length path ≤ 63 → path_of smp ≡ path
+path_is smp initial path long is part hops few =
+    let whole : take 64 (drop 128 smp) ≡ initial = is in
+    let from : drop 129 smp ≡ drop 1 (drop 128 smp) = sym (drop-drop 1 128 smp) in
+    let cut : take (length path) (drop 1 (take 64 (drop 128 smp))) ≡ take (length path) (drop 1 (drop 128 smp)) = ap (take (length path)) (drop-take 1 63 (drop 128 smp)) ∙ take-take (length path) 63 (drop 1 (drop 128 smp)) few in
+    rw (hops, from) (sym cut ∙ rw whole part)
+
+-- the path stands in its entries
+pub entries : (path new : List ℕ) → new ≡ path → 0 ∷ new ++ drop {A = ℕ} (1 + length path - 1) (replicate 63 0) ≡ path_entries path
+entries path new is =
+    let n : 1 + length path - 1 ≡ length path = omega arith in
+    let rest : drop {A = ℕ} (length path) (replicate 63 0) ≡ replicate (63 - length path) 0 = drop-replicate (length path) 63 0 in
+    rw (is, n, rest) refl
+
+taken : (path : List ℕ) → take (length path) (drop 1 (path_entries path)) ≡ path
+taken path = take-append_seam path (replicate (63 - length path) 0)
+
+-- the header and the route of a Get
+pub record IsGetHeader (header : Header) (attribute : SmpAttribute) (modifier : ℕ) : Type 0 where
+  pub base : header.base_version ≡ 1
+  pub class : header.mgmt_class ≡ 129
+  pub version : header.class_version ≡ 1
+  pub method : header.method ≡ 1
+  pub transaction : header.transaction_id ≡ 0
+  pub attribute_is : header.attribute_id ≡ smp_attribute_code attribute
+  pub modifier_is : header.attribute_modifier ≡ modifier
+
+pub record IsOutward (route : DrSmp) (path : List ℕ) : Type 0 where
+  pub out : route.direction ≡ false
+  pub status : route.status ≡ 0
+  pub at_start : route.hop_pointer ≡ 0
+  pub hops : route.hop_count ≡ length path
+  pub few : length path ≤ 63
+  pub key : route.m_key ≡ 0
+  pub begins : route.dr_slid ≡ 65535
+  pub ends : route.dr_dlid ≡ 65535
+  pub blank : route.«data» ≡ replicate 64 0
+  pub along : route.initial_path ≡ path_entries path
+  pub back : route.return_path ≡ replicate 64 0
+
+-- a Get as it is spelled: its header over zeros, and its route over that
+pub record IsSpelled (mid smp : List ℕ) (header : Header) (route : DrSmp) (attribute : SmpAttribute) (modifier : ℕ) (path : List ℕ) : Type 0 where
+  pub first : Sets (replicate 256 0) mid (mad_header header)
+  pub second : Sets mid smp (dr_smp route)
+  pub initial : slice_range smp 128 192 ≡ route.initial_path
+  pub long : length smp ≡ 256
+  pub below : AllBelowBase 256 smp
+  pub header_is : IsGetHeader header attribute modifier
+  pub route_is : IsOutward route path
+
+-- the header of the SMP, where the route is not
+record HasHeader (smp : List ℕ) (attribute : SmpAttribute) (modifier : ℕ) : Type 0 where
+  base : field smp 0 8 ≡ 1
+  class : field smp 8 8 ≡ 129
+  version : field smp 16 8 ≡ 1
+  method : field smp 24 8 ≡ 1
+  transaction : field smp 64 64 ≡ 0
+  attribute_is : field smp 128 16 ≡ smp_attribute_code attribute
+  reserved : field smp 144 16 ≡ 0
+  modifier_is : field smp 160 32 ≡ modifier
+  unsaid : field smp 288 224 ≡ 0
+
+header_there : {mid smp : List ℕ} {header : Header} {route : DrSmp} {attribute : SmpAttribute} {modifier : ℕ} {path : List ℕ}
+    → IsSpelled mid smp header route attribute modifier path → HasHeader smp attribute modifier
+header_there {mid = mid} spelled =
+    let second = spelled.second in
+    let wide : length mid ≡ 256 = sym second.same_length ∙ spelled.long in
+    let h = spelled.first.fields in
+    let is = spelled.header_is in
+    record {
+      base = second.others 0 8 (omega (arith, wide)) refl ∙ sym h.0 ∙ is.base;
+      class = second.others 8 8 (omega (arith, wide)) refl ∙ sym h.1.0 ∙ is.class;
+      version = second.others 16 8 (omega (arith, wide)) refl ∙ sym h.1.1.0 ∙ is.version;
+      method = second.others 24 8 (omega (arith, wide)) refl ∙ sym h.1.1.1.0 ∙ is.method;
+      transaction = second.others 64 64 (omega (arith, wide)) refl ∙ sym h.1.1.1.1.1.1.0 ∙ is.transaction;
+      attribute_is = second.others 128 16 (omega (arith, wide)) refl ∙ sym h.1.1.1.1.1.1.1.0 ∙ is.attribute_is;
+      reserved = second.others 144 16 (omega (arith, wide)) refl ∙ spelled.first.others 144 16 (omega arith) refl ∙ field_zeros 256 144 16;
+      modifier_is = second.others 160 32 (omega (arith, wide)) refl ∙ sym h.1.1.1.1.1.1.1.1.0 ∙ is.modifier_is;
+      unsaid = second.others 288 224 (omega (arith, wide)) refl ∙ spelled.first.others 288 224 (omega arith) refl ∙ field_zeros 256 288 224;
+    }
+
+pub asks_for : {mid smp : List ℕ} {header : Header} {route : DrSmp} {attribute : SmpAttribute} {modifier : ℕ} {path : List ℕ}
+    → IsSpelled mid smp header route attribute modifier path → AsksFor attribute modifier path smp
+asks_for {smp = smp} {route = route} {path = path} spelled =
+    let h = header_there spelled in
+    let r = spelled.second.fields in
+    let is = spelled.route_is in
+    let hops : count smp ≡ length path = count_is smp (length path) spelled.below spelled.long (sym is.hops ∙ r.1.1.1.0) in
+    let at_start : pointer smp ≡ 0 = pointer_is smp spelled.below spelled.long (sym is.at_start ∙ r.1.1.0) in
+    record {
+      request = requests smp h.class h.method;
+      version = of_version_1 smp h.base h.version;
+      get = gets smp h.method;
+      attribute_id = h.attribute_is;
+      modifier_is = h.modifier_is;
+      sent = is_sent_by smp (length path) (sym (ap bit_of is.out) ∙ r.0) at_start hops is.few;
+      path_is = path_is smp (path_entries path) path spelled.long (spelled.initial ∙ is.along) (taken path) hops is.few;
+      long = spelled.long;
+      bytes = spelled.below;
+    }
+
+number_blank : (bytes : List ℕ) → bytes ≡ replicate 64 0 → 0 ≡ number bytes
+number_blank bytes is = sym (ap number is ∙ number_zeros 64)
+
+pub plain_is : {mid smp : List ℕ} {header : Header} {route : DrSmp} {attribute : SmpAttribute} {modifier : ℕ} {path : List ℕ}
+    → IsSpelled mid smp header route attribute modifier path → Holds smp (plain_get attribute modifier path)
+plain_is {route = route} spelled =
+    let h = header_there spelled in
+    let r = spelled.second.fields in
+    let is = spelled.route_is in
+    (sym h.base, (sym h.class, (sym h.version, (sym h.method, (sym (ap bit_of is.out) ∙ r.0, (sym is.status ∙ r.1.0, (sym is.at_start ∙ r.1.1.0, (sym is.hops ∙ r.1.1.1.0, (sym h.transaction, (sym h.attribute_is, (sym h.reserved, (sym h.modifier_is, (sym is.key ∙ r.1.1.1.1.0, (sym is.begins ∙ r.1.1.1.1.1.0, (sym is.ends ∙ r.1.1.1.1.1.1.0, (sym h.unsaid, (number_blank route.«data» is.blank ∙ r.1.1.1.1.1.1.1.0, (ap number (sym is.along) ∙ r.1.1.1.1.1.1.1.1.0, (number_blank route.return_path is.back ∙ r.1.1.1.1.1.1.1.1.1.0, tt)))))))))))))))))))

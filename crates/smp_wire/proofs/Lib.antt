@@ -1,0 +1,10 @@
+pub mod GetLemmas
+pub mod WalkLemmas
+pub mod HoldingLemmas
+pub mod GoodLemmas
+pub mod KeptLemmas
+pub mod ArrivalLemmas
+pub mod ReplyLemmas
+pub mod WalkedLemmas
+pub mod ChangeLemmas
+pub mod TellLemmas

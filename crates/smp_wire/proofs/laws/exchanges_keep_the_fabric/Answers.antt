@@ -1,0 +1,11 @@
+use Rattle.smp_wire.proofs.KeptLemmas.{good, joins, links}
+use Rattle.smp_wire.proofs.laws.exchanges_keep_the_fabric.Goals as goal
+
+pub returns-clause-good : goal.returns-clause-good
+returns-clause-good c = good
+
+pub returns-clause-links : goal.returns-clause-links
+returns-clause-links c = links
+
+pub returns-clause-joined : goal.returns-clause-joined
+returns-clause-joined c = joins

@@ -1,0 +1,86 @@
+ghost use Rattle.std.specs.Prelude.{◌≡◌, is_some, unwrap_or, slice_get};
+ghost use Rattle.smp_wire.specs.FabricState.{adapter_port, adapter_ports_after, node_after, node_reply, port_count};
+ghost use Rattle.agent_rules.specs.Request.{KeepsRest};
+ghost use Rattle.port_model.specs.Agent.{agent_reply};
+ghost use Rattle.std.specs.Option.{option_and_then};
+
+use agent_rules::{LINEAR_TABLE, MULTICAST_TABLE};
+use mad_layout::Mad;
+use port_model::AdapterPort;
+use std::marker::Model;
+use switch_model::Switch;
+
+/// The ports of a channel adapter, in order of their numbers, each with its own agent.
+#[derive(Debug, Drop)]
+pub struct AdapterPorts {
+    ports: Vec<AdapterPort>,
+}
+
+impl Model for AdapterPorts {
+    ghost use Rattle.std.specs.Prelude.{List};
+    ghost use Rattle.port_model.specs.AdapterState.{AdapterState};
+
+    ghost Value = { List AdapterState };
+
+    ghost view = { λ ports. ports.ports.items };
+}
+
+impl AdapterPorts {
+    /// These ports, the first of them port 1.
+    pub fn new(ports: Vec<AdapterPort>) -> AdapterPorts
+        ensures { result ≡ ports.items }
+    {
+        AdapterPorts { ports }
+    }
+
+    /// Answers an SMP that came in at the port of that number, as its agent does.
+    fn agent(&mut self, number: u8, smp: &mut Mad) -> bool
+        ensures replied { result ≡ is_some (option_and_then (λ port. agent_reply port smp.old) (adapter_port self.old number)) }
+        ensures reply { smp.new ≡ unwrap_or (option_and_then (λ port. agent_reply port smp.old) (adapter_port self.old number)) smp.old }
+        ensures held { self.new ≡ adapter_ports_after self.old number smp.old (adapter_port self.old number) }
+        ensures kept { KeepsRest smp.old smp.new }
+    {
+        if number == 0 {
+            return false;
+        }
+        match self.ports.get_mut(number as usize - 1) {
+            Some(port) => port.agent(smp),
+            None => false,
+        }
+    }
+}
+
+/// A node of a fabric, with what its agents hold.
+#[derive(Debug, Drop)]
+pub enum Node {
+    /// A switch.
+    Switch(Switch<LINEAR_TABLE, MULTICAST_TABLE>),
+    /// A channel adapter.
+    Adapter(AdapterPorts),
+}
+
+impl Node {
+    /// How many ports it has, port 0 of a switch not counted.
+    pub fn port_count(&self) -> usize
+        ensures { result ≡ port_count self.now }
+    {
+        match self {
+            Node::Switch(switch) => switch.port_count(),
+            Node::Adapter(ports) => ports.ports.len(),
+        }
+    }
+
+    /// Answers an SMP that came in at that port, in its place, or gives no reply and leaves it.
+    #[tactic(auto, unfolding(crate::specs::FabricState::node_reply, crate::specs::FabricState::node_after))]
+    pub fn agent(&mut self, number: u8, smp: &mut Mad) -> bool
+        ensures replied { result ≡ is_some (node_reply self.old number smp.old) }
+        ensures reply { smp.new ≡ unwrap_or (node_reply self.old number smp.old) smp.old }
+        ensures held { self.new ≡ node_after self.old number smp.old }
+        ensures kept { KeepsRest smp.old smp.new }
+    {
+        match self {
+            Node::Switch(switch) => switch.agent(number, smp),
+            Node::Adapter(ports) => ports.agent(number, smp),
+        }
+    }
+}
