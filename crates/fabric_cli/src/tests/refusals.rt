@@ -140,7 +140,10 @@ fn words_that_are_refused(rt: HostRuntime) -> Result<(), Fail> {
         (&["fabric", "--version"], "fabric 0.1.0"),
         // Usage says `fabric`, whatever name the program's file has.
         (&["out/fabric_cli", "--help"], "Usage: fabric <COMMAND>"),
-        (&["out/fabric_cli", "run", "--help"], "Usage: fabric run <TOPO>"),
+        (
+            &["out/fabric_cli", "run", "--help"],
+            "Usage: fabric run <TOPO>",
+        ),
     ];
     for (words, part) in rows {
         let files = [("a", plain(b"")), ("b", plain(b""))];
