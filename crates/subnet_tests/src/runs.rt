@@ -2,6 +2,22 @@ use crate::fixtures::TWO_SWITCHES;
 use std::test::Fail;
 use subnet_core::{RunFault, StepFault, bring_up, run};
 
+#[test]
+fn a_step_tells_its_events(rt: HostRuntime) -> Result<(), Fail> {
+    let mut subnet = bring_up(rt.alloc(), TWO_SWITCHES.as_bytes(), None)?;
+    for (line, port) in [
+        (b"send h1/1 5 0xffff 7 2:beef\n".as_slice(), 0x121),
+        (b"send h2/1 4 0x7fff 7 0:".as_slice(), 0x121),
+        (b"send h2/1 4 0xffff 7 0: # h1".as_slice(), 0x111),
+    ] {
+        let command = subnet.parse(1, line)?.ok_or("a command")?;
+        let events = subnet.step(&command)?;
+        assert_eq!(rt; events.len(), 1);
+        assert_eq!(rt; events[0].port, port);
+    }
+    Ok(())
+}
+
 /// tools/refused-memory refuses each allocation of this test, and of the next, in turn.
 #[test]
 fn a_run_is_told_or_memory_is_refused(rt: HostRuntime) -> Result<(), Fail> {
