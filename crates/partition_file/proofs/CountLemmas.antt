@@ -1,3 +1,4 @@
+-- How many partitions definitions make, one definition after the other.
 use Rattle.std.proofs.Common.{◌≡◌, ℕ, ◌+◌, ◌≤◌, Bool, true, false, cond, List, [], ◌∷◌, ◌++◌, length, Option, Some, None, is_none, refl, ap, ◌∙◌, arith, length-append}
 use Rattle.std.specs.List.{fold, count_by, list_all}
 use Rattle.std.proofs.lemmas.Bool.{and_from}

@@ -1,3 +1,4 @@
+-- The bases of definitions that name none: there is always one that is free, and the least is found.
 use Rattle.std.proofs.Common.{◌≡◌, ℕ, zero, suc, ◌+◌, ◌<◌, ◌≤◌, Bool, true, false, cond, not, ◌==◌, ◌||◌, List, [], ◌∷◌, ◌++◌, length, Option, Some, None, is_none, refl, ap, subst, ◌∙◌, arith, length-append}
 use Rattle.std.specs.List.{cons_option, count_by, filter_map, find, fold, range_with_len}
 use Rattle.std.specs.Option.{unwrap_or}

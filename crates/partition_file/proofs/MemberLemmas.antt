@@ -2,7 +2,7 @@
 use Rattle.std.proofs.Common.{◌≡◌, ◌&&◌, ℕ, suc, ◌+◌, ◌<◌, ◌≤◌, Bool, true, false, cond, ◌==◌, ◌||◌, nat_eq, List, [], ◌∷◌, ◌++◌, length, map, drop, get_or, Option, Some, None, refl, ap, subst, ◌∙◌, arith, append_assoc, length-append, drop-cons}
 use Rattle.std.specs.List.{AllByRecursion, IsDistinct, list_all, cons_option}
 use Rattle.std.specs.Option.{option_to_list}
-use Rattle.std.proofs.lemmas.Bool.{and_parts}
+use Rattle.std.proofs.lemmas.Bool.{and_parts, or_from}
 use Rattle.std.proofs.lemmas.Bool.Decides.{nat_tests}
 use Rattle.std.proofs.lemmas.List.{append-nil, length-map}
 use Rattle.std.proofs.lemmas.Map.Keys.{IsDistinct-head, IsDistinct-tail}
@@ -60,15 +60,11 @@ has_last base key (first ∷ held) = by (base_of first == base) (has_last base k
     by true h = refl
     by false h = h
 
-neither : (a b : Bool) → a ≡ false → b ≡ false → (a || b) ≡ false
-neither true b h k = absurd cc
-neither false b h k = k
-
 still_free : (bases held : List ℕ) (base key : ℕ) → base_of key ≡ base → AllByRecursion (λ other. nat_eq base other ≡ false) bases → AreFree bases held → AreFree bases (held ++ key ∷ [])
 still_free [] held base key e apart free = tt
 still_free (other ∷ bases) held base key e apart free =
     let next : (base_of key == other) ≡ false = rw e apart.0 in
-    (has_last other key held ∙ neither (has_base other held) (base_of key == other) free.0 next, still_free bases held base key e apart.1 free.1)
+    (has_last other key held ∙ or_from (has_base other held) (base_of key == other) free.0 next, still_free bases held base key e apart.1 free.1)
 
 abbrev pub KeyOf : ℕ → Option ℕ → Type 0
 KeyOf base None = Unit {0}

@@ -1,3 +1,4 @@
+-- What is so of all partitions that definitions make.
 use Rattle.std.proofs.Common.{◌≡◌, lit≤, ℕ, zero, suc, ◌+◌, ◌<◌, ◌≤◌, Bool, true, false, cond, not, ◌==◌, ◌||◌, ◌⊎◌, inl, inr, nat_eq, List, [], ◌∷◌, ◌++◌, length, map, Option, Some, None, is_none, refl, sym, ap, subst, ◌∙◌, arith, length-append, nat_le, option_map}
 use Rattle.std.specs.List.{IsDistinct, count_by, filter_map, find, fold, list_all, list_any, range_with_len, slice_get}
 use Rattle.std.specs.Option.{option_map, unwrap_or}

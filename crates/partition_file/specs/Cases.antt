@@ -75,7 +75,8 @@ key_here _ key = key
 -- the `:` of a definition that names this base, if it makes one partition more than there may be; `before` are the bases
 -- that the definitions before it name
 abbrev pub is_one_too_many : Part → Delimiter → List (Option ℕ) → Option ℕ → Bool
-is_one_too_many at delimiter before key = (is_colon delimiter && not (is_in_list at)) && nat_lt PARTITIONS (partition_count (before ++ key ∷ []))
+is_one_too_many at delimiter before key =
+    (is_colon delimiter && not (is_in_list at)) && nat_lt PARTITIONS (partition_count (before ++ key ∷ []))
 
 -- a definition that ends before its list
 abbrev pub is_unfinished : Part → Delimiter → Bool
@@ -84,7 +85,8 @@ is_unfinished at delimiter = is_semicolon delimiter && not (is_in_list at)
 -- a flag given twice, without the value that it takes, or with one that it does not take
 abbrev pub is_misused : Option Flag → Delimiter → Flags → Bool
 is_misused None delimiter flags = false
-is_misused (Some flag) delimiter flags = is_given flag flags || (if takes_value flag then not (is_equals delimiter) else is_equals delimiter)
+is_misused (Some flag) delimiter flags =
+    is_given flag flags || (if takes_value flag then not (is_equals delimiter) else is_equals delimiter)
 
 -- or a value that is empty or is not one of the flag's
 abbrev pub is_bad_flag_value : Token → Delimiter → Flags → Bool
@@ -108,7 +110,8 @@ has_fault s delimiter token BadFlagValue = is_bad_flag_value token delimiter s.c
 
 -- of several, the first in this order is told
 abbrev pub in_turn : List PartitionCause
-in_turn = BothMembership ∷ MgidItem ∷ BadCharacter ∷ BadNumber ∷ ReservedKey ∷ UnknownFlag ∷ TooManyPartitions ∷ Unfinished ∷ BadFlagValue ∷ []
+in_turn =
+    BothMembership ∷ MgidItem ∷ BadCharacter ∷ BadNumber ∷ ReservedKey ∷ UnknownFlag ∷ TooManyPartitions ∷ Unfinished ∷ BadFlagValue ∷ []
 
 unfoldable pub fault_of : Scanned → Delimiter → Token → Option PartitionCause
 fault_of s delimiter token = find (has_fault s delimiter token) in_turn

@@ -15,7 +15,8 @@ with_base seen base = if has_base base seen then seen else seen ++ base ∷ []
 abbrev pub named : List (Option ℕ) → List ℕ
 named keys = filter_map (λ key. key) keys
 
--- the default partition, which is there whether a definition names it or not, one for each further base that is named, and one for each definition that names none
+-- the default partition, which is there whether a definition names it or not, one for each further base that is named,
+-- and one for each definition that names none
 abbrev pub partition_count : List (Option ℕ) → ℕ
 partition_count keys = length (fold with_base (default_base ∷ []) (named keys)) + count_by is_none keys
 

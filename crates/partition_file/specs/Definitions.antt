@@ -76,7 +76,8 @@ after_byte s piece byte = judged_at s (delimiter_of byte) (is_allowed byte) piec
 -- the state after the bytes that follow the text so far, or their first fault
 unfoldable pub after : List ℕ → Scanned → List ℕ → Result Scanned (AtLine PartitionCause)
 after so_far s [] = Ok s
-after so_far s (byte ∷ rest) = on_line (line_after so_far) (after_byte s (piece_after so_far) byte) >>= λ t. after (so_far ++ byte ∷ []) t rest
+after so_far s (byte ∷ rest) =
+    on_line (line_after so_far) (after_byte s (piece_after so_far) byte) >>= λ t. after (so_far ++ byte ∷ []) t rest
 
 abbrev pub is_name : Part → Bool
 is_name part.Name = true

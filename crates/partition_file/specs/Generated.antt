@@ -14,4 +14,5 @@ pub record IsLeastFree (base : ℕ) (taken : List ℕ) : Type 0 where
 -- so it is for each definition that names none, after those before it
 abbrev pub AllGetFree : List ℕ → List Definition → Type 0
 AllGetFree taken [] = Unit {0}
-AllGetFree taken (definition ∷ rest) = (definition.key ≡ None → IsLeastFree (least_free taken) taken) × AllGetFree (taken_after taken definition.key) rest
+AllGetFree taken (definition ∷ rest) =
+    (definition.key ≡ None → IsLeastFree (least_free taken) taken) × AllGetFree (taken_after taken definition.key) rest

@@ -13,7 +13,8 @@ has_leading_zero digits = nat_lt 1 (length digits) && starts_with nat_eq digits 
 
 -- a number of any size is spelt: in decimal digits without a leading zero, or as `0x` and hexadecimal digits of either case
 abbrev pub is_number : List ℕ → Bool
-is_number word = if starts_with nat_eq word (codes "0x") then are_digits 16 (drop 2 word) else are_digits 10 word && not (has_leading_zero word)
+is_number word =
+    if starts_with nat_eq word (codes "0x") then are_digits 16 (drop 2 word) else are_digits 10 word && not (has_leading_zero word)
 
 abbrev pub at_most : ℕ → Option ℕ → Option ℕ
 at_most top (Some n) = if nat_le n top then Some n else None

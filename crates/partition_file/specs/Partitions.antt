@@ -39,7 +39,8 @@ taken_after taken None = taken ++ least_free taken ∷ []
 -- a definition that names no base gets the least that is neither named by any nor given before
 abbrev pub rules_after : List ℕ → List Definition → List Ruled
 rules_after taken [] = []
-rules_after taken (definition ∷ rest) = record { base = base_for taken definition.key; definition = definition } ∷ rules_after (taken_after taken definition.key) rest
+rules_after taken (definition ∷ rest) =
+    record { base = base_for taken definition.key; definition = definition } ∷ rules_after (taken_after taken definition.key) rest
 
 abbrev pub rules_of : List Definition → List Ruled
 rules_of definitions = rules_after (filter_map (λ definition. definition.key) definitions) definitions
@@ -94,10 +95,16 @@ manager_full = record { ports = Manager; full = true }
 
 -- in the default partition the manager is always full, and without a rule for it all ports are limited
 abbrev pub built_in : List Ruled → ℕ → List Item
-built_in rules base = if base == default_base then (if is_ruled base rules then manager_full ∷ [] else all_limited ∷ manager_full ∷ []) else []
+built_in rules base =
+    if base == default_base then (if is_ruled base rules then manager_full ∷ [] else all_limited ∷ manager_full ∷ []) else []
 
 abbrev pub partition_of : List Ruled → ℕ → Partition
-partition_of rules base = record { base = base; name = name_of rules base; group = group_of rules base; items = listed rules base ++ built_in rules base }
+partition_of rules base = record {
+  base = base;
+  name = name_of rules base;
+  group = group_of rules base;
+  items = listed rules base ++ built_in rules base;
+}
 
 -- ---- all of them; the place in the list is a partition's number
 abbrev pub partitions_by : List Ruled → List Partition
@@ -110,7 +117,8 @@ partitions_in definitions = partitions_by (rules_of definitions)
 unfoldable pub partitions_of : List ℕ → Result (List Partition) (AtLine PartitionCause)
 partitions_of text = definitions_of text >>= λ definitions. Ok (partitions_in definitions)
 
--- ff1s:401b:kkkk:0000:0000:0000:ffff:ffff: the broadcast group of IP over InfiniBand (RFC 4391), with the scope s and the partition's full key k
+-- ff1s:401b:kkkk:0000:0000:0000:ffff:ffff: the broadcast group of IP over InfiniBand (RFC 4391), with the scope s and the
+-- partition's full key k
 abbrev pub full_key : ℕ → ℕ
 full_key base = key_of (base_of base) true
 

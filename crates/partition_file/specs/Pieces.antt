@@ -29,7 +29,12 @@ abbrev pub is_allowed : ℕ → Bool
 is_allowed byte = (nat_le 32 byte && nat_le byte 126) || is_white byte
 
 abbrev pub delimiter_of : ℕ → Option Delimiter
-delimiter_of byte = if byte == 61 then Some Equals else (if byte == 44 then Some Comma else (if byte == 58 then Some Colon else (if byte == 59 then Some Semicolon else None)))
+delimiter_of byte =
+    if byte == 61 then Some Equals
+    else (if byte == 44 then Some Comma
+    else (if byte == 58 then Some Colon
+    else (if byte == 59 then Some Semicolon
+    else None)))
 
 abbrev pub is_delimiter : ℕ → Bool
 is_delimiter byte = is_some (delimiter_of byte)

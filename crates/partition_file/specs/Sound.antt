@@ -23,7 +23,9 @@ is_within top None = true
 
 -- what flags say fits the fields of their records
 abbrev pub are_within : Flags → Bool
-are_within flags = is_within (greatest Rate) flags.rate && (is_within (greatest Mtu) flags.mtu && (is_within (greatest ServiceLevel) flags.service_level && is_within (greatest Scope) flags.scope))
+are_within flags =
+    is_within (greatest Rate) flags.rate && (is_within (greatest Mtu) flags.mtu
+    && (is_within (greatest ServiceLevel) flags.service_level && is_within (greatest Scope) flags.scope))
 
 -- the definitions name bases, their flags' values are in range, and they make no more partitions than there may be
 pub record AreSound (definitions : List Definition) : Type 0 where
@@ -55,7 +57,9 @@ pub record AreSoundBases (bases : List ℕ) : Type 0 where
 
 -- a group's parameters fit the fields of its records
 abbrev pub fits : BroadcastGroup → Bool
-fits group = nat_le group.rate (greatest Rate) && (nat_le group.mtu (greatest Mtu) && (nat_le group.service_level (greatest ServiceLevel) && nat_le group.scope (greatest Scope)))
+fits group =
+    nat_le group.rate (greatest Rate) && (nat_le group.mtu (greatest Mtu)
+    && (nat_le group.service_level (greatest ServiceLevel) && nat_le group.scope (greatest Scope)))
 
 abbrev pub has_fit_group : Option BroadcastGroup → Bool
 has_fit_group (Some group) = fits group

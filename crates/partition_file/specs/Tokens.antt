@@ -61,7 +61,10 @@ taken_if None = Refused
 
 -- a number is wanted
 abbrev pub number_value : Flag → List ℕ → Value
-number_value flag piece = if is_empty piece then Empty else (if is_number piece then taken_if (option_and_then (setting_of flag) (number_in piece)) else Misspelt)
+number_value flag piece =
+    if is_empty piece then Empty
+    else (if is_number piece then taken_if (option_and_then (setting_of flag) (number_in piece))
+    else Misspelt)
 
 -- `full` or `limited` is wanted
 abbrev pub membership_value : MembershipWord → Value

@@ -1,15 +1,13 @@
-use Rattle.std.proofs.Common.{◌≡◌, ℕ, Bool, true, false, ◌==◌, ◌&&◌, List, find, is_some, IfSome, [], ◌∷◌, ◌++◌, refl, inl, inr, arith}
+-- Tables of keys: what a push keeps, what is found, and when two tables share a partition.
+use Rattle.std.proofs.Common.{◌≡◌, ℕ, true, false, ◌==◌, ◌&&◌, List, find, is_some, IfSome, [], ◌∷◌, ◌++◌, refl, inl, inr, arith}
 use Rattle.std.specs.List.{IsDistinct, list_any}
 use Rattle.std.proofs.lemmas.Map.Keys.{IsDistinct-push}
 use Rattle.std.proofs.lemmas.Cmp.{nat_eq_equiv, on_equiv}
 use Rattle.std.proofs.lemmas.Bool.{and_parts, and_from, or_cases, or_left, or_right, eq-eqb, eqb-true, cases_Bool}
 use Rattle.std.proofs.lemmas.Bool.Decides.{nat_tests}
+use Rattle.result_words.proofs.ListLemmas.{list_any_weaker}
 use Rattle.pkey_rules.specs.PKey.{base_of, matches}
 use Rattle.pkey_rules.specs.KeyTable.{accepts, holds, has_base, same_base, shares, shares_base, SomeSharedBase}
-
-pub distinct_nil : IsDistinct same_base []
-unfolding IsDistinct
-distinct_nil = tt
 
 same_either_way : (a b : ℕ) → (a == b) ≡ (b == a)
 same_either_way a b = grind (arith, nat_tests)
@@ -23,15 +21,6 @@ has_base-same_base key (held ∷ keys) =
 pub distinct_push : (key : ℕ) (keys : List ℕ) → has_base (base_of key) keys ≡ false → IsDistinct same_base keys → IsDistinct same_base (keys ++ key ∷ [])
 distinct_push key keys free distinct =
     IsDistinct-push (on_equiv base_of nat_eq_equiv) keys key distinct (rw (← has_base-same_base key keys) free)
-
--- what passes a test passes a weaker one
-pub list_any_weaker : {X : Type 0} (strong weak : X → Bool) → ((x : X) → strong x ≡ true → weak x ≡ true) → (xs : List X) → list_any strong xs ≡ true → list_any weak xs ≡ true
-list_any_weaker strong weak implies [] h = h
-list_any_weaker strong weak implies (x ∷ xs) h =
-    elim (or_cases (strong x) (list_any strong xs) h) [
-      | inl here ↦ or_left (weak x) (list_any weak xs) (implies x here)
-      | inr later ↦ or_right (weak x) (list_any weak xs) (list_any_weaker strong weak implies xs later)
-    ]
 
 -- matching keys are of one base
 matches_same_base : (a b : ℕ) → matches a b ≡ true → ((base_of a == base_of b) && matches a b) ≡ true

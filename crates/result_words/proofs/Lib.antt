@@ -1,2 +1,3 @@
 pub mod StepLemmas
 pub mod LineLemmas
+pub mod ListLemmas

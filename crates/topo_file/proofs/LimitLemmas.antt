@@ -1,3 +1,4 @@
+-- One more node keeps the limits on switches and adapter ports.
 use Rattle.std.proofs.Common.{◌≡◌, ℕ, ◌+◌, false, List, [], ◌∷◌, ◌++◌, ◌∙◌, ap, refl, arith}
 use Rattle.std.proofs.lemmas.Bool.{leb-false, ltb-false}
 use Rattle.std.proofs.lemmas.Grind.{common_steps}

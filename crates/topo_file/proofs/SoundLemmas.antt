@@ -1,7 +1,10 @@
+-- What stays so with one more node and one more cable, and so of every topology that was read.
 use Rattle.std.proofs.Common.{◌≡◌, ◌∙◌, ap₂, Bool, ◌||◌, ◌==◌, ℕ, zero, suc, ◌≤◌, true, false, not, ◌&&◌, nat_le, List, [], ◌∷◌, ◌++◌, Option, Some, None, refl, arith}
 use Rattle.std.specs.List.{list_all, list_any, AllByRecursion, IsDistinct}
 use Rattle.std.specs.Str.{bytes_eq}
-use Rattle.std.proofs.lemmas.Bool.{and_parts, and_from}
+use Rattle.std.proofs.Math.Bool.{and_comm}
+use Rattle.std.proofs.lemmas.Bool.{and_parts, and_from, or_from, or_parts}
+use Rattle.result_words.proofs.ListLemmas.{IsDistinct-nil, list_all_push}
 use Rattle.std.proofs.lemmas.Bool.Decides.{nat_tests}
 use Rattle.std.proofs.lemmas.List.Elements.{All-nil, All-push}
 use Rattle.fabric_parts.specs.declared.cable.Cable.{Cable}
@@ -54,43 +57,11 @@ manager_still nodes node None h = refl
 manager_still nodes node (Some manager) h = manager_port_still nodes node manager.port h
 
 -- ---- nodes with GUIDs of their own
-or_first : (a b : Bool) → (a || b) ≡ false → a ≡ false
-or_first true b h = absurd cc
-or_first false b h = refl
-
-or_rest : (a b : Bool) → (a || b) ≡ false → b ≡ false
-or_rest true b h = absurd cc
-or_rest false b h = h
-
-not_true : (a : Bool) → not a ≡ true → a ≡ false
-not_true true h = absurd cc
-not_true false h = refl
-
 eq_turned : (m n : ℕ) → (m == n) ≡ (n == m)
 eq_turned m n = grind (arith, nat_tests)
 
-or_false : (a b : Bool) → a ≡ false → b ≡ false → (a || b) ≡ false
-or_false false b h k = k
-or_false true b h k = absurd cc
-
 shares_turned : (a b : Node) → shares_guid a b ≡ shares_guid b a
-shares_turned a b = and_turned (nat_le a.guid (last_guid b)) (nat_le b.guid (last_guid a))
-  where
-    and_turned : (x y : Bool) → (x && y) ≡ (y && x)
-    and_turned true true = refl
-    and_turned true false = refl
-    and_turned false true = refl
-    and_turned false false = refl
-
-none_more : {X : Type 0} (p : X → Bool) (xs : List X) (x : X) → list_any p xs ≡ false → p x ≡ false → list_any p (xs ++ x ∷ []) ≡ false
-none_more p [] x h k = or_false (p x) false k refl
-none_more p (y ∷ ys) x h k = or_false (p y) (list_any p (ys ++ x ∷ [])) (or_first (p y) _ h) (none_more p ys x (or_rest (p y) _ h) k)
-
-all_more : {X : Type 0} (p : X → Bool) (xs : List X) (x : X) → list_all p xs ≡ true → p x ≡ true → list_all p (xs ++ x ∷ []) ≡ true
-all_more p [] x all one = and_from (p x) true one refl
-all_more p (y ∷ ys) x all one =
-    let parts = and_parts (p y) (list_all p ys) all in
-    and_from (p y) _ parts.0 (all_more p ys x parts.1 one)
+shares_turned a b = and_comm (nat_le a.guid (last_guid b)) (nat_le b.guid (last_guid a))
 
 apart_more : {X : Type 0} (same : X → X → Bool) (x y : X) (zs : List X) → same y x ≡ false → AllByRecursion (λ z. same y z ≡ false) zs → AllByRecursion (λ z. same y z ≡ false) (zs ++ x ∷ [])
 apart_more same x y [] apart h = (apart, tt)
@@ -101,7 +72,7 @@ distinct_more : {X : Type 0} (same : X → X → Bool) → ((a b : X) → same a
 unfolding IsDistinct
 distinct_more same turned [] x own none = (tt, tt)
 distinct_more same turned (y ∷ ys) x own none =
-    (apart_more same x y ys (turned y x ∙ or_first (same x y) _ none) own.0, distinct_more same turned ys x own.1 (or_rest (same x y) _ none))
+    (apart_more same x y ys (turned y x ∙ (or_parts (same x y) _ none).0) own.0, distinct_more same turned ys x own.1 (or_parts (same x y) _ none).1)
 
 -- ---- nodes with names of their own
 name_turned : (one other : List ℕ) → bytes_eq one other ≡ bytes_eq other one
@@ -110,23 +81,19 @@ name_turned [] (b ∷ other) = refl
 name_turned (a ∷ one) [] = refl
 name_turned (a ∷ one) (b ∷ other) = ap₂ (λ (x y : Bool). x && y) (eq_turned a b) (name_turned one other)
 
-none_distinct : {X : Type 0} (same : X → X → Bool) → IsDistinct same []
-unfolding IsDistinct
-none_distinct same = tt
-
 -- before the first line
 pub nothing_sound : IsSoundSoFar nothing
 nothing_sound = record {
   lines = record {
     names = refl;
-    own_names = none_distinct shares_name;
+    own_names = IsDistinct-nil shares_name;
     guids = All-nil HasGuids;
-    own_guids = none_distinct shares_guid;
+    own_guids = IsDistinct-nil shares_guid;
     sizes = refl;
     limits = (omega arith, omega arith);
     ends = refl;
     joins = refl;
-    own_ports = none_distinct shares_port;
+    own_ports = IsDistinct-nil shares_port;
   };
   manager = refl;
 }
@@ -147,11 +114,11 @@ joins_still nodes node (cable ∷ cables) ends joins =
 
 lines_still : (nodes : List Node) (node : Node) (cables : List Cable) → AreSound nodes cables → HasGuids node → is_one_too_many nodes node.node_type node.ports ≡ false → IsNewNode nodes node → AreSound (nodes ++ node ∷ []) cables
 lines_still nodes node cables sound guids room new = record {
-  names = all_more is_named nodes node sound.names new.named;
+  names = list_all_push is_named nodes node sound.names new.named;
   own_names = distinct_more shares_name (λ a b. name_turned a.name b.name) nodes node sound.own_names new.own_name;
   guids = All-push HasGuids nodes node sound.guids guids;
   own_guids = distinct_more shares_guid shares_turned nodes node sound.own_guids new.own;
-  sizes = all_more is_sized nodes node sound.sizes new.sized;
+  sizes = list_all_push is_sized nodes node sound.sizes new.sized;
   limits = within_limits_more nodes node sound.limits room;
   ends = ends_still nodes node cables sound.ends;
   joins = joins_still nodes node cables sound.ends sound.joins;
@@ -186,8 +153,9 @@ ends_turned a b =
 no_port_shared : (cables : List Cable) (cable : Cable) → is_cabled cables cable.first ≡ false → is_cabled cables cable.second ≡ false → list_any (shares_port cable) cables ≡ false
 no_port_shared [] cable first second = refl
 no_port_shared (other ∷ cables) cable first second =
-    or_false (shares_port cable other) _ (or_false (ends_at cable.first other) _ (or_first (ends_at cable.first other) _ first) (or_first (ends_at cable.second other) _ second))
-    (no_port_shared cables cable (or_rest (ends_at cable.first other) _ first) (or_rest (ends_at cable.second other) _ second))
+    let one = or_parts (ends_at cable.first other) _ first in
+    let two = or_parts (ends_at cable.second other) _ second in
+    or_from (shares_port cable other) _ (or_from (ends_at cable.first other) _ one.0 two.0) (no_port_shared cables cable one.1 two.1)
 
 -- a cable between ports that are there and have none leaves all sound
 pub sound_with : (so_far : Declarations) (cable : Cable) → IsSoundSoFar so_far → ends_at_ports so_far.nodes cable ≡ true → IsNewCable so_far.nodes so_far.cables cable
@@ -200,8 +168,8 @@ sound_with so_far cable sound ends new = record {
     own_guids = sound.lines.own_guids;
     sizes = sound.lines.sizes;
     limits = sound.lines.limits;
-    ends = all_more (ends_at_ports so_far.nodes) so_far.cables cable sound.lines.ends ends;
-    joins = all_more (joins_right so_far.nodes) so_far.cables cable sound.lines.joins new.joins;
+    ends = list_all_push (ends_at_ports so_far.nodes) so_far.cables cable sound.lines.ends ends;
+    joins = list_all_push (joins_right so_far.nodes) so_far.cables cable sound.lines.joins new.joins;
     own_ports = distinct_more shares_port ends_turned so_far.cables cable sound.lines.own_ports (no_port_shared so_far.cables cable new.first new.second);
   };
   manager = sound.manager;

@@ -3,7 +3,8 @@
 use Rattle.std.proofs.Common.{◌≡◌, ℕ, zero, suc, ◌+◌, ◌<◌, Bool, true, false, cond, not, ◌==◌, ◌&&◌, ◌||◌, nat_lt, List, [], ◌∷◌, ◌++◌, length, filter, get_or, slice_get, position, Option, Some, None, refl, sym, ap, subst, ◌∙◌, inl, inr, arith, zero-add}
 use Rattle.std.specs.List.{list_all, list_any, position_or_len, range_with_len}
 use Rattle.std.specs.Option.{option_map_or}
-use Rattle.std.proofs.lemmas.Bool.{and_parts, and_from, or_cases, or_left, or_right, eqb-true, eq-eqb, false≢true}
+use Rattle.result_words.proofs.ListLemmas.{list_any_weaker}
+use Rattle.std.proofs.lemmas.Bool.{and_parts, and_from, or_cases, or_parts, or_left, or_right, eqb-true, eq-eqb, false≢true}
 use Rattle.std.proofs.lemmas.List.Folds.{list_all_at, list_any_at}
 use Rattle.std.proofs.lemmas.List.FromFn.{get_or-range_with_len, length-range_with_len}
 use Rattle.std.proofs.lemmas.Option.{cond_some}
@@ -14,15 +15,6 @@ use Rattle.topo_file.specs.Connectivity.{is_connected, is_joined_within, joins, 
 use Rattle.topo_file.specs.Rounds.{is_marked, leads_to, after_rounds, reaches_all, reaches_all_from}
 use Rattle.topo_file.proofs.NodeLemmas.{one_more, not_there}
 use Rattle.topo_file.proofs.MarkLemmas.{mark-spread, mark-only, marked_switch, only_marks, stays, rests, all_marked, from_marked}
-
--- what passes a test passes a weaker one
-weaker : {X : Type 0} (strong weak : X → Bool) → ((x : X) → strong x ≡ true → weak x ≡ true) → (xs : List X) → list_any strong xs ≡ true → list_any weak xs ≡ true
-weaker strong weak implies [] h = h
-weaker strong weak implies (x ∷ xs) h =
-    elim (or_cases (strong x) (list_any strong xs) h) [
-      | inl here ↦ or_left (weak x) (list_any weak xs) (implies x here)
-      | inr later ↦ or_right (weak x) (list_any weak xs) (weaker strong weak implies xs later)
-    ]
 
 -- a cable joins both ways
 joins-back : (a b : ℕ) (cable : Cable) → joins a b cable ≡ true → joins b a cable ≡ true
@@ -56,7 +48,7 @@ walk_back nodes cables a (next ∷ steps) b w =
     let first = and_parts (is_switch_at nodes a) _ w in
     let second = and_parts (list_any (λ cable. joins a next cable) cables) _ first.1 in
     let back : Joined nodes cables b next = walk_back nodes cables next steps b second.1 in
-    (back.0 ++ a ∷ [], walk_more nodes cables b back.0 next a back.1 (weaker (λ cable. joins a next cable) (λ cable. joins next a cable) (λ cable h. joins-back a next cable h) cables second.0) first.0)
+    (back.0 ++ a ∷ [], walk_more nodes cables b back.0 next a back.1 (list_any_weaker (λ cable. joins a next cable) (λ cable. joins next a cable) (λ cable h. joins-back a next cable h) cables second.0) first.0)
 
 walk_on : (nodes : List Node) (cables : List Cable) (a : ℕ) (steps : List ℕ) (b c : ℕ) → is_walk nodes cables a steps b ≡ true → Joined nodes cables b c → Joined nodes cables a c
 walk_on nodes cables a [] b c w more =
@@ -127,7 +119,7 @@ complete nodes cables place start a (next ∷ steps) b m w =
     let marks = after_rounds nodes cables place (switch_count nodes) in
     let first = and_parts (is_switch_at nodes a) _ w in
     let second = and_parts (list_any (λ cable. joins a next cable) cables) _ first.1 in
-    let led = weaker (λ cable. joins a next cable) (λ cable. leads_to marks next cable) (λ cable h. leads_so marks a next cable m h) cables second.0 in
+    let led = list_any_weaker (λ cable. joins a next cable) (λ cable. leads_to marks next cable) (λ cable h. leads_so marks a next cable m h) cables second.0 in
     let after = mark-spread nodes cables marks next ∙ and_from (is_switch_at nodes next) _ (starts_at_switch nodes cables next steps b second.1) (or_right (is_marked marks next) _ led) in
     complete nodes cables place start next steps b (subst (λ (l : List Bool). is_marked l next ≡ true) (sym (rests nodes cables place start)) after) second.1
 
@@ -154,14 +146,10 @@ first_is_switch nodes place h =
     let found = cond_some (nat_lt (position_or_len is_switch nodes) (length nodes)) (position_or_len is_switch nodes) place h in
     subst (λ (k : ℕ). is_switch_at nodes k ≡ true) found.1 (passes_at is_switch nodes found.0)
 
-neither : (a b : Bool) → (a || b) ≡ false → (a ≡ false) × (b ≡ false)
-neither true b h = absurd cc
-neither false b h = (refl, h)
-
 fails_at : {X : Type 0} (p : X → Bool) (xs : List X) (i : ℕ) → list_any p xs ≡ false → option_map_or p (slice_get xs i) false ≡ false
 fails_at p [] i h = refl
-fails_at p (x ∷ xs) zero h = (neither (p x) _ h).0
-fails_at p (x ∷ xs) (suc i) h = fails_at p xs i (neither (p x) _ h).1
+fails_at p (x ∷ xs) zero h = (or_parts (p x) _ h).0
+fails_at p (x ∷ xs) (suc i) h = fails_at p xs i (or_parts (p x) _ h).1
 
 -- ---- the rounds and the walks
 reached_joined : (nodes : List Node) (cables : List Cable) → reaches_all nodes cables ≡ true → AllJoined nodes cables
@@ -273,7 +261,7 @@ within_more nodes cables zero a b h = or_left (a == b) _ h
 within_more nodes cables (suc steps) a b h =
     elim (or_cases (a == b) (list_any (leads_on nodes cables steps a b) (switches nodes)) h) [
       | inl here ↦ or_left (a == b) _ here
-      | inr on ↦ or_right (a == b) (list_any (leads_on nodes cables (suc steps) a b) (switches nodes)) (weaker (leads_on nodes cables steps a b) (leads_on nodes cables (suc steps) a b)
+      | inr on ↦ or_right (a == b) (list_any (leads_on nodes cables (suc steps) a b) (switches nodes)) (list_any_weaker (leads_on nodes cables steps a b) (leads_on nodes cables (suc steps) a b)
           (λ next led. let parts = and_parts (list_any (λ cable. joins a next cable) cables) _ led in
           and_from (list_any (λ cable. joins a next cable) cables) _ parts.0 (within_more nodes cables steps next b parts.1)) (switches nodes) on)
     ]
@@ -288,7 +276,7 @@ marked_within nodes cables place (suc rounds) i start h =
     elim (or_cases (is_marked marks i) (list_any (λ cable. leads_to marks i cable) cables) parts.1) [
       | inl before ↦ within_more nodes cables rounds i place (marked_within nodes cables place rounds i start before)
       | inr now ↦ let found = led_from marks i cables now in
-          let back = weaker (λ cable. joins found.0 i cable) (λ cable. joins i found.0 cable) (λ cable j. joins-back found.0 i cable j) cables found.1.1 in
+          let back = list_any_weaker (λ cable. joins found.0 i cable) (λ cable. joins i found.0 cable) (λ cable j. joins-back found.0 i cable j) cables found.1.1 in
           or_right (i == place) _ (this_switch nodes (leads_on nodes cables rounds i place) found.0 (marked_switch nodes cables place rounds found.0 start found.1.0)
           (and_from (list_any (λ cable. joins i found.0 cable) cables) _ back (marked_within nodes cables place rounds found.0 start found.1.0)))
     ]

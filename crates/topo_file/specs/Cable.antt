@@ -6,7 +6,8 @@ use Rattle.topo_file.specs.Node.{is_switch_at, ports_at}
 
 -- the port of this number at the node there; ports count from 1
 abbrev pub port_at : List Node → ℕ → ℕ → Option PortRef
-port_at nodes place number = if nat_le 1 number && nat_le number (ports_at nodes place) then Some (record { node = place; port = number }) else None
+port_at nodes place number =
+    if nat_le 1 number && nat_le number (ports_at nodes place) then Some (record { node = place; port = number }) else None
 
 -- a cable joins two different switches, or a switch and an adapter
 abbrev pub may_join : List Node → ℕ → ℕ → Bool

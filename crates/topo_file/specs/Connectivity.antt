@@ -12,7 +12,8 @@ joins a b cable = ((cable.first.node == a) && (cable.second.node == b)) || ((cab
 -- a walk goes from switch to switch over cables; its steps are the switches that it comes to, the last of them b
 abbrev pub is_walk : List Node → List Cable → ℕ → List ℕ → ℕ → Bool
 is_walk nodes cables a [] b = is_switch_at nodes a && (a == b)
-is_walk nodes cables a (next ∷ steps) b = is_switch_at nodes a && (list_any (λ cable. joins a next cable) cables && is_walk nodes cables next steps b)
+is_walk nodes cables a (next ∷ steps) b =
+    is_switch_at nodes a && (list_any (λ cable. joins a next cable) cables && is_walk nodes cables next steps b)
 
 -- some walk goes from a to b
 abbrev pub Joined : List Node → List Cable → ℕ → ℕ → Type 0
@@ -36,4 +37,5 @@ is_joined_within nodes cables (suc steps) a b =
     (a == b) || list_any (λ next. list_any (λ cable. joins a next cable) cables && is_joined_within nodes cables steps next b) (switches nodes)
 
 abbrev pub is_connected : List Node → List Cable → Bool
-is_connected nodes cables = list_all (λ a. list_all (λ b. is_joined_within nodes cables (switch_count nodes) a b) (switches nodes)) (switches nodes)
+is_connected nodes cables =
+    list_all (λ a. list_all (λ b. is_joined_within nodes cables (switch_count nodes) a b) (switches nodes)) (switches nodes)

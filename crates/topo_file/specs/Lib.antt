@@ -4,6 +4,7 @@ pub mod NewNode
 pub mod Cable
 pub mod Connectivity
 pub mod Rounds
+pub mod Laws
 pub mod Topology
 pub mod Sound
 pub use Rattle.text_words.specs.Lines

@@ -52,7 +52,10 @@ port_of word = ok_or (port_in word) Malformed
 -- A node has a name that no node before it has, GUIDs that are free, and room below the limits.
 abbrev pub new_node : List Node → Node → Result Node TopologyCause
 new_node nodes node =
-    if is_some (place_of node.name nodes) then Err DuplicateName else (if lacks_guids nodes node then Err DuplicateGuid else (if is_one_too_many nodes node.node_type node.ports then Err OverLimit else Ok node))
+    if is_some (place_of node.name nodes) then Err DuplicateName
+    else (if lacks_guids nodes node then Err DuplicateGuid
+    else (if is_one_too_many nodes node.node_type node.ports then Err OverLimit
+    else Ok node))
 
 unfoldable pub node_spelt : NodeType → List Node → List ℕ → List ℕ → List ℕ → Result Node TopologyCause
 node_spelt node_type nodes name guid ports = do
@@ -68,7 +71,9 @@ node_of node_type nodes _ = Err Malformed
 -- `cable PORT PORT`, of two ports that have none yet
 abbrev pub new_cable : List Node → List Cable → PortRef → PortRef → Result Cable TopologyCause
 new_cable nodes cables first second =
-    if is_cabled cables first || is_cabled cables second then Err PortTaken else (if may_join nodes first.node second.node then Ok (record { first = first; second = second }) else Err WrongCableEnds)
+    if is_cabled cables first || is_cabled cables second then Err PortTaken
+    else (if may_join nodes first.node second.node then Ok (record { first = first; second = second })
+    else Err WrongCableEnds)
 
 unfoldable pub cable_spelt : List Node → List Cable → List ℕ → List ℕ → Result Cable TopologyCause
 cable_spelt nodes cables one other = do
@@ -86,7 +91,8 @@ cable_of nodes cables _ = Err Malformed
 
 -- `sm PORT`, which stands once and names a port of an adapter
 abbrev pub new_manager : List Node → Option Manager → ℕ → PortRef → Result Manager TopologyCause
-new_manager nodes manager number port = if is_some manager || is_switch_at nodes port.node then Err WrongManager else Ok (record { port = port; line = number })
+new_manager nodes manager number port =
+    if is_some manager || is_switch_at nodes port.node then Err WrongManager else Ok (record { port = port; line = number })
 
 unfoldable pub manager_spelt : List Node → Option Manager → ℕ → List ℕ → Result Manager TopologyCause
 manager_spelt nodes manager number word = do

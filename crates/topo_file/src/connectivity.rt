@@ -18,13 +18,6 @@ pub fn is_connected(alloc: Global, nodes: &[Node], cables: &[Cable]) -> Result<b
     reaches_all(alloc, nodes, cables)
 }
 
-/// The law of the test that `specs/Connectivity.antt` computes: it is true exactly where walks over cables
-/// join every two switches. It does nothing.
-#[tactic(auto, using(crate::proofs::WalkLemmas::joined_if, crate::proofs::WalkLemmas::if_joined))]
-pub fn connected_means_joined(nodes: &[Node], cables: &[Cable])
-    ensures { is_connected nodes.now cables.now ≡ true ↔ AllJoined nodes.now cables.now }
-{}
-
 /// Whether each switch is reached from the first.
 fn reaches_all(alloc: Global, nodes: &[Node], cables: &[Cable]) -> Result<bool, AllocError>
     ensures { IfOk result (λ answer. answer ≡ reaches_all nodes.now cables.now) }

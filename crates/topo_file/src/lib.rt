@@ -10,12 +10,14 @@ mod cable;
 mod connectivity;
 mod draft;
 mod fault;
+mod laws;
 mod node;
 mod reader;
 mod topology;
 
-pub use crate::connectivity::{connected_means_joined, is_connected};
+pub use crate::connectivity::is_connected;
 pub use crate::fault::{TopoFault, TopologyCause};
+pub use crate::laws::connected_means_joined;
 pub use crate::node::{ADAPTER_PORTS, Name, Node, SWITCHES};
 pub use crate::reader::read;
 pub use crate::topology::Topology;
