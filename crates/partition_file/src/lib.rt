@@ -2,8 +2,9 @@
 //!
 //! [`read`] gives the [`Partitions`] that a text describes, or its first fault with the line; a text
 //! is never read in part. What definitions a text has is stated in `specs/Definitions.antt`, what is
-//! refused in `specs/Cases.antt`, asked of what each piece says (`specs/Tokens.antt`), and what partitions definitions make in `specs/Partitions.antt`.
-//! The text is that of OpenSM's partition files, read strictly.
+//! refused in `specs/Cases.antt`, asked of what each piece says (`specs/Tokens.antt`), and what
+//! partitions definitions make in `specs/Partitions.antt`. The text is that of OpenSM's partition files,
+//! read strictly.
 #![tactic(auto)]
 
 mod broadcast_group;

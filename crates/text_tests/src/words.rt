@@ -1,5 +1,5 @@
 use std::test::Fail;
-use text_words::{Lines, has_bad_character, is_name, number_in, port_in, words};
+use text_words::{Lines, Words, is_name, number_in, port_in};
 
 #[test]
 fn numbers_are_decimal_or_hexadecimal_under_128_bits(rt: HostRuntime) {
@@ -67,7 +67,7 @@ fn a_line_feed_inside_a_line_is_a_bad_character(rt: HostRuntime) {
         (b"se\x7fnd\n", true),
     ];
     for (line, bad) in lines {
-        assert_eq!(rt; has_bad_character(line), bad, "{line:?}");
+        assert_eq!(rt; Words::of(line).is_none(), bad, "{line:?}");
     }
 }
 
@@ -78,7 +78,8 @@ fn a_text_is_cut_into_lines_and_these_into_words(rt: HostRuntime) -> Result<(), 
     for (line, count) in wanted {
         let next = lines.next().ok_or("a line")?;
         assert_eq!(rt; next, line);
-        assert_eq!(rt; words(rt.alloc(), next)?.len(), count, "{line:?}");
+        let words = Words::of(next).ok_or("words")?;
+        assert_eq!(rt; words.count(), count, "{line:?}");
     }
     assert!(rt; lines.next().is_none());
     Ok(())
