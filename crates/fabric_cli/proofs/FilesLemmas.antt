@@ -24,7 +24,8 @@ opens_more first before after names more (inr opened) (inr next) =
     inr (next ∙ ap (option_map (λ all. all ++ more)) opened ∙ then_more first names more)
 
 -- the names that were opened are the first of those to open
-pub opens_first : (before after : Option (List (List ℕ))) (names more : List (List ℕ)) → OpensAll before after names → OpensInOrder before after (names ++ more)
+pub opens_first : (before after : Option (List (List ℕ))) (names more : List (List ℕ)) → OpensAll before after names
+    → OpensInOrder before after (names ++ more)
 opens_first before after names more opened = (length names, rw (take-append_seam names more) opened)
 
 pub opens_whole : (before after : Option (List (List ℕ))) (names : List (List ℕ)) → OpensAll before after names → OpensInOrder before after names
@@ -57,7 +58,8 @@ unread_first (Some file) reads old new names more Unwritten unread = tt
 unread_first (Some file) reads old new names more (Run fault) unread = tt
 
 -- where some names opened to bytes, reading stopped after them
-stops_after : (file : Contents) (reads : Bool) (first before after : Option (List (List ℕ))) (names more : List (List ℕ)) (name : List ℕ) → OpensAll first before names
+stops_after : (file : Contents) (reads : Bool) (first before after : Option (List (List ℕ))) (names more : List (List ℕ)) (name : List ℕ)
+    → OpensAll first before names
     → all_open file names ≡ true → StopsAt file reads before after more name → StopsAt file reads first after (names ++ more) name
 stops_after file reads first before after names more name opened read then = record {
   before = names ++ then.before;
@@ -68,7 +70,8 @@ stops_after file reads first before after names more name opened read then = rec
   unread = then.unread;
 }
 
-pub unread_after : (told now : Option Contents) (reads reading : Bool) (first before after : Option (List (List ℕ))) (names more : List (List ℕ)) (stop : Stop) → now ≡ told → reading ≡ reads
+pub unread_after : (told now : Option Contents) (reads reading : Bool) (first before after : Option (List (List ℕ))) (names more : List (List ℕ)) (stop : Stop)
+    → now ≡ told → reading ≡ reads
     → OpensAll first before names → IfSome told (λ file. all_open file names ≡ true)
     → NamesUnread now reading before after more stop → NamesUnread told reads first after (names ++ more) stop
 unread_after None now reads reading first before after names more stop same stays opened read unread = tt
@@ -95,7 +98,8 @@ named_opens : (file : Contents) (name : Option (List ℕ)) (bytes : Option (List
 named_opens file None bytes is = refl
 named_opens file (Some name) bytes is = rw (gives_bytes name (file name) bytes is) refl
 
-pub named_open : (told : Option Contents) (name : Option (List ℕ)) (bytes : Option (List ℕ)) → IfSome told (λ file. bytes_if_named file name ≡ Ok bytes)
+pub named_open : (told : Option Contents) (name : Option (List ℕ)) (bytes : Option (List ℕ))
+    → IfSome told (λ file. bytes_if_named file name ≡ Ok bytes)
     → IfSome told (λ file. all_open file (option_to_list name) ≡ true)
 named_open None name bytes is = tt
 named_open (Some file) name bytes is = named_opens file name bytes is
@@ -116,7 +120,8 @@ bytes_endless None known is endless = tt
 bytes_endless (Some bytes) known is endless = let e : known ≡ Some bytes = cc in rw e at endless
 
 -- so is one that opens to bytes without an end
-pub endless_file : (told : Option Contents) (reads : Bool) (name : List ℕ) (known : Option (List ℕ)) → IfSome told (λ file. Some known ≡ option_map Some (file name))
+pub endless_file : (told : Option Contents) (reads : Bool) (name : List ℕ) (known : Option (List ℕ))
+    → IfSome told (λ file. Some known ≡ option_map Some (file name))
     → (reads ≡ true → IsEndless known) → IfSome told (λ file. reads ≡ true → IsEndless (file name))
 endless_file None reads name known is endless = tt
 endless_file (Some file) reads name known is endless = λ sure. bytes_endless (file name) known is (endless sure)

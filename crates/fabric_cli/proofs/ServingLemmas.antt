@@ -21,7 +21,8 @@ nothing_appended None text = (0, tt)
 nothing_appended (Some xs) text = (0, sym (append-nil xs))
 
 -- where nothing is written, the contents stay
-pub stays_part : (told : Option Contents) (known : Option (List ℕ)) (text : Contents → List ℕ) → IfSome told (λ file. AppendsPart known known (text file))
+pub stays_part : (told : Option Contents) (known : Option (List ℕ)) (text : Contents → List ℕ)
+    → IfSome told (λ file. AppendsPart known known (text file))
 stays_part None known text = tt
 stays_part (Some file) known text = nothing_appended known (text file)
 

@@ -16,13 +16,15 @@ use Rattle.fabric_cli.specs.Words.{Names, asked_by, asked_in, asked_of, fabric_c
 same_some : {X : Type 0} (x y : X) → Some x ≡ Some y → x ≡ y
 same_some x y e = cc
 
-in_rows : (given : Option (Text × List Row)) (name : Text) (rows : List Row) → Some name ≡ option_map (λ found. found.0) given → Some rows ≡ option_map (λ found. found.1) given
+in_rows : (given : Option (Text × List Row)) (name : Text) (rows : List Row) → Some name ≡ option_map (λ found. found.0) given
+    → Some rows ≡ option_map (λ found. found.1) given
     → asked_in given ≡ asked_by (first_of (codes "TOPO") rows) (first_of (codes "PARTS") rows) (work_in name (first_of (codes "SCRIPT") rows))
 in_rows None name rows e f = cc
 in_rows (Some found) name rows e f =
     rw (same_some name found.0 e, same_some rows found.1 f) refl
 
-first_of_both : {A B C : Type 0} (f : A → B) (g : A → C) (given : Option A) → option_map f given ≡ option_map (λ (p : B × C). p.0) (option_map (λ a. (f a, g a)) given)
+first_of_both : {A B C : Type 0} (f : A → B) (g : A → C) (given : Option A)
+    → option_map f given ≡ option_map (λ (p : B × C). p.0) (option_map (λ a. (f a, g a)) given)
 first_of_both f g None = refl
 first_of_both f g (Some a) = refl
 
@@ -31,7 +33,8 @@ name_beside_rows : (m : ArgMatches) → subcommand_name_of m ≡ option_map (λ 
 name_beside_rows m = first_of_both _ _ _
 
 -- the names are the first values of the arguments
-pub in_found : (m : ArgMatches) (name : Text) (found : Found) → Some name ≡ subcommand_name_of m → Some (rows_of found) ≡ option_map (λ run. run.1) (subcommand_rows_of m)
+pub in_found : (m : ArgMatches) (name : Text) (found : Found) → Some name ≡ subcommand_name_of m
+    → Some (rows_of found) ≡ option_map (λ run. run.1) (subcommand_rows_of m)
     → asked_in (subcommand_rows_of m) ≡ asked_by (first_value found (codes "TOPO")) (first_value found (codes "PARTS")) (work_in name (first_value found (codes "SCRIPT")))
 in_found m name found e f = in_rows (subcommand_rows_of m) name (rows_of found) (e ∙ name_beside_rows m) f
     ∙ rw (← first_value-rows found (codes "TOPO"), ← first_value-rows found (codes "PARTS"), ← first_value-rows found (codes "SCRIPT")) refl
@@ -91,7 +94,8 @@ third_of true false true rest e = cc
 third_of true true g rest e = cc
 third_of false b g rest e = cc
 
-pub adds_shape : (old sub new : Command) (app : App) → AddsSubcommand old sub new → app_of sub ≡ app → app.top.is_plain ≡ true → app_of new ≡ with_subcommand (app_of old) app.top
+pub adds_shape : (old sub new : Command) (app : App) → AddsSubcommand old sub new → app_of sub ≡ app → app.top.is_plain ≡ true
+    → app_of new ≡ with_subcommand (app_of old) app.top
 adds_shape old sub new app adds is plain =
     let kept : (app_of sub).top.is_plain ≡ true = ap (λ (a : App). a.top.is_plain) is ∙ plain in
     adds.shape (third_of _ _ _ _ kept) ∙ ap (λ (a : App). with_subcommand (app_of old) a.top) is

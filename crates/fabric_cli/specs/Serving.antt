@@ -7,7 +7,7 @@ use Rattle.subnet_core.specs.declared.fault.RunFault.TheVariants as run
 use Rattle.subnet_core.specs.Listing.{listing_text}
 use Rattle.subnet_core.specs.Run.{report_of, subnet_of}
 use Rattle.result_words.specs.Steps.{◌>>=◌}
-use Rattle.subnet_core.specs.Text.{report_text}
+use Rattle.subnet_core.specs.EventLines.{report_text}
 use Rattle.fabric_cli.specs.declared.faults.Stop.{Stop}
 use Rattle.fabric_cli.specs.declared.serving.Texts.{Texts}
 use Rattle.fabric_cli.specs.declared.words.Work.{Work}

@@ -8,7 +8,8 @@ use Rattle.result_words.proofs.StepLemmas.{same_err}
 use Rattle.subnet_core.specs.declared.fault.RunFault.{RunFault}
 use Rattle.subnet_core.specs.Run.{of_text}
 
-pub text_is_good : {X Cause : Type 0} (fault : ℕ → Cause → RunFault) (given : Result X (AtLine Cause)) (x : X) → of_text fault given ≡ Ok x → given ≡ Ok x
+pub text_is_good : {X Cause : Type 0} (fault : ℕ → Cause → RunFault) (given : Result X (AtLine Cause)) (x : X) → of_text fault given ≡ Ok x
+    → given ≡ Ok x
 text_is_good fault (Ok y) x h = cc
 text_is_good fault (Err at) x h = absurd cc
 

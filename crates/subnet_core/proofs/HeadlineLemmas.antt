@@ -12,12 +12,14 @@ use Rattle.result_words.specs.Steps.{◌>>=◌}
 use Rattle.subnet_core.specs.declared.fault.RunFault.TheVariants.{Script}
 
 -- the subnet of texts that are accepted
-brought_up : (topology : List ℕ) (partitions : Option (List ℕ)) (plan : Plan) (all : List Partition) → topology_of topology ≡ Ok plan → partitions_for partitions ≡ Ok all → subnet_of topology partitions ≡ Ok (started plan all)
+brought_up : (topology : List ℕ) (partitions : Option (List ℕ)) (plan : Plan) (all : List Partition) → topology_of topology ≡ Ok plan
+    → partitions_for partitions ≡ Ok all → subnet_of topology partitions ≡ Ok (started plan all)
 unfolding subnet_of
 brought_up topology partitions plan all e p = rw (e, p) refl
 
 -- a run that is answered tells what the definitions of its texts give, and that is isolated
-pub told_apart : (topology script : List ℕ) (partitions : Option (List ℕ)) (r : Told) → report_of topology partitions script ≡ Ok r → KeepsPartitionsApart topology partitions script r.events
+pub told_apart : (topology script : List ℕ) (partitions : Option (List ℕ)) (r : Told) → report_of topology partitions script ≡ Ok r
+    → KeepsPartitionsApart topology partitions script r.events
 unfolding report_of
 told_apart topology script partitions r h = λ plan all commands e p f.
     let subnet = started plan all in
@@ -28,6 +30,8 @@ told_apart topology script partitions r h = λ plan all commands e p f.
     let same : told subnet commands ≡ r = cc in
     report_is_isolated (ports_of all plan) commands r.events (ap (λ (t : Told). t.events) (sym same))
 
-pub answered_apart : (topology script : List ℕ) (partitions : Option (List ℕ)) (result : Result Told RunFault) → RunGives (λ (r : Told). r) result (report_of topology partitions script) → IfOk result (λ r. KeepsPartitionsApart topology partitions script r.events)
+pub answered_apart : (topology script : List ℕ) (partitions : Option (List ℕ)) (result : Result Told RunFault)
+    → RunGives (λ (r : Told). r) result (report_of topology partitions script)
+    → IfOk result (λ r. KeepsPartitionsApart topology partitions script r.events)
 answered_apart topology script partitions (Ok r) h = told_apart topology script partitions r h
 answered_apart topology script partitions (Err fault) h = tt

@@ -3,4 +3,4 @@ pub mod HeadlineLemmas
 pub mod ListingLemmas
 pub mod PayloadLemmas
 pub mod PortLemmas
-pub mod TextLemmas
+pub mod EventLinesLemmas

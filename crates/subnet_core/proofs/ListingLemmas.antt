@@ -19,7 +19,8 @@ same_pair : {A : Type 0} (i j : ℕ) (a b : A) → i ≡ j → a ≡ b → let p
 same_pair i j a b e f = rw (e, f) refl
 
 -- one more item, with its place
-pub one_more_placed : {A : Type 0} (lines : ℕ × A → List ℕ) (all : List A) (i : ℕ) (item : A) (before : List ℕ) → i < length all → get_or all i item ≡ item
+pub one_more_placed : {A : Type 0} (lines : ℕ × A → List ℕ) (all : List A) (i : ℕ) (item : A) (before : List ℕ) → i < length all
+    → get_or all i item ≡ item
     → (before ++ flat_map lines (take i (enumerate_from 0 all))) ++ lines (i, item) ≡ before ++ flat_map lines (take (i + 1) (enumerate_from 0 all))
 one_more_placed {A} lines all i item before inside here =
     let within : i < length (enumerate_from 0 all) = omega (arith, length-enumerate_from 0 all) in

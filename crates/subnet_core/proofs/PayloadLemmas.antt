@@ -26,7 +26,8 @@ too_long size digits h = by (decode_of digits) refl
     by (Err why) e = rw e refl
 
 -- digits that do not decode
-pub refused : (size count : ℕ) (digits : List ℕ) (why : FromHexError) → count ≡ length digits / 2 → decode_sized digits count ≡ Err why → spelt size digits ≡ Err BadField
+pub refused : (size count : ℕ) (digits : List ℕ) (why : FromHexError) → count ≡ length digits / 2 → decode_sized digits count ≡ Err why
+    → spelt size digits ≡ Err BadField
 unfolding spelt
 refused size count digits why half h = by (decode_of digits) refl
   where

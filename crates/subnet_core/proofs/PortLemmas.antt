@@ -27,7 +27,8 @@ use Rattle.pkey_rules.specs.declared.end_port.EndPort.{EndPort}
 use Rattle.subnet_core.specs.Ports.{adapter_seats, end_ports, keyed, seat_if_cabled, seats, seats_at, seats_of_type, with_port, with_seat}
 
 -- behind the ports of lesser LIDs is the port's place
-pub insert_in_order : (ports : List SubnetPort) (port : SubnetPort) → insert ports (prefix_len (λ other. nat_le other.lid port.lid) ports) port ≡ with_port ports port
+pub insert_in_order : (ports : List SubnetPort) (port : SubnetPort)
+    → insert ports (prefix_len (λ other. nat_le other.lid port.lid) ports) port ≡ with_port ports port
 insert_in_order [] port = refl
 insert_in_order (first ∷ rest) port = elim (cases_Bool (nat_le first.lid port.lid)) [
   | inl before ↦
@@ -38,7 +39,8 @@ insert_in_order (first ∷ rest) port = elim (cases_Bool (nat_le first.lid port.
 ]
 
 -- one more port of an adapter
-pub adapter_seats_more : (plan : Plan) (place : ℕ) (node : Node) (n : ℕ) → adapter_seats plan place node (n + 1) ≡ adapter_seats plan place node n ++ seat_if_cabled plan node (record { node = place; port = n + 1 })
+pub adapter_seats_more : (plan : Plan) (place : ℕ) (node : Node) (n : ℕ)
+    → adapter_seats plan place node (n + 1) ≡ adapter_seats plan place node n ++ seat_if_cabled plan node (record { node = place; port = n + 1 })
 adapter_seats_more plan place node n =
     let f : ℕ → PortRef = λ number. record { node = place; port = number } in
     ap (flat_map (seat_if_cabled plan node)) (map-range_with_len_more f 1 n (n + 1) (omega arith))
@@ -49,7 +51,8 @@ pair_same : (i j : ℕ) (a b : Node) → i ≡ j → a ≡ b → let p : ℕ × 
 pair_same i j a b e f = rw (e, f) refl
 
 -- one more node
-pub seats_more : (plan : Plan) (i : ℕ) (node : Node) → i < length plan.nodes → get_or plan.nodes i node ≡ node → flat_map (seats_at plan) (take (i + 1) (enumerate_from 0 plan.nodes)) ≡ flat_map (seats_at plan) (take i (enumerate_from 0 plan.nodes)) ++ seats_of_type node.node_type plan i node
+pub seats_more : (plan : Plan) (i : ℕ) (node : Node) → i < length plan.nodes → get_or plan.nodes i node ≡ node
+    → flat_map (seats_at plan) (take (i + 1) (enumerate_from 0 plan.nodes)) ≡ flat_map (seats_at plan) (take i (enumerate_from 0 plan.nodes)) ++ seats_of_type node.node_type plan i node
 seats_more plan i node inside here =
     let all : List (ℕ × Node) = enumerate_from 0 plan.nodes in
     let within : i < length all = omega (arith, length-enumerate_from 0 plan.nodes) in
@@ -72,17 +75,20 @@ abbrev seat_bound : NodeType → ℕ → ℕ
 seat_bound Switch ports = 1
 seat_bound ChannelAdapter ports = ports
 
-few_of_type : (node_type : NodeType) (plan : Plan) (place : ℕ) (node : Node) → length (seats_of_type node_type plan place node) ≤ seat_bound node_type node.ports
+few_of_type : (node_type : NodeType) (plan : Plan) (place : ℕ) (node : Node)
+    → length (seats_of_type node_type plan place node) ≤ seat_bound node_type node.ports
 few_of_type Switch plan place node = lit≤ tt
 few_of_type ChannelAdapter plan place node =
     let f : ℕ → PortRef = λ number. record { node = place; port = number } in
     omega (arith, few_of_adapter plan node (map f (range_with_len 1 node.ports)), length-map-range_with_len f 1 node.ports)
 
-counted_of_type : (node_type : NodeType) (node : Node) → node.node_type ≡ node_type → switch_count (node ∷ []) + port_guids node_type node.ports ≡ seat_bound node_type node.ports
+counted_of_type : (node_type : NodeType) (node : Node) → node.node_type ≡ node_type
+    → switch_count (node ∷ []) + port_guids node_type node.ports ≡ seat_bound node_type node.ports
 counted_of_type Switch node e = rw e refl
 counted_of_type ChannelAdapter node e = rw e (omega arith)
 
-few_from : (plan : Plan) (m : ℕ) (nodes : List Node) → length (flat_map (seats_at plan) (enumerate_from m nodes)) ≤ switch_count nodes + adapter_ports nodes
+few_from : (plan : Plan) (m : ℕ) (nodes : List Node)
+    → length (flat_map (seats_at plan) (enumerate_from m nodes)) ≤ switch_count nodes + adapter_ports nodes
 few_from plan m [] = lit≤ tt
 few_from plan m (node ∷ nodes) =
     let rest = flat_map (seats_at plan) (enumerate_from (m + 1) nodes) in
@@ -103,7 +109,8 @@ pub zip_is_keyed : (partitions : List Partition) (some : List Seat) → zip some
 zip_is_keyed partitions [] = refl
 zip_is_keyed partitions (seat ∷ some) = ap (λ (rest : List (Seat × List ℕ)). (seat, keys_in partitions seat.port) ∷ rest) (zip_is_keyed partitions some)
 
-abbrev pub seats_and_keys : Zip (Iter Seat) (IntoIter (List ℕ) Global) → Option (Bor Seat × List ℕ) → Zip (Iter Seat) (IntoIter (List ℕ) Global) → Type 0
+abbrev pub seats_and_keys : Zip (Iter Seat) (IntoIter (List ℕ) Global) → Option (Bor Seat × List ℕ) → Zip (Iter Seat) (IntoIter (List ℕ) Global)
+    → Type 0
 seats_and_keys = zips fronts into_iter_steps
 
 -- what the loop over them keeps: with what is left to come, the ports are all of them

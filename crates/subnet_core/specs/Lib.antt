@@ -3,6 +3,6 @@ pub mod Ports
 pub mod Script
 pub mod Seen
 pub mod Run
-pub mod Text
+pub mod EventLines
 pub mod Listing
 pub mod Headline

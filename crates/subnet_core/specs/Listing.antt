@@ -6,7 +6,7 @@ use Rattle.std.specs.Int.{w16, w64, to_be_bytes}
 use Rattle.pkey_rules.specs.KeyTable.{find_base}
 use Rattle.partition_file.specs.declared.port_keys.Heading.{Heading}
 use Rattle.subnet_model.specs.declared.subnet_port.SubnetPort.{SubnetPort}
-use Rattle.subnet_core.specs.Text.{hex_text, port_text}
+use Rattle.subnet_core.specs.EventLines.{hex_text, port_text}
 
 -- `port LID GUID PORT`
 abbrev pub port_line : SubnetPort → List ℕ

@@ -24,7 +24,7 @@ pub enum ScriptCause {
     #[error("the port has no cable")]
     UncabledPort,
     /// The payload is to be longer than a packet carries.
-    #[error("a payload has at most 256 bytes")]
+    #[error("the payload is longer than a packet carries")]
     PayloadTooLong,
     /// A field is misspelt or out of its range.
     #[error("a field is misspelt or out of its range")]

@@ -9,13 +9,13 @@
 #![tactic(auto)]
 
 mod end_ports;
+mod event_lines;
 mod fault;
 mod listing;
 mod report;
 mod running;
 mod script;
 mod subnet;
-mod text;
 
 pub use crate::end_ports::ports_of;
 pub use crate::fault::{RunFault, ScriptCause, StepFault};

@@ -1,7 +1,7 @@
 ghost use Rattle.std.specs.Prelude.{◌≡◌, IfOk};
-ghost use Rattle.subnet_core.specs.Text.{report_text};
+ghost use Rattle.subnet_core.specs.EventLines.{report_text};
 
-use crate::text;
+use crate::event_lines;
 use std::alloc::{AllocError, Global};
 use std::marker::Model;
 use subnet_model::{Event, SubnetPort};
@@ -46,6 +46,6 @@ impl Report {
     pub fn text(&self) -> Result<Vec<u8>, AllocError>
         ensures { IfOk result (λ text. text.items ≡ report_text self.now.ports self.now.events) }
     {
-        text::report_text(self.alloc, &self.ports, &self.events)
+        event_lines::report_text(self.alloc, &self.ports, &self.events)
     }
 }

@@ -62,8 +62,8 @@ fn send_spelt(
 {
     let port = sender_of(topology, port)?;
     let written = fitting(written_in(payload))?;
-    let dlid = word_field(dlid)?;
-    let p_key = word_field(p_key)?;
+    let dlid = u16_field(dlid)?;
+    let p_key = u16_field(p_key)?;
     let destination_qp = queue_pair_field(qp)?;
     let payload = payload_of(written)?;
     Ok(Command::Send(SendCommand {
@@ -107,7 +107,7 @@ fn sender_at(topology: &Topology, at: PortRef) -> Result<u64, ScriptCause>
 }
 
 /// A field of 16 bits.
-fn word_field(word: &[u8]) -> Result<u16, ScriptCause>
+fn u16_field(word: &[u8]) -> Result<u16, ScriptCause>
     ensures { result ≡ field_of (2 ^ 16) word.now }
 {
     match number_in(word) {

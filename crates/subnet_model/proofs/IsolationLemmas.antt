@@ -26,7 +26,9 @@ use Rattle.subnet_model.specs.Source.{is_lid_near, IsFromNear, ComesFromNear, sa
 use Rattle.subnet_model.specs.Isolation.{Isolates, IsIsolated}
 
 -- a step that keeps a port to itself brings it the same events when what is far from it is left out
-pub isolated : {S V C E : Type 0} {step : S → C → List E × S} {view : S → V} {is_near : C → Bool} {at : List E → List E} → Isolates step view is_near at → (commands : List C) (s t : S) → view s ≡ view t → at (events_from step s commands) ≡ at (events_from step t (filter is_near commands))
+pub isolated : {S V C E : Type 0} {step : S → C → List E × S} {view : S → V} {is_near : C → Bool} {at : List E → List E}
+    → Isolates step view is_near at → (commands : List C) (s t : S) → view s ≡ view t
+    → at (events_from step s commands) ≡ at (events_from step t (filter is_near commands))
 isolated law [] s t same = refl
 isolated {step = step} {view = view} {is_near = is_near} {at = at} law (c ∷ cs) s t same = elim (cases_Bool (is_near c)) [
   | inl near ↦ rw near (law.joined (step s c).0 (events_from step (step s c).1 cs)
@@ -65,14 +67,16 @@ shares_from_holder : (key : ℕ) (held others : List ℕ) → holds key held ≡
 shares_from_holder key held others h =
     list_any_weaker (λ other. matches other key) (λ other. accepts other held) (λ other m. holder_accepts key other held h (matches_either_way key other ∙ m)) others
 
-not_at_p : (port : SubnetPort) (p : ℕ) (command : SendCommand) → ((port.guid == p) && reaches command port) ≡ false → reaches command port ≡ true → (port.guid == p) ≡ false
+not_at_p : (port : SubnetPort) (p : ℕ) (command : SendCommand) → ((port.guid == p) && reaches command port) ≡ false → reaches command port ≡ true
+    → (port.guid == p) ≡ false
 not_at_p port p command h reached = elim (and_cases (port.guid == p) (reaches command port) h) [
   | inl other ↦ other
   | inr not_reached ↦ absurd (both_ways (reaches command port) not_reached reached)
 ]
 
 -- at a port that the packet does not reach, nothing is received
-quiet : (p : ℕ) (all : List SubnetPort) (sender : SubnetPort) (command : SendCommand) → list_any (λ port. (port.guid == p) && reaches command port) all ≡ false → events_at p (received all sender command) ≡ []
+quiet : (p : ℕ) (all : List SubnetPort) (sender : SubnetPort) (command : SendCommand)
+    → list_any (λ port. (port.guid == p) && reaches command port) all ≡ false → events_at p (received all sender command) ≡ []
 quiet p [] sender command h = refl
 quiet p (port ∷ ports) sender command h =
     let parts : (((port.guid == p) && reaches command port) ≡ false) × (list_any (λ q. (q.guid == p) && reaches command q) ports ≡ false) = or_parts _ _ h in
@@ -82,7 +86,9 @@ quiet p (port ∷ ports) sender command h =
     ]
 
 -- whoever a packet reaches shares a partition with its sender
-reached_is_near : (ports : List SubnetPort) (p : ℕ) (sender : SubnetPort) (command : SendCommand) → port_of ports command.port ≡ Some sender → holds command.p_key sender.keys ≡ true → list_any (λ port. (port.guid == p) && reaches command port) ports ≡ true → is_near ports p command.port ≡ true
+reached_is_near : (ports : List SubnetPort) (p : ℕ) (sender : SubnetPort) (command : SendCommand) → port_of ports command.port ≡ Some sender
+    → holds command.p_key sender.keys ≡ true → list_any (λ port. (port.guid == p) && reaches command port) ports ≡ true
+    → is_near ports p command.port ≡ true
 reached_is_near ports p sender command found held h =
     or_right (command.port == p) (ports_share ports p command.port)
     (list_any_weaker (λ port. (port.guid == p) && reaches command port) (λ port. (port.guid == p) && shares_with ports port command.port)
@@ -100,34 +106,44 @@ held_unless_refused sender command e = elim (cases_Bool (holds command.p_key sen
   | inr not_held ↦ let told : Some KeyNotHeld ≡ None = rw not_held at e in absurd (cc)
 ]
 
-far_unreached : (ports : List SubnetPort) (p : ℕ) (command : SendCommand) (sender : SubnetPort) → port_of ports command.port ≡ Some sender → is_near ports p command.port ≡ false → holds command.p_key sender.keys ≡ true → list_any (λ port. (port.guid == p) && reaches command port) ports ≡ false
+far_unreached : (ports : List SubnetPort) (p : ℕ) (command : SendCommand) (sender : SubnetPort) → port_of ports command.port ≡ Some sender
+    → is_near ports p command.port ≡ false → holds command.p_key sender.keys ≡ true
+    → list_any (λ port. (port.guid == p) && reaches command port) ports ≡ false
 far_unreached ports p command sender found far held =
     false_from_ne_true (list_any (λ port. (port.guid == p) && reaches command port) ports)
     (λ reached. both_ways (is_near ports p command.port) far (reached_is_near ports p sender command found held reached))
 
-far_answer : (ports : List SubnetPort) (p : ℕ) (command : SendCommand) (sender : SubnetPort) → port_of ports command.port ≡ Some sender → is_near ports p command.port ≡ false → (refusal : Option Refusal) → refusal_of sender command ≡ refusal → events_at p (unless_refused refusal command.port (received ports sender command)) ≡ []
+far_answer : (ports : List SubnetPort) (p : ℕ) (command : SendCommand) (sender : SubnetPort) → port_of ports command.port ≡ Some sender
+    → is_near ports p command.port ≡ false → (refusal : Option Refusal) → refusal_of sender command ≡ refusal
+    → events_at p (unless_refused refusal command.port (received ports sender command)) ≡ []
 far_answer ports p command sender found far (Some refusal) e = rw (or_parts (command.port == p) (ports_share ports p command.port) far).0 refl
 far_answer ports p command sender found far None e =
     quiet p ports sender command (far_unreached ports p command sender found far (held_unless_refused sender command e))
 
-far_send : (ports : List SubnetPort) (p : ℕ) (command : SendCommand) (sender : Option SubnetPort) → port_of ports command.port ≡ sender → is_near ports p command.port ≡ false → events_at p (sent_from sender ports command) ≡ []
+far_send : (ports : List SubnetPort) (p : ℕ) (command : SendCommand) (sender : Option SubnetPort) → port_of ports command.port ≡ sender
+    → is_near ports p command.port ≡ false → events_at p (sent_from sender ports command) ≡ []
 far_send ports p command None found far = refl
 far_send ports p command (Some sender) found far = far_answer ports p command sender found far (refusal_of sender command) refl
 
 -- a command of a port that is far from p brings p nothing
-far_events : (ports : List SubnetPort) (p : ℕ) (s : State) (command : Command) → is_near ports p (actor command) ≡ false → events_at p (step ports s command).0 ≡ []
+far_events : (ports : List SubnetPort) (p : ℕ) (s : State) (command : Command) → is_near ports p (actor command) ≡ false
+    → events_at p (step ports s command).0 ≡ []
 far_events ports p s (Send command) far = far_send ports p command (port_of ports command.port) refl far
 
-far_state : (ports : List SubnetPort) (p : ℕ) (s : State) (command : Command) → is_near ports p (actor command) ≡ false → view ports p (step ports s command).1 ≡ view ports p s
+far_state : (ports : List SubnetPort) (p : ℕ) (s : State) (command : Command) → is_near ports p (actor command) ≡ false
+    → view ports p (step ports s command).1 ≡ view ports p s
 far_state ports p s (Send command) far = refl
 
-near_events : (ports : List SubnetPort) (p : ℕ) (s t : State) (command : Command) → view ports p s ≡ view ports p t → events_at p (step ports s command).0 ≡ events_at p (step ports t command).0
+near_events : (ports : List SubnetPort) (p : ℕ) (s t : State) (command : Command) → view ports p s ≡ view ports p t
+    → events_at p (step ports s command).0 ≡ events_at p (step ports t command).0
 near_events ports p s t (Send command) same = refl
 
-near_state : (ports : List SubnetPort) (p : ℕ) (s t : State) (command : Command) → view ports p s ≡ view ports p t → view ports p (step ports s command).1 ≡ view ports p (step ports t command).1
+near_state : (ports : List SubnetPort) (p : ℕ) (s t : State) (command : Command) → view ports p s ≡ view ports p t
+    → view ports p (step ports s command).1 ≡ view ports p (step ports t command).1
 near_state ports p s t (Send command) same = same
 
-pub step_isolates : (ports : List SubnetPort) (p : ℕ) → Isolates (step ports) (view ports p) (λ command. is_near ports p (actor command)) (events_at p)
+pub step_isolates : (ports : List SubnetPort) (p : ℕ)
+    → Isolates (step ports) (view ports p) (λ command. is_near ports p (actor command)) (events_at p)
 step_isolates ports p = record {
   far_events = λ s command far. far_events ports p s command far;
   far_state = λ s command far. far_state ports p s command far;
@@ -137,11 +153,13 @@ step_isolates ports p = record {
   nothing = refl;
 }
 
-pub depends_on_near : (ports : List SubnetPort) (p : ℕ) (commands : List Command) → events_at p (report ports commands) ≡ events_at p (report ports (commands_of (is_near ports p) commands))
+pub depends_on_near : (ports : List SubnetPort) (p : ℕ) (commands : List Command)
+    → events_at p (report ports commands) ≡ events_at p (report ports (commands_of (is_near ports p) commands))
 depends_on_near ports p commands = isolated (step_isolates ports p) commands start start refl
 
 -- the sender of a packet is near whomever its command is near
-sender_lid_near : (ports : List SubnetPort) (p : ℕ) (command : SendCommand) (sender : SubnetPort) → port_of ports command.port ≡ Some sender → is_near ports p command.port ≡ true → is_lid_near ports p sender.lid ≡ true
+sender_lid_near : (ports : List SubnetPort) (p : ℕ) (command : SendCommand) (sender : SubnetPort) → port_of ports command.port ≡ Some sender
+    → is_near ports p command.port ≡ true → is_lid_near ports p sender.lid ≡ true
 sender_lid_near ports p command sender found near =
     let same : sender.guid ≡ command.port = eqb-true sender.guid command.port (found_passes (λ other. other.guid == command.port) ports sender found) in
     found_in (λ other. other.guid == command.port) (λ other. (other.lid == sender.lid) && is_near ports p other.guid) ports sender found
@@ -150,18 +168,22 @@ sender_lid_near ports p command sender found near =
 abbrev AllFromNear : List SubnetPort → ℕ → List Event → Type 0
 AllFromNear ports p events = All (λ event. IsFromNear ports p event.what) events
 
-answer_from_near : (ports : List SubnetPort) (p : ℕ) (command : SendCommand) (sender : SubnetPort) → port_of ports command.port ≡ Some sender → is_near ports p command.port ≡ true → (refusal : Option Refusal) → AllFromNear ports p (unless_refused refusal command.port (received ports sender command))
+answer_from_near : (ports : List SubnetPort) (p : ℕ) (command : SendCommand) (sender : SubnetPort) → port_of ports command.port ≡ Some sender
+    → is_near ports p command.port ≡ true → (refusal : Option Refusal)
+    → AllFromNear ports p (unless_refused refusal command.port (received ports sender command))
 answer_from_near ports p command sender found near (Some refusal) = All-cons (λ event. IsFromNear ports p event.what) (record { port = command.port; what = Refused refusal }) [] tt (All-nil (λ event. IsFromNear ports p event.what))
 answer_from_near ports p command sender found near None =
     All-map (λ event. IsFromNear ports p event.what) (λ port. record { port = port.guid; what = Received (packet_of sender command) })
     (filter (λ port. reaches command port && not (is_for_sa command port)) ports)
     (λ k d h. sender_lid_near ports p command sender found near)
 
-send_from_near : (ports : List SubnetPort) (p : ℕ) (command : SendCommand) (sender : Option SubnetPort) → port_of ports command.port ≡ sender → is_near ports p command.port ≡ true → AllFromNear ports p (sent_from sender ports command)
+send_from_near : (ports : List SubnetPort) (p : ℕ) (command : SendCommand) (sender : Option SubnetPort) → port_of ports command.port ≡ sender
+    → is_near ports p command.port ≡ true → AllFromNear ports p (sent_from sender ports command)
 send_from_near ports p command None found near = All-nil (λ event. IsFromNear ports p event.what)
 send_from_near ports p command (Some sender) found near = answer_from_near ports p command sender found near (refusal_of sender command)
 
-near_step : (ports : List SubnetPort) (p : ℕ) (s : State) (command : Command) → is_near ports p (actor command) ≡ true → AllFromNear ports p (step ports s command).0
+near_step : (ports : List SubnetPort) (p : ℕ) (s : State) (command : Command) → is_near ports p (actor command) ≡ true
+    → AllFromNear ports p (step ports s command).0
 near_step ports p s (Send command) near = send_from_near ports p command (port_of ports command.port) refl near
 
 step_from_near : (ports : List SubnetPort) (p : ℕ) (s : State) (command : Command) → ComesFromNear ports p (step ports s command).0
@@ -182,10 +204,12 @@ all_from_near ports p (command ∷ commands) s =
 pub comes_from_near : (ports : List SubnetPort) (p : ℕ) (commands : List Command) → ComesFromNear ports p (report ports commands)
 comes_from_near ports p commands = all_from_near ports p commands start
 
-other_lid : (lid : ℕ) (x : SubnetPort) (test : SubnetPort → Bool) (y : SubnetPort) → x.lid ≡ lid → same_lid x y ≡ false → ((y.lid == lid) && test y) ≡ false
+other_lid : (lid : ℕ) (x : SubnetPort) (test : SubnetPort → Bool) (y : SubnetPort) → x.lid ≡ lid → same_lid x y ≡ false
+    → ((y.lid == lid) && test y) ≡ false
 other_lid lid x test y e apart = and_left (y.lid == lid) (test y) (grind (arith, nat_tests))
 
-only_one : (test : SubnetPort → Bool) (lid : ℕ) (ports : List SubnetPort) → IsDistinct same_lid ports → list_any (λ port. (port.lid == lid) && test port) ports ≡ true → All (λ port. port.lid ≡ lid → test port ≡ true) ports
+only_one : (test : SubnetPort → Bool) (lid : ℕ) (ports : List SubnetPort) → IsDistinct same_lid ports
+    → list_any (λ port. (port.lid == lid) && test port) ports ≡ true → All (λ port. port.lid ≡ lid → test port ≡ true) ports
 unfolding IsDistinct
 only_one test lid [] distinct h = All-nil (λ port. port.lid ≡ lid → test port ≡ true)
 only_one test lid (x ∷ xs) distinct h =
@@ -201,10 +225,12 @@ only_one test lid (x ∷ xs) distinct h =
           (only_one test lid xs distinct.1 later)
     ]
 
-pub the_port_of_a_lid_is_near : (ports : List SubnetPort) (p lid : ℕ) → IsDistinct same_lid ports → is_lid_near ports p lid ≡ true → All (λ port. port.lid ≡ lid → is_near ports p port.guid ≡ true) ports
+pub the_port_of_a_lid_is_near : (ports : List SubnetPort) (p lid : ℕ) → IsDistinct same_lid ports → is_lid_near ports p lid ≡ true
+    → All (λ port. port.lid ≡ lid → is_near ports p port.guid ≡ true) ports
 the_port_of_a_lid_is_near ports p lid distinct h = only_one (λ port. is_near ports p port.guid) lid ports distinct h
 
 -- what is the report of the commands is isolated
-pub report_is_isolated : (ports : List SubnetPort) (commands : List Command) (events : List Event) → events ≡ report ports commands → IsIsolated ports commands events
+pub report_is_isolated : (ports : List SubnetPort) (commands : List Command) (events : List Event) → events ≡ report ports commands
+    → IsIsolated ports commands events
 report_is_isolated ports commands events same =
     λ p. rw same (depends_on_near ports p commands, comes_from_near ports p commands)

@@ -1,9 +1,10 @@
 //! The two-switch fabric: h0 and h1 on switch A, h2 and h3 on switch B, the subnet manager on h0.
 
+use fabric_parts::NodeType;
 use pkey_rules::{KeyTable, PKey};
 use std::alloc::Global;
 use std::test::Fail;
-use subnet_model::{NodeName, PortKind, SubnetPort};
+use subnet_model::{NodeName, SubnetPort};
 
 /// Its text, with an adapter h4 that has no cable.
 pub const TWO_SWITCHES: &str = "\
@@ -59,10 +60,10 @@ pub fn two_switches(alloc: Global, keys: &[[u16; 2]; 6]) -> Result<Vec<SubnetPor
             guid: *guid,
             node: NodeName::new(b"node"),
             number: if is_switch { 0 } else { 1 },
-            kind: if is_switch {
-                PortKind::Switch
+            node_type: if is_switch {
+                NodeType::Switch
             } else {
-                PortKind::ChannelAdapter
+                NodeType::ChannelAdapter
             },
             keys: table,
         })?;

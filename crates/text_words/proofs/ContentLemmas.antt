@@ -25,5 +25,6 @@ pub found_behind : (n : ℕ) (body told content : List ℕ) → told ≡ content
     → (list_any is_line_end body || list_any (λ byte. not (is_plain byte)) content) ≡ (list_any is_line_end (drop n body) || list_any (λ byte. not (is_plain byte)) told)
 found_behind n body told content same front = rw (← same, front) (line_end_behind n body)
 
-pub seen_behind : (n : ℕ) (text body : List ℕ) (found : Bool) → found ≡ list_any is_line_end (take (length text - n) (drop n text)) → text ≡ body → found ≡ list_any is_line_end (drop n body)
+pub seen_behind : (n : ℕ) (text body : List ℕ) (found : Bool) → found ≡ list_any is_line_end (take (length text - n) (drop n text)) → text ≡ body
+    → found ≡ list_any is_line_end (drop n body)
 seen_behind n text body found h same = h ∙ rw (take_rest text n, same) refl

@@ -37,7 +37,8 @@ last_line [] byte h = by (is_line_end byte) refl
     by false e = rw e refl
 last_line (next ∷ rest) byte h = by (is_line_end byte) refl (last_line rest next)
   where
-    by : (b : Bool) → is_line_end byte ≡ b → (length (next ∷ rest) ≤ position_or_len is_line_end (next ∷ rest) → lines (next ∷ rest) ≡ (next ∷ rest) ∷ [])
+    by : (b : Bool) → is_line_end byte ≡ b
+        → (length (next ∷ rest) ≤ position_or_len is_line_end (next ∷ rest) → lines (next ∷ rest) ≡ (next ∷ rest) ∷ [])
         → lines (byte ∷ next ∷ rest) ≡ (byte ∷ next ∷ rest) ∷ []
     by true e later = absurd (let none = rw e at h in omega (arith, none))
     by false e later =

@@ -14,7 +14,8 @@ abbrev pub digits_left : ℕ → ℕ → List ℕ → Option ℕ
 digits_left radix value digits =
     cond (list_all (λ byte. is_digit byte radix) digits && nat_lt (digits_value_after radix value digits) (2 ^ 128)) (Some (digits_value_after radix value digits)) None
 
-goes_on : (radix value byte next : ℕ) (rest : List ℕ) → digit_step radix value byte ≡ Some next → digits_left radix value (byte ∷ rest) ≡ digits_left radix next rest
+goes_on : (radix value byte next : ℕ) (rest : List ℕ) → digit_step radix value byte ≡ Some next
+    → digits_left radix value (byte ∷ rest) ≡ digits_left radix next rest
 goes_on radix value byte next rest step =
     let found = cond_some _ _ _ step in
     let both = and_parts (is_digit byte radix) _ found.0 in

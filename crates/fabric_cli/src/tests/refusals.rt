@@ -109,7 +109,7 @@ fn output_that_is_not_written(rt: HostRuntime) -> Result<(), Fail> {
 
 #[test]
 fn words_that_are_refused(rt: HostRuntime) -> Result<(), Fail> {
-    let rows: [(&[&str], &str); 19] = [
+    let rows: [(&[&str], &str); 21] = [
         (&["fabric"], "Usage:"),
         (&["fabric", "run"], "TOPO"),
         (&["fabric", "run", "a"], "PARTS"),
@@ -138,6 +138,12 @@ fn words_that_are_refused(rt: HostRuntime) -> Result<(), Fail> {
             "h2/1 recv 0x0004 0x0005 0xffff 0x000007 2:beef",
         ),
         (&["fabric", "--version"], "fabric 0.1.0"),
+        // Usage says `fabric`, whatever name the program's file has.
+        (&["out/fabric_cli", "--help"], "Usage: fabric <COMMAND>"),
+        (
+            &["out/fabric_cli", "run", "--help"],
+            "Usage: fabric run <TOPO>",
+        ),
     ];
     for (words, part) in rows {
         let files = [("a", plain(b"")), ("b", plain(b""))];

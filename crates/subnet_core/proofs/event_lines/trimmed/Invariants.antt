@@ -1,6 +1,6 @@
 use Rattle.std.proofs.Common.{◌≡◌, ◌≤◌, length, take}
-use Rattle.subnet_core.specs.Text.{trimmed}
-use Rattle.subnet_core.proofs.text.trimmed.Given as goal
+use Rattle.subnet_core.specs.EventLines.{trimmed}
+use Rattle.subnet_core.proofs.event_lines.trimmed.Given as goal
 
 -- what was cut off changes nothing
 abbrev pub invariant-loop-end : goal.invariant-loop-end

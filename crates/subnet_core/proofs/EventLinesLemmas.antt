@@ -1,8 +1,9 @@
+-- Zero bytes at the end of a payload.
 use Rattle.std.proofs.Common.{◌≡◌, ◌≢◌, ℕ, ◌+◌, ◌-◌, ◌<◌, ◌≤◌, false, ◌==◌, ◌&&◌, List, [], ◌∷◌, ◌++◌, length, take, get_or, refl, ◌∙◌, sym, ap, arith}
 use Rattle.std.specs.List.{list_all}
 use Rattle.std.proofs.lemmas.List.{take_more}
 use Rattle.std.proofs.lemmas.Bool.{and_right, ne_eqb}
-use Rattle.subnet_core.specs.Text.{trimmed}
+use Rattle.subnet_core.specs.EventLines.{trimmed}
 
 zero_more : (bytes : List ℕ) → list_all (λ b. b == 0) (bytes ++ 0 ∷ []) ≡ list_all (λ b. b == 0) bytes
 zero_more [] = refl
@@ -21,7 +22,8 @@ trimmed_kept [] last h = rw h refl
 trimmed_kept (byte ∷ bytes) last h = rw (not_all_zero (byte ∷ bytes) last h, trimmed_kept bytes last h) refl
 
 -- a zero byte at the end is cut off
-pub trimmed_less : (bytes : List ℕ) (n : ℕ) → 0 < n → n ≤ length bytes → get_or bytes (n - 1) 0 ≡ 0 → trimmed (take (n - 1) bytes) ≡ trimmed (take n bytes)
+pub trimmed_less : (bytes : List ℕ) (n : ℕ) → 0 < n → n ≤ length bytes → get_or bytes (n - 1) 0 ≡ 0
+    → trimmed (take (n - 1) bytes) ≡ trimmed (take n bytes)
 trimmed_less bytes n some within zero =
     let more : n - 1 + 1 ≡ n = omega arith in
     let inside : n - 1 < length bytes = omega arith in

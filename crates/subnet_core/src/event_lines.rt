@@ -3,7 +3,7 @@ ghost use Rattle.data_packet.specs.declared.payload.TheConstants.{PAYLOAD_BYTES}
 ghost use Rattle.std.specs.Int.{w16, w32, to_be_bytes};
 ghost use Rattle.subnet_model.specs.Delivery.{port_of};
 ghost use Rattle.hex.specs.Hex.{encode_lower};
-ghost use Rattle.subnet_core.specs.Text.{port_text, name_text, hex_text, trimmed, payload_text, packet_text, outcome_text, line_text, report_text};
+ghost use Rattle.subnet_core.specs.EventLines.{port_text, name_text, hex_text, trimmed, payload_text, packet_text, outcome_text, line_text, report_text};
 
 use data_packet::{PAYLOAD_BYTES, Packet};
 use hex::encode_to_slice;

@@ -1,8 +1,8 @@
 use Rattle.std.proofs.Common.{◌≡◌, ◌<◌, ◌≤◌, length, take, sym, ◌∙◌, ap, arith}
-use Rattle.subnet_core.specs.Text.{trimmed}
-use Rattle.subnet_core.proofs.text.trimmed.Goals as goal
-use Rattle.subnet_core.proofs.text.trimmed.Goals.{then-loop-end-test+else-bytes-end-eq0, else-loop-end-test}
-use Rattle.subnet_core.proofs.TextLemmas.{trimmed_less, trimmed_same}
+use Rattle.subnet_core.specs.EventLines.{trimmed}
+use Rattle.subnet_core.proofs.event_lines.trimmed.Goals as goal
+use Rattle.subnet_core.proofs.event_lines.trimmed.Goals.{then-loop-end-test+else-bytes-end-eq0, else-loop-end-test}
+use Rattle.subnet_core.proofs.EventLinesLemmas.{trimmed_less, trimmed_same}
 
 pub loop-end-preserved : goal.loop-end-preserved
 loop-end-preserved c =
