@@ -13,7 +13,8 @@ use Rattle.agent_rules.proofs.UnseenLemmas.{unseen_passes}
 
 -- what is set can be asked for
 abbrev pub Shows : {S : Type 0} → Getter S → Setter S → Type 0
-Shows getter setter = (held next : _) (attribute : SmpAttribute) (smp : List ℕ) → setter held attribute smp ≡ Ok next → (bytes : List ℕ) × (getter next attribute (modifier_of smp) ≡ Ok bytes)
+Shows getter setter = (held next : _) (attribute : SmpAttribute) (smp : List ℕ) → setter held attribute smp ≡ Ok
+    next → (bytes : List ℕ) × (getter next attribute (modifier_of smp) ≡ Ok bytes)
 
 -- what holds of the old value, and of each value that a Set leads to, holds of the value after an SMP
 held_cases : {S : Type 0} (r b : Bool) (asked : Result SmpAttribute MadStatus) (f : SmpAttribute → Result S MadStatus) (held : S) (P : S → Type 0)
@@ -66,7 +67,10 @@ set_answers (Err e) g held bytes h = absurd (cc)
 later_answers : {S : Type 0} (b b2 : Bool) (asked : Result SmpAttribute MadStatus) (f : SmpAttribute → Result S MadStatus) (f2 : S → SmpAttribute → Result S MadStatus) (g : S → SmpAttribute → Result (List ℕ) MadStatus) (held : S) (bytes : List ℕ)
     → b2 ≡ false
     → (asked >>= λ attribute. ((if b then f attribute else Ok held) >>= λ next. g next attribute)) ≡ Ok bytes
-    → (asked >>= λ attribute. ((if b2 then f2 (result_unwrap_or (asked >>= λ a. if b then f a else Ok held) held) attribute else Ok (result_unwrap_or (asked >>= λ a. if b then f a else Ok held) held)) >>= λ next. g next attribute)) ≡ Ok bytes
+    → (asked >>= λ attribute.
+    ((if b2 then f2 (result_unwrap_or (asked >>= λ a. if b then f a else Ok held) held) attribute else Ok
+    (result_unwrap_or (asked >>= λ a. if b then f a else Ok held) held)) >>= λ next. g next attribute)) ≡ Ok
+    bytes
 later_answers b b2 (Err e) f f2 g held bytes later h = absurd (cc)
 later_answers b true (Ok attribute) f f2 g held bytes later h = absurd (cc)
 later_answers false false (Ok attribute) f f2 g held bytes later h = h
@@ -78,7 +82,8 @@ answers_same : {S : Type 0} (getter : Getter S) (setter : Setter S) (held : S) (
     → answer getter setter (held_after setter held smp) later ≡ Ok bytes
 answers_same getter setter held smp later bytes h asked part not_set =
     let next = held_after setter held smp in
-    let given = later_answers (is_set smp) (is_set later) (attribute_asked smp) (λ a. setter held a smp) (λ x a. setter x a later) (λ x a. getter x a (modifier_of smp)) held bytes not_set h in
+    let given = later_answers (is_set smp) (is_set later) (attribute_asked smp) (λ a. setter held a smp)
+    (λ x a. setter x a later) (λ x a. getter x a (modifier_of smp)) held bytes not_set h in
     let P : ℕ → Type 0 = λ modifier. (attribute_asked smp >>= λ a. (changed setter next a later >>= λ x. getter x a modifier)) ≡ Ok bytes in
     let Q : Result SmpAttribute MadStatus
     → Type 0 = λ x. (x >>= λ a. (changed setter next a later >>= λ y. getter y a (modifier_of later))) ≡ Ok bytes in
@@ -89,7 +94,9 @@ settled getter setter shows =
     record {
       silent = λ held smp h. rw h refl;
       get = λ held smp h. get_keeps (is_request smp) (is_set smp) (attribute_asked smp) (λ a. setter held a smp) held h;
-      refused = λ held smp status h. refused_keeps (is_request smp) (is_set smp) (attribute_asked smp) (λ a. setter held a smp) (λ x a. getter x a (modifier_of smp)) held status (λ a next e. shows held next a smp e) h;
+      refused = λ held smp status h. refused_keeps (is_request smp) (is_set smp) (attribute_asked smp)
+          (λ a. setter held a smp) (λ x a. getter x a (modifier_of smp)) held status
+          (λ a next e. shows held next a smp e) h;
       set = λ held smp later bytes request h same.
           let now : after setter held smp ≡ held_after setter held smp = rw request refl in
           let P : _ → Type 0 = λ x. answer getter setter x later ≡ Ok bytes in
@@ -112,8 +119,12 @@ pub reads_alike : {S : Type 0} (getter : Getter S) (setter : Setter S)
     → ReadsAlike getter setter
 reads_alike getter setter takes =
     record {
-      answered = λ held one other same. λ place. (same.attribute place) >>= λ attribute. ((if same.set place then takes held attribute one other same place else Ok held) >>= λ next. getter next attribute (same.modifier place));
-      held = λ held one other same. λ place. if same.request place then result_unwrap_or ((same.attribute place) >>= λ attribute. if same.set place then takes held attribute one other same place else Ok held) held else held;
+      answered = λ held one other same. λ place. (same.attribute place) >>= λ attribute.
+          ((if same.set place then takes held attribute one other same place else Ok held) >>= λ next. getter next
+          attribute (same.modifier place));
+      held = λ held one other same. λ place. if same.request place then result_unwrap_or
+          ((same.attribute place) >>= λ attribute. if same.set place then takes held attribute one other same place
+          else Ok held) held else held;
     }
 
 -- a reply to an SMP with a field that the agent does not see is the reply with that field

@@ -151,8 +151,12 @@ status_put smp off len value method status put small narrow =
     let apart = apart_from off len put.unseen in
     let x = put_field smp 24 8 method in
     let long = length-put_field smp 24 8 method in
-    let first = put_swap smp off len value 24 8 method (omega (arith, put.count, put.within)) (omega (arith, put.count)) put.fits small (beside off len 0 32 24 8 (apart_parts off len 0 32 apart.head) (omega arith) (omega arith)) in
-    let second = put_swap x off len value 33 15 status (omega (arith, put.count, put.within)) (omega (arith, put.count)) put.fits narrow (beside off len 33 15 33 15 (apart_parts off len 33 15 apart.status) (omega arith) (omega arith)) in
+    let first = put_swap smp off len value 24 8 method (omega (arith, put.count, put.within))
+    (omega (arith, put.count)) put.fits small (beside off len 0 32 24 8 (apart_parts off len 0 32 apart.head)
+    (omega arith) (omega arith)) in
+    let second = put_swap x off len value 33 15 status (omega (arith, put.count, put.within))
+    (omega (arith, put.count)) put.fits narrow (beside off len 33 15 33 15
+    (apart_parts off len 33 15 apart.status) (omega arith) (omega arith)) in
     ap (λ (bytes : List ℕ). put_field bytes 33 15 status) first ∙ second
 
 reply_passes : (smp bytes : List ℕ) (off len value : ℕ) → IsUnseenPut smp off len value → IsAttribute bytes
@@ -168,7 +172,9 @@ reply_passes smp bytes off len value put is =
     let apart = apart_from off len put.unseen in
     ap (λ (m : ℕ). put_field (put_field (put_field x 24 8 m) 33 15 0) 512 512 (number bytes)) (same_reply_method smp off len value put)
     ∙ ap (λ (w : List ℕ). put_field w 512 512 (number bytes)) (status_put smp off len value method 0 put (method_fits (is_set smp) (field smp 24 8)) (omega arith))
-    ∙ put_swap z off len value 512 512 (number bytes) (omega (arith, put.count, put.within)) (omega (arith, put.count)) put.fits (attribute_fits bytes is) (beside off len 512 512 512 512 (apart_parts off len 512 512 apart.part) (omega arith) (omega arith))
+    ∙ put_swap z off len value 512 512 (number bytes) (omega (arith, put.count, put.within))
+    (omega (arith, put.count)) put.fits (attribute_fits bytes is)
+    (beside off len 512 512 512 512 (apart_parts off len 512 512 apart.part) (omega arith) (omega arith))
 
 refusal_passes : (smp : List ℕ) (status : MadStatus) (off len value : ℕ) → IsUnseenPut smp off len value
     → reply_to (put_field smp off len value) (Err status) ≡ put_field (reply_to smp (Err status)) off len value

@@ -37,7 +37,8 @@ rules_here : (fabric : FabricState) (home : Bool) (reply : List ℕ) (done : ℕ
     → IsComing fabric.nodes fabric.cables fabric.manager.node home reply done at entered smp → hop_rules fabric.nodes (visit at entered smp) ≡ back_from fabric.nodes (visit at entered smp)
 rules_here fabric home reply done at entered smp is on =
     rules_back fabric.nodes (visit at entered smp)
-    (ap is_outgoing on.smp_is ∙ direction_kept reply 6 (on.left + 1) is.below on.long (omega arith) (omega arith) (let hops = on.hops in let few = on.few in omega (arith, hops, few)) ∙ is.back)
+    (ap is_outgoing on.smp_is ∙ direction_kept reply 6 (on.left + 1) is.below on.long (omega arith) (omega arith)
+    (let hops = on.hops in let few = on.few in omega (arith, hops, few)) ∙ is.back)
 
 -- ---- every way back to the subnet manager ends where the way of the definition does
 IsHome : FabricState → Bool → List ℕ → Visit → Type 0
@@ -75,12 +76,20 @@ home_by : (fabric : FabricState) (reply : List ℕ) (done : ℕ) (at : PortRef) 
     → list_all (is_right fabric.nodes) fabric.cables ≡ true → IsBack reply
     → IsComing fabric.nodes fabric.cables fabric.manager.node true reply done at entered smp
     → (back_from fabric.nodes (visit at entered smp)).hop ≡ hop
-    → ((there : PortRef) (next : List ℕ) → IsComing fabric.nodes fabric.cables fabric.manager.node true reply (done + 1) there there.port next → FoundHome fabric reply (visit there there.port next))
+    → ((there : PortRef) (next : List ℕ) → IsComing fabric.nodes fabric.cables fabric.manager.node true reply
+    (done + 1) there there.port next → FoundHome fabric reply (visit there there.port next))
     → FoundHome fabric reply (visit at entered smp)
 home_by fabric reply done at entered smp ToManager right back on to later =
     let rules = rules_here fabric true reply done at entered smp back on in
     let here = came fabric.nodes fabric.cables fabric.manager.node true reply done at entered smp right on to in
-    record { way = []; last = visit at entered smp; goes = refl; to_manager = ap (λ (s : Step). s.hop) rules ∙ to; home = eqb-true at.node fabric.manager.node here.0; smp_is = ap (λ (s : Step). s.smp) rules ∙ here.1 }
+    record {
+      way = [];
+      last = visit at entered smp;
+      goes = refl;
+      to_manager = ap (λ (s : Step). s.hop) rules ∙ to;
+      home = eqb-true at.node fabric.manager.node here.0;
+      smp_is = ap (λ (s : Step). s.smp) rules ∙ here.1;
+    }
 home_by fabric reply done at entered smp ToAgent right back on to later =
     absurd (false≢true (lost fabric.nodes fabric.cables fabric.manager.node true reply done at entered smp right on ToAgent (sym to) (inl refl)))
 home_by fabric reply done at entered smp Discard right back on to later =
@@ -94,7 +103,13 @@ home_by fabric reply done at entered smp (Forward port) right back on to later =
         let rules = rules_here fabric true reply done at entered smp back on in
         let left = (back_from fabric.nodes (visit at entered smp)).smp in
         let rest = later there left (goes fabric.nodes fabric.cables fabric.manager.node true reply done at there entered smp port right on to is) in
-        let pass : Passes fabric (visit at entered smp) (visit there there.port left) = record { port = port; leaves = ap (λ (s : Step). s.hop) rules ∙ to; cable = is; as_left = sym (ap (λ (s : Step). s.smp) rules) } in
+        let pass : Passes fabric (visit at entered smp)
+        (visit there there.port left) = record {
+          port = port;
+          leaves = ap (λ (s : Step). s.hop) rules ∙ to;
+          cable = is;
+          as_left = sym (ap (λ (s : Step). s.smp) rules);
+        } in
         record { way = visit there there.port left ∷ rest.way; last = rest.last; goes = (pass, rest.goes); to_manager = rest.to_manager; home = rest.home; smp_is = rest.smp_is }
 
 home_within : (fabric : FabricState) (reply : List ℕ) (fuel done : ℕ) (at : PortRef) (entered : ℕ) (smp : List ℕ)
@@ -102,7 +117,9 @@ home_within : (fabric : FabricState) (reply : List ℕ) (fuel done : ℕ) (at : 
     → IsComing fabric.nodes fabric.cables fabric.manager.node true reply done at entered smp → count reply < done + fuel → FoundHome fabric reply (visit at entered smp)
 home_within fabric reply zero done at entered smp right back on few = let hops = on.hops in absurd (omega (arith, hops, few))
 home_within fabric reply (suc fuel) done at entered smp right back on few =
-    home_by fabric reply done at entered smp _ right back on refl (λ there next on_there. home_within fabric reply fuel (done + 1) there there.port next right back on_there (omega (arith, few)))
+    home_by fabric reply done at entered smp _ right back on refl
+    (λ there next on_there. home_within fabric reply fuel (done + 1) there there.port next right back on_there
+    (omega (arith, few)))
 
 -- ---- what an agent answers comes home as the definition says
 coming : (fabric : FabricState) (agent : PortRef) (turned : List ℕ) → length turned ≡ 256
@@ -134,7 +151,8 @@ unfolding IsHome
 only_reply fabric agent answer reply long ready home =
     let turned = turned_round answer in
     let wide : length turned ≡ 256 = length-put_field answer 32 1 1 ∙ long in
-    home.reply_is ∙ (back_follows fabric true turned home.way 0 agent 0 turned home.last ready.right (turned_back answer long) (coming fabric agent turned wide ready) home.goes home.to_manager).1
+    home.reply_is ∙ (back_follows fabric true turned home.way 0 agent 0 turned home.last ready.right
+    (turned_back answer long) (coming fabric agent turned wide ready) home.goes home.to_manager).1
 
 -- ---- the way out, as a walk
 not_dropped : (fabric : FabricState) (here last : Visit) (way : List Visit) → Goes fabric here way last

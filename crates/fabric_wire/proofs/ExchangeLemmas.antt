@@ -58,7 +58,9 @@ same_way : (old new : List Node) (cables : List Cable) (manager : ℕ) (smp : Li
     → leads_home new cables manager smp left node ≡ leads_home old cables manager smp left node
 same_way old new cables manager smp zero node switches = refl
 same_way old new cables manager smp (suc left) node switches =
-    leads_by left old new (leads_home new cables manager smp left) (leads_home old cables manager smp left) (far_end cables (record { node = node; port = return_port smp (suc left) })) switches (λ there. same_way old new cables manager smp left there switches)
+    leads_by left old new (leads_home new cables manager smp left) (leads_home old cables manager smp left)
+    (far_end cables (record { node = node; port = return_port smp (suc left) })) switches
+    (λ there. same_way old new cables manager smp left there switches)
 
 -- ---- the way home of a request that has arrived
 count_noted : (k : ℕ) (ends : List PortRef) (smp : List ℕ) → count (with_return_ports k ends smp) ≡ count smp
@@ -87,7 +89,9 @@ ready_before fabric sent reply ends good is low long walked low_reply long_reply
     let count_is : count turned ≡ count sent = byte 7 (omega arith) (omega arith, refl) ∙ byte_kept noted (count sent + 1) 7 (λ e. omega (arith, e)) ∙ count_noted 1 ends sent in
     let pointer_is : pointer turned ≡ count sent + 1 = byte 6 (omega arith) (omega arith, refl) ∙ pointer_set noted (count sent + 1) noted_long in
     let led : leads_home fabric.nodes fabric.cables fabric.manager.node noted (0 + length ends) agent.node ≡ true =
-    walk_leads_home fabric.nodes fabric.cables fabric.manager.node true fabric.manager 0 (path_of sent) sent ends (differ is_same_port _ good.once) refl (omega (arith, path_long, few)) long (eq-eqb fabric.manager.node fabric.manager.node refl) walked in
+    walk_leads_home fabric.nodes fabric.cables fabric.manager.node true fabric.manager 0 (path_of sent) sent ends
+    (differ is_same_port _ good.once) refl (omega (arith, path_long, few)) long
+    (eq-eqb fabric.manager.node fabric.manager.node refl) walked in
     let hops_are : 0 + length ends ≡ count sent = omega (arith, hops) in
     let home : leads_home fabric.nodes fabric.cables fabric.manager.node turned (count sent) agent.node ≡ true =
     leads_alike fabric.nodes fabric.cables fabric.manager.node turned noted (count sent) agent.node
@@ -112,7 +116,8 @@ ready_at fabric sent reply new ends good is low long walked low_reply long_reply
       right = still.cables;
       few = before.few;
       pointer_is = before.pointer_is;
-      home = same_way fabric.nodes new fabric.cables fabric.manager.node turned (count turned) agent.node (λ place. switch_same fabric (record fabric { nodes = new }) same place) ∙ before.home;
+      home = same_way fabric.nodes new fabric.cables fabric.manager.node turned (count turned) agent.node
+          (λ place. switch_same fabric (record fabric { nodes = new }) same place) ∙ before.home;
     }
 
 ready_by : (fabric : FabricState) (sent reply : List ℕ) (new : List Node) (arrival : Arrival) (walked : Option (List PortRef))

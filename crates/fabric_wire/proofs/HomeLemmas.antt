@@ -53,11 +53,15 @@ unfolding Both
 far_ends_meet P test each [] a b all is = cc
 far_ends_meet P test each (cable ∷ cables) a b all is =
     let parts = and_parts (test cable) (list_all test cables) all in
-    met P cable a b (far_end cables a) (is_same_port cable.first a) (is_same_port cable.second a) refl refl (each cable parts.0) (λ later. far_ends_meet P test each cables a b parts.1 later) (far_end_before cable cables a ∙ is)
+    met P cable a b (far_end cables a) (is_same_port cable.first a) (is_same_port cable.second a) refl refl
+    (each cable parts.0) (λ later. far_ends_meet P test each cables a b parts.1 later)
+    (far_end_before cable cables a ∙ is)
 
 -- ---- both ways
 is_among : (cable : Cable) (a b end : PortRef) (rest : Option PortRef) (others first second : Bool) → is_same_port end b ≡ true
-    → cond first (Some cable.second) (cond second (Some cable.first) rest) ≡ Some b → (rest ≡ Some b → others ≡ true) → is_same_port end cable.first || (is_same_port end cable.second || others) ≡ true
+    → cond first (Some cable.second) (cond second (Some cable.first) rest) ≡ Some
+    b → (rest ≡ Some b → others ≡ true) → is_same_port end cable.first
+    || (is_same_port end cable.second || others) ≡ true
 is_among cable a b end rest others true second same is later =
     let here : is_same_port end cable.second ≡ true = ap (is_same_port end) (same_Some _ _ is) ∙ same in
     rw here (or_true (is_same_port end cable.first))
@@ -80,7 +84,9 @@ far_is_end : (cables : List Cable) (a b end : PortRef) → is_same_port end b �
     → list_any (is_same_port end) (flat_map ends_of cables) ≡ true
 far_is_end [] a b end same is = cc
 far_is_end (cable ∷ cables) a b end same is =
-    is_among cable a b end (far_end cables a) (list_any (is_same_port end) (flat_map ends_of cables)) (is_same_port cable.first a) (is_same_port cable.second a) same (far_end_before cable cables a ∙ is) (λ later. far_is_end cables a b end same later)
+    is_among cable a b end (far_end cables a) (list_any (is_same_port end) (flat_map ends_of cables))
+    (is_same_port cable.first a) (is_same_port cable.second a) same (far_end_before cable cables a ∙ is)
+    (λ later. far_is_end cables a b end same later)
 
 apart_from : (cables : List Cable) (a b end : PortRef) (b_is : Bool) → is_same_port end b ≡ b_is
     → list_any (is_same_port end) (flat_map ends_of cables) ≡ false → far_end cables a ≡ Some b → b_is ≡ false
@@ -153,7 +159,9 @@ cabled_is_port nodes cables a b right is = far_ends_meet (λ end other. is_port 
 -- two ways home that lead alike from every node, over nodes of the same kinds
 pub leads_by : (left : ℕ) (old new : List Node) (one other : ℕ → Bool) (found : Option PortRef)
     → ((place : ℕ) → is_switch_at new place ≡ is_switch_at old place) → ((node : ℕ) → one node ≡ other node)
-    → option_map_or (λ there. ((left == 0) || is_switch_at new there.node) && one there.node) found false ≡ option_map_or (λ there. ((left == 0) || is_switch_at old there.node) && other there.node) found false
+    → option_map_or (λ there. ((left == 0) || is_switch_at new there.node) && one there.node) found
+    false ≡ option_map_or (λ there. ((left == 0) || is_switch_at old there.node) && other there.node) found
+    false
 leads_by left old new one other None switches same = refl
 leads_by left old new one other (Some there) switches same = rw (switches there.node, same there.node) refl
 
@@ -164,7 +172,10 @@ pub leads_alike : (nodes : List Node) (cables : List Cable) (manager : ℕ) (one
 leads_alike nodes cables manager one other zero node same = refl
 leads_alike nodes cables manager one other (suc left) node same =
     rw (same (suc left) (omega arith) (omega arith))
-    (leads_by left nodes nodes (leads_home nodes cables manager one left) (leads_home nodes cables manager other left) _ (λ place. refl) (λ there. leads_alike nodes cables manager one other left there (λ k from to. same k from (omega (arith, to)))))
+    (leads_by left nodes nodes (leads_home nodes cables manager one left)
+    (leads_home nodes cables manager other left) _ (λ place. refl)
+    (λ there. leads_alike nodes cables manager one other left there
+    (λ k from to. same k from (omega (arith, to)))))
 
 -- as it is when it arrives by a cable
 hop_parts : (b : Bool) (found : Option PortRef) (there : PortRef) → (if b then found else None) ≡ Some there → (b ≡ true) × (found ≡ Some there)
@@ -202,7 +213,8 @@ led_on nodes cables manager hops smp here there ends (Some some) right is =
     rw (sym (same_Some _ _ is), ← more, first) (right some refl)
 
 led_from : (nodes : List Node) (cables : List Cable) (manager hops : ℕ) (smp : List ℕ) (here : PortRef) (numbers : List ℕ) (ends : List PortRef) (next : Option PortRef)
-    → ((there : PortRef) (some : List PortRef) → next ≡ Some there → walk nodes cables false there numbers ≡ Some some → LeadsFrom nodes cables manager (suc hops) (with_return_port (suc hops) there.port smp) there some)
+    → ((there : PortRef) (some : List PortRef) → next ≡ Some there → walk nodes cables false there numbers ≡ Some
+    some → LeadsFrom nodes cables manager (suc hops) (with_return_port (suc hops) there.port smp) there some)
     → option_and_then (λ there. option_map (λ later. there ∷ later) (walk nodes cables false there numbers)) next ≡ Some ends → LeadsFrom nodes cables manager hops smp here ends
 led_from nodes cables manager hops smp here numbers ends None right is = cc
 led_from nodes cables manager hops smp here numbers ends (Some there) right is =
@@ -218,6 +230,8 @@ walk_leads_home nodes cables manager starts here hops [] smp ends once begins fe
     rw (sym (same_Some [] ends is), none) home
 walk_leads_home nodes cables manager starts here hops (number ∷ numbers) smp ends once begins few long home is =
     led_from nodes cables manager hops smp here numbers ends (hop nodes cables starts here number)
-    (λ there some hopped walked. walk_leads_home nodes cables manager false there (suc hops) numbers (with_return_port (suc hops) there.port smp) some once (sym (grind (arith, nat_tests))) (omega (arith, few)) (length-set smp (192 + suc hops) there.port ∙ long)
+    (λ there some hopped walked. walk_leads_home nodes cables manager false there (suc hops) numbers
+    (with_return_port (suc hops) there.port smp) some once (sym (grind (arith, nat_tests))) (omega (arith, few))
+    (length-set smp (192 + suc hops) there.port ∙ long)
     (home_on nodes cables manager starts here there number hops smp once begins (omega (arith, few)) long hopped home) walked)
     is

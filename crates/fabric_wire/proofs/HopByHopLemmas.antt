@@ -116,14 +116,17 @@ set_out fabric sent good long below is = record {
 
 goes_out : (fabric : FabricState) (sent : List ℕ) (hops : ℕ) (at : PortRef) (entered : ℕ) (smp : List ℕ) (next : Visit) (port : ℕ)
     → IsGood fabric → GoesOut fabric sent hops at entered smp
-    → (out_from fabric.nodes (visit at entered smp)).hop ≡ Forward port → far_end fabric.cables (record { node = at.node; port = port }) ≡ Some (record { node = next.node; port = next.entered })
+    → (out_from fabric.nodes (visit at entered smp)).hop ≡ Forward port → far_end fabric.cables
+    (record { node = at.node; port = port }) ≡ Some (record { node = next.node; port = next.entered })
     → next.smp ≡ (out_from fabric.nodes (visit at entered smp)).smp → GoesOut fabric sent (hops + 1) (record { node = next.node; port = next.entered }) next.entered next.smp
 goes_out fabric sent hops at entered smp next port good way to cable as_left =
     let there : PortRef = record { node = next.node; port = next.entered } in
     let on = way.on in
     record {
       on = rw as_left (goes fabric.nodes fabric.cables fabric.manager sent hops at there entered smp port good.cables on to cable);
-      out = rw as_left (passes_out fabric.nodes fabric.cables sent hops at smp _ port (leaves fabric.nodes fabric.cables fabric.manager sent hops at entered smp good.cables on) to way.out on.long on.few way.small);
+      out = rw as_left (passes_out fabric.nodes fabric.cables sent hops at smp _ port
+          (leaves fabric.nodes fabric.cables fabric.manager sent hops at entered smp good.cables on) to way.out
+          on.long on.few way.small);
       small = end_small fabric (record { node = at.node; port = port }) there good cable;
       agent = entered_by fabric (record { node = at.node; port = port }) next good.cables cable;
     }
@@ -142,7 +145,9 @@ follows fabric sent (next ∷ later) hops at entered smp last good here way to =
     let rules = rules_out fabric.nodes (visit at entered smp) here.out.out in
     let leaves_by = sym (ap (λ (s : Step). s.hop) rules) ∙ pass.leaves in
     let as_left = pass.as_left ∙ ap (λ (s : Step). s.smp) rules in
-    follows fabric sent later (hops + 1) (record { node = next.node; port = next.entered }) next.entered next.smp last good (goes_out fabric sent hops at entered smp next pass.port good here leaves_by pass.cable as_left) way.1 to
+    follows fabric sent later (hops + 1) (record { node = next.node; port = next.entered }) next.entered next.smp
+    last good (goes_out fabric sent hops at entered smp next pass.port good here leaves_by pass.cable as_left)
+    way.1 to
 
 -- ---- where the walk arrives there is a way
 pub record Found (fabric : FabricState) (arrival : Arrival) (here : Visit) : Type 0 where
@@ -164,7 +169,13 @@ found_by : (fabric : FabricState) (sent : List ℕ) (arrival : Arrival) (hops : 
 found_by fabric sent arrival hops at entered smp ToAgent good here ends to later =
     let rules = rules_out fabric.nodes (visit at entered smp) here.out.out in
     let given = arrived fabric.nodes fabric.cables fabric.manager sent hops at entered smp good.cables here.on to in
-    record { way = []; last = visit at entered smp; goes = refl; to_agent = ap (λ (s : Step). s.hop) rules ∙ to; arrival_is = same_Some _ _ (sym (given ∙ ends)) ∙ rw (here.agent, ap (λ (s : Step). s.smp) rules) refl }
+    record {
+      way = [];
+      last = visit at entered smp;
+      goes = refl;
+      to_agent = ap (λ (s : Step). s.hop) rules ∙ to;
+      arrival_is = same_Some _ _ (sym (given ∙ ends)) ∙ rw (here.agent, ap (λ (s : Step). s.smp) rules) refl;
+    }
 found_by fabric sent arrival hops at entered smp ToManager good here ends to later =
     let none = lost fabric.nodes fabric.cables fabric.manager sent hops at entered smp good.cables here.on ToManager (sym to) (inl refl) in
     cc
@@ -181,7 +192,14 @@ found_by fabric sent arrival hops at entered smp (Forward port) good here ends t
     by_cable (Some there) is =
         let rules = rules_out fabric.nodes (visit at entered smp) here.out.out in
         let next = visit there there.port (out_from fabric.nodes (visit at entered smp)).smp in
-        let pass : Passes fabric (visit at entered smp) next = record { port = port; leaves = ap (λ (s : Step). s.hop) rules ∙ to; cable = is; as_left = sym (ap (λ (s : Step). s.smp) rules) } in
+        let pass : Passes fabric (visit at entered smp)
+        next = record {
+          port = port;
+          leaves = ap (λ (s : Step). s.hop) rules ∙ to;
+          cable = is;
+          as_left = sym
+              (ap (λ (s : Step). s.smp) rules);
+        } in
         found_on fabric arrival (visit at entered smp) next pass (later next (goes_out fabric sent hops at entered smp next port good here to is refl))
 
 found_within : (fabric : FabricState) (sent : List ℕ) (arrival : Arrival) (fuel hops : ℕ) (at : PortRef) (entered : ℕ) (smp : List ℕ)

@@ -80,7 +80,9 @@ pub port_0_is_bare : (nodes : List Node) (cables : List Cable) (node number : �
     → list_all (is_right nodes) cables ≡ true → (number == 0) ≡ true
     → far_end cables (record { node = node; port = number }) ≡ None
 port_0_is_bare nodes cables node number right zero_is =
-    bare_by cables node (far_end cables (record { node = node; port = number })) (λ there is. false≢true (sym (numbered nodes cables (record { node = node; port = number }) there right is).0 ∙ zero_is))
+    bare_by cables node (far_end cables (record { node = node; port = number }))
+    (λ there is. false≢true (sym
+    (numbered nodes cables (record { node = node; port = number }) there right is).0 ∙ zero_is))
 
 no_hop : (nodes : List Node) (cables : List Cable) (starts : Bool) (at : PortRef) (number : ℕ)
     → far_end cables (record { node = at.node; port = number }) ≡ None → hop nodes cables starts at number ≡ None
@@ -107,7 +109,9 @@ pub hop_is_far_end : (nodes : List Node) (cables : List Cable) (starts : Bool) (
     → hop nodes cables starts at number ≡ far_end cables (record { node = at.node; port = number })
 unfolding hop
 hop_is_far_end nodes cables starts at number right is =
-    rw is (bare_unless (is_port nodes (record { node = at.node; port = number })) (far_end cables (record { node = at.node; port = number })) (λ there found. cabled_is_port nodes cables (record { node = at.node; port = number }) there right found))
+    rw is (bare_unless (is_port nodes (record { node = at.node; port = number }))
+    (far_end cables (record { node = at.node; port = number }))
+    (λ there found. cabled_is_port nodes cables (record { node = at.node; port = number }) there right found))
 
 -- ---- the rules of the way out
 -- from the node itself
@@ -145,7 +149,10 @@ from_manager_by nodes cables sent at smp true none step right is zero_is same pa
     let least : count sent ≡ 0 = rw (← same) (eqb-true (count smp) 0 is) in
     arrives (omega (arith, least)) (rule ∙ rw (is, least) refl)
 from_manager_by nodes cables sent at smp false true step right is zero_is same path rule =
-    drops (some_hop (count sent) (ap (λ (n : ℕ). n == 0) (sym same) ∙ is)) (no_hop nodes cables true at (initial_port sent (0 + 1)) (port_0_is_bare nodes cables at.node (initial_port sent 1) right (ap (λ (n : ℕ). n == 0) (sym path) ∙ zero_is))) (rule ∙ rw (is, zero_is) refl)
+    drops (some_hop (count sent) (ap (λ (n : ℕ). n == 0) (sym same) ∙ is))
+    (no_hop nodes cables true at (initial_port sent (0 + 1))
+    (port_0_is_bare nodes cables at.node (initial_port sent 1) right
+    (ap (λ (n : ℕ). n == 0) (sym path) ∙ zero_is))) (rule ∙ rw (is, zero_is) refl)
 from_manager_by nodes cables sent at smp false false step right is zero_is same path rule =
     passes (some_hop (count sent) (ap (λ (n : ℕ). n == 0) (sym same) ∙ is)) refl (rule ∙ rw (is, zero_is, path) refl)
 
@@ -167,7 +174,9 @@ handed_by nodes cables sent done at port smp false none step right more switch z
     let later : (suc done == 0) ≡ false = grind (arith, nat_tests) in
     drops more (not_handed nodes cables (suc done == 0) at (initial_port sent (suc done + 1)) (rw (later, switch) refl)) (rule ∙ rw switch refl)
 handed_by nodes cables sent done at port smp true true step right more switch zero_is path here writes rule =
-    drops more (no_hop nodes cables (suc done == 0) at (initial_port sent (suc done + 1)) (port_0_is_bare nodes cables at.node (initial_port sent (suc done + 1)) right (ap (λ (n : ℕ). n == 0) (sym path) ∙ zero_is)))
+    drops more (no_hop nodes cables (suc done == 0) at (initial_port sent (suc done + 1))
+    (port_0_is_bare nodes cables at.node (initial_port sent (suc done + 1)) right
+    (ap (λ (n : ℕ). n == 0) (sym path) ∙ zero_is)))
     (rule ∙ rw (switch, here, zero_is) refl)
 handed_by nodes cables sent done at port smp true false step right more switch zero_is path here writes rule =
     let later : (suc done == 0) ≡ false = grind (arith, nat_tests) in
@@ -193,9 +202,12 @@ on_way : (nodes : List Node) (cables : List Cable) (manager : PortRef) (sent : L
     → list_all (is_right nodes) cables ≡ true
     → IsOnWay nodes cables manager sent (suc done) at entered smp → Leaves nodes cables sent (suc done) at smp (outgoing (node_type_at nodes at.node) entered smp)
 on_way nodes cables manager sent done at entered smp right way =
-    on_way_by nodes cables sent done at entered smp (suc done == count smp) _ right way.within refl way.count_is (λ more. way.path_is (suc done + 1) (omega (arith, more, way.few))) way.pointer_is
+    on_way_by nodes cables sent done at entered smp (suc done == count smp) _ right way.within refl way.count_is
+    (λ more. way.path_is (suc done + 1) (omega (arith, more, way.few))) way.pointer_is
     (noted_is entered done at smp (suc done + 1) way.long way.pointer_is way.entered_is refl)
-    (rule_came_in (node_type_at nodes at.node) entered done smp (ap (λ (n : ℕ). n == 0) way.entered_is ∙ way.is_numbered) way.pointer_is (rw way.count_is way.within) (rw way.count_is way.few))
+    (rule_came_in (node_type_at nodes at.node) entered done smp
+    (ap (λ (n : ℕ). n == 0) way.entered_is ∙ way.is_numbered) way.pointer_is (rw way.count_is way.within)
+    (rw way.count_is way.few))
 
 pub leaves : (nodes : List Node) (cables : List Cable) (manager : PortRef) (sent : List ℕ) (hops : ℕ) (at : PortRef) (entered : ℕ) (smp : List ℕ)
     → list_all (is_right nodes) cables ≡ true

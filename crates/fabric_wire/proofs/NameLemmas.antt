@@ -6,8 +6,8 @@ use Rattle.std.proofs.lemmas.Bool.Decides.{nat_tests}
 use Rattle.std.proofs.lemmas.List.{length-replicate}
 use Rattle.topo_file.specs.Words.{is_name, is_name_byte}
 use Rattle.smp_wire.specs.Good.{is_byte, is_description}
-use Rattle.smp_wire.proofs.HoldingLemmas.{all_alike, all_joined}
 use Rattle.fabric_wire.specs.OfTopology.{named}
+use Rattle.smp_wire.proofs.ListLemmas.{all_alike, all_joined}
 
 name_byte_small : (byte : ℕ) → is_name_byte byte ≡ true → is_byte byte ≡ true
 name_byte_small byte h = grind (arith, nat_tests, h)

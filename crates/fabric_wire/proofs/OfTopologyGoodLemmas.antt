@@ -19,11 +19,11 @@ use Rattle.topo_file.specs.Sound.{ends_at_ports, is_named, is_sized, joins_right
 use Rattle.smp_wire.specs.Good.{ends_of, has_a_right_count, holds_attributes, is_byte, is_description, is_in_order, is_of, is_right, node_guid}
 use Rattle.fabric_wire.specs.Laws.{TopologiesGiveGood}
 use Rattle.fabric_wire.specs.OfTopology.{adapter_port_of, named, node_of, node_of_type}
-use Rattle.smp_wire.proofs.HoldingLemmas.{all_alike}
 use Rattle.fabric_wire.proofs.NameLemmas.{name_described}
 use Rattle.fabric_wire.proofs.OfTopologyLemmas.{all_made, free_ends, nodes_from, port_there, right_count, switch_there}
 use Rattle.fabric_wire.proofs.OfTopologyGuidLemmas.{end_guids_differ, guid_of, node_guids_differ}
 use Rattle.fabric_wire.proofs.DistinctLemmas.{all_differ, distinct}
+use Rattle.smp_wire.proofs.ListLemmas.{all_alike}
 
 -- ---- the ports of an adapter stand in order
 all_of : (cables : List Cable) (place : ℕ) (node : PlannedNode) (number count : ℕ)
@@ -44,7 +44,9 @@ ordered : (of : NodeType) (cables : List Cable) (place : ℕ) (node : PlannedNod
 ordered node_type.Switch cables place node guid = refl
 ordered node_type.ChannelAdapter cables place node guid =
     let long = length-map-range_with_len (adapter_port_of cables place node) 1 node.ports in
-    rw (guid, long) (and_from (list_all (is_of node.guid node.ports) (map (adapter_port_of cables place node) (range_with_len 1 node.ports))) _ (all_of cables place node 1 node.ports) (counted cables place node 1 node.ports))
+    rw (guid, long) (and_from (list_all (is_of node.guid node.ports)
+    (map (adapter_port_of cables place node) (range_with_len 1 node.ports))) _
+    (all_of cables place node 1 node.ports) (counted cables place node 1 node.ports))
 
 in_order : (cables : List Cable) (place : ℕ) (node : PlannedNode) → is_sized node ≡ true → is_in_order (node_of cables place node) ≡ true
 in_order cables place node sized = ordered node.node_type cables place node (guid_of cables place node sized)
@@ -102,7 +104,9 @@ all_once nodes (cable ∷ cables) joins own =
     let join = and_parts (joins_right nodes cable) _ joins in
     let free = free_ends cable cables own in
     let rest = flat_map ends_of cables in
-    let first : list_any (is_same_port cable.first) (cable.second ∷ rest) ≡ false = or_from (is_same_port cable.first cable.second) _ (ends_apart nodes cable join.0) (ends_are cable.first cables ∙ free.0) in
+    let first : list_any (is_same_port cable.first) (cable.second ∷ rest) ≡ false = or_from
+    (is_same_port cable.first cable.second) _ (ends_apart nodes cable join.0)
+    (ends_are cable.first cables ∙ free.0) in
     let second : list_any (is_same_port cable.second) rest ≡ false = ends_are cable.second cables ∙ free.1 in
     and_from (not (list_any (is_same_port cable.first) (cable.second ∷ rest))) _ (not_from_false _ first)
     (and_from (not (list_any (is_same_port cable.second) rest)) _ (not_from_false _ second) (all_once nodes cables join.1 (IsDistinct-tail shares_port cable cables own)))

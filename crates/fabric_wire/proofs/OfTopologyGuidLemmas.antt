@@ -172,7 +172,9 @@ ports_differ cables place node number zero = refl
 ports_differ cables place node number (suc count) =
     let guid = node.guid + number in
     let last = node.guid + number + count in
-    let later : list_all (is_in (guid + 1) last) (port_guids_from cables place node (number + 1) count) ≡ true = ports_within cables place node (guid + 1) last (number + 1) count (omega arith) (omega arith) in
+    let later : list_all (is_in (guid + 1) last) (port_guids_from cables place node (number + 1)
+    count) ≡ true = ports_within cables place node (guid + 1) last (number + 1) count (omega arith)
+    (omega arith) in
     and_from (not (list_any (λ other. guid == other) (port_guids_from cables place node (number + 1) count))) _
     (not_from_false _ (none_is guid (guid + 1) last (port_guids_from cables place node (number + 1) count) (inl (omega arith)) later))
     (ports_differ cables place node (number + 1) count)

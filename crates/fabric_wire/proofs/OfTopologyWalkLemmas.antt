@@ -108,7 +108,9 @@ goes plan sound here (next ∷ steps) b walks =
     let first = and_parts (is_planned_at plan.nodes here.node) _ walks in
     let second = and_parts (list_any (λ cable. joins here.node next cable) plan.cables) _ first.1 in
     let out = out_by plan.nodes plan.cables here.node next sound.lines.joins sound.lines.own_ports second.0 in
-    goes_on (nodes_from plan.cables 0 plan.nodes) plan.cables here next b out (all_right plan.cables plan.nodes plan.cables sound.lines.ends sound.lines.joins) (switch_there plan.cables plan.nodes here.node ∙ first.0)
+    goes_on (nodes_from plan.cables 0 plan.nodes) plan.cables here next b out
+    (all_right plan.cables plan.nodes plan.cables sound.lines.ends sound.lines.joins)
+    (switch_there plan.cables plan.nodes here.node ∙ first.0)
     (goes plan sound out.there steps b (subst (λ (k : ℕ). is_walk plan.nodes plan.cables k steps b ≡ true) (sym out.node) second.1))
 
 leads_there : (plan : Plan) (a b : ℕ) (way : Goes (nodes_from plan.cables 0 plan.nodes) plan.cables (port a 0) b)

@@ -42,8 +42,10 @@ abbrev Ends : List Node → List Cable → PortRef → List ℕ → Option Arriv
 Ends nodes cables manager sent given = given ≡ option_map (arrival_of manager sent) (walk nodes cables true manager (path_of sent))
 
 arrived_by : (nodes : List Node) (cables : List Cable) (manager : PortRef) (sent : List ℕ) (hops : ℕ) (at : PortRef) (entered : ℕ) (smp : List ℕ) (step : Step)
-    → IsOnWay nodes cables manager sent hops at entered smp → Leaves nodes cables sent hops at smp step → step.hop ≡ ToAgent → Ends nodes cables manager sent (Some (record { at = at; smp = step.smp }))
-arrived_by nodes cables manager sent hops at entered smp step way (arrives over is) to = rw is (ends nodes cables manager sent hops at (noted_by hops at smp) way.sent_long way.few over way.under)
+    → IsOnWay nodes cables manager sent hops at entered smp → Leaves nodes cables sent hops at smp
+    step → step.hop ≡ ToAgent → Ends nodes cables manager sent (Some (record { at = at; smp = step.smp }))
+arrived_by nodes cables manager sent hops at entered smp step way (arrives over is) to = rw is
+    (ends nodes cables manager sent hops at (noted_by hops at smp) way.sent_long way.few over way.under)
 arrived_by nodes cables manager sent hops at entered smp step way (passes more hands is) to =
     let clash : Forward (initial_port sent (hops + 1)) ≡ ToAgent = sym (ap (λ (s : Step). s.hop) is) ∙ to in
     cc
@@ -64,13 +66,16 @@ lost_by nodes cables manager sent hops at entered smp step way (drops more none 
 
 bare_port_by : (nodes : List Node) (cables : List Cable) (manager : PortRef) (sent : List ℕ) (hops : ℕ) (at : PortRef) (entered : ℕ) (smp : List ℕ) (step : Step) (number : ℕ)
     → list_all (is_right nodes) cables ≡ true
-    → IsOnWay nodes cables manager sent hops at entered smp → Leaves nodes cables sent hops at smp step → step.hop ≡ Forward number → far_end cables (record { node = at.node; port = number }) ≡ None → Ends nodes cables manager sent None
+    → IsOnWay nodes cables manager sent hops at entered smp → Leaves nodes cables sent hops at smp
+    step → step.hop ≡ Forward number → far_end cables (record { node = at.node; port = number }) ≡ None → Ends
+    nodes cables manager sent None
 bare_port_by nodes cables manager sent hops at entered smp step number right way (arrives over is) to none =
     let clash : ToAgent ≡ Forward number = sym (ap (λ (s : Step). s.hop) is) ∙ to in
     cc
 bare_port_by nodes cables manager sent hops at entered smp step number right way (passes more hands is) to none =
     let same : initial_port sent (hops + 1) ≡ number = same_port_out _ _ (sym (ap (λ (s : Step). s.hop) is) ∙ to) in
-    stops nodes cables manager sent hops at (noted_by hops at smp) way.sent_long way.few more way.under (hop_is_far_end nodes cables (hops == 0) at (initial_port sent (hops + 1)) right hands ∙ rw same none)
+    stops nodes cables manager sent hops at (noted_by hops at smp) way.sent_long way.few more way.under
+    (hop_is_far_end nodes cables (hops == 0) at (initial_port sent (hops + 1)) right hands ∙ rw same none)
 bare_port_by nodes cables manager sent hops at entered smp step number right way (drops more none_is is) to none =
     stops nodes cables manager sent hops at (noted_by hops at smp) way.sent_long way.few more way.under none_is
 
@@ -98,7 +103,9 @@ cleared_again full p start = set-set full 6 p 0 ∙ rw (← start) (set-get_or f
 
 way_on : (nodes : List Node) (cables : List Cable) (manager : PortRef) (sent : List ℕ) (hops : ℕ) (at there : PortRef) (entered number : ℕ) (smp : List ℕ)
     → list_all (is_right nodes) cables ≡ true
-    → IsOnWay nodes cables manager sent hops at entered smp → hops < count sent → hop nodes cables (hops == 0) at (initial_port sent (hops + 1)) ≡ Some there → far_end cables (record { node = at.node; port = number }) ≡ Some there
+    → IsOnWay nodes cables manager sent hops at entered smp → hops < count sent → hop nodes cables (hops == 0) at
+    (initial_port sent (hops + 1)) ≡ Some there → far_end cables
+    (record { node = at.node; port = number }) ≡ Some there
     → IsOnWay nodes cables manager sent (suc hops) there there.port (with_pointer (hops + 1) (noted_by hops at smp))
 way_on nodes cables manager sent hops at there entered number smp right way more hopped is =
     let full = noted_by hops at smp in
@@ -122,14 +129,17 @@ way_on nodes cables manager sent hops at there entered number smp right way more
 
 goes_by : (nodes : List Node) (cables : List Cable) (manager : PortRef) (sent : List ℕ) (hops : ℕ) (at there : PortRef) (entered : ℕ) (smp : List ℕ) (step : Step) (number : ℕ)
     → list_all (is_right nodes) cables ≡ true
-    → IsOnWay nodes cables manager sent hops at entered smp → Leaves nodes cables sent hops at smp step → step.hop ≡ Forward number → far_end cables (record { node = at.node; port = number }) ≡ Some there
+    → IsOnWay nodes cables manager sent hops at entered smp → Leaves nodes cables sent hops at smp
+    step → step.hop ≡ Forward number → far_end cables (record { node = at.node; port = number }) ≡ Some there
     → IsOnWay nodes cables manager sent (suc hops) there there.port step.smp
 goes_by nodes cables manager sent hops at there entered smp step number right way (arrives over is) to there_is =
     let clash : ToAgent ≡ Forward number = sym (ap (λ (s : Step). s.hop) is) ∙ to in
     cc
 goes_by nodes cables manager sent hops at there entered smp step number right way (passes more hands is) to there_is =
     let same : initial_port sent (hops + 1) ≡ number = same_port_out _ _ (sym (ap (λ (s : Step). s.hop) is) ∙ to) in
-    rw (ap (λ (s : Step). s.smp) is) (way_on nodes cables manager sent hops at there entered number smp right way more (hop_is_far_end nodes cables (hops == 0) at (initial_port sent (hops + 1)) right hands ∙ rw same there_is) there_is)
+    rw (ap (λ (s : Step). s.smp) is) (way_on nodes cables manager sent hops at there entered number smp right way
+    more (hop_is_far_end nodes cables (hops == 0) at (initial_port sent (hops + 1)) right hands ∙ rw same
+    there_is) there_is)
 goes_by nodes cables manager sent hops at there entered smp step number right way (drops more none is) to there_is =
     let clash : Discard ≡ Forward number = sym (ap (λ (s : Step). s.hop) is) ∙ to in
     cc
@@ -140,19 +150,26 @@ Turn nodes at entered smp = outgoing (node_type_at nodes at.node) entered smp
 
 pub arrived : (nodes : List Node) (cables : List Cable) (manager : PortRef) (sent : List ℕ) (hops : ℕ) (at : PortRef) (entered : ℕ) (smp : List ℕ)
     → list_all (is_right nodes) cables ≡ true
-    → IsOnWay nodes cables manager sent hops at entered smp → (Turn nodes at entered smp).hop ≡ ToAgent → Ends nodes cables manager sent (Some (record { at = at; smp = (Turn nodes at entered smp).smp }))
+    → IsOnWay nodes cables manager sent hops at entered smp → (Turn nodes at entered smp).hop ≡ ToAgent → Ends nodes
+    cables manager sent (Some (record { at = at; smp = (Turn nodes at entered smp).smp }))
 arrived nodes cables manager sent hops at entered smp right way to =
     arrived_by nodes cables manager sent hops at entered smp _ way (leaves nodes cables manager sent hops at entered smp right way) to
 
 pub lost : (nodes : List Node) (cables : List Cable) (manager : PortRef) (sent : List ℕ) (hops : ℕ) (at : PortRef) (entered : ℕ) (smp : List ℕ)
     → list_all (is_right nodes) cables ≡ true
-    → IsOnWay nodes cables manager sent hops at entered smp → (given : Hop) → given ≡ (Turn nodes at entered smp).hop → (given ≡ ToManager) ⊎ (given ≡ Discard) → Ends nodes cables manager sent None
+    → IsOnWay nodes cables manager sent hops at entered
+    smp → (given : Hop) → given ≡ (Turn nodes at entered smp).hop → (given ≡ ToManager) ⊎
+    (given ≡ Discard) → Ends nodes cables manager sent None
 lost nodes cables manager sent hops at entered smp right way given is to =
-    lost_by nodes cables manager sent hops at entered smp _ way (leaves nodes cables manager sent hops at entered smp right way) (elim to [ inl one ↦ inl (sym is ∙ one) | inr other ↦ inr (sym is ∙ other) ])
+    lost_by nodes cables manager sent hops at entered smp _ way
+    (leaves nodes cables manager sent hops at entered smp right way)
+    (elim to [ inl one ↦ inl (sym is ∙ one) | inr other ↦ inr (sym is ∙ other) ])
 
 pub bare_port : (nodes : List Node) (cables : List Cable) (manager : PortRef) (sent : List ℕ) (hops : ℕ) (at : PortRef) (entered : ℕ) (smp : List ℕ) (number : ℕ)
     → list_all (is_right nodes) cables ≡ true
-    → IsOnWay nodes cables manager sent hops at entered smp → (Turn nodes at entered smp).hop ≡ Forward number → far_end cables (record { node = at.node; port = number }) ≡ None → Ends nodes cables manager sent None
+    → IsOnWay nodes cables manager sent hops at entered smp → (Turn nodes at entered smp).hop ≡ Forward
+    number → far_end cables (record { node = at.node; port = number }) ≡ None → Ends nodes cables manager sent
+    None
 bare_port nodes cables manager sent hops at entered smp number right way to none =
     bare_port_by nodes cables manager sent hops at entered smp _ number right way (leaves nodes cables manager sent hops at entered smp right way) to none
 

@@ -86,7 +86,8 @@ may nodes (suc done) left node entered smp enters here hops =
     rw (enters, here, some, within) (by_type nodes node left (is_switch_at nodes node) (left == 0) refl refl (last_hop left))
 
 back_by : (cables : List Cable) (nodes : List Node) (manager : ℕ) (home : Bool) (reply : List ℕ) (done left : ℕ) (at : PortRef) (smp : List ℕ) (hands : Bool) (step : Step)
-    → list_all (is_right nodes) cables ≡ true → length reply ≡ 256 → smp ≡ with_pointer (left + 1) reply → done + left ≡ count reply → home ≡ hands && leads_home nodes cables manager reply left at.node
+    → list_all (is_right nodes) cables ≡ true → length reply ≡ 256 → smp ≡ with_pointer (left + 1)
+    reply → done + left ≡ count reply → home ≡ hands && leads_home nodes cables manager reply left at.node
     → step ≡ (if hands then sent_back smp else discarded smp) → Returns cables nodes manager home reply done at smp step
 back_by cables nodes manager home reply done left at smp false step right long smp_is hops leads rule = drops leads rule
 back_by cables nodes manager home reply done zero at smp true step right long smp_is hops leads rule =
@@ -185,7 +186,9 @@ Turn nodes at entered smp = returning (node_type_at nodes at.node) entered smp
 
 pub came : (nodes : List Node) (cables : List Cable) (manager : ℕ) (home : Bool) (reply : List ℕ) (done : ℕ) (at : PortRef) (entered : ℕ) (smp : List ℕ)
     → list_all (is_right nodes) cables ≡ true
-    → IsComing nodes cables manager home reply done at entered smp → (Turn nodes at entered smp).hop ≡ ToManager → ((at.node == manager) ≡ home) × ((Turn nodes at entered smp).smp ≡ with_pointer 0 reply)
+    → IsComing nodes cables manager home reply done at entered
+    smp → (Turn nodes at entered smp).hop ≡ ToManager → ((at.node == manager) ≡ home) × ((Turn nodes at entered
+    smp).smp ≡ with_pointer 0 reply)
 came nodes cables manager home reply done at entered smp right way to =
     came_by nodes cables manager home reply done at smp _ (returns nodes cables manager home reply done at entered smp right way) to
 
@@ -193,11 +196,14 @@ pub lost : (nodes : List Node) (cables : List Cable) (manager : ℕ) (home : Boo
     → list_all (is_right nodes) cables ≡ true
     → IsComing nodes cables manager home reply done at entered smp → (given : Hop) → given ≡ (Turn nodes at entered smp).hop → (given ≡ ToAgent) ⊎ (given ≡ Discard) → false ≡ home
 lost nodes cables manager home reply done at entered smp right way given is to =
-    lost_by nodes cables manager home reply done at smp _ (returns nodes cables manager home reply done at entered smp right way) (elim to [ inl one ↦ inl (sym is ∙ one) | inr other ↦ inr (sym is ∙ other) ])
+    lost_by nodes cables manager home reply done at smp _
+    (returns nodes cables manager home reply done at entered smp right way)
+    (elim to [ inl one ↦ inl (sym is ∙ one) | inr other ↦ inr (sym is ∙ other) ])
 
 pub bare_port : (nodes : List Node) (cables : List Cable) (manager : ℕ) (home : Bool) (reply : List ℕ) (done : ℕ) (at : PortRef) (entered : ℕ) (smp : List ℕ) (number : ℕ)
     → list_all (is_right nodes) cables ≡ true
-    → IsComing nodes cables manager home reply done at entered smp → (Turn nodes at entered smp).hop ≡ Forward number → far_end cables (record { node = at.node; port = number }) ≡ None → false ≡ home
+    → IsComing nodes cables manager home reply done at entered smp → (Turn nodes at entered smp).hop ≡ Forward
+    number → far_end cables (record { node = at.node; port = number }) ≡ None → false ≡ home
 bare_port nodes cables manager home reply done at entered smp number right way to none =
     bare_by nodes cables manager home reply done at smp _ number (returns nodes cables manager home reply done at entered smp right way) to none
 

@@ -112,7 +112,8 @@ put_law a w t r low len s v below same wide e =
     let new = parts_number a t r in
     let long : 2 ^ (8 * length t) ≡ 2 ^ (s + (low + len)) = ap (λ (n : ℕ). 2 ^ (8 * n)) same ∙ ap (λ (n : ℕ). 2 ^ n) wide in
     let wlong : 2 ^ (8 * length w) ≡ 2 ^ (s + (low + len)) = ap (λ (n : ℕ). 2 ^ n) wide in
-    let up : replaced ((number a * 2 ^ (8 * length w) + number w) * 2 ^ k + number r) (k + low) len v ≡ (number a * 2 ^ (s + (low + len)) + replaced (number w) low len v) * 2 ^ k + number r =
+    let up : replaced ((number a * 2 ^ (8 * length w) + number w) * 2 ^ k + number r) (k + low) len
+    v ≡ (number a * 2 ^ (s + (low + len)) + replaced (number w) low len v) * 2 ^ k + number r =
     replaced_low (number a * 2 ^ (8 * length w) + number w) (number r) k low len v (number_below r below)
     ∙ ap (λ (n : ℕ). replaced (number a * n + number w) low len v * 2 ^ k + number r) wlong
     ∙ ap (λ (n : ℕ). n * 2 ^ k + number r) (replaced_high (number a) (number w) low len s v) in

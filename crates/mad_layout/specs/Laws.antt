@@ -1,4 +1,4 @@
--- What holds of every field and every layout, in the words of Bits and Layout.
+-- What holds of every field and every layout, in the terms of Bits and Layout.
 use Rattle.std.specs.Prelude.{ℕ, ◌≡◌, ◌+◌, ◌*◌, ◌^◌, ◌<◌, ◌≤◌, ◌⊎◌, true, List, length, replicate, slice_range, slice_index, slice_set}
 use Rattle.std.specs.Int.Digits.{AllBelowBase}
 use Rattle.mad_layout.specs.Bits.{field, put_field}

@@ -5,7 +5,7 @@ ghost use Rattle.mad_layout.specs.Bits.{number, field, replaced, put_field};
 /// The field of `LEN` bits that begins at bit `OFF`.
 pub fn get_bits<const OFF: usize, const LEN: usize>(bytes: &[u8]) -> u64
     requires some { 1 ≤ LEN }
-    requires word { LEN ≤ 64 }
+    requires narrow { LEN ≤ 64 }
     requires within { OFF + LEN ≤ 8 * length bytes.now }
     ensures value { result ≡ field bytes.now OFF LEN }
     ensures fits { result < 2 ^ LEN }
@@ -21,7 +21,7 @@ pub fn get_bits<const OFF: usize, const LEN: usize>(bytes: &[u8]) -> u64
 /// Sets the field of `LEN` bits that begins at bit `OFF`; every other bit stays.
 pub fn put_bits<const OFF: usize, const LEN: usize>(bytes: &mut [u8], value: u64)
     requires some { 1 ≤ LEN }
-    requires word { LEN ≤ 64 }
+    requires narrow { LEN ≤ 64 }
     requires within { OFF + LEN ≤ 8 * length bytes.old }
     requires fits { value < 2 ^ LEN }
     ensures { bytes.new ≡ put_field bytes.old OFF LEN value }

@@ -151,8 +151,13 @@ changes_at_most held smp =
 pub takes_alike : (held : AdapterState) (attribute : SmpAttribute) (one other : List ℕ) → AsksSame one other
     → set held attribute other ≡ set held attribute one
 unfolding set
-takes_alike held PortInfo one other same = λ place. if is_own held (same.modifier place) then (port_info_after false held.info (same.setting place) >>= λ info. Ok (record held { info = info })) else Err InvalidField
-takes_alike held PKeyTable one other same = λ place. (if has_block 32 (same.modifier place) held.keys then Ok (with_block 32 (same.modifier place) (same.words place) held.keys) else Err InvalidField) >>= λ keys. Ok (record held { keys = keys })
+takes_alike held PortInfo one other same = λ place. if is_own held (same.modifier place)
+    then (port_info_after false held.info (same.setting place) >>= λ info. Ok (record held { info = info }))
+    else Err InvalidField
+takes_alike held PKeyTable one other same = λ place.
+    (if has_block 32 (same.modifier place) held.keys then Ok
+    (with_block 32 (same.modifier place) (same.words place) held.keys) else Err InvalidField) >>= λ keys. Ok
+    (record held { keys = keys })
 takes_alike held NodeDescription one other same = refl
 takes_alike held NodeInfo one other same = refl
 takes_alike held SwitchInfo one other same = refl

@@ -2,9 +2,8 @@
 
 ghost use Rattle.std.specs.Prelude.{◌≡◌, ◌+◌, ◌<◌, ℕ, slice_set};
 ghost use Rattle.smp_route.specs.Places.{pointer, count, initial_port, is_outgoing, return_port, turned_round, with_pointer, with_return_port};
-ghost use Rattle.smp_route.specs.Laws.{PlacesAreFields};
 
-use mad_layout::{Mad, bytes_are_fields, bytes_are_set, get_bits, put_bits};
+use mad_layout::{Mad, get_bits, put_bits};
 
 /// How many hops a path has at most.
 pub const MAX_HOPS: u8 = 63;
@@ -74,13 +73,4 @@ pub fn set_return_port(smp: &mut Mad, hop: u8, port: u8)
     ensures { smp.new ≡ with_return_port hop port smp.old }
 {
     smp[RETURN_PATH + hop as usize] = port;
-}
-
-/// The bytes that hops read and write are the fields of a directed-route SMP. Its contract is that law;
-/// it does nothing.
-pub fn fields_are_the_standards()
-    ensures { PlacesAreFields }
-{
-    bytes_are_fields();
-    bytes_are_set();
 }

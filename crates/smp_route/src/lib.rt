@@ -8,13 +8,15 @@
 
 mod fields;
 mod hop;
+mod laws;
 mod outgoing;
 mod returning;
 
 pub use crate::fields::{
-    MAX_HOPS, count_of, fields_are_the_standards, initial_port_of, is_outgoing, pointer_of,
-    return_port_of, set_pointer, set_return_port, turn_round,
+    MAX_HOPS, count_of, initial_port_of, is_outgoing, pointer_of, return_port_of, set_pointer,
+    set_return_port, turn_round,
 };
 pub use crate::hop::Hop;
+pub use crate::laws::fields_are_the_standards;
 pub use crate::outgoing::outward;
 pub use crate::returning::back;

@@ -23,7 +23,7 @@ use Rattle.smp_wire.specs.declared.node.Node.TheVariants.{Switch, Adapter}
 use Rattle.smp_wire.specs.FabricState.{FabricState, is_port, port_count}
 use Rattle.smp_wire.specs.Good.{IsGood, has_a_right_count, is_right}
 use Rattle.smp_wire.specs.Walk.{arrived, hands_on, hop, walk, with_return_ports}
-use Rattle.smp_wire.proofs.HoldingLemmas.{all_there}
+use Rattle.smp_wire.proofs.ListLemmas.{all_there, find_all}
 
 -- ---- bytes that agents do not look at
 pub record IsCarrier (sent smp : List ℕ) : Type 0 where
@@ -73,25 +73,30 @@ noted_carries : (sent smp : List ℕ) (k : ℕ) (ends : List PortRef) → IsCarr
     → AreBytes ends → IsCarrier sent (with_return_ports k ends smp)
 noted_carries sent smp k [] here few bytes = here
 noted_carries sent smp k (end ∷ ends) here few bytes =
-    noted_carries sent (with_return_port k end.port smp) (k + 1) ends (byte_carries sent smp (192 + k) end.port here (omega (arith, few)) bytes.0 (unseen_return k (omega (arith, few)))) (omega (arith, few)) bytes.1
+    noted_carries sent (with_return_port k end.port smp) (k + 1) ends
+    (byte_carries sent smp (192 + k) end.port here (omega (arith, few)) bytes.0
+    (unseen_return k (omega (arith, few)))) (omega (arith, few)) bytes.1
 
 pub arrived_carries : (sent : List ℕ) (ends : List PortRef) → AllBelowBase 256 sent → length sent ≡ 256
     → length ends ≡ count sent → count sent ≤ 63 → AreBytes ends → IsCarrier sent (arrived ends sent)
 arrived_carries sent ends below long hops few bytes =
     byte_carries sent (with_return_ports 1 ends sent) 6 (count sent + 1)
-    (noted_carries sent sent 1 ends (record { asks = record { request = refl; set = refl; attribute = refl; modifier = refl; setting = refl; linear_fdb_top = refl; words = refl; ports = refl }; below = below; long = long }) (omega (arith, hops, few)) bytes)
+    (noted_carries sent sent 1 ends (record {
+      asks = record {
+        request = refl;
+        set = refl;
+        attribute = refl;
+        modifier = refl;
+        setting = refl;
+        linear_fdb_top = refl;
+        words = refl;
+        ports = refl;
+      };
+      below = below;
+      long = long;
+    })
+    (omega (arith, hops, few)) bytes)
     (omega arith) (omega (arith, few)) refl
-
-pick : {X : Type 0} (p : X → Bool) (b : Bool) (y x : X) (rest : Option X) → (if b then Some y else rest) ≡ Some x
-    → p y ≡ true → (rest ≡ Some x → p x ≡ true) → p x ≡ true
-pick p true y x rest found here later = ap p (sym (same_Some y x found)) ∙ here
-pick p false y x rest found here later = later found
-
-find_all : {X : Type 0} (p q : X → Bool) (xs : List X) (x : X) → list_all p xs ≡ true → find q xs ≡ Some x → p x ≡ true
-find_all p q [] x all found = cc
-find_all p q (y ∷ ys) x all found =
-    let parts = and_parts (p y) (list_all p ys) all in
-    pick p (q y) y x (find q ys) found parts.0 (λ h. find_all p q ys x parts.1 h)
 
 below : (n most : ℕ) → nat_le 1 n && nat_le n most ≡ true → n ≤ most
 below n most h = let part = (and_parts (nat_le 1 n) (nat_le n most) h).1 in grind (arith, nat_tests, part)
@@ -127,7 +132,9 @@ far_small fabric here there (Some cable) good right is =
 
 pub end_small : (fabric : FabricState) (out there : PortRef) → IsGood fabric → far_end fabric.cables out ≡ Some there → there.port < 256
 end_small fabric out there good is =
-    far_small fabric out there (find (λ cable. ends_at out cable) fabric.cables) good (λ cable found. find_all (is_right fabric.nodes) (λ one. ends_at out one) fabric.cables cable good.cables found) is
+    far_small fabric out there (find (λ cable. ends_at out cable) fabric.cables) good
+    (λ cable found. find_all (is_right fabric.nodes) (λ one. ends_at out one) fabric.cables cable good.cables
+    found) is
 
 hop_small : (fabric : FabricState) (starts : Bool) (here there : PortRef) (number : ℕ) → IsGood fabric
     → hop fabric.nodes fabric.cables starts here number ≡ Some there → there.port < 256
@@ -152,7 +159,9 @@ walked_on fabric numbers there ends (Some some) small right is =
 walked_from : (fabric : FabricState) (numbers : List ℕ) (ends : List PortRef) (next : Option PortRef)
     → ((there : PortRef) → next ≡ Some there → there.port < 256)
     → ((there : PortRef) (some : List PortRef) → walk fabric.nodes fabric.cables false there numbers ≡ Some some → WalksRight numbers some)
-    → option_and_then (λ there. option_map (λ later. there ∷ later) (walk fabric.nodes fabric.cables false there numbers)) next ≡ Some ends → (length ends ≡ suc (length numbers)) × AreBytes ends
+    → option_and_then (λ there. option_map (λ later. there ∷ later)
+    (walk fabric.nodes fabric.cables false there numbers)) next ≡ Some
+    ends → (length ends ≡ suc (length numbers)) × AreBytes ends
 walked_from fabric numbers ends None small right is = cc
 walked_from fabric numbers ends (Some there) small right is =
     walked_on fabric numbers there ends (walk fabric.nodes fabric.cables false there numbers) (small there refl) (right there) is

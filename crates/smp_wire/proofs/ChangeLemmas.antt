@@ -1,5 +1,5 @@
 -- What an exchange changes of a good fabric: at one node what the SMP names.
-use Rattle.std.proofs.Common.{ℕ, zero, suc, ◌≡◌, ◌≢◌, ◌-◌, ◌==◌, ◌∙◌, ap, refl, sym, subst, inl, inr, Bool, true, false, if◌then◌else◌, List, [], ◌∷◌, length, slice_get, slice_set, Option, Some, None, option_map, arith}
+use Rattle.std.proofs.Common.{ℕ, ◌≡◌, ◌≢◌, ◌-◌, ◌==◌, ◌∙◌, ap, refl, sym, subst, inl, inr, Bool, true, false, if◌then◌else◌, List, length, slice_get, slice_set, Option, Some, None, option_map, arith}
 use Rattle.std.specs.Int.Digits.{AllBelowBase}
 use Rattle.std.specs.Option.{option_and_then}
 use Rattle.std.proofs.lemmas.Bool.Decides.{nat_tests}
@@ -24,21 +24,9 @@ use Rattle.smp_wire.specs.Changes.{AdapterChangesAtMost, NodeChangesAtMost, Node
 use Rattle.smp_wire.specs.FabricState.{FabricState, adapter_port, adapter_ports_after, after_at, node_after, node_reply, nodes_after, reply_at}
 use Rattle.smp_wire.specs.Good.{IsGood}
 use Rattle.smp_wire.specs.Walk.{arrived, exchange_after, exchange_reply, last_of, returned, walk_of}
-use Rattle.smp_wire.proofs.ReplyLemmas.{replies, returned_field, set_back}
+use Rattle.smp_wire.proofs.ReplyLemmas.{replies, returned_field}
 use Rattle.smp_wire.proofs.WalkedLemmas.{carried, no_walk_after, walk_after, walk_reply}
-
--- ---- lists with one element written
-get_other : {X : Type 0} (xs : List X) (i k : ℕ) (x : X) → k ≢ i → slice_get (slice_set xs i x) k ≡ slice_get xs k
-get_other [] i k x other = refl
-get_other (y ∷ ys) zero zero x other = absurd (other refl)
-get_other (y ∷ ys) zero (suc k) x other = refl
-get_other (y ∷ ys) (suc i) zero x other = refl
-get_other (y ∷ ys) (suc i) (suc k) x other = get_other ys i k x (λ same. other (ap suc same))
-
-get_written : {X : Type 0} (xs : List X) (i : ℕ) (x was : X) → slice_get xs i ≡ Some was → slice_get (slice_set xs i x) i ≡ Some x
-get_written [] i x was there = cc
-get_written (y ∷ ys) zero x was there = refl
-get_written (y ∷ ys) (suc i) x was there = get_written ys i x was there
+use Rattle.smp_wire.proofs.ListLemmas.{get_other, get_written, set_back}
 
 -- ---- what changes no agent changes no node
 pub record ChangesNothing (smp : List ℕ) : Type 0 where
@@ -47,11 +35,18 @@ pub record ChangesNothing (smp : List ℕ) : Type 0 where
 
 pub unset : (smp : List ℕ) → is_set smp ≡ false → ChangesNothing smp
 unfolding switch_after adapter_after
-unset smp is = record { switch = λ held. (settled (switch_gives 0) switch_set (switch_shows 0)).get held smp is; port = λ held. (settled adapter_gives adapter_set adapter_shows).get held smp is }
+unset smp is = record {
+  switch = λ held. (settled (switch_gives 0) switch_set (switch_shows 0)).get held smp is;
+  port = λ held. (settled adapter_gives adapter_set adapter_shows).get held smp is;
+}
 
 unasked : (smp : List ℕ) → is_request smp ≡ false → ChangesNothing smp
 unfolding switch_after adapter_after
-unasked smp is = record { switch = λ held. (settled (switch_gives 0) switch_set (switch_shows 0)).silent held smp is; port = λ held. (settled adapter_gives adapter_set adapter_shows).silent held smp is }
+unasked smp is = record {
+  switch = λ held. (settled (switch_gives 0) switch_set (switch_shows 0)).silent held smp
+      is;
+  port = λ held. (settled adapter_gives adapter_set adapter_shows).silent held smp is;
+}
 
 ports_stay : (none : Bool) (ports : List AdapterState) (number : ℕ) (smp : List ℕ) (found : Option AdapterState)
     → ChangesNothing smp → slice_get ports (number - 1) ≡ found
@@ -92,8 +87,10 @@ found_silent nodes at smp (Some node) request there silent = set_back nodes at.n
 
 nodes_silent : (fabric : FabricState) (at : PortRef) (smp : List ℕ) (request : Bool) → is_request smp ≡ request
     → reply_at fabric at smp ≡ None → after_at fabric at smp ≡ fabric
-nodes_silent fabric at smp true request silent = ap (λ (nodes : List Node). record fabric { nodes = nodes }) (found_silent fabric.nodes at smp (slice_get fabric.nodes at.node) request refl silent)
-nodes_silent fabric at smp false request silent = ap (λ (nodes : List Node). record fabric { nodes = nodes }) (nodes_stay fabric.nodes at smp (slice_get fabric.nodes at.node) (unasked smp request) refl)
+nodes_silent fabric at smp true request silent = ap (λ (nodes : List Node). record fabric { nodes = nodes })
+    (found_silent fabric.nodes at smp (slice_get fabric.nodes at.node) request refl silent)
+nodes_silent fabric at smp false request silent = ap (λ (nodes : List Node). record fabric { nodes = nodes })
+    (nodes_stay fabric.nodes at smp (slice_get fabric.nodes at.node) (unasked smp request) refl)
 
 -- ---- SMPs that ask the same change the same
 ports_alike : (ports : List AdapterState) (number : ℕ) (one other : List ℕ) (found : Option AdapterState)
@@ -170,7 +167,8 @@ walk_changes fabric smp ends good long below is =
 unanswered_by : (fabric : FabricState) (smp : List ℕ) (ends : List PortRef) (answer : Option (List ℕ))
     → walk_of fabric smp ≡ Some ends → reply_at fabric (last_of fabric.manager ends) (arrived ends smp) ≡ answer
     → option_map returned answer ≡ None → exchange_after fabric smp ≡ fabric
-unanswered_by fabric smp ends None is silent none = walk_after fabric smp ends is ∙ nodes_silent fabric (last_of fabric.manager ends) (arrived ends smp) (is_request (arrived ends smp)) refl silent
+unanswered_by fabric smp ends None is silent none = walk_after fabric smp ends is ∙ nodes_silent fabric
+    (last_of fabric.manager ends) (arrived ends smp) (is_request (arrived ends smp)) refl silent
 unanswered_by fabric smp ends (Some answer) is silent none = cc
 
 refused_by : (fabric : FabricState) (smp reply : List ℕ) (ends : List PortRef) (answer : Option (List ℕ))
@@ -181,7 +179,9 @@ refused_by fabric smp reply ends (Some answer) good long below is answers replie
     let carrier = carried fabric smp ends good long below is in
     let of_agent = replies fabric (last_of fabric.manager ends) (arrived ends smp) answer carrier.long good.holdings answers in
     let same : returned answer ≡ reply = cc in
-    let kept : field reply 33 15 ≡ field answer 33 15 = ap (λ (one : List ℕ). field one 33 15) (sym same) ∙ returned_field answer 33 15 of_agent.below of_agent.long (omega arith) (inr (omega arith)) (inl (omega arith)) in
+    let kept : field reply 33 15 ≡ field answer 33 15 = ap (λ (one : List ℕ). field one 33 15) (sym same)
+    ∙ returned_field answer 33 15 of_agent.below of_agent.long (omega arith) (inr (omega arith))
+    (inl (omega arith)) in
     walk_after fabric smp ends is ∙ of_agent.refused (λ zero_is. status (kept ∙ zero_is))
 
 no_set_by : (fabric : FabricState) (smp : List ℕ) (walked : Option (List PortRef)) → IsGood fabric → length smp ≡ 256
@@ -191,7 +191,9 @@ no_set_by fabric smp (Some ends) good long below is no_set =
     let at = last_of fabric.manager ends in
     let asks = (carried fabric smp ends good long below is).asks in
     walk_after fabric smp ends is
-    ∙ ap (λ (nodes : List Node). record fabric { nodes = nodes }) (nodes_stay fabric.nodes at (arrived ends smp) (slice_get fabric.nodes at.node) (unset (arrived ends smp) (asks.set ∙ no_set)) refl)
+    ∙ ap (λ (nodes : List Node). record fabric { nodes = nodes })
+    (nodes_stay fabric.nodes at (arrived ends smp) (slice_get fabric.nodes at.node)
+    (unset (arrived ends smp) (asks.set ∙ no_set)) refl)
 
 kept_by : (fabric next : FabricState) (smp : List ℕ) (walked : Option (List PortRef)) → walk_of fabric smp ≡ walked
     → next ≡ exchange_after fabric smp → (next.cables ≡ fabric.cables) × (next.manager ≡ fabric.manager)

@@ -43,7 +43,9 @@ pub path_is : (smp initial path : List ℕ) → length smp ≡ 256 → slice_ran
 path_is smp initial path long is part hops few =
     let whole : take 64 (drop 128 smp) ≡ initial = is in
     let from : drop 129 smp ≡ drop 1 (drop 128 smp) = sym (drop-drop 1 128 smp) in
-    let cut : take (length path) (drop 1 (take 64 (drop 128 smp))) ≡ take (length path) (drop 1 (drop 128 smp)) = ap (take (length path)) (drop-take 1 63 (drop 128 smp)) ∙ take-take (length path) 63 (drop 1 (drop 128 smp)) few in
+    let cut : take (length path) (drop 1 (take 64 (drop 128 smp))) ≡ take (length path)
+    (drop 1 (drop 128 smp)) = ap (take (length path)) (drop-take 1 63 (drop 128 smp)) ∙ take-take (length path)
+    63 (drop 1 (drop 128 smp)) few in
     rw (hops, from) (sym cut ∙ rw whole part)
 
 -- the path stands in its entries
@@ -148,5 +150,58 @@ pub plain_is : {mid smp : List ℕ} {header : Header} {route : DrSmp} {attribute
 plain_is {route = route} spelled =
     let h = header_there spelled in
     let r = spelled.second.fields in
-    let is = spelled.route_is in
-    (sym h.base, (sym h.class, (sym h.version, (sym h.method, (sym (ap bit_of is.out) ∙ r.0, (sym is.status ∙ r.1.0, (sym is.at_start ∙ r.1.1.0, (sym is.hops ∙ r.1.1.1.0, (sym h.transaction, (sym h.attribute_is, (sym h.reserved, (sym h.modifier_is, (sym is.key ∙ r.1.1.1.1.0, (sym is.begins ∙ r.1.1.1.1.1.0, (sym is.ends ∙ r.1.1.1.1.1.1.0, (sym h.unsaid, (number_blank route.«data» is.blank ∙ r.1.1.1.1.1.1.1.0, (ap number (sym is.along) ∙ r.1.1.1.1.1.1.1.1.0, (number_blank route.return_path is.back ∙ r.1.1.1.1.1.1.1.1.1.0, tt)))))))))))))))))))
+    let is = spelled.route_is in (
+      sym h.base,
+      (
+        sym h.class,
+        (
+          sym h.version,
+          (
+            sym h.method,
+            (
+              sym (ap bit_of is.out) ∙ r.0,
+              (
+                sym is.status ∙ r.1.0,
+                (
+                  sym is.at_start ∙ r.1.1.0,
+                  (
+                    sym is.hops ∙ r.1.1.1.0,
+                    (
+                      sym h.transaction,
+                      (
+                        sym h.attribute_is,
+                        (
+                          sym h.reserved,
+                          (
+                            sym h.modifier_is,
+                            (
+                              sym is.key ∙ r.1.1.1.1.0,
+                              (
+                                sym is.begins ∙ r.1.1.1.1.1.0,
+                                (
+                                  sym is.ends ∙ r.1.1.1.1.1.1.0,
+                                  (
+                                    sym h.unsaid,
+                                    (
+                                      number_blank route.«data» is.blank ∙ r.1.1.1.1.1.1.1.0,
+                                      (
+                                        ap number (sym is.along) ∙ r.1.1.1.1.1.1.1.1.0,
+                                        (number_blank route.return_path is.back ∙ r.1.1.1.1.1.1.1.1.1.0, tt),
+                                      ),
+                                    ),
+                                  ),
+                                ),
+                              ),
+                            ),
+                          ),
+                        ),
+                      ),
+                    ),
+                  ),
+                ),
+              ),
+            ),
+          ),
+        ),
+      ),
+    )

@@ -1,12 +1,11 @@
 -- What nodes hold makes attributes of what their agents give, and SMPs keep it so.
-use Rattle.std.proofs.Common.{ℕ, zero, suc, ◌≡◌, ◌+◌, ◌*◌, ◌-◌, ◌<◌, ◌==◌, ◌∙◌, ap, refl, sym, subst, Bool, true, false, if◌then◌else◌, List, [], ◌∷◌, ◌++◌, length, take, drop, replicate, slice_get, slice_set, Option, Some, None, option_map, Result, Ok, arith, length-drop, length-take-le}
+use Rattle.std.proofs.Common.{ℕ, ◌≡◌, ◌+◌, ◌*◌, ◌-◌, ◌<◌, ◌==◌, ◌∙◌, ap, refl, sym, subst, Bool, true, false, if◌then◌else◌, List, [], ◌∷◌, length, take, drop, slice_get, Option, Some, None, option_map, Result, Ok, arith, length-drop, length-take-le}
 use Rattle.std.specs.Int.Digits.{AllBelowBase}
 use Rattle.std.specs.List.{list_all, range_with_len}
 use Rattle.std.specs.Option.{option_and_then}
 use Rattle.std.proofs.lemmas.Bool.{and_from, and_parts, lt-ltb}
 use Rattle.std.proofs.lemmas.Bool.Decides.{nat_tests}
-use Rattle.std.proofs.lemmas.List.{take-append-drop}
-use Rattle.std.proofs.lemmas.List.Folds.{list_all-append, list_all-map}
+use Rattle.std.proofs.lemmas.List.Folds.{list_all-map}
 use Rattle.std.proofs.lemmas.Nat.{mod_below}
 use Rattle.mad_layout.specs.Bits.{field}
 use Rattle.mad_layout.specs.declared.status.MadStatus.{MadStatus}
@@ -34,32 +33,7 @@ use Rattle.smp_wire.specs.declared.node.Node.TheVariants.{Switch, Adapter}
 use Rattle.smp_wire.specs.FabricState.{FabricState}
 use Rattle.smp_wire.specs.Get.{gives_at, node_gives}
 use Rattle.smp_wire.specs.Good.{holds_attributes, is_byte, is_description}
-
--- ---- lists of which each element passes a test
-pub all_joined : {X : Type 0} (p : X → Bool) (xs ys : List X) → list_all p xs ≡ true → list_all p ys ≡ true → list_all p (xs ++ ys) ≡ true
-all_joined p xs ys one two = list_all-append p xs ys ∙ and_from (list_all p xs) (list_all p ys) one two
-
-all_cut : {X : Type 0} (p : X → Bool) (n : ℕ) (xs : List X) → list_all p xs ≡ true → (list_all p (take n xs) ≡ true) × (list_all p (drop n xs) ≡ true)
-all_cut p n xs all =
-    and_parts (list_all p (take n xs)) (list_all p (drop n xs)) (sym (list_all-append p (take n xs) (drop n xs)) ∙ ap (list_all p) (take-append-drop n xs) ∙ all)
-
-pub all_alike : {X : Type 0} (p : X → Bool) (x : X) (n : ℕ) → p x ≡ true → list_all p (replicate n x) ≡ true
-all_alike p x zero one = refl
-all_alike p x (suc n) one = and_from (p x) _ one (all_alike p x n one)
-
-pub all_set : {X : Type 0} (p : X → Bool) (xs : List X) (i : ℕ) (x : X) → list_all p xs ≡ true → p x ≡ true → list_all p (slice_set xs i x) ≡ true
-all_set p [] i x all one = refl
-all_set p (y ∷ ys) zero x all one = and_from (p x) _ one (and_parts (p y) _ all).1
-all_set p (y ∷ ys) (suc i) x all one =
-    let parts = and_parts (p y) (list_all p ys) all in
-    and_from (p y) _ parts.0 (all_set p ys i x parts.1 one)
-
-pub all_there : {X : Type 0} (p : X → Bool) (xs : List X) (i : ℕ) (x : X) → list_all p xs ≡ true → slice_get xs i ≡ Some x → p x ≡ true
-all_there p [] i x all there = absurd (cc)
-all_there p (y ∷ ys) zero x all there =
-    let same : y ≡ x = cc in
-    ap p (sym same) ∙ (and_parts (p y) (list_all p ys) all).0
-all_there p (y ∷ ys) (suc i) x all there = all_there p ys i x (and_parts (p y) (list_all p ys) all).1 there
+use Rattle.smp_wire.proofs.ListLemmas.{all_cut, all_joined, all_there}
 
 -- ---- a linear forwarding table that is set
 field_small : (smp : List ℕ) (off : ℕ) → is_byte (field smp off 8) ≡ true

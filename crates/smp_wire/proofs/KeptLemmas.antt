@@ -14,8 +14,8 @@ use Rattle.smp_wire.specs.declared.node.Node.{Node}
 use Rattle.smp_wire.specs.FabricState.{FabricState, is_port, is_switch, is_switch_at, nodes_after, port_count}
 use Rattle.smp_wire.specs.Walk.{after_walk, exchange_after, hop, walk, walk_of}
 use Rattle.smp_wire.specs.Good.{IsGood, ShowsLinks, SwitchesJoined, end_port_guids, has_a_right_count, holds_attributes, info_at, is_in_order, is_right, node_guid, port_info_at}
-use Rattle.smp_wire.proofs.HoldingLemmas.{all_set, all_there}
-use Rattle.smp_wire.proofs.GoodLemmas.{IsSameNode, all_same, down_at, get_same, or_same, read_same, same_node}
+use Rattle.smp_wire.proofs.GoodLemmas.{IsSameNode, down_at, same_node}
+use Rattle.smp_wire.proofs.ListLemmas.{all_same, all_set, all_there, get_same, or_same, read_same}
 
 pub record IsSame (old new : FabricState) : Type 0 where
   pub cables : new.cables ≡ old.cables
@@ -104,7 +104,9 @@ down_by (Some node) number = refl
 down_same : (old new : FabricState) → IsSame old new → (at : PortRef)
     → option_map (λ info. is_down info) (info_at new at) ≡ option_map (λ info. is_down info) (info_at old at)
 down_same old new same at =
-    down_by (slice_get new.nodes at.node) at.port ∙ ap (option_and_then (λ x. x)) (get_same (λ node. down_at node at.port) old.nodes new.nodes at.node (same.downs at.port)) ∙ sym (down_by (slice_get old.nodes at.node) at.port)
+    down_by (slice_get new.nodes at.node) at.port ∙ ap (option_and_then (λ x. x))
+    (get_same (λ node. down_at node at.port) old.nodes new.nodes at.node (same.downs at.port)) ∙ sym
+    (down_by (slice_get old.nodes at.node) at.port)
 
 was_down : (b : Bool) (info : PortInfo) (old : Option PortInfo) → Some (is_down info) ≡ option_map (λ one. is_down one) old
     → ((one : PortInfo) → old ≡ Some one → is_down one ≡ b) → is_down info ≡ b

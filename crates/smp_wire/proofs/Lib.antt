@@ -1,3 +1,4 @@
+pub mod ListLemmas
 pub mod GetLemmas
 pub mod WalkLemmas
 pub mod HoldingLemmas

@@ -1,10 +1,8 @@
 -- What the agents of a good fabric reply: the request with its method, its status and an attribute.
-use Rattle.std.proofs.Common.{ℕ, ◌≡◌, ◌≢◌, ◌⊎◌, ◌+◌, ◌-◌, ◌≤◌, ◌==◌, ◌∙◌, ap, refl, sym, subst, Bool, true, false, if◌then◌else◌, List, [], ◌∷◌, length, slice_get, slice_set, Option, Some, None, Result, Ok, Err, arith}
+use Rattle.std.proofs.Common.{ℕ, ◌≡◌, ◌≢◌, ◌⊎◌, ◌+◌, ◌-◌, ◌≤◌, ◌==◌, ◌∙◌, ap, refl, subst, Bool, true, false, if◌then◌else◌, List, [], ◌∷◌, length, slice_get, Option, Some, None, Result, Ok, Err, arith}
 use Rattle.std.specs.Int.Digits.{AllBelowBase}
 use Rattle.std.specs.List.{list_all}
 use Rattle.std.specs.Option.{option_and_then}
-use Rattle.std.proofs.lemmas.List.{set-get_or}
-use Rattle.std.proofs.lemmas.Option.{get_or_from_slice_get}
 use Rattle.mad_layout.specs.Bits.{field, number, put_field}
 use Rattle.mad_layout.specs.Layout.{at}
 use Rattle.mad_layout.specs.MadStatus.{mad_status_code}
@@ -33,7 +31,8 @@ use Rattle.smp_wire.specs.Good.{holds_attributes, is_description}
 use Rattle.smp_wire.specs.Walk.{returned}
 use Rattle.smp_wire.proofs.ArrivalLemmas.{put_below}
 use Rattle.smp_wire.proofs.GoodLemmas.{same_port, same_switch}
-use Rattle.smp_wire.proofs.HoldingLemmas.{adapter_given, all_there, switch_given}
+use Rattle.smp_wire.proofs.HoldingLemmas.{adapter_given, switch_given}
+use Rattle.smp_wire.proofs.ListLemmas.{all_there, set_back}
 
 pub reply_below : (smp : List ℕ) (given : Result (List ℕ) MadStatus) → AllBelowBase 256 (reply_to smp given)
 unfolding reply_to
@@ -70,7 +69,14 @@ is_reply : (smp : List ℕ) (given : Result (List ℕ) MadStatus) (Stays : Type 
     → ((bytes : List ℕ) → given ≡ Ok bytes → IsAttribute bytes) → ((status : MadStatus) → given ≡ Err status → Stays)
     → IsReply smp (reply_to smp given) Stays
 is_reply smp (Ok bytes) Stays long are stays =
-    record { keeps = (carries.attribute smp bytes long (are bytes refl)).rest; long = reply_long smp (Ok bytes) long; below = reply_below smp (Ok bytes); refused = λ status. absurd (status ((carries.attribute smp bytes long (are bytes refl)).status)) }
+    record {
+      keeps = (carries.attribute smp bytes long (are bytes refl)).rest;
+      long = reply_long smp (Ok bytes)
+          long;
+      below = reply_below smp (Ok bytes);
+      refused = λ status.
+          absurd (status ((carries.attribute smp bytes long (are bytes refl)).status));
+    }
 is_reply smp (Err status) Stays long are stays =
     record { keeps = (carries.refusal smp status long).rest; long = reply_long smp (Err status) long; below = reply_below smp (Err status); refused = λ not_0. stays status refl }
 
@@ -108,9 +114,6 @@ replied getter setter held smp reply Holds shows long each holds h =
 
 -- ---- an adapter, of which a port stays as it was
 -- what stands there is written there again
-pub set_back : {X : Type 0} (xs : List X) (place : ℕ) (x next : X) → slice_get xs place ≡ Some x → next ≡ x → slice_set xs place next ≡ xs
-set_back xs place x next there same = ap (slice_set xs place) (same ∙ sym (get_or_from_slice_get xs place x x there)) ∙ set-get_or xs place x
-
 adapter_replies : (ports : List AdapterState) (number place : ℕ) (found : Option AdapterState) (smp reply : List ℕ)
     → number - 1 ≡ place → length smp ≡ 256 → list_all (λ port. is_description port.description) ports ≡ true
     → slice_get ports place ≡ found → option_and_then (λ port. adapter_reply port smp) found ≡ Some reply → IsReply smp reply (adapter_ports_after ports number smp found ≡ ports)
@@ -138,7 +141,8 @@ unfolding node_reply node_after switch_reply switch_after
 node_replies (Switch held) number smp reply long is h =
     let Holds : SwitchState → Type 0 = λ one. holds_attributes (Switch one) ≡ true in
     so_stays smp reply (λ same. ap (λ (one : SwitchState). Switch one) same)
-    (replied (switch_gives number) switch_set held smp reply Holds (switch_shows number) long (λ next attribute bytes holds given. switch_given next number attribute (modifier_of smp) bytes holds given)
+    (replied (switch_gives number) switch_set held smp reply Holds (switch_shows number) long
+    (λ next attribute bytes holds given. switch_given next number attribute (modifier_of smp) bytes holds given)
     ((same_switch held smp).holds is) h)
 node_replies (Adapter ports) number smp reply long is h =
     so_stays smp reply (λ same. ap (λ (all : List AdapterState). Adapter all) same) (port_replies (number == 0) ports number smp reply long is h)

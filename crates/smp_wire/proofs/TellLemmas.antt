@@ -105,10 +105,14 @@ read_given smp bytes long is =
     let reply = reply_to smp (Ok bytes) in
     let wide : length reply ≡ 256 = reply_long smp (Ok bytes) long in
     let low : AllBelowBase 256 reply = reply_below smp (Ok bytes) in
-    let status : field (returned reply) 33 15 ≡ 0 = returned_field reply 33 15 low wide (omega arith) (inr (omega arith)) (inl (omega arith)) ∙ (carries.attribute smp bytes long is).status in
-    let spelled : number bytes ≡ field reply 512 512 = ap number (sym (carries.attribute smp bytes long is).attribute) ∙ field_aligned reply 64 64 512 512 low (omega (arith, wide)) refl refl in
+    let status : field (returned reply) 33 15 ≡ 0 = returned_field reply 33 15 low wide (omega arith)
+    (inr (omega arith)) (inl (omega arith)) ∙ (carries.attribute smp bytes long is).status in
+    let spelled : number bytes ≡ field reply 512 512 = ap number
+    (sym (carries.attribute smp bytes long is).attribute) ∙ field_aligned reply 64 64 512 512 low
+    (omega (arith, wide)) refl refl in
     let there : number bytes ≡ field (returned reply) 512 512 = spelled ∙ sym (returned_field reply 512 512 low wide (omega arith) (inr (omega arith)) (inr (omega arith))) in
-    let carried : take 64 (drop 64 (returned reply)) ≡ bytes = bytes_stand (returned reply) bytes 64 64 (returned_below reply wide) is.small (omega (arith, returned_long reply wide)) is.count there in
+    let carried : take 64 (drop 64 (returned reply)) ≡ bytes = bytes_stand (returned reply) bytes 64 64
+    (returned_below reply wide) is.small (omega (arith, returned_long reply wide)) is.count there in
     rw status (ap (λ (xs : List ℕ). Some xs) carried)
 
 never_0 : (status : MadStatus) → (mad_status_code status == 0) ≡ false
@@ -127,7 +131,9 @@ read_refused : (smp : List ℕ) (status : MadStatus) → length smp ≡ 256 → 
 read_refused smp status long =
     let reply = reply_to smp (Err status) in
     let wide : length reply ≡ 256 = reply_long smp (Err status) long in
-    let code : field (returned reply) 33 15 ≡ mad_status_code status = returned_field reply 33 15 (reply_below smp (Err status)) wide (omega arith) (inr (omega arith)) (inl (omega arith)) ∙ (carries.refusal smp status long).code in
+    let code : field (returned reply) 33 15 ≡ mad_status_code status = returned_field reply 33 15
+    (reply_below smp (Err status)) wide (omega arith) (inr (omega arith)) (inl (omega arith))
+    ∙ (carries.refusal smp status long).code in
     rw (code, never_0 status) refl
 
 -- ---- all of it
@@ -159,11 +165,14 @@ by_walk fabric attribute modifier path smp (Some ends) good asks low long is =
     let gets = carrier_gets attribute modifier path smp (arrived ends smp) asks carrier in
     let at = last_of fabric.manager ends in
     told_by fabric smp (arrived ends smp) (gives_at fabric at attribute modifier) carrier.long (attributes_given fabric at attribute modifier good.holdings)
-    (walk_after fabric smp ends so ∙ (ap (λ (nodes : List Node). record fabric { nodes = nodes }) (nodes_stay fabric.nodes at (arrived ends smp) (slice_get fabric.nodes at.node) (unset (arrived ends smp) gets.set) refl)))
+    (walk_after fabric smp ends so ∙ (ap (λ (nodes : List Node). record fabric { nodes = nodes })
+    (nodes_stay fabric.nodes at (arrived ends smp) (slice_get fabric.nodes at.node)
+    (unset (arrived ends smp) gets.set) refl)))
     (walk_reply fabric smp ends so ∙ (ap (option_map returned) (replied_at (slice_get fabric.nodes at.node) at.port attribute modifier (arrived ends smp) gets)))
 
 pub gets_tell : GetsTell
-gets_tell fabric attribute modifier path smp good asks = by_walk fabric attribute modifier path smp (walk fabric.nodes fabric.cables true fabric.manager path) good asks asks.bytes asks.long refl
+gets_tell fabric attribute modifier path smp good asks = by_walk fabric attribute modifier path smp
+    (walk fabric.nodes fabric.cables true fabric.manager path) good asks asks.bytes asks.long refl
 
 -- ---- over a wire
 pub reads : (stood : Option FabricState) (attribute : SmpAttribute) (modifier : ℕ) (path smp : List ℕ) (learned : Option (List ℕ))

@@ -27,9 +27,13 @@ step there here k smp None = refl
 step there here k smp (Some ends) = refl
 
 by_hop : (nodes : List Node) (cables : List Cable) (here : PortRef) (k : ℕ) (numbers : List ℕ) (smp : List ℕ)
-    → ((there : PortRef) → option_map (ended there (k + 1) (with_return_port k there.port smp)) (walk nodes cables false there numbers) ≡ follow nodes cables false there (k + 1) numbers (with_return_port k there.port smp))
+    → ((there : PortRef) → option_map (ended there (k + 1) (with_return_port k there.port smp))
+    (walk nodes cables false there numbers) ≡ follow nodes cables false there (k + 1) numbers
+    (with_return_port k there.port smp))
     → (next : Option PortRef)
-    → option_map (ended here k smp) (option_and_then (λ there. option_map (λ ends. there ∷ ends) (walk nodes cables false there numbers)) next) ≡ option_and_then (λ there. follow nodes cables false there (k + 1) numbers (with_return_port k there.port smp)) next
+    → option_map (ended here k smp) (option_and_then
+    (λ there. option_map (λ ends. there ∷ ends) (walk nodes cables false there numbers)) next) ≡ option_and_then
+    (λ there. follow nodes cables false there (k + 1) numbers (with_return_port k there.port smp)) next
 by_hop nodes cables here k numbers smp later None = refl
 by_hop nodes cables here k numbers smp later (Some there) = step there here k smp (walk nodes cables false there numbers) ∙ later there
 
@@ -44,7 +48,8 @@ abbrev pub there_with : ℕ → PortRef × List ℕ → Arrival
 there_with hops found = record { at = found.0; smp = with_pointer (hops + 1) found.1 }
 
 pub record IsUnderWay (nodes : List Node) (cables : List Cable) (manager : PortRef) (sent : List ℕ) (done : ℕ) (at : PortRef) (smp : List ℕ) : Type 0 where
-  pub gives : option_map (arrival_of manager sent) (walk nodes cables true manager (path_of sent)) ≡ option_map (there_with (count sent)) (follow nodes cables (done == 0) at (done + 1) (drop done (path_of sent)) smp)
+  pub gives : option_map (arrival_of manager sent) (walk nodes cables true manager (path_of sent)) ≡ option_map
+      (there_with (count sent)) (follow nodes cables (done == 0) at (done + 1) (drop done (path_of sent)) smp)
 
 both : (manager : PortRef) (sent : List ℕ) (found : Option (List PortRef))
     → option_map (arrival_of manager sent) found ≡ option_map (there_with (count sent)) (option_map (ended manager 1 sent) found)
@@ -90,7 +95,9 @@ stops nodes cables manager sent done at smp long few more under none =
 
 goes : (nodes : List Node) (cables : List Cable) (hops : ℕ) (k : ℕ) (numbers : List ℕ) (smp : List ℕ) (there : PortRef) (next : Option PortRef)
     → next ≡ Some there
-    → option_map (there_with hops) (option_and_then (λ end. follow nodes cables false end (k + 1) numbers (with_return_port k end.port smp)) next) ≡ option_map (there_with hops) (follow nodes cables false there (k + 1) numbers (with_return_port k there.port smp))
+    → option_map (there_with hops) (option_and_then
+    (λ end. follow nodes cables false end (k + 1) numbers (with_return_port k end.port smp)) next) ≡ option_map
+    (there_with hops) (follow nodes cables false there (k + 1) numbers (with_return_port k there.port smp))
 goes nodes cables hops k numbers smp there next is = rw is refl
 
 pub goes_on : (nodes : List Node) (cables : List Cable) (manager : PortRef) (sent : List ℕ) (done : ℕ) (at there : PortRef) (smp : List ℕ)
@@ -101,7 +108,10 @@ goes_on nodes cables manager sent done at there smp long few more under is =
     let left = under.gives in
     let next = rw (cut sent done long few more) at left in
     let later : ((done + 1) == 0) ≡ false = grind (arith, nat_tests) in
-    record { gives = next ∙ goes nodes cables (count sent) (done + 1) (drop (done + 1) (path_of sent)) smp there (hop nodes cables (done == 0) at (initial_port sent (done + 1))) is ∙ rw later refl }
+    record {
+      gives = next ∙ goes nodes cables (count sent) (done + 1) (drop (done + 1) (path_of sent)) smp there
+          (hop nodes cables (done == 0) at (initial_port sent (done + 1))) is ∙ rw later refl;
+    }
 
 pub ends : (nodes : List Node) (cables : List Cable) (manager : PortRef) (sent : List ℕ) (done : ℕ) (at : PortRef) (smp : List ℕ)
     → length sent ≡ 256 → count sent ≤ 63 → count sent ≤ done

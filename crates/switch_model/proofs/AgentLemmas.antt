@@ -47,7 +47,9 @@ pub port_set : (held next : SwitchState) (smp : List ℕ) → set held PortInfo 
 unfolding set
 port_set held next smp h =
     let a = bind_done (set_port_info smp held.ports) (λ ports. record held { ports = ports }) next h in
-    let b = bind_ok (part_at (modifier_of smp) held.ports) (λ port. port_info_after (nat_lt 0 (modifier_of smp)) port.info (port_setting smp) >>= λ info. Ok (slice_set held.ports (modifier_of smp) (record port { info = info }))) a.0 a.1 in
+    let b = bind_ok (part_at (modifier_of smp) held.ports)
+    (λ port. port_info_after (nat_lt 0 (modifier_of smp)) port.info (port_setting smp) >>= λ info. Ok
+    (slice_set held.ports (modifier_of smp) (record port { info = info }))) a.0 a.1 in
     let c = bind_done (port_info_after (nat_lt 0 (modifier_of smp)) b.0.info (port_setting smp)) (λ info. slice_set held.ports (modifier_of smp) (record b.0 { info = info })) a.0 b.2 in
     record {
       port = b.0;
@@ -69,7 +71,8 @@ unfolding set
 keys_are_set held next smp h =
     let n = key_port (modifier_of smp) in
     let a = bind_done (set_keys smp held.ports) (λ ports. record held { ports = ports }) next h in
-    let b = bind_ok (part_at n held.ports) (λ port. set_word_block (key_block (modifier_of smp)) smp port.keys >>= λ keys. Ok (slice_set held.ports n (record port { keys = keys }))) a.0 a.1 in
+    let b = bind_ok (part_at n held.ports) (λ port. set_word_block (key_block (modifier_of smp)) smp port.keys
+    >>= λ keys. Ok (slice_set held.ports n (record port { keys = keys }))) a.0 a.1 in
     let c = bind_done (set_word_block (key_block (modifier_of smp)) smp b.0.keys) (λ keys. slice_set held.ports n (record b.0 { keys = keys })) a.0 b.2 in
     record {
       port = b.0;
@@ -199,7 +202,11 @@ shows in_port held next MulticastForwardingTable smp h =
     let m = modifier_of smp in
     let w = words_shown (mask_block m) smp s.words s.after s.taken in
     let P : SwitchState → Type 0 = λ x. (bytes : List ℕ) × (get in_port x MulticastForwardingTable m ≡ Ok bytes) in
-    subst P s.same (w.0, masks_shown in_port held (slice_set held.masks (mask_position m) s.after) m s.after w.0 s.is_modifier (part_set (mask_position m) held.masks s.words s.after s.there) w.1)
+    subst P s.same (
+      w.0,
+      masks_shown in_port held (slice_set held.masks (mask_position m) s.after) m s.after w.0
+          s.is_modifier (part_set (mask_position m) held.masks s.words s.after s.there) w.1,
+    )
 shows in_port held next NodeDescription smp h = absurd (cc)
 shows in_port held next NodeInfo smp h = absurd (cc)
 
@@ -207,10 +214,30 @@ shows in_port held next NodeInfo smp h = absurd (cc)
 pub takes_alike : (held : SwitchState) (attribute : SmpAttribute) (one other : List ℕ) → AsksSame one other
     → set held attribute other ≡ set held attribute one
 unfolding set
-takes_alike held SwitchInfo one other same = λ place. (if (same.modifier place == 0) && nat_lt (same.linear_fdb_top place) (length held.linear) then Ok (record held.info { linear_fdb_top = same.linear_fdb_top place }) else Err InvalidField) >>= λ info. Ok (record held { info = info })
-takes_alike held PortInfo one other same = λ place. (part_at (same.modifier place) held.ports >>= λ port. (port_info_after (nat_lt 0 (same.modifier place)) port.info (same.setting place) >>= λ info. Ok (slice_set held.ports (same.modifier place) (record port { info = info })))) >>= λ ports. Ok (record held { ports = ports })
-takes_alike held PKeyTable one other same = λ place. (part_at (key_port (same.modifier place)) held.ports >>= λ port. ((if has_block 32 (key_block (same.modifier place)) port.keys then Ok (with_block 32 (key_block (same.modifier place)) (same.words place) port.keys) else Err InvalidField) >>= λ keys. Ok (slice_set held.ports (key_port (same.modifier place)) (record port { keys = keys })))) >>= λ ports. Ok (record held { ports = ports })
-takes_alike held LinearForwardingTable one other same = λ place. (if has_block 64 (same.modifier place) held.linear then Ok (with_block 64 (same.modifier place) (same.ports place) held.linear) else Err InvalidField) >>= λ linear. Ok (record held { linear = linear })
-takes_alike held MulticastForwardingTable one other same = λ place. (masks_at (same.modifier place) held.masks >>= λ words. ((if has_block 32 (mask_block (same.modifier place)) words then Ok (with_block 32 (mask_block (same.modifier place)) (same.words place) words) else Err InvalidField) >>= λ next. Ok (slice_set held.masks (mask_position (same.modifier place)) next))) >>= λ masks. Ok (record held { masks = masks })
+takes_alike held SwitchInfo one other same = λ place.
+    (if (same.modifier place == 0) && nat_lt (same.linear_fdb_top place) (length held.linear) then Ok
+    (record held.info { linear_fdb_top = same.linear_fdb_top place }) else Err InvalidField) >>= λ info. Ok
+    (record held { info = info })
+takes_alike held PortInfo one other same = λ place.
+    (part_at (same.modifier place) held.ports >>= λ port.
+    (port_info_after (nat_lt 0 (same.modifier place)) port.info (same.setting place) >>= λ info. Ok
+    (slice_set held.ports (same.modifier place) (record port { info = info })))) >>= λ ports. Ok
+    (record held { ports = ports })
+takes_alike held PKeyTable one other same = λ place.
+    (part_at (key_port (same.modifier place)) held.ports >>= λ port.
+    ((if has_block 32 (key_block (same.modifier place)) port.keys then Ok
+    (with_block 32 (key_block (same.modifier place)) (same.words place) port.keys) else Err InvalidField)
+    >>= λ keys. Ok (slice_set held.ports (key_port (same.modifier place)) (record port { keys = keys }))))
+    >>= λ ports. Ok (record held { ports = ports })
+takes_alike held LinearForwardingTable one other same = λ place.
+    (if has_block 64 (same.modifier place) held.linear then Ok
+    (with_block 64 (same.modifier place) (same.ports place) held.linear) else Err InvalidField) >>= λ linear. Ok
+    (record held { linear = linear })
+takes_alike held MulticastForwardingTable one other same = λ place.
+    (masks_at (same.modifier place) held.masks >>= λ words.
+    ((if has_block 32 (mask_block (same.modifier place)) words then Ok
+    (with_block 32 (mask_block (same.modifier place)) (same.words place) words) else Err InvalidField) >>= λ next.
+    Ok (slice_set held.masks (mask_position (same.modifier place)) next))) >>= λ masks. Ok
+    (record held { masks = masks })
 takes_alike held NodeDescription one other same = refl
 takes_alike held NodeInfo one other same = refl

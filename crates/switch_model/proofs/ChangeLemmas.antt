@@ -167,7 +167,9 @@ set_changes held next smp MulticastForwardingTable is h =
       linear = λ other. refl;
       linear_block = no_difference 64 (modifier_of smp) held.linear;
       positions = length-set held.masks p s.after;
-      masks = λ position. each_part held.masks p s.words s.after [] (MasksChangeAtMost smp) (part_is p held.masks s.words s.there) (masks_same smp) (masks_change smp s.words s.after is s.taken) position;
+      masks = λ position. each_part held.masks p s.words s.after [] (MasksChangeAtMost smp)
+          (part_is p held.masks s.words s.there) (masks_same smp) (masks_change smp s.words s.after is s.taken)
+          position;
     })
 set_changes held next smp NodeDescription is h = absurd (cc)
 set_changes held next smp NodeInfo is h = absurd (cc)

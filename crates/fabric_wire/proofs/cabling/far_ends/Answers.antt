@@ -8,7 +8,9 @@ loop-index-init c port = rw (c.new-far_ends.ensures.empty, drop-length c.args.ca
 
 pub loop-index-preserved : goal.loop-index-preserved
 loop-index-preserved c port =
-    far_end_more c.args.cables.now c.loop-index.index port _ _ _ c.loop-index-test.true c.loop-index.auto.index (c.loop-index.invariant port) (c.in_ok-insert.ensures.updates.0 port) (c.in_ok-insert-2.ensures.updates.0 port)
+    far_end_more c.args.cables.now c.loop-index.index port _ _ _ c.loop-index-test.true c.loop-index.auto.index
+    (c.loop-index.invariant port) (c.in_ok-insert.ensures.updates.0 port)
+    (c.in_ok-insert-2.ensures.updates.0 port)
 
 pub returns : goal.returns
 returns c port = rw (le_antisymm c.loop-index-test.false (omega arith)) at c.loop-index.invariant port

@@ -7,5 +7,8 @@ pub loop-number-preserved : goal.loop-number-preserved
 loop-number-preserved c =
     record {
       first = omega arith;
-      ports = one_port_more (adapter_port_of c.args.topology.now.cables c.args.place c.args.node.now) c.loop-number.number c.loop-number.ports.items c.push.new.self.items c.adapter_port_of.result c.loop-number.invariant.first c.loop-number.invariant.ports c.adapter_port_of.ensures c.in_ok-push.ensures.items;
+      ports = one_port_more (adapter_port_of c.args.topology.now.cables c.args.place c.args.node.now)
+          c.loop-number.number c.loop-number.ports.items c.push.new.self.items c.adapter_port_of.result
+          c.loop-number.invariant.first c.loop-number.invariant.ports c.adapter_port_of.ensures
+          c.in_ok-push.ensures.items;
     }

@@ -11,4 +11,5 @@ loop-place-preserved c =
     let place = c.loop-place.place in
     let one = c.index-planned-place.result in
     let made = c.in_ok-node.ensures ∙ ap (λ (node : PlannedNode). node_of cables place node) c.index-planned-place.is in
-    one_node_more cables planned place one c.loop-place.nodes.items c.push.new.self.items c.in_ok-node.node c.loop-place-test.true c.loop-place.invariant made c.in_ok-push.ensures.items
+    one_node_more cables planned place one c.loop-place.nodes.items c.push.new.self.items c.in_ok-node.node
+    c.loop-place-test.true c.loop-place.invariant made c.in_ok-push.ensures.items

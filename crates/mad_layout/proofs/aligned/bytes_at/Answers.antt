@@ -11,4 +11,5 @@ returns-clause-value g c =
     let span : first + g.row.SIZE - first ≡ g.row.SIZE = omega arith in
     ap number c.copy_from_slice.ensures.after
     ∙ ap (λ (n : ℕ). number (take n (drop first xs))) span
-    ∙ field_aligned xs first g.row.SIZE g.row.OFF g.row.LEN (each_below xs (λ k. omega (arith, c.type_inv.bytes k))) (omega arith) (omega arith) (omega arith)
+    ∙ field_aligned xs first g.row.SIZE g.row.OFF g.row.LEN (each_below xs (λ k. omega (arith, c.type_inv.bytes k)))
+    (omega arith) (omega arith) (omega arith)

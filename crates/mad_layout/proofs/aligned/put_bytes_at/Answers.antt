@@ -13,7 +13,8 @@ returns-clause-bytes g c =
     let span : first + g.row.SIZE - first ≡ g.row.SIZE = omega arith in
     ap (λ (n : ℕ). take first xs ++ (c.copy_from_slice.new.self ++ drop n rest)) span
     ∙ ap (λ (ys : List ℕ). take first xs ++ (ys ++ drop g.row.SIZE rest)) c.copy_from_slice.ensures.after
-    ∙ put_aligned xs value first g.row.SIZE g.row.OFF g.row.LEN (number value) c.known_bytes.ensures c.known_bytes-2.ensures c.told-value (omega arith) (omega arith) (omega arith) refl
+    ∙ put_aligned xs value first g.row.SIZE g.row.OFF g.row.LEN (number value) c.known_bytes.ensures
+    c.known_bytes-2.ensures c.told-value (omega arith) (omega arith) (omega arith) refl
 
 pub returns-clause-fits : goal.returns-clause-fits
 returns-clause-fits g c =

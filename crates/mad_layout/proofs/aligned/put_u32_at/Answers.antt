@@ -4,4 +4,5 @@ use Rattle.mad_layout.proofs.aligned.put_u32_at.Goals as goal
 
 pub returns-clause-bytes : goal.returns-clause-bytes
 returns-clause-bytes g c =
-    put_big c.args.bytes.now _ (g.row.OFF / 8) 4 g.row.OFF 32 c.args.value c.known_bytes.ensures c.write_u32.ensures (omega arith) (omega arith) refl (omega arith)
+    put_big c.args.bytes.now _ (g.row.OFF / 8) 4 g.row.OFF 32 c.args.value c.known_bytes.ensures c.write_u32.ensures
+    (omega arith) (omega arith) refl (omega arith)

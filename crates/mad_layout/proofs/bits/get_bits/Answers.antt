@@ -18,4 +18,5 @@ returns-clause-value g c =
     c.window-window.ensures.value ∙ ap (λ (n : ℕ). number (take n (drop first xs))) span in
     ap (λ (n : ℕ). c.window-window.result / 2 ^ low % n) mask
     ∙ ap (λ (n : ℕ). digits n low g.row.LEN) read
-    ∙ field_from_window xs first count g.row.OFF g.row.LEN low (each_below xs (λ k. omega (arith, c.type_inv.bytes k))) (omega arith) (omega arith) (omega arith)
+    ∙ field_from_window xs first count g.row.OFF g.row.LEN low
+    (each_below xs (λ k. omega (arith, c.type_inv.bytes k))) (omega arith) (omega arith) (omega arith)

@@ -21,7 +21,8 @@ spelled xs t w first count off len low v below e is small fits few within ends s
     let value : number t ≡ replaced (number (take count (drop first xs))) low len v =
     ap number e ∙ number_bytes count x ∙ mod-eq_of_lt s.whole ∙ ap (λ (n : ℕ). replaced n low len v) is in
     let P : List ℕ → Type 0 = AllBelowBase 256 in
-    put_is xs t first count off len low v below (subst P (sym e) (below_bytes count x)) (ap (λ (ys : List ℕ). length ys) e ∙ length-bytes_high_first count x) within ends starts value
+    put_is xs t first count off len low v below (subst P (sym e) (below_bytes count x))
+    (ap (λ (ys : List ℕ). length ys) e ∙ length-bytes_high_first count x) within ends starts value
 
 pub with_digits-new-requires-clause-number : goal.with_digits-new-requires-clause-number
 with_digits-new-requires-clause-number g c =
@@ -56,5 +57,6 @@ returns g c =
     ∙ last_of_16 count c.with_digits-new.result (omega arith)
     ∙ ap (λ (n : ℕ). bytes_high_first count n) c.with_digits-new.ensures in
     let put : take first xs ++ (t ++ drop count (drop first xs)) ≡ put_field xs g.row.OFF g.row.LEN c.args.value =
-    spelled xs t w first count g.row.OFF g.row.LEN low c.args.value c.known_bytes.ensures e is small c.requires.fits (omega arith) (omega arith) (omega arith) (omega arith) in
+    spelled xs t w first count g.row.OFF g.row.LEN low c.args.value c.known_bytes.ensures e is small c.requires.fits
+    (omega arith) (omega arith) (omega arith) (omega arith) in
     ap (λ (n : ℕ). take first xs ++ (t ++ drop n (drop first xs))) span ∙ put

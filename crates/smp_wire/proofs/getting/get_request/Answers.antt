@@ -9,8 +9,28 @@ returns-clause-asks c = asks_for (record {
   initial = c.write-2.ensures.initial_path;
   long = c.write-2.array_long;
   below = c.known_bytes.ensures;
-  header_is = record { base = refl; class = refl; version = refl; method = c.code.ensures; transaction = refl; attribute_is = c.code-2.ensures; modifier_is = refl };
-  route_is = record { out = refl; status = refl; at_start = refl; hops = refl; few = c.requires; key = refl; begins = refl; ends = refl; blank = refl; along = c.initial_path.ensures; back = refl };
+  header_is = record {
+    base = refl;
+    class = refl;
+    version = refl;
+    method = c.code.ensures;
+    transaction = refl;
+    attribute_is = c.code-2.ensures;
+    modifier_is = refl;
+  };
+  route_is = record {
+    out = refl;
+    status = refl;
+    at_start = refl;
+    hops = refl;
+    few = c.requires;
+    key = refl;
+    begins = refl;
+    ends = refl;
+    blank = refl;
+    along = c.initial_path.ensures;
+    back = refl;
+  };
 })
 
 pub returns-clause-plain : goal.returns-clause-plain
@@ -20,6 +40,26 @@ returns-clause-plain c = plain_is (record {
   initial = c.write-2.ensures.initial_path;
   long = c.write-2.array_long;
   below = c.known_bytes.ensures;
-  header_is = record { base = refl; class = refl; version = refl; method = c.code.ensures; transaction = refl; attribute_is = c.code-2.ensures; modifier_is = refl };
-  route_is = record { out = refl; status = refl; at_start = refl; hops = refl; few = c.requires; key = refl; begins = refl; ends = refl; blank = refl; along = c.initial_path.ensures; back = refl };
+  header_is = record {
+    base = refl;
+    class = refl;
+    version = refl;
+    method = c.code.ensures;
+    transaction = refl;
+    attribute_is = c.code-2.ensures;
+    modifier_is = refl;
+  };
+  route_is = record {
+    out = refl;
+    status = refl;
+    at_start = refl;
+    hops = refl;
+    few = c.requires;
+    key = refl;
+    begins = refl;
+    ends = refl;
+    blank = refl;
+    along = c.initial_path.ensures;
+    back = refl;
+  };
 })

@@ -5,4 +5,5 @@ use Rattle.switch_model.proofs.laws.unseen_comes_back.Goals as goal
 
 pub returns : goal.returns
 unfolding agent_reply
-returns c = λ held in_port smp off len value put spelled. reply_passes (get in_port) set (reads_alike (get in_port) set takes_alike) held smp off len value put spelled
+returns c = λ held in_port smp off len value put spelled. reply_passes (get in_port) set
+    (reads_alike (get in_port) set takes_alike) held smp off len value put spelled

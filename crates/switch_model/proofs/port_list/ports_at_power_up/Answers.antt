@@ -36,7 +36,8 @@ loop-link-preserved c =
     let pushed : c.push-in-loop-link.new.self.items ≡ old ++ port ∷ [] = c.push-in-loop-link.ensures.items in
     let P : List SwitchPort → Type 0 = AllFit in
     record {
-      ports = step links i Cabled (get_or links i Cabled) c.len-number.result old c.push-in-loop-link.new.self.items port (omega arith) refl c.loop-link.invariant.ports (omega arith) made pushed;
+      ports = step links i Cabled (get_or links i Cabled) c.len-number.result old c.push-in-loop-link.new.self.items
+          port (omega arith) refl c.loop-link.invariant.ports (omega arith) made pushed;
       count = let more = length-append old (port ∷ []) in ap length pushed ∙ omega (arith, c.loop-link.invariant.count);
       fits = subst P (sym pushed) (grown_fits old port c.loop-link.invariant.fits fit);
     }

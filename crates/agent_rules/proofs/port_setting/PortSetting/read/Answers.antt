@@ -34,8 +34,12 @@ picked_is smp bytes info there h =
     let e4 : info.lmc ≡ asked smp 277 3 = h.1.1.1.1.1.1.1.1.1.1.1.1.1.1.1.1.0 ∙ carried_field smp bytes 277 3 there (omega arith) in
     let e5 : info.neighbor_mtu ≡ asked smp 288 4 = h.1.1.1.1.1.1.1.1.1.1.1.1.1.1.1.1.1.1.1.0 ∙ carried_field smp bytes 288 4 there (omega arith) in
     let e6 : info.master_sm_sl ≡ asked smp 292 4 = h.1.1.1.1.1.1.1.1.1.1.1.1.1.1.1.1.1.1.1.1.0 ∙ carried_field smp bytes 292 4 there (omega arith) in
-    let e7 : info.partition_enforcement_inbound ≡ (asked smp 348 1 == 1) = carried_flag smp bytes info.partition_enforcement_inbound 348 there (omega arith) (h.1.1.1.1.1.1.1.1.1.1.1.1.1.1.1.1.1.1.1.1.1.1.1.1.1.1.1.1.1.1.1.0) in
-    let e8 : info.partition_enforcement_outbound ≡ (asked smp 349 1 == 1) = carried_flag smp bytes info.partition_enforcement_outbound 349 there (omega arith) (h.1.1.1.1.1.1.1.1.1.1.1.1.1.1.1.1.1.1.1.1.1.1.1.1.1.1.1.1.1.1.1.1.0) in
+    let e7 : info.partition_enforcement_inbound ≡ (asked smp 348 1 == 1) = carried_flag smp bytes
+    info.partition_enforcement_inbound 348 there (omega arith)
+    (h.1.1.1.1.1.1.1.1.1.1.1.1.1.1.1.1.1.1.1.1.1.1.1.1.1.1.1.1.1.1.1.0) in
+    let e8 : info.partition_enforcement_outbound ≡ (asked smp 349 1 == 1) = carried_flag smp bytes
+    info.partition_enforcement_outbound 349 there (omega arith)
+    (h.1.1.1.1.1.1.1.1.1.1.1.1.1.1.1.1.1.1.1.1.1.1.1.1.1.1.1.1.1.1.1.1.0) in
     λ place. record {
       gid_prefix = e0 place;
       lid = e1 place;
@@ -50,7 +54,11 @@ picked_is smp bytes info there h =
 
 pub returns-clause-value : goal.returns-clause-value
 returns-clause-value c =
-    let there : IsCarried c.args.smp.now c.carried_attribute.result = record { long = c.told-smp; below = c.known_bytes.ensures; same = c.carried_attribute.ensures } in
+    let there : IsCarried c.args.smp.now c.carried_attribute.result = record {
+      long = c.told-smp;
+      below = c.known_bytes.ensures;
+      same = c.carried_attribute.ensures;
+    } in
     picked_is c.args.smp.now c.carried_attribute.result c.read-info.result there c.read-info.ensures.fields
 
 pub returns-clause-narrow : goal.returns-clause-narrow

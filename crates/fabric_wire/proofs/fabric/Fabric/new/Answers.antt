@@ -8,16 +8,21 @@ use Rattle.fabric_wire.proofs.fabric.Fabric.new.Goals as goal
 
 pub invariant_of-result : goal.invariant_of-result
 invariant_of-result c =
-    made IsGood c.args.topology.now _ _ _ c.in_ok-nodes.ensures (c.in_ok-cabling.ensures ∙ c.cables.ensures.value) c.sm.ensures.value (good c.args.topology.now c.known_sound.ensures)
+    made IsGood c.args.topology.now _ _ _ c.in_ok-nodes.ensures (c.in_ok-cabling.ensures ∙ c.cables.ensures.value)
+    c.sm.ensures.value (good c.args.topology.now c.known_sound.ensures)
 
 pub returns-clause-good : goal.returns-clause-good
 returns-clause-good c =
-    made IsGood c.args.topology.now _ _ _ c.in_ok-nodes.ensures (c.in_ok-cabling.ensures ∙ c.cables.ensures.value) c.sm.ensures.value (good c.args.topology.now c.known_sound.ensures)
+    made IsGood c.args.topology.now _ _ _ c.in_ok-nodes.ensures (c.in_ok-cabling.ensures ∙ c.cables.ensures.value)
+    c.sm.ensures.value (good c.args.topology.now c.known_sound.ensures)
 
 pub returns-clause-links : goal.returns-clause-links
 returns-clause-links c =
-    made ShowsLinks c.args.topology.now _ _ _ c.in_ok-nodes.ensures (c.in_ok-cabling.ensures ∙ c.cables.ensures.value) c.sm.ensures.value (links c.args.topology.now)
+    made ShowsLinks c.args.topology.now _ _ _ c.in_ok-nodes.ensures
+    (c.in_ok-cabling.ensures ∙ c.cables.ensures.value) c.sm.ensures.value (links c.args.topology.now)
 
 pub returns-clause-joined : goal.returns-clause-joined
 returns-clause-joined c =
-    made SwitchesJoined c.args.topology.now _ _ _ c.in_ok-nodes.ensures (c.in_ok-cabling.ensures ∙ c.cables.ensures.value) c.sm.ensures.value (joined c.args.topology.now c.known_sound.ensures)
+    made SwitchesJoined c.args.topology.now _ _ _ c.in_ok-nodes.ensures
+    (c.in_ok-cabling.ensures ∙ c.cables.ensures.value) c.sm.ensures.value
+    (joined c.args.topology.now c.known_sound.ensures)

@@ -10,4 +10,8 @@ invariant_of-self c =
     let fabric : FabricState = record { nodes = c.deref_mut.result.now; cables = c.self.inside.cabling; manager = c.self.inside.manager } in
     let long : length c.exchange.new.nodes ≡ length c.self.inside.nodes.items = search in
     let same : c.self.inside.nodes.len ≡ length c.exchange.new.nodes = sym c.deref_mut.ensures.len ∙ ap length c.deref_mut.ensures.value ∙ sym long in
-    rw (same, take-append_seam c.exchange.new.nodes (drop (length c.exchange.new.nodes) c.self.inside.nodes.items), c.exchange.ensures.change) (good fabric c.args.smp.now (rw c.deref_mut.ensures.value c.self.invariant))
+    rw (
+      same,
+      take-append_seam c.exchange.new.nodes (drop (length c.exchange.new.nodes) c.self.inside.nodes.items),
+      c.exchange.ensures.change,
+    ) (good fabric c.args.smp.now (rw c.deref_mut.ensures.value c.self.invariant))

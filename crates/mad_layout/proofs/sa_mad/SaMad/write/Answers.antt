@@ -11,4 +11,5 @@ returns-clause-fields c =
 pub returns-clause-data : goal.returns-clause-data
 returns-clause-data c =
     let fields = (returns-clause-fields c).fields in
-    bytes_stand c.put_fields.new.mad c.args.self.now.«data» 56 200 c.known_bytes-2.ensures c.known_bytes.ensures (omega arith) (omega arith) fields.1.1.1.0
+    bytes_stand c.put_fields.new.mad c.args.self.now.«data» 56 200 c.known_bytes-2.ensures c.known_bytes.ensures
+    (omega arith) (omega arith) fields.1.1.1.0
