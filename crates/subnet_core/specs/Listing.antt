@@ -4,7 +4,7 @@ use Rattle.std.specs.List.{flat_map, enumerate_from}
 use Rattle.std.specs.Option.{option_map_or}
 use Rattle.std.specs.Int.{w16, w64, to_be_bytes}
 use Rattle.pkey_rules.specs.KeyTable.{find_base}
-use Rattle.partition_file.specs.declared.port_keys.Heading.{Heading}
+use Rattle.partition_file.specs.declared.heading.Heading.{Heading}
 use Rattle.subnet_model.specs.declared.subnet_port.SubnetPort.{SubnetPort}
 use Rattle.subnet_core.specs.EventLines.{hex_text, port_text}
 

@@ -1,7 +1,7 @@
 -- What a whole run answers, from its texts alone.
 use Rattle.std.specs.Prelude.{ℕ, Bool, false, List, map, Option, Some, None, Result, Ok, Err}
 use Rattle.partition_file.specs.declared.partition.Partition.{Partition}
-use Rattle.partition_file.specs.declared.port_keys.Heading.{Heading}
+use Rattle.partition_file.specs.declared.heading.Heading.{Heading}
 use Rattle.result_words.specs.AtLine.{AtLine, on_line}
 use Rattle.result_words.specs.Gives.{Gives}
 use Rattle.result_words.specs.Steps.{◌>>=◌}

@@ -7,7 +7,7 @@ use Rattle.std.proofs.lemmas.Bool.{cases_Bool, both_ways, false_from_ne_true, an
 use Rattle.std.proofs.lemmas.Bool.Decides.{nat_tests}
 use Rattle.data_packet.specs.declared.refusal.Refusal.{Refusal}
 use Rattle.data_packet.specs.declared.refusal.Refusal.TheVariants.{KeyNotHeld}
-use Rattle.pkey_rules.proofs.KeyTableLemmas.{list_any_weaker}
+use Rattle.result_words.proofs.ListLemmas.{list_any_weaker}
 use Rattle.pkey_rules.specs.PKey.{matches}
 use Rattle.pkey_rules.specs.KeyTable.{accepts, holds, shares}
 use Rattle.subnet_model.specs.declared.subnet_port.SubnetPort.{SubnetPort}
