@@ -2,10 +2,11 @@
 use Rattle.std.proofs.lemmas.Bool.{and_parts}
 use Rattle.std.proofs.lemmas.Bool.Decides.{nat_tests}
 use Rattle.mad_layout.specs.declared.status.MadStatus.TheVariants.{InvalidField}
-use Rattle.std.proofs.Common.{◌≡◌, ℕ, ◌^◌, ◌<◌, ◌==◌, Bool, true, false, ◌&&◌, ◌||◌, nat_le, if◌then◌else◌, Ok, refl, sym, ◌∙◌, ap, arith}
+use Rattle.std.proofs.Common.{◌≡◌, ℕ, ◌^◌, ◌<◌, ◌==◌, Bool, true, false, ◌&&◌, ◌||◌, nat_le, if◌then◌else◌, Ok, refl, sym, ◌∙◌, ap, arith, drop}
 use Rattle.fabric_parts.specs.declared.lid.TheConstants.{LAST_UNICAST_LID}
 use Rattle.mad_layout.specs.Bits.{bit_of}
 use Rattle.mad_layout.specs.Layout.{Fits}
+use Rattle.mad_layout.proofs.LayoutLemmas.{fits_both, fits_drop, fits_take}
 use Rattle.agent_rules.proofs.GuardLemmas.{taken_ok}
 use Rattle.attr_tables.specs.declared.port_info.PortInfo.{PortInfo}
 use Rattle.agent_rules.specs.declared.port_setting.PortSetting.{PortSetting}
@@ -26,109 +27,22 @@ pub taken_fits : (enforces : Bool) (info : PortInfo) (wanted : PortSetting) → 
     → Fits (port_info (taken_over enforces info wanted))
 unfolding taken_over
 taken_fits enforces info wanted h w =
-    let a = h.1.1.1.1 in
-    let b = a.1.1.1.1.1.1.1.1 in
-    let c = b.1.1.1.1.1.1.1 in
-    let d = c.1.1 in
-    let state = state_fits (is_no_change wanted) info.port_state wanted.port_state b.0 w.port_state in (
-      h.0,
-      (
-        w.gid_prefix,
-        (
-          w.lid,
-          (
-            w.master_sm_lid,
-            (
-              a.0,
-              (
-                a.1.0,
-                (
-                  a.1.1.0,
-                  (
-                    a.1.1.1.0,
-                    (
-                      a.1.1.1.1.0,
-                      (
-                        a.1.1.1.1.1.0,
-                        (
-                          a.1.1.1.1.1.1.0,
-                          (
-                            a.1.1.1.1.1.1.1.0,
-                            (
-                              state,
-                              (
-                                b.1.0,
-                                (
-                                  b.1.1.0,
-                                  (
-                                    b.1.1.1.0,
-                                    (
-                                      b.1.1.1.1.0,
-                                      (
-                                        b.1.1.1.1.1.0,
-                                        (
-                                          b.1.1.1.1.1.1.0,
-                                          (
-                                            w.neighbor_mtu,
-                                            (
-                                              w.master_sm_sl,
-                                              (
-                                                d.0,
-                                                (
-                                                  d.1.0,
-                                                  (
-                                                    d.1.1.0,
-                                                    (
-                                                      d.1.1.1.0,
-                                                      (
-                                                        d.1.1.1.1.0,
-                                                        (
-                                                          d.1.1.1.1.1.0,
-                                                          (
-                                                            d.1.1.1.1.1.1.0,
-                                                            (
-                                                              d.1.1.1.1.1.1.1.0,
-                                                              (
-                                                                d.1.1.1.1.1.1.1.1.0,
-                                                                (
-                                                                  d.1.1.1.1.1.1.1.1.1.0,
-                                                                  (bit_fits _, (bit_fits _, d.1.1.1.1.1.1.1.1.1.1.1.1)),
-                                                                ),
-                                                              ),
-                                                            ),
-                                                          ),
-                                                        ),
-                                                      ),
-                                                    ),
-                                                  ),
-                                                ),
-                                              ),
-                                            ),
-                                          ),
-                                        ),
-                                      ),
-                                    ),
-                                  ),
-                                ),
-                              ),
-                            ),
-                          ),
-                        ),
-                      ),
-                    ),
-                  ),
-                ),
-              ),
-            ),
-          ),
-        ),
-      ),
-    )
+    let old = port_info info in
+    let new = port_info (taken_over enforces info wanted) in
+    let state = state_fits (is_no_change wanted) info.port_state wanted.port_state (fits_drop 12 old h).0 w.port_state in
+    fits_both 4 new (h.0, (w.gid_prefix, (w.lid, (w.master_sm_lid, tt))))
+    (fits_both 8 (drop 4 new) (fits_take 8 (drop 4 old) (fits_drop 4 old h))
+    (fits_both 1 (drop 12 new) (state, tt)
+    (fits_both 6 (drop 13 new) (fits_take 6 (drop 13 old) (fits_drop 13 old h))
+    (fits_both 2 (drop 19 new) (w.neighbor_mtu, (w.master_sm_sl, tt))
+    (fits_both 10 (drop 21 new) (fits_take 10 (drop 21 old) (fits_drop 21 old h))
+    (fits_both 2 (drop 31 new) (bit_fits _, (bit_fits _, tt)) (fits_drop 33 old h)))))))
 
 pub shown_fits : (port : ℕ) (info : PortInfo) → Fits (port_info info) → port < 2 ^ 8 → Fits (port_info (shown_at port info))
 shown_fits port info h small =
-    let rest = h.1.1.1.1.1.1.1.1 in
-    (h.0, (h.1.0, (h.1.1.0, (h.1.1.1.0, (h.1.1.1.1.0, (h.1.1.1.1.1.0, (h.1.1.1.1.1.1.0, (small, rest))))))))
+    let old = port_info info in
+    let new = port_info (shown_at port info) in
+    fits_both 7 new (fits_take 7 old h) (fits_both 1 (drop 7 new) (small, tt) (fits_drop 8 old h))
 
 state_down : (now next : ℕ) → ((next == 0) || may_follow now next) ≡ true → ((if next == 0 then now else next) == 1) ≡ (now == 1)
 state_down now next h = grind (arith, nat_tests)

@@ -1,5 +1,5 @@
 -- The laws of layouts, over any list of places.
-use Rattle.std.proofs.Common.{◌≡◌, ℕ, zero, suc, ◌+◌, ◌*◌, ◌-◌, ◌/◌, ◌%◌, ◌^◌, ◌<◌, ◌≤◌, true, ◌&&◌, ◌⊎◌, inl, inr, nat_le, List, [], ◌∷◌, length, replicate, refl, sym, ◌∙◌, ap, subst, arith}
+use Rattle.std.proofs.Common.{◌≡◌, ℕ, zero, suc, ◌+◌, ◌*◌, ◌-◌, ◌/◌, ◌%◌, ◌^◌, ◌<◌, ◌≤◌, true, ◌&&◌, ◌⊎◌, inl, inr, nat_le, List, [], ◌∷◌, length, replicate, take, drop, refl, sym, ◌∙◌, ap, subst, arith}
 use Rattle.std.specs.Int.{bytes_high_first}
 use Rattle.std.specs.Int.Digits.{AllBelowBase}
 use Rattle.std.proofs.lemmas.Nat.{shr-shr, shr_high, mod_low, field_of, pow_pos, mod_below}
@@ -146,6 +146,28 @@ sets_put_all ps old layout fits =
       same_length = length-put_all old ps;
     }
 
+-- ---- a layout in two parts
+pub fits_take : (n : ℕ) (ps : List Place) → Fits ps → Fits (take n ps)
+fits_take zero ps h = tt
+fits_take (suc n) [] h = tt
+fits_take (suc n) (p ∷ ps) h = (h.0, fits_take n ps h.1)
+
+pub fits_drop : (n : ℕ) (ps : List Place) → Fits ps → Fits (drop n ps)
+fits_drop zero ps h = h
+fits_drop (suc n) [] h = tt
+fits_drop (suc n) (p ∷ ps) h = fits_drop n ps h.1
+
+pub fits_both : (n : ℕ) (ps : List Place) → Fits (take n ps) → Fits (drop n ps) → Fits ps
+fits_both zero ps front rest = rest
+fits_both (suc n) [] front rest = tt
+fits_both (suc n) (p ∷ ps) front rest = (front.0, fits_both n ps front.1 rest)
+
+pub holds_both : (bytes : List ℕ) (n : ℕ) (ps : List Place) → Holds bytes (take n ps) → Holds bytes (drop n ps) → Holds bytes ps
+holds_both bytes zero ps front rest = rest
+holds_both bytes (suc n) [] front rest = tt
+holds_both bytes (suc n) (p ∷ ps) front rest = (front.0, holds_both bytes n ps front.1 rest)
+
+-- ---- zero bytes
 pub number_zeros : (n : ℕ) → number (replicate n 0) ≡ 0
 number_zeros zero = refl
 number_zeros (suc n) = let e = number_zeros n in number_cons 0 (replicate n 0) ∙ omega arith

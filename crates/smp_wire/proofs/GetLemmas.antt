@@ -14,7 +14,7 @@ use Rattle.attr_tables.specs.declared.smp_attribute.SmpAttribute.{SmpAttribute}
 use Rattle.attr_tables.specs.SmpAttribute.{smp_attribute_code}
 use Rattle.smp_wire.specs.Get.{AsksFor, path_entries, plain_get}
 use Rattle.mad_layout.proofs.AlignedLemmas.{byte_is_field}
-use Rattle.mad_layout.proofs.LayoutLemmas.{field_zeros, number_zeros}
+use Rattle.mad_layout.proofs.LayoutLemmas.{field_zeros, holds_both, number_zeros}
 use Rattle.smp_route.specs.Places.{count, pointer}
 use Rattle.agent_rules.specs.Request.{is_request, is_version_1, is_get}
 use Rattle.smp_wire.specs.Walk.{is_sent, path_of}
@@ -147,61 +147,17 @@ number_blank bytes is = sym (ap number is ∙ number_zeros 64)
 
 pub plain_is : {mid smp : List ℕ} {header : Header} {route : DrSmp} {attribute : SmpAttribute} {modifier : ℕ} {path : List ℕ}
     → IsSpelled mid smp header route attribute modifier path → Holds smp (plain_get attribute modifier path)
-plain_is {route = route} spelled =
+plain_is {smp = smp} {route = route} {attribute = attribute} {modifier = modifier} {path = path} spelled =
+    let places = plain_get attribute modifier path in
     let h = header_there spelled in
     let r = spelled.second.fields in
-    let is = spelled.route_is in (
-      sym h.base,
-      (
-        sym h.class,
-        (
-          sym h.version,
-          (
-            sym h.method,
-            (
-              sym (ap bit_of is.out) ∙ r.0,
-              (
-                sym is.status ∙ r.1.0,
-                (
-                  sym is.at_start ∙ r.1.1.0,
-                  (
-                    sym is.hops ∙ r.1.1.1.0,
-                    (
-                      sym h.transaction,
-                      (
-                        sym h.attribute_is,
-                        (
-                          sym h.reserved,
-                          (
-                            sym h.modifier_is,
-                            (
-                              sym is.key ∙ r.1.1.1.1.0,
-                              (
-                                sym is.begins ∙ r.1.1.1.1.1.0,
-                                (
-                                  sym is.ends ∙ r.1.1.1.1.1.1.0,
-                                  (
-                                    sym h.unsaid,
-                                    (
-                                      number_blank route.«data» is.blank ∙ r.1.1.1.1.1.1.1.0,
-                                      (
-                                        ap number (sym is.along) ∙ r.1.1.1.1.1.1.1.1.0,
-                                        (number_blank route.return_path is.back ∙ r.1.1.1.1.1.1.1.1.1.0, tt),
-                                      ),
-                                    ),
-                                  ),
-                                ),
-                              ),
-                            ),
-                          ),
-                        ),
-                      ),
-                    ),
-                  ),
-                ),
-              ),
-            ),
-          ),
-        ),
-      ),
-    )
+    let is = spelled.route_is in
+    holds_both smp 4 places (sym h.base, (sym h.class, (sym h.version, (sym h.method, tt))))
+    (holds_both smp 2 (drop 4 places) (sym (ap bit_of is.out) ∙ r.0, (sym is.status ∙ r.1.0, tt))
+    (holds_both smp 2 (drop 6 places) (sym is.at_start ∙ r.1.1.0, (sym is.hops ∙ r.1.1.1.0, tt))
+    (holds_both smp 4 (drop 8 places) (sym h.transaction, (sym h.attribute_is, (sym h.reserved, (sym h.modifier_is, tt))))
+    (holds_both smp 2 (drop 12 places) (sym is.key ∙ r.1.1.1.1.0, (sym is.begins ∙ r.1.1.1.1.1.0, tt))
+    (holds_both smp 2 (drop 14 places) (sym is.ends ∙ r.1.1.1.1.1.1.0, (sym h.unsaid, tt))
+    (holds_both smp 1 (drop 16 places) (number_blank route.«data» is.blank ∙ r.1.1.1.1.1.1.1.0, tt)
+    (holds_both smp 1 (drop 17 places) (ap number (sym is.along) ∙ r.1.1.1.1.1.1.1.1.0, tt)
+    (number_blank route.return_path is.back ∙ r.1.1.1.1.1.1.1.1.1.0, tt))))))))

@@ -15,7 +15,7 @@ use Rattle.smp_wire.specs.declared.node.Node.TheVariants.{Switch, Adapter}
 use Rattle.smp_wire.specs.FabricState.{adapter_ports_after, is_switch, node_after, port_count}
 use Rattle.smp_wire.specs.Good.{node_guid, end_port_guids, has_a_right_count, holds_attributes, is_description, is_in_order, is_of, port_info_at}
 use Rattle.smp_wire.proofs.HoldingLemmas.{stays_small}
-use Rattle.smp_wire.proofs.ListLemmas.{all_same, down_in, flat, get_same, or_same, read_same}
+use Rattle.smp_wire.proofs.ListLemmas.{all_same, alike_at, flat, get_same, or_same, read_same}
 
 -- whether the port of that number is Down
 abbrev pub down_at : Node → ℕ → Option Bool
@@ -47,7 +47,7 @@ same_switch held smp =
       holds = λ is. let parts = and_parts (is_description held.description) _ is in and_from
           (is_description next.description) _ (ap is_description change.description ∙ parts.0)
           (stays_small held smp parts.1);
-      down = λ number. flat (λ port. port.info) (λ info. is_down info) (slice_get next.ports number) ∙ down_in _
+      down = λ number. flat (λ port. port.info) (λ info. is_down info) (slice_get next.ports number) ∙ alike_at _
           (λ port. is_down port.info) held.ports next.ports number change.num_ports
           (λ none. (change.ports number none).down) ∙ sym
           (flat (λ port. port.info) (λ info. is_down info) (slice_get held.ports number));
@@ -67,7 +67,6 @@ same_port held smp =
     let change = adapter_changes held smp in
     record { guid = change.node_guid; count = change.num_ports; number = change.number; own = change.port_guid; description = change.description; down = change.down }
 
--- a list with one element that f cannot tell from the one before it
 -- the port of that number has the same answer
 down_unless : (none : Bool) (xs ys : List AdapterState) (k : ℕ)
     → map (λ (port : AdapterState). is_down port.info) ys ≡ map (λ (port : AdapterState). is_down port.info) xs

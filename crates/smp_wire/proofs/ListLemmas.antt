@@ -64,9 +64,11 @@ get_written [] i x was there = cc
 get_written (y ∷ ys) zero x was there = refl
 get_written (y ∷ ys) (suc i) x was there = get_written ys i x was there
 
+-- what stands there is written there again
 pub set_back : {X : Type 0} (xs : List X) (place : ℕ) (x next : X) → slice_get xs place ≡ Some x → next ≡ x → slice_set xs place next ≡ xs
 set_back xs place x next there same = ap (slice_set xs place) (same ∙ sym (get_or_from_slice_get xs place x x there)) ∙ set-get_or xs place x
 
+-- an element that f cannot tell from the one before it
 pub read_same : {X Y : Type 0} (f : X → Y) (xs : List X) (i : ℕ) (x y : X) → slice_get xs i ≡ Some x → f y ≡ f x → map f (slice_set xs i y) ≡ map f xs
 read_same f xs i x y there same = map-set_same f xs i y x (same ∙ ap f (sym (get_or_from_slice_get xs i x x there)))
 
@@ -87,9 +89,9 @@ pub or_same : {X Y : Type 0} (f : X → Y) (d : Y) (xs ys : List X) (k : ℕ) �
     → option_map_or f (slice_get ys k) d ≡ option_map_or f (slice_get xs k) d
 or_same f d xs ys k same = or_by f d (slice_get ys k) ∙ ap (λ (o : Option _). unwrap_or o d) (get_same f xs ys k same) ∙ sym (or_by f d (slice_get xs k))
 
-pub down_in : (X : Type 0) (f : X → Bool) (xs ys : List X) (i : ℕ) → length ys ≡ length xs → ((d : X) → f (get_or ys i d) ≡ f (get_or xs i d))
+pub alike_at : (X : Type 0) (f : X → Bool) (xs ys : List X) (i : ℕ) → length ys ≡ length xs → ((d : X) → f (get_or ys i d) ≡ f (get_or xs i d))
     → option_map f (slice_get ys i) ≡ option_map f (slice_get xs i)
-down_in X f xs ys i same each = by_place (slice_get_cases xs i).1
+alike_at X f xs ys i same each = by_place (slice_get_cases xs i).1
   where
     by_place : ((x : X) × (i < length xs) × (slice_get xs i ≡ Some x) × (get_or xs i x ≡ x)) ⊎ ((length xs ≤ i) × (slice_get xs i ≡ None))
         → option_map f (slice_get ys i) ≡ option_map f (slice_get xs i)

@@ -113,7 +113,6 @@ replied getter setter held smp reply Holds shows long each holds h =
     (λ request bytes given. spelled getter setter held smp bytes Holds request (λ next attribute. each next attribute bytes) holds given) h
 
 -- ---- an adapter, of which a port stays as it was
--- what stands there is written there again
 adapter_replies : (ports : List AdapterState) (number place : ℕ) (found : Option AdapterState) (smp reply : List ℕ)
     → number - 1 ≡ place → length smp ≡ 256 → list_all (λ port. is_description port.description) ports ≡ true
     → slice_get ports place ≡ found → option_and_then (λ port. adapter_reply port smp) found ≡ Some reply → IsReply smp reply (adapter_ports_after ports number smp found ≡ ports)
