@@ -15,7 +15,8 @@ returns-in_err-take_byte c =
     let at = c.loop-index in
     let p = err_from_is_err_and c.from_residual-in_err-take_byte.result c.from_residual-in_err-take_byte.ensures.1 in
     rw (p.1, p.2, ← c.in_ok-shown.ensures, ← c.as_slice-shown.ensures.value)
-    (stops (fault_in c.in_err-take_byte.field-0.0) shown at.index at.from at.line at.scan (get_or shown at.index 0) refl c.loop-index-test.true at.invariant c.in_err-take_byte.ensures)
+    (stops (fault_in c.in_err-take_byte.field-0.0) shown at.index at.from at.line at.scan (get_or shown at.index 0)
+    refl c.loop-index-test.true at.invariant c.in_err-take_byte.ensures)
 
 pub loop-index-preserved : goal.loop-index-preserved
 loop-index-preserved c =
@@ -32,12 +33,17 @@ loop-index-preserved c =
       | then-is_line_end w ↦ w.line-is ∙ ap (λ b. next_line b at.line) (sym (sym c.is_line_end.ensures ∙ w.if-is_line_end.true))
       | else-is_line_end w ↦ w.line-is ∙ ap (λ b. next_line b at.line) (sym (sym c.is_line_end.ensures ∙ w.if-is_line_end.false))
     ] in
-    rw (from, line) (goes_on shown at.index at.from at.line at.scan c.take_byte.new.self byte refl c.loop-index-test.true at.invariant c.in_ok-take_byte.ensures)
+    rw (from, line)
+    (goes_on shown at.index at.from at.line at.scan c.take_byte.new.self byte refl c.loop-index-test.true at.invariant c.in_ok-take_byte.ensures)
 
 pub returns : goal.returns
 returns c =
     let shown = c.as_slice-shown.result.now in
     let at = c.loop-index in
     let read : length shown ≤ at.index = c.loop-index-test.false in
-    rw (← c.in_ok-shown.ensures, ← c.as_slice-shown.ensures.value, ends shown at.index at.from at.line at.scan read (omega (arith, c.loop-index.auto.index-end)) at.invariant)
+    rw (
+      ← c.in_ok-shown.ensures,
+      ← c.as_slice-shown.ensures.value,
+      ends shown at.index at.from at.line at.scan read (omega (arith, c.loop-index.auto.index-end)) at.invariant,
+    )
     c.finish.ensures

@@ -8,7 +8,8 @@ use Rattle.topo_file.proofs.reader.declarations_of.Goals as goal
 pub loop-line-preserved : goal.loop-line-preserved
 loop-line-preserved c =
     let text = c.args.text.now in
-    goes_on after_line c.loop-line.number c.loop-line.draft c.take_numbered.new.self c.in-Some.line.now c.loop-line.line-iterator c.next.new.self (length text) (declarations_of text)
+    goes_on after_line c.loop-line.number c.loop-line.draft c.take_numbered.new.self c.in-Some.line.now
+    c.loop-line.line-iterator c.next.new.self (length text) (declarations_of text)
     c.in-Some.ensures.steps c.loop-line.invariant c.in_ok-take_numbered.ensures
 
 pub returns-in_err-take_numbered : goal.returns-in_err-take_numbered
@@ -16,10 +17,12 @@ returns-in_err-take_numbered c =
     let text = c.args.text.now in
     let p = err_from_is_err_and c.from_residual.result c.from_residual.ensures.1 in
     rw (p.1, p.2)
-    (stops after_line (fault_in c.in_err-take_numbered.field-0.0) c.loop-line.number c.loop-line.draft c.in-Some.line.now c.loop-line.line-iterator c.next.new.self (length text) (declarations_of text)
+    (stops after_line (fault_in c.in_err-take_numbered.field-0.0) c.loop-line.number c.loop-line.draft c.in-Some.line.now
+    c.loop-line.line-iterator c.next.new.self (length text) (declarations_of text)
     c.in-Some.ensures.steps c.loop-line.invariant c.in_err-take_numbered.ensures)
 
 pub returns : goal.returns
 returns c =
     let text = c.args.text.now in
-    ends after_line c.loop-line.number c.loop-line.draft c.loop-line.line-iterator (length text) (declarations_of text) c.in-None.ensures.steps.0 c.loop-line.invariant
+    ends after_line c.loop-line.number c.loop-line.draft c.loop-line.line-iterator (length text) (declarations_of text)
+    c.in-None.ensures.steps.0 c.loop-line.invariant

@@ -10,6 +10,10 @@ invariant_of-self-2 c =
     let inside = c.self.inside in
     let cable = c.in_ok-cable.cable in
     let words = c.args.words in
-    let ends : ends_at_ports inside.nodes cable ≡ true = ap (λ draft. ends_at_ports draft.nodes cable) c.self.view_is ∙ c.in_ok-cable.ensures.ends in
-    let made : cable_of inside.nodes inside.cables words ≡ Ok cable = ap (λ draft. cable_of draft.nodes draft.cables words) c.self.view_is ∙ sym c.in_ok-cable.ensures.value in
-    rw c.in_ok-push.ensures.ok (sound_with (record { nodes = inside.nodes; cables = inside.cables; manager = inside.manager }) cable c.self.invariant ends (new_cable_is inside.nodes inside.cables words cable made))
+    let ends : ends_at_ports inside.nodes cable ≡ true =
+    ap (λ draft. ends_at_ports draft.nodes cable) c.self.view_is ∙ c.in_ok-cable.ensures.ends in
+    let made : cable_of inside.nodes inside.cables words ≡ Ok cable =
+    ap (λ draft. cable_of draft.nodes draft.cables words) c.self.view_is ∙ sym c.in_ok-cable.ensures.value in
+    rw c.in_ok-push.ensures.ok
+    (sound_with (record { nodes = inside.nodes; cables = inside.cables; manager = inside.manager }) cable c.self.invariant ends
+    (new_cable_is inside.nodes inside.cables words cable made))

@@ -10,7 +10,11 @@ pub invariant_of-self-2 : goal.invariant_of-self-2
 invariant_of-self-2 c =
     let inside = c.self.inside in
     let node = c.in_ok-node.node in
-    let room : is_one_too_many inside.nodes node.node_type node.ports ≡ false = ap (λ draft. is_one_too_many draft.nodes node.node_type node.ports) c.self.view_is ∙ c.in_ok-node.ensures.room in
+    let room : is_one_too_many inside.nodes node.node_type node.ports ≡ false =
+    ap (λ draft. is_one_too_many draft.nodes node.node_type node.ports) c.self.view_is ∙ c.in_ok-node.ensures.room in
     let words = c.args.words in
-    let made : node_of c.args.node_type inside.nodes words ≡ Ok (seen node) = ap (λ draft. node_of c.args.node_type draft.nodes words) c.self.view_is ∙ sym c.in_ok-node.ensures.value in
-    rw c.in_ok-push.ensures.ok (sound_still (record { nodes = inside.nodes; cables = inside.cables; manager = inside.manager }) (seen node) c.self.invariant c.in_ok-node.ensures.guids room (new_node_is c.args.node_type inside.nodes words (seen node) made))
+    let made : node_of c.args.node_type inside.nodes words ≡ Ok (seen node) =
+    ap (λ draft. node_of c.args.node_type draft.nodes words) c.self.view_is ∙ sym c.in_ok-node.ensures.value in
+    rw c.in_ok-push.ensures.ok
+    (sound_still (record { nodes = inside.nodes; cables = inside.cables; manager = inside.manager }) (seen node) c.self.invariant c.in_ok-node.ensures.guids room
+    (new_node_is c.args.node_type inside.nodes words (seen node) made))
