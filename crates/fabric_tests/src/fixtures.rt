@@ -1,6 +1,7 @@
 //! The two-switch fabric, and any topology's fabric over either wire.
 
 use agent_rules::{LINEAR_TABLE, Link, MULTICAST_TABLE};
+use example_texts::TWO_SWITCHES;
 use fabric_parts::PortRef;
 use fabric_wire::{AdapterPorts, Fabric, Node, PlainWire};
 use port_model::AdapterPort;
@@ -8,21 +9,6 @@ use std::alloc::Global;
 use std::test::Fail;
 use switch_model::{PORTS, Switch};
 use topo_file::{Node as PlannedNode, Topology, read};
-
-/// A and B with ports 3 joined, h0 and h1 on A, h2 and h3 on B, and the subnet manager on h0.
-pub const TWO_SWITCHES: &[u8] = b"switch A 0x10 4
-switch B 0x20 4
-adapter h0 0x100 1
-adapter h1 0x110 1
-adapter h2 0x120 1
-adapter h3 0x130 1
-cable A/1 h0/1
-cable A/2 h1/1
-cable A/3 B/3
-cable B/1 h2/1
-cable B/2 h3/1
-sm h0/1
-";
 
 /// The fabric that a text describes.
 pub fn fabric_of(alloc: Global, text: &[u8]) -> Result<Fabric, Fail> {
@@ -32,12 +18,14 @@ pub fn fabric_of(alloc: Global, text: &[u8]) -> Result<Fabric, Fail> {
 
 /// The two-switch fabric, hop by hop.
 pub fn two_switch_fabric(alloc: Global) -> Result<Fabric, Fail> {
-    fabric_of(alloc, TWO_SWITCHES)
+    fabric_of(alloc, TWO_SWITCHES.as_bytes())
 }
 
 /// The same, over the plain wire.
 pub fn two_switch_wire(alloc: Global) -> Result<PlainWire, Fail> {
-    let topology = read(alloc, TWO_SWITCHES).ok().ok_or("the topology")?;
+    let topology = read(alloc, TWO_SWITCHES.as_bytes())
+        .ok()
+        .ok_or("the topology")?;
     plain_wire_of(alloc, &topology)
 }
 

@@ -1,7 +1,8 @@
 //! Worked paths over the wires of the two-switch fabric.
 
-use crate::fixtures::{TWO_SWITCHES, two_switch_fabric, two_switch_wire};
+use crate::fixtures::{two_switch_fabric, two_switch_wire};
 use attr_tables::{NodeInfo, SmpAttribute};
+use example_texts::TWO_SWITCHES;
 use fabric_wire::{CountingWire, Fabric, SilencedWire, SmpWire, get_request, read_attribute};
 use mad_layout::{DrSmp, Header};
 use std::alloc::AllocError;
@@ -96,7 +97,7 @@ fn wires_round_a_wire_count_and_fall_silent(rt: HostRuntime) -> Result<(), Fail>
 
 #[test]
 fn a_fabric_is_made_or_memory_is_refused(rt: HostRuntime) -> Result<(), Fail> {
-    let Ok(topology) = read(rt.alloc(), TWO_SWITCHES) else {
+    let Ok(topology) = read(rt.alloc(), TWO_SWITCHES.as_bytes()) else {
         return Ok(());
     };
     match Fabric::new(rt.alloc(), &topology) {

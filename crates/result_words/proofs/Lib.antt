@@ -1,3 +1,4 @@
 pub mod StepLemmas
 pub mod LineLemmas
 pub mod ListLemmas
+pub mod PlaceLemmas

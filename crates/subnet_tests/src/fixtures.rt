@@ -6,23 +6,6 @@ use std::alloc::Global;
 use std::test::Fail;
 use subnet_model::{NodeName, SubnetPort};
 
-/// Its text, with an adapter h4 that has no cable.
-pub const TWO_SWITCHES: &str = "\
-switch A 0x10 4
-switch B 0x20 4
-adapter h0 0x100 1
-adapter h1 0x110 1
-adapter h2 0x120 1
-adapter h3 0x130 1
-adapter h4 0x140 1
-cable A/1 h0/1
-cable A/2 h1/1
-cable A/3 B/3
-cable B/1 h2/1
-cable B/2 h3/1
-sm h0/1
-";
-
 /// The GUIDs of its end ports, in order of their LIDs: h0/1, A/0, B/0, h1/1, h2/1, h3/1.
 pub const GUIDS: [u64; 6] = [0x101, 0x10, 0x20, 0x111, 0x121, 0x131];
 
@@ -39,9 +22,6 @@ pub const ONE_PARTITION: [[u16; 2]; 6] = [
     [0x7fff, 0x0001],
     [0x7fff, 0x0001],
 ];
-
-/// The partition file that gives the ports these keys.
-pub const ONE_PARTITION_FILE: &str = "P1=0x0001: 0x111=full, 0x121, 0x131;";
 
 /// The end ports with these keys, of which 0 is none.
 pub fn two_switches(alloc: Global, keys: &[[u16; 2]; 6]) -> Result<Vec<SubnetPort>, Fail> {

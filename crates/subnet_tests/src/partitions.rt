@@ -1,4 +1,5 @@
-use crate::fixtures::{GUIDS, ONE_PARTITION, ONE_PARTITION_FILE, TWO_SWITCHES};
+use crate::fixtures::{GUIDS, ONE_PARTITION};
+use example_texts::{ONE_PARTITION_FILE, TWO_SWITCHES};
 use std::test::Fail;
 use subnet_core::{RunFault, bring_up, ports_of};
 

@@ -1,4 +1,4 @@
-use crate::fixtures::TWO_SWITCHES;
+use example_texts::TWO_SWITCHES;
 use std::test::Fail;
 use subnet_core::{RunFault, StepFault, bring_up, run};
 

@@ -1,4 +1,4 @@
-use crate::fixtures::TWO_SWITCHES;
+use example_texts::TWO_SWITCHES;
 use fabric_parts::{Cable, NodeType, PortRef};
 use std::test::Fail;
 use topo_file::{TopoFault, Topology, is_connected, read};
@@ -28,7 +28,7 @@ fn is_node(
 }
 
 fn is_two_switches(topology: &Topology) -> bool {
-    topology.nodes().len() == 6
+    topology.nodes().len() == 7
         && is_node(topology, 0, b"A", NodeType::Switch, 0x10, 4)
         && is_node(topology, 5, b"h3", NodeType::ChannelAdapter, 0x130, 1)
         && topology.index_of(b"h") == None

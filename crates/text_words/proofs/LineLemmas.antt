@@ -1,10 +1,6 @@
--- Lines of a text: where the first ends, and how many there are; and where a byte is found first.
-use Rattle.std.proofs.Common.{◌≡◌, ℕ, suc, ◌+◌, ◌<◌, ◌≤◌, Bool, true, false, cond, not, nat_lt, List, [], ◌∷◌, length, take, drop, position, Some, None, refl, sym, ◌∙◌, arith}
-use Rattle.std.proofs.lemmas.Bool.{lt-ltb, ltb-false}
-use Rattle.std.proofs.lemmas.Bool.Decides.{nat_tests}
-use Rattle.std.proofs.lemmas.Option.{cond_some}
-use Rattle.std.proofs.lemmas.List.Sums.{prefix_len-le-length}
-use Rattle.std.specs.List.{list_any, position_or_len, onto_first}
+-- Lines of a text: where the first ends, and how many there are.
+use Rattle.std.proofs.Common.{◌≡◌, ℕ, suc, ◌+◌, ◌<◌, ◌≤◌, Bool, true, false, List, [], ◌∷◌, length, take, drop, refl, arith}
+use Rattle.std.specs.List.{position_or_len, onto_first}
 use Rattle.text_words.specs.Lines.{is_line_end, lines}
 
 longer_first : (byte n : ℕ) (rest : List ℕ) → lines rest ≡ take (n + 1) rest ∷ lines (drop (n + 1) rest)
@@ -48,32 +44,6 @@ last_line (next ∷ rest) byte h = by (is_line_end byte) refl (last_line rest ne
 pub lines-last : (text : List ℕ) → 0 < length text → length text ≤ position_or_len is_line_end text → lines text ≡ text ∷ []
 lines-last [] some h = absurd (omega arith)
 lines-last (byte ∷ rest) some h = last_line rest byte h
-
--- where a search finds the byte
-pub place-found : (p : ℕ → Bool) (text : List ℕ) (i : ℕ) → position p text ≡ Some i → i ≡ position_or_len p text
-place-found p text i h = sym (cond_some (nat_lt (position_or_len p text) (length text)) (position_or_len p text) i h).1
-
-none_below : (b : Bool) (n : ℕ) → cond b (Some n) None ≡ None → b ≡ false
-none_below true n h = absurd cc
-none_below false n h = refl
-
-pub place-none : (p : ℕ → Bool) (text : List ℕ) → position p text ≡ None → length text ≡ position_or_len p text
-place-none p text h =
-    let past = ltb-false _ _ (none_below (nat_lt (position_or_len p text) (length text)) (position_or_len p text) h) in
-    omega (arith, past, prefix_len-le-length (λ x. not (p x)) text)
-
-one_more : (m n : ℕ) → nat_lt m n ≡ nat_lt (1 + m) (suc n)
-one_more m n = grind (arith, nat_tests)
-
--- a byte is found where its place is before the end
-pub list_any_place : (p : ℕ → Bool) (text : List ℕ) → list_any p text ≡ nat_lt (position_or_len p text) (length text)
-list_any_place p [] = refl
-list_any_place p (byte ∷ rest) = by (p byte) refl (list_any_place p rest)
-  where
-    by : (b : Bool) → p byte ≡ b → list_any p rest ≡ nat_lt (position_or_len p rest) (length rest)
-        → list_any p (byte ∷ rest) ≡ nat_lt (position_or_len p (byte ∷ rest)) (length (byte ∷ rest))
-    by true e later = rw e (sym (lt-ltb 0 (suc (length rest)) (omega arith)))
-    by false e later = rw e (later ∙ one_more (position_or_len p rest) (length rest))
 
 longer_onto : (byte : ℕ) (parts : List (List ℕ)) (n : ℕ) → length parts ≤ n → length (onto_first byte parts) ≤ suc n
 longer_onto byte [] n h = omega arith

@@ -4,7 +4,7 @@ ghost use Rattle.std.specs.Option.{option_map};
 ghost use Rattle.text_words.specs.Cut.{both, cut_at};
 
 /// What stands before and behind the first such byte, if there is one.
-#[tactic(auto, using(crate::proofs::LineLemmas::list_any_place))]
+#[tactic(auto, using(result_words::proofs::PlaceLemmas::list_any_place))]
 pub fn cut_at(wanted: u8, text: &[u8]) -> Option<(&[u8], &[u8])>
     ensures { option_map both result ≡ cut_at (λ byte. byte == wanted) text.now }
 {

@@ -18,7 +18,7 @@ use Rattle.topo_file.specs.Cable.{may_join, port_at}
 use Rattle.topo_file.specs.Node.{is_one_too_many, lacks_guids, place_of, shares_guid}
 use Rattle.topo_file.specs.Sound.{is_named, is_sized, joins_right}
 use Rattle.topo_file.specs.Topology.{cable_of, cable_spelt, name_of, new_cable, new_node, node_of, node_spelt, number_up_to, port_of, within}
-use Rattle.topo_file.proofs.NodeLemmas.{not_there}
+use Rattle.result_words.proofs.PlaceLemmas.{not_there}
 
 in_range : (top n : ℕ) (found : Option ℕ) → within top found ≡ Ok n → (nat_le 1 n && nat_le n top) ≡ true
 in_range top n None h = cc

@@ -1,11 +1,10 @@
 -- Nodes and their names: a name is looked up among keys that spell the names.
-use Rattle.std.proofs.Common.{◌≡◌, ℕ, suc, ◌+◌, Bool, true, false, cond, not, List, [], ◌∷◌, ◌++◌, length, map, position, nat_lt, Some, None, refl, sym, ap, ◌∙◌, arith}
-use Rattle.std.specs.List.{list_any, position_or_len, prefix_len}
+use Rattle.std.proofs.Common.{◌≡◌, ℕ, Bool, false, not, List, [], ◌∷◌, ◌++◌, map, position, None, refl, sym, ap, ◌∙◌}
+use Rattle.std.specs.List.{list_any, prefix_len}
 use Rattle.std.specs.Str.{bytes_eq}
-use Rattle.std.proofs.lemmas.Bool.{lt-ltb}
-use Rattle.std.proofs.lemmas.Bool.Decides.{nat_tests}
 use Rattle.std.proofs.lemmas.List.{length-map, map_push}
 use Rattle.indexmap.specs.IndexSet.{insert_key}
+use Rattle.result_words.proofs.PlaceLemmas.{not_there}
 use Rattle.topo_file.specs.declared.node.Node.{Node}
 use Rattle.topo_file.specs.Node.{place_of}
 
@@ -22,24 +21,6 @@ pub place_of-keys : {K : Type 0} (spelt : K → List ℕ) (name : List ℕ) (key
     → position (λ key. bytes_eq name (spelt key)) keys ≡ place_of name nodes
 place_of-keys spelt name keys nodes same =
     position-map (bytes_eq name) spelt keys ∙ ap (position (bytes_eq name)) same ∙ sym (position-map (bytes_eq name) (λ node. node.name) nodes)
-
-pub one_more : (m n : ℕ) → nat_lt m n ≡ nat_lt (1 + m) (suc n)
-one_more m n = grind (arith, nat_tests)
-
-list_any_place : {X : Type 0} (p : X → Bool) (xs : List X) → list_any p xs ≡ nat_lt (position_or_len p xs) (length xs)
-list_any_place p [] = refl
-list_any_place p (x ∷ xs) = by (p x) refl (list_any_place p xs)
-  where
-    by : (b : Bool) → p x ≡ b → list_any p xs ≡ nat_lt (position_or_len p xs) (length xs) → list_any p (x ∷ xs) ≡ nat_lt (position_or_len p (x ∷ xs)) (length (x ∷ xs))
-    by true e later = rw e (sym (lt-ltb 0 (suc (length xs)) (omega arith)))
-    by false e later = rw e (later ∙ one_more (position_or_len p xs) (length xs))
-
-none_below : (b : Bool) (n : ℕ) → cond b (Some n) None ≡ None → b ≡ false
-none_below true n h = absurd cc
-none_below false n h = refl
-
-pub not_there : {X : Type 0} (p : X → Bool) (xs : List X) → position p xs ≡ None → list_any p xs ≡ false
-not_there p xs h = list_any_place p xs ∙ none_below (nat_lt (position_or_len p xs) (length xs)) (position_or_len p xs) h
 
 -- a new name goes last, as its node does
 pub keys_and_names_grow : {K : Type 0} (spelt : K → List ℕ) (key : K) (node : Node) (keys : List K) (nodes : List Node) → map spelt keys ≡ map (λ n. n.name) nodes

@@ -13,7 +13,7 @@ use Rattle.topo_file.specs.declared.node.Node.{Node}
 use Rattle.topo_file.specs.Node.{is_switch, is_switch_at, switch_count}
 use Rattle.topo_file.specs.Connectivity.{is_connected, is_joined_within, joins, is_walk, switches, Joined, AllJoined}
 use Rattle.topo_file.specs.Rounds.{is_marked, leads_to, after_rounds, reaches_all, reaches_all_from}
-use Rattle.topo_file.proofs.NodeLemmas.{one_more, not_there}
+use Rattle.result_words.proofs.PlaceLemmas.{not_there, one_more}
 use Rattle.topo_file.proofs.MarkLemmas.{mark-spread, mark-only, marked_switch, only_marks, stays, rests, all_marked, from_marked}
 
 -- a cable joins both ways

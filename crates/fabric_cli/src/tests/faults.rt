@@ -1,7 +1,8 @@
 //! Faults in files.
 
 use crate::tests::calls::{CHECK_UNDER_A_FILE, RUN_UNDER_A_FILE, told_by, told_of};
-use crate::tests::fixtures::{BAD_PARTITIONS, BAD_SCRIPTS, BAD_TOPOLOGIES, TWO_SWITCHES};
+use crate::tests::fixtures::{BAD_PARTITIONS, BAD_SCRIPTS, BAD_TOPOLOGIES};
+use example_texts::TWO_SWITCHES;
 use std::test::Fail;
 
 #[test]

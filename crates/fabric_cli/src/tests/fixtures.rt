@@ -1,20 +1,4 @@
-//! Texts of topologies, partitions and scripts, and what the program answers for them.
-
-/// Two switches, the manager on h0/1, and h4 without a cable.
-pub const TWO_SWITCHES: &str = "switch A 0x10 4
-switch B 0x20 4
-adapter h0 0x100 1
-adapter h1 0x110 1
-adapter h2 0x120 1
-adapter h3 0x130 1
-adapter h4 0x140 1
-cable A/1 h0/1
-cable A/2 h1/1
-cable A/3 B/3
-cable B/1 h2/1
-cable B/2 h3/1
-sm h0/1
-";
+//! Texts over the two-switch fabric and texts with faults, and what the program answers for them.
 
 /// To another adapter, to the sender itself, to a switch, to no port and to a multicast LID.
 pub const SENDS: &str = "send h1/1 5 0xffff 7 2:beef

@@ -1,8 +1,9 @@
 //! Files, outputs and words that are refused.
 
 use crate::tests::calls::{RUN, plain, read_so, sink, told};
-use crate::tests::fixtures::{REPORT, SENDS, TWO_SWITCHES};
+use crate::tests::fixtures::{REPORT, SENDS};
 use crate::tests::memory::{Manner, Refusal};
+use example_texts::TWO_SWITCHES;
 use std::test::Fail;
 
 #[test]

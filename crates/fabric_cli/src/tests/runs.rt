@@ -1,7 +1,8 @@
 //! A whole call, where memory may be refused.
 
 use crate::tests::calls::told_of;
-use crate::tests::fixtures::{REPORT, SENDS, TWO_SWITCHES};
+use crate::tests::fixtures::{REPORT, SENDS};
+use example_texts::TWO_SWITCHES;
 use std::test::Fail;
 
 /// With ample memory the report; where memory is refused, status 3 and the beginning of a line that

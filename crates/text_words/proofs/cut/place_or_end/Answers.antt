@@ -1,5 +1,5 @@
 use Rattle.std.proofs.Common.{◌==◌, sym}
-use Rattle.text_words.proofs.LineLemmas.{place-none}
+use Rattle.result_words.proofs.PlaceLemmas.{place-none}
 use Rattle.text_words.proofs.cut.place_or_end.Goals as goal
 
 pub returns-in-None-clause-value : goal.returns-in-None-clause-value
