@@ -6,15 +6,16 @@ use Rattle.mad_layout.specs.declared.status.MadStatus.{MadStatus}
 use Rattle.attr_tables.specs.declared.smp_attribute.SmpAttribute.{SmpAttribute}
 use Rattle.result_words.specs.Steps.{◌>>=◌}
 use Rattle.agent_rules.specs.Agent.{Getter, Setter, after, answer, changed, held_after, reply_of}
-use Rattle.agent_rules.specs.Laws.{AsksSame, IsSettled, IsUnseenPut, ReadsAlike}
+use Rattle.agent_rules.specs.Laws.{IsSettled, IsUnseenPut, ReadsAlike}
 use Rattle.attr_tables.specs.Attribute.{IsAttribute}
-use Rattle.agent_rules.specs.Request.{attribute_asked, is_request, is_set, modifier_of, reply_status, reply_to}
+use Rattle.agent_rules.specs.Request.{attribute_asked, data_of, is_request, is_set, modifier_of, reply_status, reply_to}
 use Rattle.agent_rules.proofs.UnseenLemmas.{unseen_passes}
 
 -- what is set can be asked for
 abbrev pub Shows : {S : Type 0} → Getter S → Setter S → Type 0
-Shows getter setter = (held next : _) (attribute : SmpAttribute) (smp : List ℕ) → setter held attribute smp ≡ Ok
-    next → (bytes : List ℕ) × (getter next attribute (modifier_of smp) ≡ Ok bytes)
+Shows getter setter =
+    (held next : _) (attribute : SmpAttribute) (modifier : ℕ) (wanted : List ℕ) → setter held attribute modifier wanted ≡ Ok next
+    → (bytes : List ℕ) × (getter next attribute modifier ≡ Ok bytes)
 
 -- what holds of the old value, and of each value that a Set leads to, holds of the value after an SMP
 held_cases : {S : Type 0} (r b : Bool) (asked : Result SmpAttribute MadStatus) (f : SmpAttribute → Result S MadStatus) (held : S) (P : S → Type 0)
@@ -30,10 +31,11 @@ held_cases true true (Ok attribute) f held P here there = set_cases (f attribute
     set_cases (Ok next) a h = there attribute next refl h
 
 pub after_cases : {S : Type 0} (setter : Setter S) (held : S) (smp : List ℕ) (P : S → Type 0) → P held
-    → ((attribute : SmpAttribute) (next : S) → attribute_asked smp ≡ Ok attribute → setter held attribute smp ≡ Ok next → P next)
+    → ((attribute : SmpAttribute) (next : S) → attribute_asked smp ≡ Ok attribute
+    → setter held attribute (modifier_of smp) (data_of smp) ≡ Ok next → P next)
     → P (after setter held smp)
 after_cases setter held smp P here there =
-    held_cases (is_request smp) (is_set smp) (attribute_asked smp) (λ attribute. setter held attribute smp) held P here there
+    held_cases (is_request smp) (is_set smp) (attribute_asked smp) (λ attribute. setter held attribute (modifier_of smp) (data_of smp)) held P here there
 
 get_keeps : {S : Type 0} (r b : Bool) (asked : Result SmpAttribute MadStatus) (f : SmpAttribute → Result S MadStatus) (held : S)
     → b ≡ false
@@ -82,8 +84,8 @@ answers_same : {S : Type 0} (getter : Getter S) (setter : Setter S) (held : S) (
     → answer getter setter (held_after setter held smp) later ≡ Ok bytes
 answers_same getter setter held smp later bytes h asked part not_set =
     let next = held_after setter held smp in
-    let given = later_answers (is_set smp) (is_set later) (attribute_asked smp) (λ a. setter held a smp)
-    (λ x a. setter x a later) (λ x a. getter x a (modifier_of smp)) held bytes not_set h in
+    let given = later_answers (is_set smp) (is_set later) (attribute_asked smp) (λ a. setter held a (modifier_of smp) (data_of smp))
+    (λ x a. setter x a (modifier_of later) (data_of later)) (λ x a. getter x a (modifier_of smp)) held bytes not_set h in
     let P : ℕ → Type 0 = λ modifier. (attribute_asked smp >>= λ a. (changed setter next a later >>= λ x. getter x a modifier)) ≡ Ok bytes in
     let Q : Result SmpAttribute MadStatus
     → Type 0 = λ x. (x >>= λ a. (changed setter next a later >>= λ y. getter y a (modifier_of later))) ≡ Ok bytes in
@@ -93,10 +95,10 @@ pub settled : {S : Type 0} (getter : Getter S) (setter : Setter S) → Shows get
 settled getter setter shows =
     record {
       silent = λ held smp h. rw h refl;
-      get = λ held smp h. get_keeps (is_request smp) (is_set smp) (attribute_asked smp) (λ a. setter held a smp) held h;
+      get = λ held smp h. get_keeps (is_request smp) (is_set smp) (attribute_asked smp) (λ a. setter held a (modifier_of smp) (data_of smp)) held h;
       refused = λ held smp status h. refused_keeps (is_request smp) (is_set smp) (attribute_asked smp)
-          (λ a. setter held a smp) (λ x a. getter x a (modifier_of smp)) held status
-          (λ a next e. shows held next a smp e) h;
+          (λ a. setter held a (modifier_of smp) (data_of smp)) (λ x a. getter x a (modifier_of smp)) held status
+          (λ a next e. shows held next a (modifier_of smp) (data_of smp) e) h;
       set = λ held smp later bytes request h same.
           let now : after setter held smp ≡ held_after setter held smp = rw request refl in
           let P : _ → Type 0 = λ x. answer getter setter x later ≡ Ok bytes in
@@ -111,20 +113,19 @@ pub refused_stays : {S : Type 0} (getter : Getter S) (setter : Setter S) → Sho
 refused_stays getter setter shows held now smp (Ok bytes) status is after zero not_zero = absurd (not_zero zero)
 refused_stays getter setter shows held now smp (Err e) status is after same not_zero =
     after
-    ∙ refused_keeps true (is_set smp) (attribute_asked smp) (λ a. setter held a smp) (λ x a. getter x a (modifier_of smp)) held e (λ a next h. shows held next a smp h) (sym is)
+    ∙ refused_keeps true (is_set smp) (attribute_asked smp) (λ a. setter held a (modifier_of smp) (data_of smp)) (λ x a. getter x a (modifier_of smp)) held e (λ a next h. shows held next a (modifier_of smp) (data_of smp) h) (sym is)
 
--- a node that takes the same from SMPs that ask the same
-pub reads_alike : {S : Type 0} (getter : Getter S) (setter : Setter S)
-    → ((held : S) (attribute : SmpAttribute) (one other : List ℕ) → AsksSame one other → setter held attribute other ≡ setter held attribute one)
-    → ReadsAlike getter setter
-reads_alike getter setter takes =
+-- SMPs that ask the same are answered alike, and leave the same
+pub reads_alike : {S : Type 0} (getter : Getter S) (setter : Setter S) → ReadsAlike getter setter
+reads_alike getter setter =
     record {
       answered = λ held one other same. λ place. (same.attribute place) >>= λ attribute.
-          ((if same.set place then takes held attribute one other same place else Ok held) >>= λ next. getter next
-          attribute (same.modifier place));
+          ((if same.set place then setter held attribute (same.modifier place) (same.attribute_is place) else Ok held)
+          >>= λ next. getter next attribute (same.modifier place));
       held = λ held one other same. λ place. if same.request place then result_unwrap_or
-          ((same.attribute place) >>= λ attribute. if same.set place then takes held attribute one other same place
-          else Ok held) held else held;
+          ((same.attribute place) >>= λ attribute.
+          if same.set place then setter held attribute (same.modifier place) (same.attribute_is place) else Ok held)
+          held else held;
     }
 
 -- a reply to an SMP with a field that the agent does not see is the reply with that field
@@ -135,14 +136,13 @@ passes_through false given smp off len value put spelled = refl
 passes_through true (Ok bytes) smp off len value put spelled = ap (λ (reply : List ℕ). Some reply) (unseen_passes.reply smp bytes off len value put spelled)
 passes_through true (Err status) smp off len value put spelled = ap (λ (reply : List ℕ). Some reply) (unseen_passes.refusal smp status off len value put)
 
-pub reply_passes : {S : Type 0} (getter : Getter S) (setter : Setter S) → ReadsAlike getter setter
-    → (held : S) (smp : List ℕ) (off len value : ℕ) → IsUnseenPut smp off len value
+pub reply_passes : {S : Type 0} (getter : Getter S) (setter : Setter S) (held : S) (smp : List ℕ) (off len value : ℕ) → IsUnseenPut smp off len value
     → IfOk (answer getter setter held smp) IsAttribute
     → reply_of getter setter held (put_field smp off len value) ≡ option_map (λ reply. put_field reply off len value) (reply_of getter setter held smp)
-reply_passes getter setter alike held smp off len value put spelled =
+reply_passes getter setter held smp off len value put spelled =
     let other = put_field smp off len value in
     let same = unseen_passes.asks smp off len value put in
     let request = same.request in
-    let given = alike.answered held smp other same in
+    let given = (reads_alike getter setter).answered held smp other same in
     (λ place. if request place then Some (reply_to other (given place)) else None)
     ∙ passes_through (is_request smp) (answer getter setter held smp) smp off len value put spelled

@@ -3,5 +3,8 @@ pub mod RequestLemmas
 pub mod PortSettingLemmas
 pub mod AgentLemmas
 pub mod TableLemmas
+pub mod CarriedLemmas
+pub mod GoodLemmas
+pub mod GivenLemmas
 pub mod CarryLemmas
 pub mod UnseenLemmas

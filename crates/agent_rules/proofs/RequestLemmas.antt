@@ -1,55 +1,12 @@
--- What stands in the attribute that an SMP carries, as fields of the SMP.
+-- What a reply is: the request with its fields set.
 use Rattle.std.proofs.Common.{◌≡◌, ℕ, ◌+◌, ◌*◌, ◌%◌, ◌^◌, ◌<◌, ◌≤◌, Bool, true, false, ◌==◌, if◌then◌else◌, Ok, Err, List, [], ◌∷◌, length, take, drop, map, refl, sym, ◌∙◌, ap, arith}
-use Rattle.std.specs.Int.Digits.{AllBelowBase}
-use Rattle.std.specs.List.{range_with_len}
-use Rattle.std.proofs.lemmas.Grind.{same_number_lists}
-use Rattle.std.proofs.lemmas.List.FromFn.{length-map-range_with_len, get_or-map-range_with_len}
-use Rattle.std.proofs.Math.Nat.{mul-le-mul_left}
 use Rattle.std.proofs.lemmas.Bool.{and_parts, and_from}
-use Rattle.mad_layout.specs.Bits.{number, field, bit_of}
+use Rattle.mad_layout.specs.Bits.{number, field}
 use Rattle.mad_layout.specs.Layout.{at, is_apart, is_free, is_layout, Sets}
 use Rattle.mad_layout.specs.MadStatus.{mad_status_code}
 use Rattle.mad_layout.specs.declared.status.MadStatus.{MadStatus}
 use Rattle.mad_layout.proofs.LayoutLemmas.{sets_put_all}
-use Rattle.mad_layout.proofs.AlignedLemmas.{field_of_part}
-use Rattle.attr_tables.specs.Blocks.{HoldsEntries}
-use Rattle.agent_rules.specs.Request.{asked, is_set, reply_method, reply_to, KeepsRest}
-
--- the bytes are those of the attribute that the SMP carries
-pub record IsCarried (smp bytes : List ℕ) : Type 0 where
-  pub long : length smp ≡ 256
-  pub below : AllBelowBase 256 smp
-  pub same : bytes ≡ take 64 (drop 64 smp)
-
-pub carried_field : (smp bytes : List ℕ) (off len : ℕ) → IsCarried smp bytes → off + len ≤ 512 → field bytes off len ≡ asked smp off len
-carried_field smp bytes off len there within =
-    let long = there.long in
-    ap (λ (ys : List ℕ). field ys off len) there.same
-    ∙ field_of_part smp 64 64 off len there.below (omega arith) (omega arith)
-
-pub within : (len count k : ℕ) → k < count → len * count ≡ 512 → len * k + len ≤ 512
-within len count k h whole =
-    let step : len * (k + 1) ≤ len * count = mul-le-mul_left len (omega arith) in
-    omega arith
-
-pub carried_entries : (smp bytes entries : List ℕ) (len count : ℕ) → IsCarried smp bytes
-    → HoldsEntries bytes len entries → length entries ≡ count → len * count ≡ 512
-    → entries ≡ map (λ k. asked smp (len * k) len) (range_with_len 0 count)
-carried_entries smp bytes entries len count there holds size whole =
-    let all = length-map-range_with_len (λ k. asked smp (len * k) len) 0 count in
-    same_number_lists entries (map (λ k. asked smp (len * k) len) (range_with_len 0 count)) (size ∙ sym all) (λ k h.
-    holds k h
-    ∙ carried_field smp bytes (len * k) len there (within len count k (omega arith) whole)
-    ∙ sym (get_or-map-range_with_len (λ i. asked smp (len * i) len) 0 count k k 0 (omega arith) (omega arith)))
-
-flag_of : (flag : Bool) (n : ℕ) → bit_of flag ≡ n → flag ≡ (n == 1)
-flag_of true n h = rw (← h) refl
-flag_of false n h = rw (← h) refl
-
-pub carried_flag : (smp bytes : List ℕ) (flag : Bool) (off : ℕ) → IsCarried smp bytes → off + 1 ≤ 512
-    → bit_of flag ≡ field bytes off 1 → flag ≡ (asked smp off 1 == 1)
-carried_flag smp bytes flag off there within h =
-    flag_of flag (asked smp off 1) (h ∙ carried_field smp bytes off 1 there within)
+use Rattle.agent_rules.specs.Request.{is_set, reply_method, reply_to, KeepsRest}
 
 pub method_fits : (b : Bool) (n : ℕ) → (if b then 129 else 128 + n % 128) < 2 ^ 8
 method_fits true n = omega arith

@@ -8,7 +8,8 @@ use Rattle.std.proofs.Math.Nat.{div-add-mod', mul-le-mul_left}
 use Rattle.agent_rules.specs.Laws.{DiffersInBlock}
 use Rattle.agent_rules.specs.Agent.{word_block, set_word_block}
 use Rattle.attr_tables.specs.Blocks.{block_of, has_block, with_block, word_bytes}
-use Rattle.agent_rules.specs.Request.{asked, asked_words, asked_ports}
+use Rattle.agent_rules.specs.Carried.{ports_in, words_in}
+use Rattle.mad_layout.specs.Bits.{field}
 use Rattle.agent_rules.proofs.GuardLemmas.{passed, taken_ok}
 use Rattle.mad_layout.specs.declared.status.MadStatus.TheVariants.{InvalidField}
 use Rattle.std.proofs.lemmas.List.FromFn.{length-map-range_with_len}
@@ -62,28 +63,28 @@ block_differs size block entries table some long there =
 pub no_difference : (size block : ℕ) (table : List ℕ) → DiffersInBlock size block table table
 no_difference size block table = record { same_length = refl; elsewhere = λ k other. refl }
 
-length-asked_words : (smp : List ℕ) → length (asked_words smp) ≡ 32
-unfolding asked_words
-length-asked_words smp = length-map-range_with_len (λ k. asked smp (16 * k) 16) 0 32
+length-words_in : (attribute : List ℕ) → length (words_in attribute) ≡ 32
+unfolding words_in
+length-words_in attribute = length-map-range_with_len (λ k. field attribute (16 * k) 16) 0 32
 
-pub length-asked_ports : (smp : List ℕ) → length (asked_ports smp) ≡ 64
-unfolding asked_ports
-length-asked_ports smp = length-map-range_with_len (λ k. asked smp (8 * k) 8) 0 64
+pub length-ports_in : (attribute : List ℕ) → length (ports_in attribute) ≡ 64
+unfolding ports_in
+length-ports_in attribute = length-map-range_with_len (λ k. field attribute (8 * k) 8) 0 64
 
-pub words_differ : (block : ℕ) (smp table next : List ℕ) → set_word_block block smp table ≡ Ok next → DiffersInBlock 32 block table next
-words_differ block smp table next h =
-    let t = taken_ok (has_block 32 block table) (with_block 32 block (asked_words smp) table) next InvalidField h in
+pub words_differ : (block : ℕ) (attribute table next : List ℕ) → set_word_block block attribute table ≡ Ok next → DiffersInBlock 32 block table next
+words_differ block attribute table next h =
+    let t = taken_ok (has_block 32 block table) (with_block 32 block (words_in attribute) table) next InvalidField h in
     let P : List ℕ → Type 0 = DiffersInBlock 32 block table in
-    subst P t.1 (block_differs 32 block (asked_words smp) table (omega arith) (length-asked_words smp) t.0)
+    subst P t.1 (block_differs 32 block (words_in attribute) table (omega arith) (length-words_in attribute) t.0)
 
 -- a table of the same length has the same blocks
 pub same_blocks : (size block : ℕ) (old new : List ℕ) → DiffersInBlock size block old new
     → has_block size block old ≡ true → has_block size block new ≡ true
 same_blocks size block old new d h = ap (λ (n : ℕ). nat_lt block (n / size)) d.same_length ∙ h
 
-pub words_shown : (block : ℕ) (smp table next : List ℕ) → set_word_block block smp table ≡ Ok next
+pub words_shown : (block : ℕ) (attribute table next : List ℕ) → set_word_block block attribute table ≡ Ok next
     → (bytes : List ℕ) × (word_block block next ≡ Ok bytes)
-words_shown block smp table next h =
-    let t = taken_ok (has_block 32 block table) (with_block 32 block (asked_words smp) table) next InvalidField h in
-    let there = same_blocks 32 block table next (words_differ block smp table next h) t.0 in
+words_shown block attribute table next h =
+    let t = taken_ok (has_block 32 block table) (with_block 32 block (words_in attribute) table) next InvalidField h in
+    let there = same_blocks 32 block table next (words_differ block attribute table next h) t.0 in
     (word_bytes (block_of 32 block next), passed (has_block 32 block next) (Ok (word_bytes (block_of 32 block next))) InvalidField there)

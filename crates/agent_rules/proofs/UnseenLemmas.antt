@@ -1,22 +1,21 @@
 -- What an agent does not see of an SMP.
-use Rattle.std.proofs.Common.{◌≡◌, ℕ, ◌+◌, ◌*◌, ◌%◌, ◌^◌, ◌<◌, ◌≤◌, ◌==◌, ◌⊎◌, inl, inr, true, nat_le, if◌then◌else◌, Ok, Err, List, map, refl, sym, ◌∙◌, ap, arith}
-use Rattle.std.specs.List.{range_with_len}
+use Rattle.std.proofs.Common.{◌≡◌, ℕ, ◌+◌, ◌*◌, ◌%◌, ◌^◌, ◌<◌, ◌≤◌, ◌==◌, ◌⊎◌, inl, inr, true, nat_le, if◌then◌else◌, Ok, Err, List, length, map, refl, sym, ◌∙◌, ap, arith}
 use Rattle.std.proofs.lemmas.Bool.{and_parts, leb-true, or_cases}
-use Rattle.std.proofs.lemmas.Grind.{same_number_lists}
-use Rattle.std.proofs.lemmas.List.FromFn.{length-map-range_with_len, get_or-map-range_with_len}
 use Rattle.mad_layout.specs.Bits.{number, field, put_field}
 use Rattle.mad_layout.specs.Layout.{at, is_apart}
 use Rattle.mad_layout.specs.MadStatus.{mad_status_code}
 use Rattle.mad_layout.specs.declared.status.MadStatus.{MadStatus}
-use Rattle.mad_layout.proofs.LayoutLemmas.{field-put_apart, length-put_field}
+use Rattle.mad_layout.proofs.AlignedLemmas.{bytes_stand, field_aligned}
+use Rattle.mad_layout.proofs.LayoutLemmas.{field-put_apart, length-put_field, put_below}
+
 use Rattle.agent_rules.specs.Laws.{AsksSame, IsUnseenPut, UnseenPasses, is_unseen}
 use Rattle.attr_tables.specs.Attribute.{IsAttribute}
-use Rattle.agent_rules.specs.PortSetting.{port_setting}
-use Rattle.agent_rules.specs.Request.{asked, asked_ports, asked_words, attribute_asked, is_request, is_set, reply_method, reply_to}
+use Rattle.agent_rules.specs.Request.{attribute_asked, data_of, is_request, is_set, reply_method, reply_to}
+use Rattle.agent_rules.proofs.CarriedLemmas.{data_fills}
 use Rattle.agent_rules.proofs.CarryLemmas.{code_fits}
 use Rattle.attr_tables.proofs.AttributeLemmas.{attribute_fits}
 use Rattle.mad_layout.proofs.PutLemmas.{put_swap}
-use Rattle.agent_rules.proofs.RequestLemmas.{method_fits, within}
+use Rattle.agent_rules.proofs.RequestLemmas.{method_fits}
 
 -- where the field lies, beside each part that is seen
 record Apart (off len : ℕ) : Type 0 where
@@ -35,7 +34,7 @@ apart_from off len free =
     let e = and_parts (is_apart off len (at 512 512 0)) _ d.1 in
     record { head = a.0; status = b.0; attribute = c.0; modifier = d.0; part = e.0 }
 
-apart_parts : (off len first wide : ℕ) → is_apart off len (at first wide 0) ≡ true → (off + len ≤ first) ⊎ (first + wide ≤ off)
+pub apart_parts : (off len first wide : ℕ) → is_apart off len (at first wide 0) ≡ true → (off + len ≤ first) ⊎ (first + wide ≤ off)
 apart_parts off len first wide h =
     elim (or_cases (nat_le (off + len) first) (nat_le (first + wide) off) h) [
       | inl before ↦ inl (leb-true (off + len) first before)
@@ -54,11 +53,6 @@ same_field : (smp : List ℕ) (off len value first wide o l : ℕ) → IsUnseenP
 same_field smp off len value first wide o l put free from to inside =
     field-put_apart smp off len value o l (omega (arith, put.count, put.within)) (omega (arith, put.count)) put.fits
     (beside off len first wide o l (apart_parts off len first wide free) from to)
-
-same_asked : (smp : List ℕ) (off len value o l : ℕ) → IsUnseenPut smp off len value → o + l ≤ 512
-    → asked (put_field smp off len value) o l ≡ asked smp o l
-same_asked smp off len value o l put inside =
-    same_field smp off len value 512 512 (512 + o) l put (apart_from off len put.unseen).part (omega arith) (omega arith) (omega arith)
 
 same_method : (smp : List ℕ) (off len value : ℕ) → IsUnseenPut smp off len value → field (put_field smp off len value) 24 8 ≡ field smp 24 8
 same_method smp off len value put =
@@ -82,49 +76,16 @@ same_attribute smp off len value put =
     let code = same_field smp off len value 128 16 128 16 put apart.attribute (omega arith) (omega arith) (omega arith) in
     rw (base, class, method, code) refl
 
-same_setting : (smp : List ℕ) (off len value : ℕ) → IsUnseenPut smp off len value → port_setting (put_field smp off len value) ≡ port_setting smp
-unfolding port_setting
-same_setting smp off len value put =
-    let e0 = same_asked smp off len value 64 64 put (omega arith) in
-    let e1 = same_asked smp off len value 128 16 put (omega arith) in
-    let e2 = same_asked smp off len value 144 16 put (omega arith) in
-    let e3 = same_asked smp off len value 260 4 put (omega arith) in
-    let e4 = same_asked smp off len value 277 3 put (omega arith) in
-    let e5 = same_asked smp off len value 288 4 put (omega arith) in
-    let e6 = same_asked smp off len value 292 4 put (omega arith) in
-    let e7 = ap (λ (n : ℕ). n == 1) (same_asked smp off len value 348 1 put (omega arith)) in
-    let e8 = ap (λ (n : ℕ). n == 1) (same_asked smp off len value 349 1 put (omega arith)) in
-    λ place. record {
-      gid_prefix = e0 place;
-      lid = e1 place;
-      master_sm_lid = e2 place;
-      port_state = e3 place;
-      lmc = e4 place;
-      neighbor_mtu = e5 place;
-      master_sm_sl = e6 place;
-      partition_enforcement_inbound = e7 place;
-      partition_enforcement_outbound = e8 place;
-    }
-
-same_entries : (smp : List ℕ) (off len value wide count : ℕ) → IsUnseenPut smp off len value → wide * count ≡ 512
-    → map (λ k. asked (put_field smp off len value) (wide * k) wide) (range_with_len 0 count) ≡ map (λ k. asked smp (wide * k) wide) (range_with_len 0 count)
-same_entries smp off len value wide count put whole =
-    let f : ℕ → ℕ = λ k. asked (put_field smp off len value) (wide * k) wide in
-    let g : ℕ → ℕ = λ k. asked smp (wide * k) wide in
-    let a = length-map-range_with_len f 0 count in
-    let b = length-map-range_with_len g 0 count in
-    same_number_lists (map f (range_with_len 0 count)) (map g (range_with_len 0 count)) (a ∙ sym b) (λ k h.
-    get_or-map-range_with_len f 0 count k k 0 (omega arith) (omega arith)
-    ∙ same_asked smp off len value (wide * k) wide put (within wide count k (omega arith) whole)
-    ∙ sym (get_or-map-range_with_len g 0 count k k 0 (omega arith) (omega arith)))
-
-same_words : (smp : List ℕ) (off len value : ℕ) → IsUnseenPut smp off len value → asked_words (put_field smp off len value) ≡ asked_words smp
-unfolding asked_words
-same_words smp off len value put = same_entries smp off len value 16 32 put refl
-
-same_ports : (smp : List ℕ) (off len value : ℕ) → IsUnseenPut smp off len value → asked_ports (put_field smp off len value) ≡ asked_ports smp
-unfolding asked_ports
-same_ports smp off len value put = same_entries smp off len value 8 64 put refl
+-- the attribute that is carried
+same_data : (smp : List ℕ) (off len value : ℕ) → IsUnseenPut smp off len value → data_of (put_field smp off len value) ≡ data_of smp
+same_data smp off len value put =
+    let new = put_field smp off len value in
+    let long : length new ≡ 256 = length-put_field smp off len value ∙ put.count in
+    let same = same_field smp off len value 512 512 512 512 put (apart_from off len put.unseen).part (omega arith) (omega arith) (omega arith) in
+    let here : number (data_of smp) ≡ field smp 512 512 = field_aligned smp 64 64 512 512 put.bytes (omega (arith, put.count)) refl refl in
+    let fills = data_fills smp put.count put.bytes in
+    bytes_stand new (data_of smp) 64 64 (put_below smp off len value) fills.small (omega (arith, long)) fills.count
+    (here ∙ sym same)
 
 asks : (smp : List ℕ) (off len value : ℕ) → IsUnseenPut smp off len value → AsksSame smp (put_field smp off len value)
 asks smp off len value put =
@@ -133,10 +94,7 @@ asks smp off len value put =
       set = ap (λ (method : ℕ). method == 2) (same_method smp off len value put);
       attribute = same_attribute smp off len value put;
       modifier = same_field smp off len value 160 32 160 32 put (apart_from off len put.unseen).modifier (omega arith) (omega arith) (omega arith);
-      setting = same_setting smp off len value put;
-      linear_fdb_top = same_asked smp off len value 48 16 put (omega arith);
-      words = same_words smp off len value put;
-      ports = same_ports smp off len value put;
+      attribute_is = same_data smp off len value put;
     }
 
 same_reply_method : (smp : List ℕ) (off len value : ℕ) → IsUnseenPut smp off len value → reply_method (put_field smp off len value) ≡ reply_method smp

@@ -10,19 +10,21 @@ use Rattle.mad_layout.specs.declared.status.MadStatus.TheVariants.{InvalidField}
 use Rattle.attr_tables.specs.declared.port_info.PortInfo.{PortInfo}
 use Rattle.attr_tables.specs.declared.smp_attribute.SmpAttribute.{SmpAttribute}
 use Rattle.attr_tables.specs.Blocks.{has_block, block_of, with_block, word_bytes}
-use Rattle.agent_rules.specs.Request.{is_request, is_set, attribute_asked, modifier_of, asked_words, reply_to}
+use Rattle.agent_rules.specs.Carried.{words_in}
+use Rattle.agent_rules.specs.Request.{is_request, is_set, attribute_asked, data_of, modifier_of, reply_to}
 
 -- what a kind of node gives for a Get of an attribute, by the modifier: the 64 bytes
 abbrev pub Getter : Type 0 → Type 0
 Getter S = S → SmpAttribute → ℕ → Result (List ℕ) MadStatus
 
--- what it holds after a Set of an attribute, by the SMP
+-- what it holds after a Set of an attribute, by the modifier and the 64 bytes that it is to be
 abbrev pub Setter : Type 0 → Type 0
-Setter S = S → SmpAttribute → List ℕ → Result S MadStatus
+Setter S = S → SmpAttribute → ℕ → List ℕ → Result S MadStatus
 
 -- what the node holds after a request for that attribute
 abbrev pub changed : {S : Type 0} → Setter S → S → SmpAttribute → List ℕ → Result S MadStatus
-changed setter held attribute smp = if is_set smp then setter held attribute smp else Ok held
+changed setter held attribute smp =
+    if is_set smp then setter held attribute (modifier_of smp) (data_of smp) else Ok held
 
 -- what a request is answered with: the attribute as it stands after the request
 abbrev pub answer : {S : Type 0} → Getter S → Setter S → S → List ℕ → Result (List ℕ) MadStatus
@@ -53,10 +55,10 @@ abbrev pub word_block : ℕ → List ℕ → Result (List ℕ) MadStatus
 word_block block table =
     if has_block 32 block table then Ok (word_bytes (block_of 32 block table)) else Err InvalidField
 
--- the table with the block that an SMP carries
+-- the table with the words of an attribute in that block
 abbrev pub set_word_block : ℕ → List ℕ → List ℕ → Result (List ℕ) MadStatus
-set_word_block block smp table =
-    if has_block 32 block table then Ok (with_block 32 block (asked_words smp) table) else Err InvalidField
+set_word_block block attribute table =
+    if has_block 32 block table then Ok (with_block 32 block (words_in attribute) table) else Err InvalidField
 
 -- PortInfo as it is shown to who comes in at this port
 abbrev pub shown_at : ℕ → PortInfo → PortInfo

@@ -1,15 +1,22 @@
 -- What holds of the agent of every node, in the terms of who asks it.
+use Rattle.std.specs.Int.Digits.{AllBelowBase}
 use Rattle.std.specs.Prelude.{ℕ, ◌+◌, ◌/◌, ◌^◌, ◌<◌, ◌≤◌, ◌≡◌, ◌≢◌, Bool, true, false, if◌then◌else◌, List, [], ◌∷◌, length, get_or, take, drop, Result, Ok, Err}
 use Rattle.mad_layout.specs.Bits.{field, put_field}
-use Rattle.mad_layout.specs.Layout.{at, is_free}
+use Rattle.mad_layout.specs.Layout.{Fits, at, is_free}
 use Rattle.mad_layout.specs.MadStatus.{mad_status_code}
 use Rattle.mad_layout.specs.declared.status.MadStatus.{MadStatus}
 use Rattle.attr_tables.specs.declared.port_info.PortInfo.{PortInfo}
+use Rattle.attr_tables.specs.declared.switch_info.SwitchInfo.{SwitchInfo}
 use Rattle.attr_tables.specs.Attribute.{IsAttribute}
+use Rattle.attr_tables.specs.Blocks.{word_bytes}
+use Rattle.attr_tables.specs.PortInfo.{port_info, port_info_bytes}
+use Rattle.attr_tables.specs.SwitchInfo.{switch_info, switch_info_bytes}
 use Rattle.agent_rules.specs.Agent.{Getter, Setter, after, answer}
-use Rattle.agent_rules.specs.PortSetting.{port_setting}
-use Rattle.agent_rules.specs.Request.{KeepsRest, asked, asked_ports, asked_words, attribute_asked, is_request}
-use Rattle.agent_rules.specs.Request.{is_set, modifier_of, reply_method, reply_to}
+use Rattle.agent_rules.specs.Carried.{linear_fdb_top_in, ports_in, words_in}
+use Rattle.agent_rules.specs.Good.{IsGoodInfo, IsTable}
+use Rattle.agent_rules.specs.PortSetting.{port_info_after, port_setting, setting_of}
+use Rattle.agent_rules.specs.Request.{KeepsRest, attribute_asked, data_of, is_request, is_set, modifier_of}
+use Rattle.agent_rules.specs.Request.{reply_method, reply_to}
 
 -- a later SMP that asks for what this one asked for, and sets nothing
 pub record IsGetOf (smp later : List ℕ) : Type 0 where
@@ -70,6 +77,26 @@ pub record RepliesCarry : Type 0 where
       → CarriesAttribute smp bytes (reply_to smp (Ok bytes))
   pub refusal : (smp : List ℕ) (status : MadStatus) → length smp ≡ 256 → CarriesRefusal smp status (reply_to smp (Err status))
 
+-- what is spelled in an attribute is read in it
+pub record SpelledIsRead : Type 0 where
+  pub setting : (info : PortInfo) → Fits (port_info info) → port_setting (port_info_bytes info) ≡ setting_of info
+  pub linear_fdb_top : (info : SwitchInfo) → Fits (switch_info info)
+      → linear_fdb_top_in (switch_info_bytes info) ≡ info.linear_fdb_top
+  pub words : (words : List ℕ) → IsTable 32 65536 words → words_in (word_bytes words) ≡ words
+  pub ports : (attribute : List ℕ) → IsAttribute attribute → ports_in attribute ≡ attribute
+
+-- a Set that asks a good port for what it has, and for no change of its state, is taken and changes nothing
+abbrev pub PortsTakeBack : Type 0
+PortsTakeBack =
+    (enforces : Bool) (info : PortInfo) → IsGoodInfo info
+    → port_info_after enforces info (record (setting_of info) { port_state = 0 }) ≡ Ok info
+
+-- what a port has after a Set is good where it was
+abbrev pub SettingsKeepGood : Type 0
+SettingsKeepGood =
+    (enforces : Bool) (info next : PortInfo) (attribute : List ℕ) → IsGoodInfo info
+    → port_info_after enforces info (port_setting attribute) ≡ Ok next → IsGoodInfo next
+
 -- no bit of the field is one that an agent reads or writes: it is of the path, say, or of the TransactionID
 abbrev pub is_unseen : ℕ → ℕ → Bool
 is_unseen off len = is_free off len (at 0 32 0 ∷ at 33 15 0 ∷ at 128 16 0 ∷ at 160 32 0 ∷ at 512 512 0 ∷ [])
@@ -77,6 +104,7 @@ is_unseen off len = is_free off len (at 0 32 0 ∷ at 33 15 0 ∷ at 128 16 0 �
 -- a value put into such a field of an SMP
 pub record IsUnseenPut (smp : List ℕ) (off len value : ℕ) : Type 0 where
   pub count : length smp ≡ 256
+  pub bytes : AllBelowBase 256 smp
   pub within : off + len ≤ 2048
   pub fits : value < 2 ^ len
   pub unseen : is_unseen off len ≡ true
@@ -87,10 +115,7 @@ pub record AsksSame (one other : List ℕ) : Type 0 where
   pub set : is_set other ≡ is_set one
   pub attribute : attribute_asked other ≡ attribute_asked one
   pub modifier : modifier_of other ≡ modifier_of one
-  pub setting : port_setting other ≡ port_setting one
-  pub linear_fdb_top : asked other 48 16 ≡ asked one 48 16
-  pub words : asked_words other ≡ asked_words one
-  pub ports : asked_ports other ≡ asked_ports one
+  pub attribute_is : data_of other ≡ data_of one
 
 -- the reply to the SMP with that field is the reply with that field
 abbrev pub ComesBack : List ℕ → (off len value : ℕ) → Result (List ℕ) MadStatus → Type 0

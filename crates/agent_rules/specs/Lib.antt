@@ -1,5 +1,7 @@
 pub mod PowerUp
 pub mod Request
+pub mod Carried
 pub mod PortSetting
 pub mod Agent
+pub mod Good
 pub mod Laws

@@ -8,21 +8,36 @@ use Rattle.attr_tables.specs.declared.port_info.PortInfo.{PortInfo}
 use Rattle.agent_rules.specs.declared.port_setting.PortSetting.{PortSetting}
 use Rattle.attr_tables.specs.declared.port_state.PortState.TheVariants.{NoChange, Down, Initialize, Armed, Active}
 use Rattle.attr_tables.specs.PortState.{port_state_code}
-use Rattle.agent_rules.specs.Request.{asked}
+use Rattle.mad_layout.specs.Bits.{field}
 
--- what an SMP asks for, read at the places of PortInfo
-unfoldable pub port_setting : List ℕ → PortSetting
-port_setting smp =
+-- what PortInfo asks for
+abbrev pub setting_of : PortInfo → PortSetting
+setting_of info =
     record {
-      gid_prefix = asked smp 64 64;
-      lid = asked smp 128 16;
-      master_sm_lid = asked smp 144 16;
-      port_state = asked smp 260 4;
-      lmc = asked smp 277 3;
-      neighbor_mtu = asked smp 288 4;
-      master_sm_sl = asked smp 292 4;
-      partition_enforcement_inbound = asked smp 348 1 == 1;
-      partition_enforcement_outbound = asked smp 349 1 == 1;
+      gid_prefix = info.gid_prefix;
+      lid = info.lid;
+      master_sm_lid = info.master_sm_lid;
+      port_state = info.port_state;
+      lmc = info.lmc;
+      neighbor_mtu = info.neighbor_mtu;
+      master_sm_sl = info.master_sm_sl;
+      partition_enforcement_inbound = info.partition_enforcement_inbound;
+      partition_enforcement_outbound = info.partition_enforcement_outbound;
+    }
+
+-- what an attribute asks for, read at the places of PortInfo
+unfoldable pub port_setting : List ℕ → PortSetting
+port_setting attribute =
+    record {
+      gid_prefix = field attribute 64 64;
+      lid = field attribute 128 16;
+      master_sm_lid = field attribute 144 16;
+      port_state = field attribute 260 4;
+      lmc = field attribute 277 3;
+      neighbor_mtu = field attribute 288 4;
+      master_sm_sl = field attribute 292 4;
+      partition_enforcement_inbound = field attribute 348 1 == 1;
+      partition_enforcement_outbound = field attribute 349 1 == 1;
     }
 
 -- the setting is as narrow as the fields of PortInfo

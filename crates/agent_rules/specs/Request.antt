@@ -1,6 +1,5 @@
 -- What an SMP asks of an agent of subnet management (InfiniBand volume 1, 13.4.2 and 14.2.1.2), and its reply.
-use Rattle.std.specs.Prelude.{ℕ, ◌≡◌, ◌+◌, ◌*◌, ◌%◌, ◌≤◌, ◌==◌, Bool, true, not, ◌&&◌, ◌||◌, nat_le, if◌then◌else◌, List, [], ◌∷◌, map, Result, Ok, Err}
-use Rattle.std.specs.List.{range_with_len}
+use Rattle.std.specs.Prelude.{ℕ, ◌≡◌, ◌+◌, ◌%◌, ◌≤◌, ◌==◌, Bool, true, not, ◌&&◌, ◌||◌, nat_le, if◌then◌else◌, List, [], ◌∷◌, take, drop, Result, Ok, Err}
 use Rattle.std.specs.Option.{ok_or}
 use Rattle.mad_layout.specs.Bits.{number, field}
 use Rattle.mad_layout.specs.Layout.{at, is_free, put_all}
@@ -12,17 +11,9 @@ use Rattle.mad_layout.specs.declared.status.MadStatus.TheVariants.{BadVersion, M
 use Rattle.attr_tables.specs.declared.smp_attribute.SmpAttribute.{SmpAttribute}
 use Rattle.attr_tables.specs.SmpAttribute.{smp_attribute_of}
 
--- a field of the attribute that it carries
-abbrev pub asked : List ℕ → ℕ → ℕ → ℕ
-asked smp off len = field smp (512 + off) len
-
--- the 32 words of a block that it carries
-unfoldable pub asked_words : List ℕ → List ℕ
-asked_words smp = map (λ k. asked smp (16 * k) 16) (range_with_len 0 32)
-
--- the 64 bytes of a block that it carries
-unfoldable pub asked_ports : List ℕ → List ℕ
-asked_ports smp = map (λ k. asked smp (8 * k) 8) (range_with_len 0 64)
+-- the 64 bytes of the attribute that it carries
+abbrev pub data_of : List ℕ → List ℕ
+data_of smp = take 64 (drop 64 smp)
 
 -- the AttributeModifier
 abbrev pub modifier_of : List ℕ → ℕ

@@ -8,6 +8,7 @@
 //! 1, chapters 13 and 14; what a node has at power-up is ours.
 #![tactic(auto)]
 
+mod carried;
 mod laws;
 mod link;
 mod local_port;
@@ -16,7 +17,10 @@ mod power_up;
 mod request;
 mod word_table;
 
-pub use crate::laws::{replies_carry, unseen_passes};
+pub use crate::carried::{linear_fdb_top_in, ports_in, words_in};
+pub use crate::laws::{
+    ports_take_back, replies_carry, settings_keep_good, spelled_is_read, unseen_passes,
+};
 pub use crate::link::Link;
 pub use crate::local_port::shown_at;
 pub use crate::port_setting::{PortSetting, port_info_after};
@@ -25,7 +29,7 @@ pub use crate::power_up::{
     switch_info_at_power_up,
 };
 pub use crate::request::{
-    DIRECTED_ROUTE_CLASS, SMP_VERSION, asked_linear_fdb_top, asked_ports, asked_words,
-    attribute_asked, is_request, is_set, modifier_of, put_reply, whole,
+    DIRECTED_ROUTE_CLASS, SMP_VERSION, attribute_asked, data_of, is_request, is_set, modifier_of,
+    put_reply, whole,
 };
 pub use crate::word_table::{set_word_block, word_block_at};

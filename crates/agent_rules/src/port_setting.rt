@@ -3,10 +3,9 @@ ghost use Rattle.mad_layout.specs.Layout.{Fits};
 ghost use Rattle.attr_tables.specs.PortInfo.{port_info};
 ghost use Rattle.agent_rules.specs.PortSetting.{IsNarrow, port_setting, is_no_change, is_valid, may_follow, taken_over, port_info_after};
 
-use crate::request::carried_attribute;
 use attr_tables::{Mtu, PortInfo, PortState};
 use fabric_parts::LAST_UNICAST_LID;
-use mad_layout::{Mad, MadStatus, known_bytes};
+use mad_layout::MadStatus;
 
 /// What a Set of PortInfo asks of a port of a simulated node, each field as its raw bits.
 ///
@@ -34,13 +33,12 @@ pub struct PortSetting {
 }
 
 impl PortSetting {
-    /// What an SMP asks for.
-    pub fn read(smp: &Mad) -> PortSetting
-        ensures value { result ≡ port_setting smp.now }
+    /// What an attribute of an SMP asks for.
+    pub fn read(attribute: &[u8; 64]) -> PortSetting
+        ensures value { result ≡ port_setting attribute.now }
         ensures narrow { IsNarrow result }
     {
-        known_bytes(smp);
-        let info = PortInfo::read(&carried_attribute(smp));
+        let info = PortInfo::read(attribute);
         PortSetting {
             gid_prefix: info.gid_prefix,
             lid: info.lid,

@@ -1,12 +1,12 @@
-ghost use Rattle.std.specs.Prelude.{◌≡◌, ◌+◌, ◌%◌, ◌<◌, ◌^◌, ◌≤◌, Ok, Err, IfOk, take, drop};
+ghost use Rattle.std.specs.Prelude.{◌≡◌, ◌+◌, ◌%◌, ◌<◌, ◌^◌, ◌≤◌, Ok, Err, IfOk};
 ghost use Rattle.mad_layout.specs.Bits.{number, field};
 ghost use Rattle.mad_layout.specs.MadStatus.{mad_status_code};
 ghost use Rattle.attr_tables.specs.Attribute.{IsAttribute};
 ghost use Rattle.agent_rules.specs.Agent.{whole};
-ghost use Rattle.agent_rules.specs.Request.{KeepsRest, asked, asked_ports, asked_words, attribute_asked, is_request};
-ghost use Rattle.agent_rules.specs.Request.{is_set, modifier_of, reply_method, reply_status, reply_to};
+ghost use Rattle.agent_rules.specs.Request.{KeepsRest, attribute_asked, data_of, is_request, is_set, modifier_of};
+ghost use Rattle.agent_rules.specs.Request.{reply_method, reply_status, reply_to};
 
-use attr_tables::{PortBlock, SmpAttribute, SwitchInfo, WordBlock};
+use attr_tables::SmpAttribute;
 use mad_layout::{Header, Mad, MadStatus, Method, bytes_at, known_bytes, put_bits, put_bytes_at};
 
 /// The class of SMPs that are directed along a path.
@@ -123,33 +123,9 @@ fn reply_method(smp: &Mad) -> u8
     128 + method % 128
 }
 
-/// The attribute that the SMP carries.
-pub fn carried_attribute(smp: &Mad) -> [u8; 64]
-    ensures { result ≡ take 64 (drop 64 smp.now) }
+/// The 64 bytes of the attribute that the SMP carries.
+pub fn data_of(smp: &Mad) -> [u8; 64]
+    ensures { result ≡ data_of smp.now }
 {
     bytes_at::<512, 512, 64>(smp)
-}
-
-/// The block of keys or masks that the SMP carries.
-pub fn asked_words(smp: &Mad) -> WordBlock
-    ensures { result.words ≡ asked_words smp.now }
-{
-    known_bytes(smp);
-    WordBlock::read(&carried_attribute(smp))
-}
-
-/// The block of ports that the SMP carries.
-pub fn asked_ports(smp: &Mad) -> PortBlock
-    ensures { result.ports ≡ asked_ports smp.now }
-{
-    known_bytes(smp);
-    PortBlock::read(&carried_attribute(smp))
-}
-
-/// The LinearFDBTop that the SMP carries.
-pub fn asked_linear_fdb_top(smp: &Mad) -> u16
-    ensures { result ≡ asked smp.now 48 16 }
-{
-    known_bytes(smp);
-    SwitchInfo::read(&carried_attribute(smp)).linear_fdb_top
 }

@@ -1,9 +1,9 @@
 ghost use Rattle.std.specs.Prelude.{◌≡◌};
 ghost use Rattle.agent_rules.specs.Agent.{word_block, set_word_block, Leaves};
 
-use crate::request::asked_words;
+use crate::carried::words_in;
 use attr_tables::{WORDS_PER_BLOCK, WordBlock};
-use mad_layout::{Mad, MadStatus};
+use mad_layout::MadStatus;
 
 /// The block of that number of a table of keys or masks, as the attribute, or the refusal where the
 /// table has no such block.
@@ -22,16 +22,20 @@ pub fn word_block_at(table: &[u16], block: usize) -> Result<[u8; 64], MadStatus>
     Ok(attribute)
 }
 
-/// Sets that block of a table of keys or masks to what the SMP carries, or refuses where the table has
-/// no such block.
+/// Sets that block of a table of keys or masks to the words of an attribute, or refuses where the table
+/// has no such block.
 #[tactic(auto, unfolding(attr_tables::specs::Blocks::with_block))]
-pub fn set_word_block(table: &mut [u16], block: usize, smp: &Mad) -> Result<(), MadStatus>
-    ensures { Leaves result table.old table.new (set_word_block block smp.now table.old) }
+pub fn set_word_block(
+    table: &mut [u16],
+    block: usize,
+    attribute: &[u8; 64],
+) -> Result<(), MadStatus>
+    ensures { Leaves result table.old table.new (set_word_block block attribute.now table.old) }
 {
     if block >= table.len() / WORDS_PER_BLOCK {
         return Err(MadStatus::InvalidField);
     }
     let first = WORDS_PER_BLOCK * block;
-    table[first..first + WORDS_PER_BLOCK].copy_from_slice(&asked_words(smp).words);
+    table[first..first + WORDS_PER_BLOCK].copy_from_slice(&words_in(attribute));
     Ok(())
 }

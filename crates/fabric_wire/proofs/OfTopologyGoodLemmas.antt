@@ -1,29 +1,34 @@
 -- The fabric of a topology is good: its GUIDs, the ports of its nodes, and its cables.
-use Rattle.std.proofs.Common.{ℕ, zero, suc, ◌≡◌, ◌+◌, ◌==◌, ◌∙◌, refl, sym, true, false, not, List, [], ◌∷◌, map, flat_map, ◌&&◌, arith}
-use Rattle.std.specs.List.{list_all, list_any, range_with_len, IsDistinct}
+use Rattle.std.proofs.Common.{ℕ, zero, suc, ◌≡◌, ◌<◌, ◌≤◌, length, ◌+◌, ◌==◌, ◌∙◌, refl, sym, true, false, not, List, [], ◌∷◌, map, flat_map, ◌&&◌, arith}
+use Rattle.std.specs.List.{All, list_all, list_any, range_with_len, IsDistinct}
 use Rattle.std.specs.Str.{bytes_eq}
 use Rattle.std.proofs.lemmas.Bool.{and_from, and_left, and_parts, eq-eqb, not_from_false, not-true, or_from}
 use Rattle.std.proofs.lemmas.Bool.Decides.{nat_tests}
 use Rattle.std.proofs.Math.Bool.{or_assoc}
 use Rattle.std.proofs.lemmas.List.FromFn.{length-map-range_with_len}
 use Rattle.std.proofs.lemmas.Map.Keys.{IsDistinct-tail}
-use Rattle.agent_rules.specs.declared.power_up.TheConstants.{LINEAR_TABLE}
+use Rattle.agent_rules.specs.declared.power_up.TheConstants.{LINEAR_TABLE, MULTICAST_TABLE}
+use Rattle.attr_tables.specs.Attribute.{IsAttribute}
+use Rattle.std.proofs.lemmas.List.Elements.{All-cons, All-nil}
+use Rattle.port_model.specs.Good.{IsGoodPort}
+use Rattle.port_model.proofs.AgentLemmas.{new_ports_good}
+use Rattle.switch_model.proofs.GoodLemmas.{new_switches_good}
+use Rattle.fabric_parts.specs.NodeType.{most_ports}
 use Rattle.fabric_parts.specs.declared.cable.Cable.{Cable}
 use Rattle.fabric_parts.specs.declared.cable.PortRef.{PortRef}
 use Rattle.topo_file.specs.declared.node.Node.{Node as PlannedNode}
 use Rattle.fabric_parts.specs.declared.node_type.NodeType.{NodeType}
 use Rattle.fabric_parts.specs.declared.node_type.NodeType.TheVariants as node_type
 use Rattle.fabric_parts.specs.Cable.{is_cabled, is_same_port}
-use Rattle.topo_file.specs.Node.{is_switch_at as is_planned_at}
+use Rattle.topo_file.specs.Node.{is_switch_at as is_planned_at, port_guid}
 use Rattle.topo_file.specs.Sound.{ends_at_ports, is_named, is_sized, joins_right, shares_port}
-use Rattle.smp_wire.specs.Good.{ends_of, has_a_right_count, holds_attributes, is_byte, is_description, is_in_order, is_of, is_right, node_guid}
+use Rattle.smp_wire.specs.Good.{ends_of, IsGoodNode, has_a_right_count, is_in_order, is_of, is_right, node_guid}
 use Rattle.fabric_wire.specs.Laws.{TopologiesGiveGood}
-use Rattle.fabric_wire.specs.OfTopology.{adapter_port_of, named, node_of, node_of_type}
+use Rattle.fabric_wire.specs.OfTopology.{adapter_port_of, link_of, links_of, named, node_of, node_of_type}
 use Rattle.fabric_wire.proofs.NameLemmas.{name_described}
-use Rattle.fabric_wire.proofs.OfTopologyLemmas.{all_made, free_ends, nodes_from, port_there, right_count, switch_there}
+use Rattle.fabric_wire.proofs.OfTopologyLemmas.{all_made, free_ends, links_long, most_port, nodes_from, port_there, right_count, switch_there}
 use Rattle.fabric_wire.proofs.OfTopologyGuidLemmas.{end_guids_differ, guid_of, node_guids_differ}
 use Rattle.fabric_wire.proofs.DistinctLemmas.{all_differ, distinct}
-use Rattle.smp_wire.proofs.ListLemmas.{all_alike}
 
 -- ---- the ports of an adapter stand in order
 all_of : (cables : List Cable) (place : ℕ) (node : PlannedNode) (number count : ℕ)
@@ -52,16 +57,32 @@ in_order : (cables : List Cable) (place : ℕ) (node : PlannedNode) → is_sized
 in_order cables place node sized = ordered node.node_type cables place node (guid_of cables place node sized)
 
 -- ---- what agents give fills an attribute
-ports_hold : (cables : List Cable) (place : ℕ) (node : PlannedNode) (number count : ℕ) → is_description (named node.name) ≡ true
-    → list_all (λ port. is_description port.description) (map (adapter_port_of cables place node) (range_with_len number count)) ≡ true
-ports_hold cables place node number zero is = refl
-ports_hold cables place node number (suc count) is = and_from (is_description (named node.name)) _ is (ports_hold cables place node (number + 1) count is)
+ports_hold : (cables : List Cable) (place : ℕ) (node : PlannedNode) (number count : ℕ) → IsAttribute (named node.name)
+    → number + count ≤ 256 → All IsGoodPort (map (adapter_port_of cables place node) (range_with_len number count))
+ports_hold cables place node number zero is few = All-nil IsGoodPort
+ports_hold cables place node number (suc count) is few =
+    All-cons IsGoodPort (adapter_port_of cables place node number) (map (adapter_port_of cables place node) (range_with_len (number + 1) count))
+    (new_ports_good node.guid node.ports number (port_guid node number) (named node.name)
+    (link_of cables place number) (omega (arith, few)) is)
+    (ports_hold cables place node (number + 1) count is (omega (arith, few)))
 
-holding : (of : NodeType) (cables : List Cable) (place : ℕ) (node : PlannedNode) → is_named node ≡ true
-    → holds_attributes (node_of_type of cables place node) ≡ true
-holding node_type.Switch cables place node is =
-    and_from (is_description (named node.name)) _ (name_described node.name is) (all_alike is_byte 255 LINEAR_TABLE refl)
-holding node_type.ChannelAdapter cables place node is = ports_hold cables place node 1 node.ports (name_described node.name is)
+holding : (of : NodeType) (cables : List Cable) (place : ℕ) (node : PlannedNode) → is_named node ≡ true → node.ports ≤ most_ports of
+    → IsGoodNode (node_of_type of cables place node)
+holding node_type.Switch cables place node is few =
+    let long = links_long cables place node.ports in
+    new_switches_good node.guid (named node.name) (links_of cables place node.ports) LINEAR_TABLE MULTICAST_TABLE
+    (name_described node.name is) (omega (arith, few, long)) (omega arith) (omega arith)
+holding node_type.ChannelAdapter cables place node is few =
+    ports_hold cables place node 1 node.ports (name_described node.name is) (omega (arith, few))
+
+all_hold : (cables : List Cable) (first : ℕ) (nodes : List PlannedNode) → list_all is_named nodes ≡ true → list_all is_sized nodes ≡ true
+    → All IsGoodNode (nodes_from cables first nodes)
+all_hold cables first [] names sizes = All-nil IsGoodNode
+all_hold cables first (node ∷ nodes) names sizes =
+    let name = and_parts (is_named node) _ names in
+    let size = and_parts (is_sized node) _ sizes in
+    All-cons IsGoodNode (node_of cables first node) (nodes_from cables (first + 1) nodes)
+    (holding node.node_type cables first node name.0 (most_port node size.0)) (all_hold cables (first + 1) nodes name.1 size.1)
 
 -- ---- a cable joins right ports
 right_there : (cables : List Cable) (nodes : List PlannedNode) (cable : Cable) → ends_at_ports nodes cable ≡ true → joins_right nodes cable ≡ true
@@ -117,11 +138,11 @@ good plan sound =
     let lines = sound.lines in
     let manager = and_parts (not (is_planned_at plan.nodes plan.sm.node)) _ sound.manager_port in
     record {
-      node_guids = node_guids_differ plan.cables plan.nodes lines.sizes lines.own_guids;
-      end_guids = end_guids_differ plan.cables plan.nodes lines.sizes lines.own_guids;
+      node_guids = node_guids_differ plan.cables plan.nodes lines.sizes lines.guids lines.own_guids;
+      end_guids = end_guids_differ plan.cables plan.nodes lines.sizes lines.guids lines.own_guids;
       counts = all_made has_a_right_count is_sized plan.cables 0 plan.nodes (λ place node sized. right_count plan.cables place node sized) lines.sizes;
       order = all_made is_in_order is_sized plan.cables 0 plan.nodes (λ place node sized. in_order plan.cables place node sized) lines.sizes;
-      holdings = all_made holds_attributes is_named plan.cables 0 plan.nodes (λ place node is. holding node.node_type plan.cables place node is) lines.names;
+      holdings = all_hold plan.cables 0 plan.nodes lines.names lines.sizes;
       cables = all_right plan.cables plan.nodes plan.cables lines.ends lines.joins;
       once = distinct is_same_port (flat_map ends_of plan.cables) (all_once plan.nodes plan.cables lines.joins lines.own_ports);
       manager_port = port_there plan.cables plan.nodes plan.sm ∙ manager.1;

@@ -1,18 +1,19 @@
 -- The GUIDs of a topology's fabric are different, since its nodes have no GUID in common.
-use Rattle.std.proofs.Common.{ℕ, zero, suc, ◌≡◌, ◌⊎◌, ◌+◌, ◌<◌, ◌≤◌, ◌==◌, ◌∙◌, refl, sym, inl, inr, Bool, true, false, not, List, [], ◌∷◌, ◌++◌, map, flat_map, nat_le, nat_lt, ◌&&◌, arith}
-use Rattle.std.specs.List.{enumerate_from, list_all, list_any, range_with_len, IsDistinct}
+use Rattle.std.proofs.Common.{ℕ, zero, suc, ◌≡◌, ◌⊎◌, ◌+◌, ◌<◌, ◌≤◌, ◌^◌, ◌==◌, ◌∙◌, refl, sym, inl, inr, Bool, true, false, not, List, [], ◌∷◌, ◌++◌, map, flat_map, nat_le, nat_lt, ◌&&◌, arith}
+use Rattle.std.specs.List.{All, AllByRecursion, enumerate_from, list_all, list_any, range_with_len, IsDistinct}
 use Rattle.std.proofs.lemmas.Bool.{and_cases, and_from, and_parts, le-leb, leb-false, leb-true, lt-ltb, ne_eqb, not_from_false, not-true, or_from, or_parts}
 use Rattle.std.proofs.lemmas.List.Concat.{flat_map_single}
+use Rattle.std.proofs.lemmas.List.Elements.{recursion_from_All}
 use Rattle.std.proofs.lemmas.List.Folds.{flat_map-map, list_all-append, list_any-append}
 use Rattle.std.proofs.lemmas.Map.Keys.{IsDistinct-tail}
 use Rattle.fabric_parts.specs.declared.cable.Cable.{Cable}
 use Rattle.topo_file.specs.declared.node.Node.{Node as PlannedNode}
 use Rattle.fabric_parts.specs.declared.node_type.NodeType.{NodeType}
 use Rattle.fabric_parts.specs.declared.node_type.NodeType.TheVariants as node_type
-use Rattle.topo_file.specs.Node.{last_guid, port_guids, shares_guid}
+use Rattle.topo_file.specs.Node.{HasGuids, last_guid, port_guids, shares_guid}
 use Rattle.topo_file.specs.Sound.{is_sized}
 use Rattle.smp_wire.specs.declared.node.Node.TheVariants.{Adapter}
-use Rattle.smp_wire.specs.Good.{AreGuids, end_port_guids, node_guid}
+use Rattle.smp_wire.specs.Good.{AreGuids, end_port_guids, is_guid, node_guid}
 use Rattle.fabric_wire.specs.OfTopology.{adapter_port_of, node_of, node_of_type}
 use Rattle.fabric_wire.proofs.OfTopologyLemmas.{nodes_from, some_port}
 use Rattle.fabric_wire.proofs.DistinctLemmas.{all_differ, distinct, none_shares}
@@ -103,26 +104,29 @@ all_different of first (node ∷ nodes) own sized apart =
     (all_weaker (is_in node.guid (last_guid node)) (λ guid. not (list_any (λ other. guid == other) later)) (of first node)
     (λ guid is. not_from_false _ (none_later of (first + 1) nodes node guid own sizes.1 (none_shares shares_guid node nodes apart) is)) here.within)
 
-positive : (node : PlannedNode) (guid : ℕ) → is_sized node ≡ true → is_in node.guid (last_guid node) guid ≡ true → nat_lt 0 guid ≡ true
-positive node guid sized is =
+right : (node : PlannedNode) (guid : ℕ) → is_sized node ≡ true → HasGuids node → is_in node.guid (last_guid node) guid ≡ true
+    → is_guid guid ≡ true
+right node guid sized has is =
     let some = leb-true 1 node.guid (and_parts (nat_le 1 node.guid) _ sized).0 in
-    let low = leb-true node.guid guid (and_parts (nat_le node.guid guid) _ is).0 in
-    lt-ltb 0 guid (omega (arith, some, low))
+    let parts = and_parts (nat_le node.guid guid) _ is in
+    let low = leb-true node.guid guid parts.0 in
+    let high = leb-true guid (last_guid node) parts.1 in
+    and_from (nat_lt 0 guid) _ (lt-ltb 0 guid (omega (arith, some, low))) (lt-ltb guid (2 ^ 64) (omega (arith, has, high)))
 
-all_positive : (of : ℕ → PlannedNode → List ℕ) (first : ℕ) (nodes : List PlannedNode) → HaveOwn of → list_all is_sized nodes ≡ true
-    → list_all (λ guid. nat_lt 0 guid) (all_guids of first nodes) ≡ true
-all_positive of first [] own sized = refl
-all_positive of first (node ∷ nodes) own sized =
+all_right : (of : ℕ → PlannedNode → List ℕ) (first : ℕ) (nodes : List PlannedNode) → HaveOwn of → list_all is_sized nodes ≡ true
+    → AllByRecursion HasGuids nodes → list_all is_guid (all_guids of first nodes) ≡ true
+all_right of first [] own sized has = refl
+all_right of first (node ∷ nodes) own sized has =
     let sizes = and_parts (is_sized node) _ sized in
-    list_all-append (λ guid. nat_lt 0 guid) (of first node) (all_guids of (first + 1) nodes)
-    ∙ and_from (list_all (λ guid. nat_lt 0 guid) (of first node)) _
-    (all_weaker (is_in node.guid (last_guid node)) (λ guid. nat_lt 0 guid) (of first node) (λ guid is. positive node guid sizes.0 is) (own first node sizes.0).within)
-    (all_positive of (first + 1) nodes own sizes.1)
+    list_all-append is_guid (of first node) (all_guids of (first + 1) nodes)
+    ∙ and_from (list_all is_guid (of first node)) _
+    (all_weaker (is_in node.guid (last_guid node)) is_guid (of first node) (λ guid is. right node guid sizes.0 has.0 is) (own first node sizes.0).within)
+    (all_right of (first + 1) nodes own sizes.1 has.1)
 
-guids_of : (of : ℕ → PlannedNode → List ℕ) (nodes : List PlannedNode) → HaveOwn of → list_all is_sized nodes ≡ true → IsDistinct shares_guid nodes
-    → AreGuids (all_guids of 0 nodes)
-guids_of of nodes own sized apart =
-    record { not_0 = all_positive of 0 nodes own sized; own = distinct (λ a b. a == b) (all_guids of 0 nodes) (all_different of 0 nodes own sized apart) }
+guids_of : (of : ℕ → PlannedNode → List ℕ) (nodes : List PlannedNode) → HaveOwn of → list_all is_sized nodes ≡ true → All HasGuids nodes
+    → IsDistinct shares_guid nodes → AreGuids (all_guids of 0 nodes)
+guids_of of nodes own sized has apart =
+    record { each = all_right of 0 nodes own sized (recursion_from_All HasGuids nodes has); own = distinct (λ a b. a == b) (all_guids of 0 nodes) (all_different of 0 nodes own sized apart) }
 
 -- ---- a node's own GUID
 one_own : (guid last : ℕ) → guid ≤ last → AreOwn guid last (guid ∷ [])
@@ -145,13 +149,14 @@ guid_of cables place node sized = guid_of_type node.node_type cables place node 
 guid_own : (cables : List Cable) → HaveOwn (λ place node. node_guid (node_of cables place node) ∷ [])
 guid_own cables place node sized = rw (guid_of cables place node sized) (one_own node.guid (last_guid node) (omega arith))
 
-pub node_guids_differ : (cables : List Cable) (nodes : List PlannedNode) → list_all is_sized nodes ≡ true → IsDistinct shares_guid nodes
+pub node_guids_differ : (cables : List Cable) (nodes : List PlannedNode) → list_all is_sized nodes ≡ true → All HasGuids nodes
+    → IsDistinct shares_guid nodes
     → AreGuids (map node_guid (nodes_from cables 0 nodes))
-node_guids_differ cables nodes sized apart =
+node_guids_differ cables nodes sized has apart =
     let of : ℕ → PlannedNode → List ℕ = λ place node. node_guid (node_of cables place node) ∷ [] in
     let same : map node_guid (nodes_from cables 0 nodes) ≡ all_guids of 0 nodes =
     sym (flat_map_single node_guid (nodes_from cables 0 nodes)) ∙ flat_map-map (λ node. node_guid node ∷ []) (λ p. node_of cables p.0 p.1) (enumerate_from 0 nodes) in
-    rw same (guids_of of nodes (guid_own cables) sized apart)
+    rw same (guids_of of nodes (guid_own cables) sized has apart)
 
 -- ---- the GUIDs of its end ports
 abbrev port_guids_from : List Cable → ℕ → PlannedNode → ℕ → ℕ → List ℕ
@@ -187,9 +192,10 @@ ends_of_type node_type.ChannelAdapter cables place node = record {
   different = ports_differ cables place node 1 node.ports;
 }
 
-pub end_guids_differ : (cables : List Cable) (nodes : List PlannedNode) → list_all is_sized nodes ≡ true → IsDistinct shares_guid nodes
+pub end_guids_differ : (cables : List Cable) (nodes : List PlannedNode) → list_all is_sized nodes ≡ true → All HasGuids nodes
+    → IsDistinct shares_guid nodes
     → AreGuids (flat_map end_port_guids (nodes_from cables 0 nodes))
-end_guids_differ cables nodes sized apart =
+end_guids_differ cables nodes sized has apart =
     let of : ℕ → PlannedNode → List ℕ = λ place node. end_port_guids (node_of cables place node) in
     rw (flat_map-map end_port_guids (λ p. node_of cables p.0 p.1) (enumerate_from 0 nodes))
-    (guids_of of nodes (λ place node size. ends_of_type node.node_type cables place node) sized apart)
+    (guids_of of nodes (λ place node size. ends_of_type node.node_type cables place node) sized has apart)

@@ -94,6 +94,10 @@ pub some_port : (node : PlannedNode) → is_sized node ≡ true → 1 ≤ node.p
 some_port node sized =
     leb-true 1 node.ports (and_parts (nat_le 1 node.ports) _ (and_parts (nat_le 1 node.guid) _ sized).1).0
 
+pub most_port : (node : PlannedNode) → is_sized node ≡ true → node.ports ≤ most_ports node.node_type
+most_port node sized =
+    leb-true node.ports (most_ports node.node_type) (and_parts (nat_le 1 node.ports) _ (and_parts (nat_le 1 node.guid) _ sized).1).1
+
 -- ---- the ports of the first cable are its alone
 free_from : (cable : Cable) (cables : List Cable) → list_any (shares_port cable) cables ≡ false
     → (is_cabled cables cable.first ≡ false) × (is_cabled cables cable.second ≡ false)

@@ -16,7 +16,7 @@ pub use crate::laws::{
     exchanges_go_by_hops, the_two_switch_fabric_is_good, topologies_give_good_fabrics,
 };
 pub use smp_wire::{
-    AdapterPorts, CountingWire, Node, PlainWire, SilencedWire, SmpWire,
-    exchanges_change_what_they_name, exchanges_keep_the_fabric, get_request, gets_tell,
-    read_attribute,
+    AdapterPorts, CountingWire, Node, PlainWire, ReplyFault, SilencedWire, SmpWire,
+    exchanges_change_what_they_name, exchanges_keep_the_fabric, get_attribute, get_request,
+    gets_tell, paths_go_on, read_reply, replies_answer, set_attribute, set_request, sets_tell,
 };

@@ -12,7 +12,6 @@ use Rattle.attr_tables.specs.NodeInfo.{node_info_bytes}
 use Rattle.attr_tables.specs.PortInfo.{port_info_bytes}
 use Rattle.agent_rules.specs.PortSetting.{port_setting, port_info_after}
 use Rattle.agent_rules.specs.PowerUp.{node_info_of}
-use Rattle.agent_rules.specs.Request.{modifier_of}
 use Rattle.port_model.specs.AdapterState.{AdapterState}
 
 -- PortInfo's modifier names this port: 0, or its number
@@ -31,25 +30,25 @@ get held SwitchInfo modifier = Err AttributeNotSupported
 get held LinearForwardingTable modifier = Err AttributeNotSupported
 get held MulticastForwardingTable modifier = Err AttributeNotSupported
 
--- what the port holds after a Set
+-- what the port holds after a Set of an attribute to these 64 bytes
 abbrev pub set_port_info : AdapterState → List ℕ → Result AdapterState MadStatus
-set_port_info held smp = do
-  info ← port_info_after false held.info (port_setting smp)
+set_port_info held wanted = do
+  info ← port_info_after false held.info (port_setting wanted)
   Ok (record held { info = info })
 
-abbrev pub set_keys : AdapterState → List ℕ → Result AdapterState MadStatus
-set_keys held smp = do
-  keys ← set_word_block (modifier_of smp) smp held.keys
+abbrev pub set_keys : AdapterState → ℕ → List ℕ → Result AdapterState MadStatus
+set_keys held block wanted = do
+  keys ← set_word_block block wanted held.keys
   Ok (record held { keys = keys })
 
-unfoldable pub set : AdapterState → SmpAttribute → List ℕ → Result AdapterState MadStatus
-set held PortInfo smp = if is_own held (modifier_of smp) then set_port_info held smp else Err InvalidField
-set held PKeyTable smp = set_keys held smp
-set held NodeDescription smp = Err AttributeNotSupported
-set held NodeInfo smp = Err AttributeNotSupported
-set held SwitchInfo smp = Err AttributeNotSupported
-set held LinearForwardingTable smp = Err AttributeNotSupported
-set held MulticastForwardingTable smp = Err AttributeNotSupported
+unfoldable pub set : AdapterState → SmpAttribute → ℕ → List ℕ → Result AdapterState MadStatus
+set held PortInfo modifier wanted = if is_own held modifier then set_port_info held wanted else Err InvalidField
+set held PKeyTable modifier wanted = set_keys held modifier wanted
+set held NodeDescription modifier wanted = Err AttributeNotSupported
+set held NodeInfo modifier wanted = Err AttributeNotSupported
+set held SwitchInfo modifier wanted = Err AttributeNotSupported
+set held LinearForwardingTable modifier wanted = Err AttributeNotSupported
+set held MulticastForwardingTable modifier wanted = Err AttributeNotSupported
 
 -- the reply to an SMP, if it is a request
 unfoldable pub agent_reply : AdapterState → List ℕ → Option (List ℕ)

@@ -1,16 +1,35 @@
 -- What holds of the agent of a port of a channel adapter.
-use Rattle.std.specs.Prelude.{◌≡◌, List, ℕ, IfOk, option_map}
+use Rattle.std.specs.Prelude.{◌≡◌, ◌<◌, List, ℕ, Ok, IfOk, option_map}
 use Rattle.mad_layout.specs.Bits.{put_field}
 use Rattle.attr_tables.specs.Attribute.{IsAttribute}
+use Rattle.attr_tables.specs.declared.smp_attribute.SmpAttribute.{SmpAttribute}
+use Rattle.agent_rules.specs.declared.link.Link.{Link}
 use Rattle.agent_rules.specs.Agent.{answer}
 use Rattle.agent_rules.specs.Laws.{IsSettled, IsUnseenPut, ReadsAlike}
-use Rattle.port_model.specs.AdapterState.{AdapterState}
+use Rattle.port_model.specs.AdapterState.{AdapterState, at_power_up}
 use Rattle.port_model.specs.Agent.{agent_after, agent_reply, get, set}
 use Rattle.port_model.specs.Changes.{ChangesAtMost}
+use Rattle.port_model.specs.Good.{IsGoodPort}
 
 -- an SMP changes at most what it names
 abbrev pub SmpsChangeWhatTheyName : Type 0
 SmpsChangeWhatTheyName = (held : AdapterState) (smp : List ℕ) → ChangesAtMost held (agent_after held smp) smp
+
+-- a port at power-up is good
+abbrev pub NewPortsAreGood : Type 0
+NewPortsAreGood =
+    (node_guid num_ports number port_guid : ℕ) (description : List ℕ) (link : Link) → number < 256 → IsAttribute description
+    → IsGoodPort (at_power_up node_guid num_ports number port_guid description link)
+
+-- whatever SMP comes, a good port stays good
+abbrev pub SmpsKeepGood : Type 0
+SmpsKeepGood = (held : AdapterState) (smp : List ℕ) → IsGoodPort held → IsGoodPort (agent_after held smp)
+
+-- what a good port gives fills an attribute
+abbrev pub GoodPortsGiveAttributes : Type 0
+GoodPortsGiveAttributes =
+    (held : AdapterState) (attribute : SmpAttribute) (modifier : ℕ) (bytes : List ℕ) → IsGoodPort held
+    → get held attribute modifier ≡ Ok bytes → IsAttribute bytes
 
 -- what sets nothing changes nothing, and what is set is there
 abbrev pub SmpsSettle : Type 0

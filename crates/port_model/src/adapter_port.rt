@@ -7,9 +7,9 @@ ghost use Rattle.port_model.specs.AdapterState.{at_power_up};
 ghost use Rattle.port_model.specs.Agent.{agent_after, agent_reply, get, is_own, set, set_keys, set_port_info};
 
 use agent_rules::{
-    Link, PortSetting, attribute_asked, is_request, is_set, keys_at_power_up, modifier_of,
-    node_info_of, port_info_after, port_info_at_power_up, put_reply, set_word_block, shown_at,
-    whole, word_block_at,
+    Link, PortSetting, attribute_asked, data_of, is_request, is_set, keys_at_power_up,
+    modifier_of, node_info_of, port_info_after, port_info_at_power_up, put_reply, set_word_block,
+    shown_at, whole, word_block_at,
 };
 use attr_tables::{NodeDescription, PortInfo, SmpAttribute};
 use fabric_parts::NodeType;
@@ -98,7 +98,7 @@ impl AdapterPort {
     {
         let attribute = attribute_asked(smp)?;
         if is_set(smp) {
-            self.set(attribute, smp)?;
+            self.set(attribute, modifier_of(smp), &data_of(smp))?;
         }
         self.get(attribute, modifier_of(smp))
     }
@@ -151,12 +151,19 @@ impl AdapterPort {
     }
 
     #[tactic(auto, unfolding(crate::specs::Agent::set))]
-    fn set(&mut self, attribute: SmpAttribute, smp: &Mad) -> Result<(), MadStatus>
-        ensures { Leaves result self.old self.new (set self.old attribute smp.now) }
+    fn set(
+        &mut self,
+        attribute: SmpAttribute,
+        modifier: u32,
+        wanted: &[u8; 64],
+    ) -> Result<(), MadStatus>
+        ensures { Leaves result self.old self.new (set self.old attribute modifier wanted.now) }
     {
         match attribute {
-            SmpAttribute::PortInfo => self.set_port_info(smp),
-            SmpAttribute::PKeyTable => self.set_keys(smp),
+            SmpAttribute::PortInfo => self.set_port_info(modifier, wanted),
+            SmpAttribute::PKeyTable => {
+                set_word_block(&mut self.keys, modifier as usize, wanted)
+            }
             SmpAttribute::NodeDescription
             | SmpAttribute::NodeInfo
             | SmpAttribute::SwitchInfo
@@ -166,20 +173,13 @@ impl AdapterPort {
     }
 
     #[tactic(auto, unfolding(crate::specs::Agent::set))]
-    fn set_port_info(&mut self, smp: &Mad) -> Result<(), MadStatus>
-        ensures { Leaves result self.old self.new (set self.old SmpAttribute.PortInfo smp.now) }
+    fn set_port_info(&mut self, modifier: u32, wanted: &[u8; 64]) -> Result<(), MadStatus>
+        ensures { Leaves result self.old self.new (set self.old SmpAttribute.PortInfo modifier wanted.now) }
     {
-        if !self.is_own(modifier_of(smp)) {
+        if !self.is_own(modifier) {
             return Err(MadStatus::InvalidField);
         }
-        self.info = port_info_after(&self.info, &PortSetting::read(smp), false)?;
+        self.info = port_info_after(&self.info, &PortSetting::read(wanted), false)?;
         Ok(())
-    }
-
-    #[tactic(auto, unfolding(crate::specs::Agent::set))]
-    fn set_keys(&mut self, smp: &Mad) -> Result<(), MadStatus>
-        ensures { Leaves result self.old self.new (set self.old SmpAttribute.PKeyTable smp.now) }
-    {
-        set_word_block(&mut self.keys, modifier_of(smp) as usize, smp)
     }
 }

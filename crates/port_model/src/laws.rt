@@ -1,9 +1,21 @@
-ghost use Rattle.port_model.specs.Laws.{SmpsAreReadAlike, SmpsChangeWhatTheyName, SmpsSettle, UnseenComesBack};
+ghost use Rattle.port_model.specs.Laws.{GoodPortsGiveAttributes, NewPortsAreGood, SmpsAreReadAlike, SmpsChangeWhatTheyName, SmpsKeepGood, SmpsSettle, UnseenComesBack};
 
 /// An SMP changes at most what it names, and a port is Down afterwards exactly where it was Down. Like
 /// the laws below it does nothing: its contract is the law.
 pub fn smps_change_what_they_name()
     ensures { SmpsChangeWhatTheyName }
+{}
+
+/// A port at power-up is good, and whatever SMP comes, a good port stays good: it holds what attributes
+/// can say, and takes back what it has.
+pub fn ports_stay_good()
+    ensures new { NewPortsAreGood }
+    ensures kept { SmpsKeepGood }
+{}
+
+/// What a good port gives fills an attribute.
+pub fn good_ports_give_attributes()
+    ensures { GoodPortsGiveAttributes }
 {}
 
 /// What asks no agent, a Get, and what is refused change nothing; what a Set is answered with is what

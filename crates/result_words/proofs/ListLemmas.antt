@@ -1,7 +1,9 @@
 -- Tests of the elements of lists, and lists whose elements differ.
-use Rattle.std.proofs.Common.{◌≡◌, Bool, true, List, [], ◌∷◌, ◌++◌, ◌∙◌, refl, inl, inr}
-use Rattle.std.specs.List.{IsDistinct, list_all, list_any}
-use Rattle.std.proofs.lemmas.Bool.{and_from, or_cases, or_left, or_right}
+use Rattle.std.proofs.Common.{ℕ, zero, suc, ◌<◌, Bool, true, List, [], ◌∷◌, ◌++◌, length, take, drop, replicate, get_or, slice_get, slice_set, Some, None, ◌≤◌, ◌⊎◌, ◌≡◌, subst, ◌∙◌, ap, refl, sym, inl, inr, arith}
+use Rattle.std.specs.List.{All, IsDistinct, list_all, list_any}
+use Rattle.std.proofs.lemmas.Bool.{and_from, and_parts, or_cases, or_left, or_right}
+use Rattle.std.proofs.lemmas.List.{take-append-drop}
+use Rattle.std.proofs.lemmas.Option.{get_or_from_slice_get, slice_get_cases}
 use Rattle.std.proofs.lemmas.List.Folds.{list_all-append}
 
 -- what passes a test passes a weaker one
@@ -21,3 +23,47 @@ list_all_push p xs x all one = list_all-append p xs (x ∷ []) ∙ and_from (lis
 pub IsDistinct-nil : {X : Type 0} (same : X → X → Bool) → IsDistinct same []
 unfolding IsDistinct
 IsDistinct-nil same = tt
+
+-- ---- lists of which each element passes a test: what is made of them, and what stands in them
+pub all_joined : {X : Type 0} (p : X → Bool) (xs ys : List X) → list_all p xs ≡ true → list_all p ys ≡ true
+    → list_all p (xs ++ ys) ≡ true
+all_joined p xs ys one two = list_all-append p xs ys ∙ and_from (list_all p xs) (list_all p ys) one two
+
+pub all_cut : {X : Type 0} (p : X → Bool) (n : ℕ) (xs : List X) → list_all p xs ≡ true
+    → (list_all p (take n xs) ≡ true) × (list_all p (drop n xs) ≡ true)
+all_cut p n xs all =
+    and_parts (list_all p (take n xs)) (list_all p (drop n xs)) (sym (list_all-append p (take n xs) (drop n xs)) ∙ ap (list_all p) (take-append-drop n xs) ∙ all)
+
+pub all_alike : {X : Type 0} (p : X → Bool) (x : X) (n : ℕ) → p x ≡ true → list_all p (replicate n x) ≡ true
+all_alike p x zero one = refl
+all_alike p x (suc n) one = and_from (p x) _ one (all_alike p x n one)
+
+pub all_set : {X : Type 0} (p : X → Bool) (xs : List X) (i : ℕ) (x : X) → list_all p xs ≡ true → p x ≡ true
+    → list_all p (slice_set xs i x) ≡ true
+all_set p [] i x all one = refl
+all_set p (y ∷ ys) zero x all one = and_from (p x) _ one (and_parts (p y) _ all).1
+all_set p (y ∷ ys) (suc i) x all one =
+    let parts = and_parts (p y) (list_all p ys) all in
+    and_from (p y) _ parts.0 (all_set p ys i x parts.1 one)
+
+pub all_there : {X : Type 0} (p : X → Bool) (xs : List X) (i : ℕ) (x : X) → list_all p xs ≡ true → slice_get xs i ≡ Some x
+    → p x ≡ true
+all_there p [] i x all there = absurd (cc)
+all_there p (y ∷ ys) zero x all there =
+    let same : y ≡ x = cc in
+    ap p (sym same) ∙ (and_parts (p y) (list_all p ys) all).0
+all_there p (y ∷ ys) (suc i) x all there = all_there p ys i x (and_parts (p y) (list_all p ys) all).1 there
+
+pub all_at : {X : Type 0} (p : X → Bool) (xs : List X) (i : ℕ) (d : X) → list_all p xs ≡ true → i < length xs → p (get_or xs i d) ≡ true
+all_at p [] i d all within = absurd (omega arith)
+all_at p (x ∷ xs) zero d all within = (and_parts (p x) (list_all p xs) all).0
+all_at p (x ∷ xs) (suc i) d all within = all_at p xs i d (and_parts (p x) (list_all p xs) all).1 (omega arith)
+
+-- an element that stands there has what all have
+pub all_have : {X : Type 0} (P : X → Type 0) (xs : List X) (i : ℕ) (x : X) → All P xs → slice_get xs i ≡ Some x → P x
+all_have {X = X} P xs i x all there = by_place (slice_get_cases xs i).1
+  where
+    by_place : ((y : X) × (i < length xs) × (slice_get xs i ≡ Some y) × (get_or xs i y ≡ y)) ⊎ ((length xs ≤ i) × (slice_get xs i ≡ None))
+        → P x
+    by_place (inl within) = subst P (get_or_from_slice_get xs i x x there) (all i x within.1)
+    by_place (inr past) = let none = past.1 in absurd (cc)

@@ -1,18 +1,18 @@
 -- The SMP as it arrives asks what was asked, and the ports of its walk are bytes.
-use Rattle.std.proofs.Common.{ℕ, suc, ◌≡◌, ◌+◌, ◌*◌, ◌<◌, ◌≤◌, ◌∙◌, ◌&&◌, ap, refl, sym, Bool, true, false, nat_le, ◌^◌, if◌then◌else◌, List, [], ◌∷◌, length, find, slice_get, slice_set, Option, Some, None, option_map, arith}
+use Rattle.std.proofs.Common.{ℕ, suc, ◌≡◌, ◌+◌, ◌*◌, ◌<◌, ◌≤◌, ◌⊎◌, inl, inr, ◌∙◌, ◌&&◌, ap, refl, sym, Bool, true, false, nat_le, ◌^◌, if◌then◌else◌, List, [], ◌∷◌, length, find, slice_get, slice_set, Option, Some, None, option_map, arith}
 use Rattle.std.specs.Int.Digits.{AllBelowBase}
 use Rattle.std.specs.List.{list_all}
 use Rattle.std.specs.Option.{option_and_then, option_map_or}
 use Rattle.std.proofs.lemmas.Bool.{and_parts}
 use Rattle.std.proofs.lemmas.Bool.Decides.{nat_tests}
 use Rattle.std.proofs.lemmas.Option.{same_Some}
-use Rattle.mad_layout.specs.Bits.{number, put_field}
+use Rattle.mad_layout.specs.Bits.{field, number, put_field}
 use Rattle.mad_layout.proofs.AlignedLemmas.{byte_is_set}
-use Rattle.mad_layout.specs.Layout.{at}
-use Rattle.mad_layout.proofs.LayoutLemmas.{length-put_field}
+use Rattle.mad_layout.specs.Layout.{at, is_apart, is_free}
+use Rattle.mad_layout.proofs.LayoutLemmas.{field-put_apart, length-put_field}
 use Rattle.mad_layout.proofs.NumberLemmas.{below_bytes}
-use Rattle.agent_rules.specs.Laws.{AsksSame, is_unseen}
-use Rattle.agent_rules.proofs.UnseenLemmas.{unseen_passes}
+use Rattle.agent_rules.specs.Laws.{AsksSame, IsUnseenPut, is_unseen}
+use Rattle.agent_rules.proofs.UnseenLemmas.{apart_parts, unseen_passes}
 use Rattle.smp_route.specs.Places.{count, with_return_port}
 use Rattle.switch_model.specs.SwitchState.{num_ports}
 use Rattle.fabric_parts.specs.declared.cable.Cable.{Cable}
@@ -23,13 +23,22 @@ use Rattle.smp_wire.specs.declared.node.Node.TheVariants.{Switch, Adapter}
 use Rattle.smp_wire.specs.FabricState.{FabricState, is_port, port_count}
 use Rattle.smp_wire.specs.Good.{IsGood, has_a_right_count, is_right}
 use Rattle.smp_wire.specs.Walk.{arrived, hands_on, hop, walk, with_return_ports}
-use Rattle.smp_wire.proofs.ListLemmas.{all_there, find_all}
+use Rattle.smp_wire.proofs.ListLemmas.{find_all}
+use Rattle.result_words.proofs.ListLemmas.{all_there}
 
 -- ---- bytes that agents do not look at
 pub record IsCarrier (sent smp : List ℕ) : Type 0 where
   pub asks : AsksSame sent smp
   pub below : AllBelowBase 256 smp
   pub long : length smp ≡ 256
+  -- all but its hop pointer and its return path is as it was sent
+  pub kept : (off len : ℕ) → off + len ≤ 2048 → is_free off len (at 48 8 0 ∷ at 1536 512 0 ∷ []) ≡ true
+      → field smp off len ≡ field sent off len
+
+-- a field of the hop pointer or of the return path
+record IsOnWay (off len : ℕ) : Type 0 where
+  within : off + len ≤ 2048
+  apart : (o l : ℕ) → is_free o l (at 48 8 0 ∷ at 1536 512 0 ∷ []) ≡ true → (o + l ≤ off) ⊎ (off + len ≤ o)
 
 same_trans : (a b c : List ℕ) → AsksSame a b → AsksSame b c → AsksSame a c
 same_trans a b c one two = record {
@@ -37,28 +46,47 @@ same_trans a b c one two = record {
   set = two.set ∙ one.set;
   attribute = two.attribute ∙ one.attribute;
   modifier = two.modifier ∙ one.modifier;
-  setting = two.setting ∙ one.setting;
-  linear_fdb_top = two.linear_fdb_top ∙ one.linear_fdb_top;
-  words = two.words ∙ one.words;
-  ports = two.ports ∙ one.ports;
+  attribute_is = two.attribute_is ∙ one.attribute_is;
 }
 
 pub put_below : (xs : List ℕ) (off len v : ℕ) → AllBelowBase 256 (put_field xs off len v)
 unfolding put_field
 put_below xs off len v = below_bytes _ _
 
-put_carries : (sent smp : List ℕ) (off len v : ℕ) → IsCarrier sent smp → off + len ≤ 2048 → v < 2 ^ len
+put_carries : (sent smp : List ℕ) (off len v : ℕ) → IsCarrier sent smp → IsOnWay off len → v < 2 ^ len
     → is_unseen off len ≡ true → IsCarrier sent (put_field smp off len v)
-put_carries sent smp off len v here within small unseen = record {
-  asks = same_trans sent smp _ here.asks (unseen_passes.asks smp off len v (record { count = here.long; within = within; fits = small; unseen = unseen }));
-  below = put_below smp off len v;
-  long = length-put_field smp off len v ∙ here.long;
+put_carries sent smp off len v here way small unseen =
+    let put : IsUnseenPut smp off len v = record { count = here.long; bytes = here.below; within = way.within; fits = small; unseen = unseen } in
+    record {
+      asks = same_trans sent smp _ here.asks (unseen_passes.asks smp off len v put);
+      below = put_below smp off len v;
+      long = length-put_field smp off len v ∙ here.long;
+      kept = λ o l inside free.
+          field-put_apart smp off len v o l (omega (arith, here.long, way.within)) (omega (arith, here.long, inside)) small (way.apart o l free)
+          ∙ here.kept o l inside free;
+    }
+
+byte_carries : (sent smp : List ℕ) (k v : ℕ) → IsCarrier sent smp → k < 256 → IsOnWay (8 * k) 8 → v < 256
+    → is_unseen (8 * k) 8 ≡ true → IsCarrier sent (slice_set smp k v)
+byte_carries sent smp k v here inside way small unseen =
+    rw (byte_is_set smp k v here.below (omega (arith, here.long)) small) (put_carries sent smp (8 * k) 8 v here way small unseen)
+
+pointer_on_way : IsOnWay 48 8
+pointer_on_way = record {
+  within = omega arith;
+  apart = λ o l free. apart_parts o l 48 8 (and_parts (is_apart o l (at 48 8 0)) _ free).0;
 }
 
-byte_carries : (sent smp : List ℕ) (k v : ℕ) → IsCarrier sent smp → k < 256 → v < 256 → is_unseen (8 * k) 8 ≡ true
-    → IsCarrier sent (slice_set smp k v)
-byte_carries sent smp k v here inside small unseen =
-    rw (byte_is_set smp k v here.below (omega (arith, here.long)) small) (put_carries sent smp (8 * k) 8 v here (omega arith) small unseen)
+return_on_way : (k : ℕ) → k < 64 → IsOnWay (8 * (192 + k)) 8
+return_on_way k few = record {
+  within = omega (arith, few);
+  apart = λ o l free.
+      let rest = and_parts (is_apart o l (at 48 8 0)) (is_free o l (at 1536 512 0 ∷ [])) free in
+      elim (apart_parts o l 1536 512 (and_parts (is_apart o l (at 1536 512 0)) true rest.1).0) [
+        | inl before ↦ inl (omega (arith, before))
+        | inr after ↦ inr (omega (arith, few, after))
+      ];
+}
 
 -- a byte of the return path
 unseen_return : (k : ℕ) → k < 64 → is_unseen (8 * (192 + k)) 8 ≡ true
@@ -74,7 +102,7 @@ noted_carries : (sent smp : List ℕ) (k : ℕ) (ends : List PortRef) → IsCarr
 noted_carries sent smp k [] here few bytes = here
 noted_carries sent smp k (end ∷ ends) here few bytes =
     noted_carries sent (with_return_port k end.port smp) (k + 1) ends
-    (byte_carries sent smp (192 + k) end.port here (omega (arith, few)) bytes.0
+    (byte_carries sent smp (192 + k) end.port here (omega (arith, few)) (return_on_way k (omega (arith, few))) bytes.0
     (unseen_return k (omega (arith, few)))) (omega (arith, few)) bytes.1
 
 pub arrived_carries : (sent : List ℕ) (ends : List PortRef) → AllBelowBase 256 sent → length sent ≡ 256
@@ -87,16 +115,14 @@ arrived_carries sent ends below long hops few bytes =
         set = refl;
         attribute = refl;
         modifier = refl;
-        setting = refl;
-        linear_fdb_top = refl;
-        words = refl;
-        ports = refl;
+        attribute_is = refl;
       };
+      kept = λ off len inside free. refl;
       below = below;
       long = long;
     })
     (omega (arith, hops, few)) bytes)
-    (omega arith) (omega (arith, few)) refl
+    (omega arith) pointer_on_way (omega (arith, few)) refl
 
 below : (n most : ℕ) → nat_le 1 n && nat_le n most ≡ true → n ≤ most
 below n most h = let part = (and_parts (nat_le 1 n) (nat_le n most) h).1 in grind (arith, nat_tests, part)

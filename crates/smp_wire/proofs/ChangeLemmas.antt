@@ -11,10 +11,10 @@ use Rattle.agent_rules.proofs.AgentLemmas.{reads_alike, settled}
 use Rattle.port_model.specs.AdapterState.{AdapterState}
 use Rattle.port_model.specs.Agent.{agent_reply as adapter_reply, agent_after as adapter_after, get as adapter_gives, set as adapter_set}
 use Rattle.port_model.specs.Changes.{ChangesAtMost as PortChangesAtMost}
-use Rattle.port_model.proofs.AgentLemmas.{changes_at_most as adapter_changes, shows as adapter_shows, takes_alike as adapter_takes}
+use Rattle.port_model.proofs.AgentLemmas.{changes_at_most as adapter_changes, shows as adapter_shows}
 use Rattle.switch_model.specs.Agent.{agent_reply as switch_reply, agent_after as switch_after, get as switch_gives, set as switch_set}
 use Rattle.switch_model.specs.SwitchState.{SwitchState}
-use Rattle.switch_model.proofs.AgentLemmas.{shows as switch_shows, takes_alike as switch_takes}
+use Rattle.switch_model.proofs.AgentLemmas.{shows as switch_shows}
 use Rattle.switch_model.proofs.ChangeLemmas.{changes_at_most as switch_changes}
 use Rattle.fabric_parts.specs.declared.cable.PortRef.{PortRef}
 use Rattle.smp_wire.specs.Laws.{ExchangesChangeWhatTheyName}
@@ -97,11 +97,11 @@ ports_alike : (ports : List AdapterState) (number : ℕ) (one other : List ℕ) 
     → AsksSame one other → adapter_ports_after ports number other found ≡ adapter_ports_after ports number one found
 unfolding adapter_after
 ports_alike ports number one other None same = refl
-ports_alike ports number one other (Some port) same = ap (slice_set ports (number - 1)) ((reads_alike adapter_gives adapter_set adapter_takes).held port one other same)
+ports_alike ports number one other (Some port) same = ap (slice_set ports (number - 1)) ((reads_alike adapter_gives adapter_set).held port one other same)
 
 node_alike : (node : Node) (number : ℕ) (one other : List ℕ) → AsksSame one other → node_after node number other ≡ node_after node number one
 unfolding node_after switch_after
-node_alike (Switch held) number one other same = ap (λ (next : SwitchState). Switch next) ((reads_alike (switch_gives number) switch_set switch_takes).held held one other same)
+node_alike (Switch held) number one other same = ap (λ (next : SwitchState). Switch next) ((reads_alike (switch_gives number) switch_set).held held one other same)
 node_alike (Adapter ports) number one other same = ap (λ (all : List AdapterState). Adapter all) (ports_alike ports number one other (adapter_port ports number) same)
 
 nodes_alike : (nodes : List Node) (at : PortRef) (one other : List ℕ) (found : Option Node) → AsksSame one other

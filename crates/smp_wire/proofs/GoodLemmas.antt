@@ -1,21 +1,24 @@
 -- What an SMP leaves of a node, and so of a fabric.
 use Rattle.std.proofs.Common.{ℕ, if◌then◌else◌, ◌≡◌, ◌-◌, ◌==◌, ◌∙◌, ap, refl, sym, Bool, true, false, List, [], ◌∷◌, length, map, slice_get, slice_set, Option, Some, None, option_map}
 use Rattle.std.specs.List.{list_all}
-use Rattle.std.proofs.lemmas.Bool.{and_from, and_parts}
 use Rattle.std.proofs.lemmas.List.{length-set}
 use Rattle.agent_rules.specs.PortSetting.{is_down}
 use Rattle.port_model.specs.AdapterState.{AdapterState}
 use Rattle.port_model.specs.Agent.{agent_after as adapter_after}
-use Rattle.port_model.proofs.AgentLemmas.{changes_at_most as adapter_changes}
+use Rattle.port_model.proofs.AgentLemmas.{changes_at_most as adapter_changes, smps_keep_good as port_stays}
 use Rattle.switch_model.specs.SwitchState.{SwitchState, num_ports}
 use Rattle.switch_model.specs.Agent.{agent_after as switch_after}
 use Rattle.switch_model.proofs.ChangeLemmas.{changes_at_most as switch_changes}
+use Rattle.switch_model.proofs.GoodLemmas.{smps_keep_good as switch_stays}
 use Rattle.smp_wire.specs.declared.node.Node.{Node}
 use Rattle.smp_wire.specs.declared.node.Node.TheVariants.{Switch, Adapter}
 use Rattle.smp_wire.specs.FabricState.{adapter_ports_after, is_switch, node_after, port_count}
-use Rattle.smp_wire.specs.Good.{node_guid, end_port_guids, has_a_right_count, holds_attributes, is_description, is_in_order, is_of, port_info_at}
-use Rattle.smp_wire.proofs.HoldingLemmas.{stays_small}
+use Rattle.smp_wire.specs.Good.{node_guid, end_port_guids, has_a_right_count, IsGoodNode, is_in_order, is_of, port_info_at}
 use Rattle.smp_wire.proofs.ListLemmas.{all_same, alike_at, flat, get_same, or_same, read_same}
+use Rattle.result_words.proofs.ListLemmas.{all_have}
+use Rattle.std.proofs.lemmas.List.Elements.{All-set}
+use Rattle.agent_rules.specs.declared.power_up.TheConstants.{LINEAR_TABLE, MULTICAST_TABLE}
+use Rattle.port_model.specs.Good.{IsGoodPort}
 
 -- whether the port of that number is Down
 abbrev pub down_at : Node → ℕ → Option Bool
@@ -28,7 +31,7 @@ pub record IsSameNode (old new : Node) : Type 0 where
   pub right : has_a_right_count new ≡ has_a_right_count old
   pub order : is_in_order new ≡ is_in_order old
   pub switch : is_switch new ≡ is_switch old
-  pub holds : holds_attributes old ≡ true → holds_attributes new ≡ true
+  pub good : IsGoodNode old → IsGoodNode new
   pub down : (number : ℕ) → down_at new number ≡ down_at old number
 
 -- ---- a switch
@@ -44,9 +47,7 @@ same_switch held smp =
       right = rw count refl;
       order = refl;
       switch = refl;
-      holds = λ is. let parts = and_parts (is_description held.description) _ is in and_from
-          (is_description next.description) _ (ap is_description change.description ∙ parts.0)
-          (stays_small held smp parts.1);
+      good = λ is. switch_stays LINEAR_TABLE MULTICAST_TABLE held smp is;
       down = λ number. flat (λ port. port.info) (λ info. is_down info) (slice_get next.ports number) ∙ alike_at _
           (λ port. is_down port.info) held.ports next.ports number change.num_ports
           (λ none. (change.ports number none).down) ∙ sym
@@ -59,13 +60,13 @@ pub record IsSamePort (old new : AdapterState) : Type 0 where
   pub count : new.num_ports ≡ old.num_ports
   pub number : new.number ≡ old.number
   pub own : new.port_guid ≡ old.port_guid
-  pub description : new.description ≡ old.description
+  pub good : IsGoodPort old → IsGoodPort new
   pub down : is_down new.info ≡ is_down old.info
 
 pub same_port : (held : AdapterState) (smp : List ℕ) → IsSamePort held (adapter_after held smp)
 same_port held smp =
     let change = adapter_changes held smp in
-    record { guid = change.node_guid; count = change.num_ports; number = change.number; own = change.port_guid; description = change.description; down = change.down }
+    record { guid = change.node_guid; count = change.num_ports; number = change.number; own = change.port_guid; good = λ is. port_stays held smp is; down = change.down }
 
 -- the port of that number has the same answer
 down_unless : (none : Bool) (xs ys : List AdapterState) (k : ℕ)
@@ -102,14 +103,12 @@ same_set ports i x y there same =
       right = rw long refl;
       order = rw (guid, long, numbers, all (node_guid (Adapter ports)) (length ports)) refl;
       switch = refl;
-      holds = λ is. all_same (λ (port : AdapterState). is_description port.description) ports next
-          (read_same (λ (port : AdapterState). is_description port.description) ports i x y there
-          (ap is_description same.description)) ∙ is;
+      good = λ all. All-set IsGoodPort ports i y (same.good (all_have IsGoodPort ports i x all there)) all;
       down = λ number. down_of ports next number (read_same (λ (port : AdapterState). is_down port.info) ports i x y there same.down);
     }
 
 itself : (node : Node) → IsSameNode node node
-itself node = record { guid = refl; guids = refl; count = refl; right = refl; order = refl; switch = refl; holds = λ is. is; down = λ number. refl }
+itself node = record { guid = refl; guids = refl; count = refl; right = refl; order = refl; switch = refl; good = λ is. is; down = λ number. refl }
 
 same_ports : (ports : List AdapterState) (number : ℕ) (smp : List ℕ) (found : Option AdapterState) → slice_get ports (number - 1) ≡ found
     → IsSameNode (Adapter ports) (Adapter (adapter_ports_after ports number smp found))

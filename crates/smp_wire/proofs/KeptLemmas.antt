@@ -1,6 +1,6 @@
 -- What an exchange leaves of a fabric.
 use Rattle.std.proofs.Common.{ℕ, ◌≡◌, ◌∙◌, not, ap, ap₂, refl, sym, Bool, true, false, List, [], ◌∷◌, map, flat_map, slice_get, slice_set, Option, Some, None, option_map}
-use Rattle.std.specs.List.{list_all}
+use Rattle.std.specs.List.{All, list_all}
 use Rattle.std.specs.Option.{option_and_then}
 use Rattle.std.proofs.lemmas.List.Folds.{flat_map-map}
 use Rattle.std.proofs.lemmas.Option.{same_Some}
@@ -9,13 +9,16 @@ use Rattle.attr_tables.specs.declared.port_info.PortInfo.{PortInfo}
 use Rattle.fabric_parts.specs.declared.cable.Cable.{Cable}
 use Rattle.fabric_parts.specs.declared.cable.PortRef.{PortRef}
 use Rattle.fabric_parts.specs.Cable.{is_cabled}
-use Rattle.smp_wire.specs.Laws.{ExchangesKeepGood, ExchangesKeepLinks, ExchangesKeepJoined}
+use Rattle.smp_wire.specs.Laws.{ExchangesKeepGood, ExchangesKeepLinks, ExchangesKeepJoined, ExchangesKeepShape}
+use Rattle.smp_wire.specs.Shape.{IsSameShape}
 use Rattle.smp_wire.specs.declared.node.Node.{Node}
 use Rattle.smp_wire.specs.FabricState.{FabricState, is_port, is_switch, is_switch_at, nodes_after, port_count}
 use Rattle.smp_wire.specs.Walk.{after_walk, exchange_after, hop, walk, walk_of}
-use Rattle.smp_wire.specs.Good.{IsGood, ShowsLinks, SwitchesJoined, end_port_guids, has_a_right_count, holds_attributes, info_at, is_in_order, is_right, node_guid, port_info_at}
+use Rattle.smp_wire.specs.Good.{IsGood, ShowsLinks, SwitchesJoined, end_port_guids, IsGoodNode, has_a_right_count, info_at, is_in_order, is_right, node_guid, port_info_at}
 use Rattle.smp_wire.proofs.GoodLemmas.{IsSameNode, down_at, same_node}
-use Rattle.smp_wire.proofs.ListLemmas.{all_same, all_set, all_there, get_same, or_same, read_same}
+use Rattle.smp_wire.proofs.ListLemmas.{all_same, get_same, or_same, read_same}
+use Rattle.result_words.proofs.ListLemmas.{all_have}
+use Rattle.std.proofs.lemmas.List.Elements.{All-set}
 
 pub record IsSame (old new : FabricState) : Type 0 where
   pub cables : new.cables ≡ old.cables
@@ -26,7 +29,7 @@ pub record IsSame (old new : FabricState) : Type 0 where
   pub right : map has_a_right_count new.nodes ≡ map has_a_right_count old.nodes
   pub order : map is_in_order new.nodes ≡ map is_in_order old.nodes
   pub switches : map is_switch new.nodes ≡ map is_switch old.nodes
-  pub holdings : list_all holds_attributes old.nodes ≡ true → list_all holds_attributes new.nodes ≡ true
+  pub holdings : All IsGoodNode old.nodes → All IsGoodNode new.nodes
   pub downs : (number : ℕ) → map (λ node. down_at node number) new.nodes ≡ map (λ node. down_at node number) old.nodes
 
 itself : (fabric : FabricState) → IsSame fabric fabric
@@ -43,7 +46,7 @@ with_node fabric place node next there same = record {
   right = read_same has_a_right_count fabric.nodes place node next there same.right;
   order = read_same is_in_order fabric.nodes place node next there same.order;
   switches = read_same is_switch fabric.nodes place node next there same.switch;
-  holdings = λ all. all_set holds_attributes fabric.nodes place next all (same.holds (all_there holds_attributes fabric.nodes place node all there));
+  holdings = λ all. All-set IsGoodNode fabric.nodes place next (same.good (all_have IsGoodNode fabric.nodes place node all there)) all;
   downs = λ number. read_same (λ one. down_at one number) fabric.nodes place node next there (same.down number);
 }
 
@@ -128,7 +131,7 @@ hop_same : (old new : FabricState) → IsSame old new → (starts : Bool) (here 
 unfolding hop
 hop_same old new same starts here number = rw (same.cables, switch_same old new same here.node, port_same old new same (record { node = here.node; port = number })) refl
 
-walk_same : (old new : FabricState) → IsSame old new → (starts : Bool) (here : PortRef) (numbers : List ℕ)
+pub walk_same : (old new : FabricState) → IsSame old new → (starts : Bool) (here : PortRef) (numbers : List ℕ)
     → walk new.nodes new.cables starts here numbers ≡ walk old.nodes old.cables starts here numbers
 walk_same old new same starts here [] = refl
 walk_same old new same starts here (number ∷ numbers) =
@@ -141,3 +144,18 @@ stays_joined old new same joins a b is_a is_b =
 
 pub joins : ExchangesKeepJoined
 joins fabric smp was = stays_joined fabric (exchange_after fabric smp) (after_exchange fabric smp) was
+
+-- ---- and so its shape
+shape_of : (old new : FabricState) → IsSame old new → IsSameShape old new
+shape_of old new same = record {
+  cables = same.cables;
+  manager = same.manager;
+  switches = same.switches;
+  node_guids = same.guids;
+  end_port_guids = same.ends;
+  port_counts = same.counts;
+  walks = λ starts here numbers. walk_same old new same starts here numbers;
+}
+
+pub shape : ExchangesKeepShape
+shape fabric smp = shape_of fabric (exchange_after fabric smp) (after_exchange fabric smp)

@@ -1,11 +1,15 @@
 pub mod ListLemmas
-pub mod GetLemmas
+pub mod RequestLemmas
 pub mod WalkLemmas
-pub mod HoldingLemmas
+pub mod GivenLemmas
 pub mod GoodLemmas
 pub mod KeptLemmas
 pub mod ArrivalLemmas
 pub mod ReplyLemmas
 pub mod WalkedLemmas
 pub mod ChangeLemmas
+pub mod ReplyToLemmas
+pub mod PathLemmas
 pub mod TellLemmas
+pub mod SetLemmas
+pub mod AskLemmas

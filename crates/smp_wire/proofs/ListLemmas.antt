@@ -2,38 +2,13 @@
 use Rattle.std.proofs.Common.{ℕ, zero, suc, ◌≡◌, ◌≢◌, ◌<◌, ◌≤◌, ◌⊎◌, inl, inr, ◌∙◌, ap, refl, sym, Bool, true, false, if◌then◌else◌, List, [], ◌∷◌, ◌++◌, length, take, drop, replicate, map, find, get_or, slice_get, slice_set, Option, Some, None, option_map, unwrap_or}
 use Rattle.std.specs.List.{list_all}
 use Rattle.std.specs.Option.{option_map_or}
-use Rattle.std.proofs.lemmas.Bool.{and_from, and_parts}
-use Rattle.std.proofs.lemmas.List.{set-get_or, take-append-drop}
-use Rattle.std.proofs.lemmas.List.Folds.{list_all-append, list_all-map}
+use Rattle.std.proofs.lemmas.Bool.{and_parts}
+use Rattle.std.proofs.lemmas.List.{set-get_or}
+use Rattle.std.proofs.lemmas.List.Folds.{list_all-map}
 use Rattle.std.proofs.lemmas.Option.{get_or_from_slice_get, same_Some, slice_get_cases, slice_get_past, slice_get-get_or, slice_get-map}
 use Rattle.std.proofs.Math.Seq.{map-set_same}
 
 -- ---- lists of which each element passes a test
-pub all_joined : {X : Type 0} (p : X → Bool) (xs ys : List X) → list_all p xs ≡ true → list_all p ys ≡ true → list_all p (xs ++ ys) ≡ true
-all_joined p xs ys one two = list_all-append p xs ys ∙ and_from (list_all p xs) (list_all p ys) one two
-
-pub all_cut : {X : Type 0} (p : X → Bool) (n : ℕ) (xs : List X) → list_all p xs ≡ true → (list_all p (take n xs) ≡ true) × (list_all p (drop n xs) ≡ true)
-all_cut p n xs all =
-    and_parts (list_all p (take n xs)) (list_all p (drop n xs)) (sym (list_all-append p (take n xs) (drop n xs)) ∙ ap (list_all p) (take-append-drop n xs) ∙ all)
-
-pub all_alike : {X : Type 0} (p : X → Bool) (x : X) (n : ℕ) → p x ≡ true → list_all p (replicate n x) ≡ true
-all_alike p x zero one = refl
-all_alike p x (suc n) one = and_from (p x) _ one (all_alike p x n one)
-
-pub all_set : {X : Type 0} (p : X → Bool) (xs : List X) (i : ℕ) (x : X) → list_all p xs ≡ true → p x ≡ true → list_all p (slice_set xs i x) ≡ true
-all_set p [] i x all one = refl
-all_set p (y ∷ ys) zero x all one = and_from (p x) _ one (and_parts (p y) _ all).1
-all_set p (y ∷ ys) (suc i) x all one =
-    let parts = and_parts (p y) (list_all p ys) all in
-    and_from (p y) _ parts.0 (all_set p ys i x parts.1 one)
-
-pub all_there : {X : Type 0} (p : X → Bool) (xs : List X) (i : ℕ) (x : X) → list_all p xs ≡ true → slice_get xs i ≡ Some x → p x ≡ true
-all_there p [] i x all there = absurd (cc)
-all_there p (y ∷ ys) zero x all there =
-    let same : y ≡ x = cc in
-    ap p (sym same) ∙ (and_parts (p y) (list_all p ys) all).0
-all_there p (y ∷ ys) (suc i) x all there = all_there p ys i x (and_parts (p y) (list_all p ys) all).1 there
-
 pick : {X : Type 0} (p : X → Bool) (b : Bool) (y x : X) (rest : Option X) → (if b then Some y else rest) ≡ Some x
     → p y ≡ true → (rest ≡ Some x → p x ≡ true) → p x ≡ true
 pick p true y x rest found here later = ap p (sym (same_Some y x found)) ∙ here

@@ -1,7 +1,7 @@
 -- What the agents of a good fabric reply: the request with its method, its status and an attribute.
 use Rattle.std.proofs.Common.{ℕ, ◌≡◌, ◌≢◌, ◌⊎◌, ◌+◌, ◌-◌, ◌≤◌, ◌==◌, ◌∙◌, ap, refl, subst, Bool, true, false, if◌then◌else◌, List, [], ◌∷◌, length, slice_get, Option, Some, None, Result, Ok, Err, arith}
 use Rattle.std.specs.Int.Digits.{AllBelowBase}
-use Rattle.std.specs.List.{list_all}
+use Rattle.std.specs.List.{All}
 use Rattle.std.specs.Option.{option_and_then}
 use Rattle.mad_layout.specs.Bits.{field, number, put_field}
 use Rattle.mad_layout.specs.Layout.{at}
@@ -20,19 +20,22 @@ use Rattle.agent_rules.proofs.CarryLemmas.{carries}
 use Rattle.port_model.specs.AdapterState.{AdapterState}
 use Rattle.port_model.specs.Agent.{agent_reply as adapter_reply, agent_after as adapter_after, get as adapter_gives, set as adapter_set}
 use Rattle.switch_model.specs.Agent.{agent_reply as switch_reply, agent_after as switch_after, get as switch_gives, set as switch_set}
-use Rattle.port_model.proofs.AgentLemmas.{shows as adapter_shows}
+use Rattle.port_model.proofs.AgentLemmas.{give_attributes as adapter_given, shows as adapter_shows, smps_keep_good as port_stays}
 use Rattle.switch_model.proofs.AgentLemmas.{shows as switch_shows}
+use Rattle.switch_model.proofs.GoodLemmas.{give_attributes as switch_given, smps_keep_good as switch_stays}
 use Rattle.switch_model.specs.SwitchState.{SwitchState}
 use Rattle.fabric_parts.specs.declared.cable.PortRef.{PortRef}
 use Rattle.smp_wire.specs.declared.node.Node.{Node}
 use Rattle.smp_wire.specs.declared.node.Node.TheVariants.{Switch, Adapter}
 use Rattle.smp_wire.specs.FabricState.{FabricState, adapter_ports_after, after_at, node_after, node_reply, nodes_after, reply_at}
-use Rattle.smp_wire.specs.Good.{holds_attributes, is_description}
+use Rattle.smp_wire.specs.Good.{IsGoodNode}
 use Rattle.smp_wire.specs.Walk.{returned}
 use Rattle.smp_wire.proofs.ArrivalLemmas.{put_below}
-use Rattle.smp_wire.proofs.GoodLemmas.{same_port, same_switch}
-use Rattle.smp_wire.proofs.HoldingLemmas.{adapter_given, switch_given}
-use Rattle.smp_wire.proofs.ListLemmas.{all_there, set_back}
+use Rattle.smp_wire.proofs.ListLemmas.{set_back}
+use Rattle.result_words.proofs.ListLemmas.{all_have}
+use Rattle.agent_rules.specs.declared.power_up.TheConstants.{LINEAR_TABLE, MULTICAST_TABLE}
+use Rattle.port_model.specs.Good.{IsGoodPort}
+use Rattle.switch_model.specs.Good.{IsGoodSwitch}
 
 pub reply_below : (smp : List ℕ) (given : Result (List ℕ) MadStatus) → AllBelowBase 256 (reply_to smp given)
 unfolding reply_to
@@ -57,19 +60,21 @@ returned_field reply off len below long within one two =
 
 -- where it is a refusal, what was asked stays as it was
 pub record IsReply (request reply : List ℕ) (Stays : Type 0) : Type 0 where
+  pub method_is : field reply 24 8 ≡ reply_method request
   pub keeps : KeepsRest request reply
   pub long : length reply ≡ 256
   pub below : AllBelowBase 256 reply
   pub refused : field reply 33 15 ≢ 0 → Stays
 
 so_stays : {A B : Type 0} (request reply : List ℕ) → (A → B) → IsReply request reply A → IsReply request reply B
-so_stays request reply so is = record { keeps = is.keeps; long = is.long; below = is.below; refused = λ status. so (is.refused status) }
+so_stays request reply so is = record { method_is = is.method_is; keeps = is.keeps; long = is.long; below = is.below; refused = λ status. so (is.refused status) }
 
 is_reply : (smp : List ℕ) (given : Result (List ℕ) MadStatus) (Stays : Type 0) → length smp ≡ 256
     → ((bytes : List ℕ) → given ≡ Ok bytes → IsAttribute bytes) → ((status : MadStatus) → given ≡ Err status → Stays)
     → IsReply smp (reply_to smp given) Stays
 is_reply smp (Ok bytes) Stays long are stays =
     record {
+      method_is = (carries.attribute smp bytes long (are bytes refl)).method;
       keeps = (carries.attribute smp bytes long (are bytes refl)).rest;
       long = reply_long smp (Ok bytes)
           long;
@@ -78,7 +83,13 @@ is_reply smp (Ok bytes) Stays long are stays =
           absurd (status ((carries.attribute smp bytes long (are bytes refl)).status));
     }
 is_reply smp (Err status) Stays long are stays =
-    record { keeps = (carries.refusal smp status long).rest; long = reply_long smp (Err status) long; below = reply_below smp (Err status); refused = λ not_0. stays status refl }
+    record {
+      method_is = (carries.refusal smp status long).method;
+      keeps = (carries.refusal smp status long).rest;
+      long = reply_long smp (Err status) long;
+      below = reply_below smp (Err status);
+      refused = λ not_0. stays status refl;
+    }
 
 -- ---- one agent: what answers fills an attribute, where what is held afterwards does
 after_is : {S : Type 0} (setter : Setter S) (held next : S) (attribute : SmpAttribute) (smp : List ℕ)
@@ -114,48 +125,44 @@ replied getter setter held smp reply Holds shows long each holds h =
 
 -- ---- an adapter, of which a port stays as it was
 adapter_replies : (ports : List AdapterState) (number place : ℕ) (found : Option AdapterState) (smp reply : List ℕ)
-    → number - 1 ≡ place → length smp ≡ 256 → list_all (λ port. is_description port.description) ports ≡ true
-    → slice_get ports place ≡ found → option_and_then (λ port. adapter_reply port smp) found ≡ Some reply → IsReply smp reply (adapter_ports_after ports number smp found ≡ ports)
+    → number - 1 ≡ place → length smp ≡ 256 → All IsGoodPort ports → slice_get ports place ≡ found → option_and_then (λ port. adapter_reply port smp) found ≡ Some reply → IsReply smp reply (adapter_ports_after ports number smp found ≡ ports)
 unfolding adapter_reply adapter_after
 adapter_replies ports number place None smp reply at long all there h = cc
 adapter_replies ports number place (Some port) smp reply at long all there h =
-    let Holds : AdapterState → Type 0 = λ one. is_description one.description ≡ true in
-    let is = all_there (λ one. is_description one.description) ports place port all there in
+    let is = all_have IsGoodPort ports place port all there in
     so_stays smp reply (λ same. rw at (set_back ports place port _ there same))
-    (replied adapter_gives adapter_set port smp reply Holds adapter_shows long (λ next attribute bytes holds given. adapter_given next attribute (modifier_of smp) bytes holds given)
-    (ap is_description (same_port port smp).description ∙ is) h)
+    (replied adapter_gives adapter_set port smp reply IsGoodPort adapter_shows long
+    (λ next attribute bytes holds given. adapter_given next attribute (modifier_of smp) bytes holds given) (port_stays port smp is) h)
 
 port_replies : (none : Bool) (ports : List AdapterState) (number : ℕ) (smp reply : List ℕ) → length smp ≡ 256
-    → list_all (λ port. is_description port.description) ports ≡ true
-    → option_and_then (λ port. adapter_reply port smp) (if none then None else slice_get ports (number - 1)) ≡ Some reply
+    → All IsGoodPort ports → option_and_then (λ port. adapter_reply port smp) (if none then None else slice_get ports (number - 1)) ≡ Some reply
     → IsReply smp reply (adapter_ports_after ports number smp (if none then None else slice_get ports (number - 1)) ≡ ports)
 port_replies true ports number smp reply long all h = cc
 port_replies false ports number smp reply long all h = adapter_replies ports number (number - 1) (slice_get ports (number - 1)) smp reply refl long all refl h
 
 -- ---- a node, and the node at a port
-node_replies : (node : Node) (number : ℕ) (smp reply : List ℕ) → length smp ≡ 256 → holds_attributes node ≡ true
+node_replies : (node : Node) (number : ℕ) (smp reply : List ℕ) → length smp ≡ 256 → IsGoodNode node
     → node_reply node number smp ≡ Some reply
     → IsReply smp reply (node_after node number smp ≡ node)
 unfolding node_reply node_after switch_reply switch_after
 node_replies (Switch held) number smp reply long is h =
-    let Holds : SwitchState → Type 0 = λ one. holds_attributes (Switch one) ≡ true in
     so_stays smp reply (λ same. ap (λ (one : SwitchState). Switch one) same)
-    (replied (switch_gives number) switch_set held smp reply Holds (switch_shows number) long
-    (λ next attribute bytes holds given. switch_given next number attribute (modifier_of smp) bytes holds given)
-    ((same_switch held smp).holds is) h)
+    (replied (switch_gives number) switch_set held smp reply (IsGoodSwitch LINEAR_TABLE MULTICAST_TABLE) (switch_shows number) long
+    (λ next attribute bytes holds given. switch_given LINEAR_TABLE MULTICAST_TABLE number next attribute (modifier_of smp) bytes holds given)
+    (switch_stays LINEAR_TABLE MULTICAST_TABLE held smp is) h)
 node_replies (Adapter ports) number smp reply long is h =
     so_stays smp reply (λ same. ap (λ (all : List AdapterState). Adapter all) same) (port_replies (number == 0) ports number smp reply long is h)
 
 found_replies : (nodes : List Node) (at : PortRef) (found : Option Node) (smp reply : List ℕ) → length smp ≡ 256
-    → list_all holds_attributes nodes ≡ true → slice_get nodes at.node ≡ found
+    → All IsGoodNode nodes → slice_get nodes at.node ≡ found
     → option_and_then (λ node. node_reply node at.port smp) found ≡ Some reply → IsReply smp reply (nodes_after nodes at smp found ≡ nodes)
 found_replies nodes at None smp reply long all there h = cc
 found_replies nodes at (Some node) smp reply long all there h =
     so_stays smp reply (λ same. set_back nodes at.node node _ there same)
-    (node_replies node at.port smp reply long (all_there holds_attributes nodes at.node node all there) h)
+    (node_replies node at.port smp reply long (all_have IsGoodNode nodes at.node node all there) h)
 
 pub replies : (fabric : FabricState) (at : PortRef) (smp reply : List ℕ) → length smp ≡ 256
-    → list_all holds_attributes fabric.nodes ≡ true → reply_at fabric at smp ≡ Some reply
+    → All IsGoodNode fabric.nodes → reply_at fabric at smp ≡ Some reply
     → IsReply smp reply (after_at fabric at smp ≡ fabric)
 replies fabric at smp reply long all h =
     so_stays smp reply (λ same. ap (λ (nodes : List Node). record fabric { nodes = nodes }) same)

@@ -1,12 +1,15 @@
 -- What every good fabric meets, whatever its agents were asked; and, apart from it, that links show and
 -- that switches are joined.
-use Rattle.std.specs.Prelude.{ℕ, ◌≡◌, ◌==◌, not, ◌&&◌, ◌||◌, nat_le, nat_lt, Bool, true, false, List, [], ◌∷◌, map, flat_map, length, slice_get, Option, Some, option_map}
-use Rattle.std.specs.List.{list_all, range_with_len, IsDistinct}
+use Rattle.std.specs.Prelude.{ℕ, ◌^◌, ◌≡◌, ◌==◌, not, ◌&&◌, ◌||◌, nat_le, nat_lt, Bool, true, false, List, [], ◌∷◌, map, flat_map, length, slice_get, Option, Some, option_map}
+use Rattle.std.specs.List.{All, list_all, range_with_len, IsDistinct}
 use Rattle.std.specs.Str.{bytes_eq}
 use Rattle.std.specs.Option.{option_and_then, option_map_or}
 use Rattle.agent_rules.specs.PortSetting.{is_down}
 use Rattle.attr_tables.specs.declared.port_info.PortInfo.{PortInfo}
+use Rattle.agent_rules.specs.declared.power_up.TheConstants.{LINEAR_TABLE, MULTICAST_TABLE}
 use Rattle.port_model.specs.AdapterState.{AdapterState}
+use Rattle.port_model.specs.Good.{IsGoodPort}
+use Rattle.switch_model.specs.Good.{IsGoodSwitch}
 use Rattle.fabric_parts.specs.declared.cable.Cable.{Cable}
 use Rattle.fabric_parts.specs.declared.cable.PortRef.{PortRef}
 use Rattle.fabric_parts.specs.declared.node_type.NodeType.TheVariants as node_type
@@ -28,9 +31,13 @@ abbrev pub end_port_guids : Node → List ℕ
 end_port_guids (Switch held) = held.node_guid ∷ []
 end_port_guids (Adapter ports) = map (λ port. port.port_guid) ports
 
--- none of them is 0, and no two are the same
+-- a number of 64 bits that is not 0
+abbrev pub is_guid : ℕ → Bool
+is_guid number = nat_lt 0 number && nat_lt number (2 ^ 64)
+
+-- each is one, and no two are the same
 pub record AreGuids (guids : List ℕ) : Type 0 where
-  pub not_0 : list_all (λ guid. nat_lt 0 guid) guids ≡ true
+  pub each : list_all is_guid guids ≡ true
   pub own : IsDistinct (λ a b. a == b) guids
 
 -- ---- ports
@@ -52,19 +59,11 @@ is_in_order (Adapter ports) =
     list_all (is_of (node_guid (Adapter ports)) (length ports)) ports
     && bytes_eq (map (λ port. port.number) ports) (range_with_len 1 (length ports))
 
--- ---- what agents give
-abbrev pub is_byte : ℕ → Bool
-is_byte number = nat_lt number 256
-
--- NodeDescription's 64 bytes
-abbrev pub is_description : List ℕ → Bool
-is_description bytes = (length bytes == 64) && list_all is_byte bytes
-
--- what agents give fills an attribute: a description and a block of a linear forwarding table are given as
--- they are held, and all else is spelled in bytes whatever it is
-abbrev pub holds_attributes : Node → Bool
-holds_attributes (Switch held) = is_description held.description && list_all is_byte held.linear
-holds_attributes (Adapter ports) = list_all (λ port. is_description port.description) ports
+-- ---- what nodes hold
+-- what attributes can say, in tables of their lengths, and with ports that take back what they have
+abbrev pub IsGoodNode : Node → Type 0
+IsGoodNode (Switch held) = IsGoodSwitch LINEAR_TABLE MULTICAST_TABLE held
+IsGoodNode (Adapter ports) = All IsGoodPort ports
 
 -- ---- cables
 -- a cable joins ports of two different switches, or of a switch and an adapter
@@ -83,7 +82,7 @@ pub record IsGood (fabric : FabricState) : Type 0 where
   pub end_guids : AreGuids (flat_map end_port_guids fabric.nodes)
   pub counts : list_all has_a_right_count fabric.nodes ≡ true
   pub order : list_all is_in_order fabric.nodes ≡ true
-  pub holdings : list_all holds_attributes fabric.nodes ≡ true
+  pub holdings : All IsGoodNode fabric.nodes
   pub cables : list_all (is_right fabric.nodes) fabric.cables ≡ true
   -- no port has two cables
   pub once : IsDistinct is_same_port (flat_map ends_of fabric.cables)

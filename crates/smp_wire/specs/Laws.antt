@@ -1,12 +1,21 @@
--- What holds of every exchange with every fabric, and of every Get.
-use Rattle.std.specs.Prelude.{ℕ, ◌≡◌, List, length}
+-- What holds of every exchange with every fabric, of every Get and Set, and of every walk.
+use Rattle.std.specs.Prelude.{ℕ, ◌≡◌, ◌==◌, ◌&&◌, Bool, true, false, List, [], ◌∷◌, ◌++◌, length, Some, option_map}
 use Rattle.std.specs.Int.Digits.{AllBelowBase}
 use Rattle.attr_tables.specs.declared.smp_attribute.SmpAttribute.{SmpAttribute}
 use Rattle.smp_wire.specs.Changes.{ChangesAtMost}
-use Rattle.smp_wire.specs.FabricState.{FabricState}
-use Rattle.smp_wire.specs.Get.{AsksFor, Tells, gives_along}
+use Rattle.smp_wire.specs.FabricState.{FabricState, is_port}
+use Rattle.smp_wire.specs.Get.{Tells, gives_along}
 use Rattle.smp_wire.specs.Good.{IsGood, ShowsLinks, SwitchesJoined}
-use Rattle.smp_wire.specs.Walk.{exchange_after}
+use Rattle.smp_wire.specs.Replies.{IsReplyTo}
+use Rattle.smp_wire.specs.Requests.{AsksToGet, AsksToSet}
+use Rattle.smp_wire.specs.Set.{SetTells}
+use Rattle.smp_wire.specs.Shape.{IsSameShape}
+use Rattle.smp_wire.specs.Walk.{end_of, exchange_after, exchange_reply, hop, last_of, walk}
+use Rattle.smp_wire.specs.declared.node.Node.{Node}
+use Rattle.fabric_parts.specs.declared.cable.Cable.{Cable}
+use Rattle.fabric_parts.specs.declared.cable.PortRef.{PortRef}
+use Rattle.fabric_parts.specs.Cable.{far_end}
+use Rattle.std.specs.Option.{option_and_then}
 
 -- whatever SMP is sent, a good fabric stays good
 abbrev pub ExchangesKeepGood : Type 0
@@ -27,8 +36,46 @@ ExchangesChangeWhatTheyName =
     (fabric : FabricState) (smp : List ℕ) → IsGood fabric → length smp ≡ 256 → AllBelowBase 256 smp
     → ChangesAtMost fabric (exchange_after fabric smp) smp
 
--- a Get leaves a good fabric as it was, and learns what the agent at the end of its path gives
+-- nor which nodes stand where, with which ports and cables: so every walk stays
+abbrev pub ExchangesKeepShape : Type 0
+ExchangesKeepShape = (fabric : FabricState) (smp : List ℕ) → IsSameShape fabric (exchange_after fabric smp)
+
+-- what comes back is the request with its answer
+abbrev pub RepliesAnswer : Type 0
+RepliesAnswer =
+    (fabric : FabricState) (smp reply : List ℕ) → IsGood fabric → length smp ≡ 256 → AllBelowBase 256 smp
+    → exchange_reply fabric smp ≡ Some reply → IsReplyTo smp reply
+
+-- a Get leaves a good fabric as it was, and tells what the agent at the end of its path gives
 abbrev pub GetsTell : Type 0
 GetsTell =
     (fabric : FabricState) (attribute : SmpAttribute) (modifier : ℕ) (path smp : List ℕ)
-    → IsGood fabric → AsksFor attribute modifier path smp → Tells fabric smp (gives_along fabric path attribute modifier)
+    → IsGood fabric → AsksToGet attribute modifier path smp → Tells fabric smp (gives_along fabric path attribute modifier)
+
+-- a Set does to a good fabric what the agent at the end of its path takes, and tells what a Get tells then; a
+-- refused one changes nothing
+abbrev pub SetsTell : Type 0
+SetsTell =
+    (fabric : FabricState) (attribute : SmpAttribute) (modifier : ℕ) (path wanted smp : List ℕ)
+    → IsGood fabric → AsksToSet attribute modifier path wanted smp → SetTells fabric path attribute modifier wanted smp
+
+-- a walk along a path with one more port is the walk along the path, and one hop more
+abbrev pub WalksGoOn : Type 0
+WalksGoOn =
+    (nodes : List Node) (cables : List Cable) (starts : Bool) (here : PortRef) (numbers : List ℕ) (number : ℕ)
+    → walk nodes cables starts here (numbers ++ number ∷ []) ≡ option_and_then (λ ends. option_map (λ there. ends ++ there ∷ [])
+    (hop nodes cables (starts && (length numbers == 0)) (last_of here ends) number)) (walk nodes cables starts here numbers)
+
+-- and so of where a path leads
+abbrev pub PathsGoOn : Type 0
+PathsGoOn =
+    (fabric : FabricState) (path : List ℕ) (number : ℕ) → end_of fabric (path ++ number ∷ [])
+    ≡ option_and_then (λ at. hop fabric.nodes fabric.cables (length path == 0) at number) (end_of fabric path)
+
+-- a path that begins with the subnet manager's own port goes over the cable of that port first
+abbrev pub PathsBegin : Type 0
+PathsBegin =
+    (fabric : FabricState) (numbers : List ℕ) → is_port fabric.nodes fabric.manager ≡ true
+    → walk fabric.nodes fabric.cables true fabric.manager (fabric.manager.port ∷ numbers)
+    ≡ option_and_then (λ there. option_map (λ ends. there ∷ ends) (walk fabric.nodes fabric.cables false there numbers))
+    (far_end fabric.cables fabric.manager)

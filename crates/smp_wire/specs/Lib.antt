@@ -1,7 +1,11 @@
 pub mod FabricState
 pub mod Walk
 pub mod Good
+pub mod Shape
+pub mod Requests
+pub mod Replies
 pub mod Get
+pub mod Set
 pub mod Changes
 pub mod Laws
 pub use Rattle.smp_route.specs.Places

@@ -34,6 +34,10 @@ abbrev pub last_of : PortRef → List PortRef → PortRef
 last_of here [] = here
 last_of here (there ∷ ends) = last_of there ends
 
+-- where a path from the subnet manager's port leads, by which the SMP comes in there
+abbrev pub end_of : FabricState → List ℕ → Option PortRef
+end_of fabric path = option_map (last_of fabric.manager) (walk fabric.nodes fabric.cables true fabric.manager path)
+
 -- the path of an SMP: the ports that its hops leave by
 abbrev pub path_of : List ℕ → List ℕ
 path_of smp = take (count smp) (drop 129 smp)

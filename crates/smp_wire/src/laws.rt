@@ -1,13 +1,16 @@
 //! The laws of exchanges, whatever wire makes them. Each function's contract is its law; it does nothing.
 
-ghost use Rattle.smp_wire.specs.Laws.{ExchangesChangeWhatTheyName, ExchangesKeepGood, ExchangesKeepJoined, ExchangesKeepLinks, GetsTell};
+ghost use Rattle.smp_wire.specs.Laws.{ExchangesChangeWhatTheyName, ExchangesKeepGood, ExchangesKeepJoined, ExchangesKeepLinks, ExchangesKeepShape, GetsTell};
+ghost use Rattle.smp_wire.specs.Laws.{PathsBegin, PathsGoOn, RepliesAnswer, SetsTell, WalksGoOn};
 
 /// Whatever SMP is sent, a good fabric stays good; one in which a port is Down exactly where it has no
-/// cable stays such a one; and one whose switches are joined stays such a one.
+/// cable stays such a one; one whose switches are joined stays such a one; and its shape stays: which nodes
+/// stand where, with which GUIDs, ports and cables, and so every walk.
 pub fn exchanges_keep_the_fabric()
     ensures good { ExchangesKeepGood }
     ensures links { ExchangesKeepLinks }
     ensures joined { ExchangesKeepJoined }
+    ensures shape { ExchangesKeepShape }
 {}
 
 /// Whatever SMP is sent, it changes at most one node of a good fabric, that at the end of its walk, and of
@@ -16,8 +19,30 @@ pub fn exchanges_change_what_they_name()
     ensures { ExchangesChangeWhatTheyName }
 {}
 
-/// A Get along a path leaves a good fabric as it was. It learns the 64 bytes that the agent at the end of
-/// the path gives, and nothing where there is no walk, no agent or a refusal.
+/// What comes back over a good fabric is the request with the method of a reply, its status, and the
+/// attribute where it is given; its path, TransactionID and all else stay.
+pub fn replies_answer()
+    ensures { RepliesAnswer }
+{}
+
+/// A Get along a path leaves a good fabric as it was. It tells the 64 bytes that the agent at the end of
+/// the path gives, no reply where there is no walk or no agent, and a refusal where that refuses.
 pub fn gets_tell()
     ensures { GetsTell }
+{}
+
+/// A Set along a path changes a good fabric by what the agent at the end of the path takes, and by nothing
+/// else. It tells what a Get tells then, which is never a refusal; where there is no walk, no agent or a
+/// refusal, nothing changes.
+pub fn sets_tell()
+    ensures { SetsTell }
+{}
+
+/// A walk along a path with one more port is the walk along the path and one hop more. A path that begins
+/// with the subnet manager's own port goes over the cable of that port first, whatever other cables its
+/// channel adapter has.
+pub fn paths_go_on()
+    ensures walks { WalksGoOn }
+    ensures ends { PathsGoOn }
+    ensures begins { PathsBegin }
 {}

@@ -4,23 +4,31 @@
 //! member gives its nodes, cables and agents): then [`SmpWire::exchange`] answers as the walk of
 //! `specs/Walk.antt` does, and the fabric changes as that says. Where it stands for none, a call returns,
 //! and nothing else is promised. [`PlainWire`] keeps a fabric as lists of [`Node`]s and cables and follows
-//! the definition; [`CountingWire`] and [`SilencedWire`] stand round another wire. [`read_attribute`] reads
-//! one attribute over any wire. The walk is that of directed-route SMPs of the InfiniBand Architecture
+//! the definition; [`CountingWire`] and [`SilencedWire`] stand round another wire. [`get_attribute`] and
+//! [`set_attribute`] read and set one attribute over any wire, and [`read_reply`] tells what one reply means.
+//! The walk is that of directed-route SMPs of the InfiniBand Architecture
 //! Specification, volume 1, 14.2.1.2 and chapter 14.
 #![tactic(auto)]
 
-mod getting;
+mod asking;
 mod laws;
 mod node;
 mod plain_wire;
+mod reply;
+mod request;
 mod walking;
 mod wire;
 mod wrappers;
 
-pub use crate::getting::{get_request, read_attribute};
-pub use crate::laws::{exchanges_change_what_they_name, exchanges_keep_the_fabric, gets_tell};
+pub use crate::asking::{get_attribute, set_attribute};
+pub use crate::laws::{
+    exchanges_change_what_they_name, exchanges_keep_the_fabric, gets_tell, paths_go_on,
+    replies_answer, sets_tell,
+};
 pub use crate::node::{AdapterPorts, Node};
 pub use crate::plain_wire::PlainWire;
+pub use crate::reply::{ReplyFault, read_reply};
+pub use crate::request::{get_request, set_request};
 pub use crate::walking::{Arrival, agent_at, is_sent, is_switch_at};
 pub use crate::wire::SmpWire;
 pub use crate::wrappers::{CountingWire, SilencedWire};

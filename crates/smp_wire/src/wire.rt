@@ -12,9 +12,12 @@ use mad_layout::Mad;
 pub trait SmpWire {
     ghost fabric: { Self → Option FabricState };
 
-    /// Sends an SMP, and gives what comes back. Nothing comes where the SMP is not at the start of its way
-    /// (its direction bit is set, its hop pointer is not 0, or its path has more than 63 hops), where no
-    /// cable leads on, where a channel adapter would have to hand it on, or where it asks no agent.
+    /// Sends an SMP, and gives what comes back.
+    ///
+    /// Where the wire stands for a fabric, nothing comes if the SMP is not at the start of its way (its
+    /// direction bit is set, its hop pointer is not 0, or its path has more than 63 hops), if no cable leads
+    /// on, if a channel adapter would have to hand it on, or if it asks no agent. Where it stands for none,
+    /// anything may come, a reply of another request too, and nothing need come.
     ///
     /// Source: IBA volume 1, chapter 14, over the fields of 14.2.1.2.
     fn exchange(&mut self, smp: &Mad) -> Option<Mad>

@@ -6,7 +6,7 @@ use Rattle.attr_tables.specs.declared.smp_attribute.SmpAttribute.{SmpAttribute}
 use Rattle.attr_tables.specs.declared.smp_attribute.SmpAttribute.TheVariants.{NodeDescription, NodeInfo, SwitchInfo, PortInfo, PKeyTable, LinearForwardingTable, MulticastForwardingTable}
 use Rattle.agent_rules.specs.Agent.{set_word_block}
 use Rattle.agent_rules.specs.PortSetting.{port_info_after, port_setting}
-use Rattle.agent_rules.specs.Request.{attribute_asked, modifier_of}
+use Rattle.agent_rules.specs.Request.{attribute_asked, data_of, modifier_of}
 use Rattle.agent_rules.proofs.AgentLemmas.{after_cases}
 use Rattle.agent_rules.proofs.PortSettingLemmas.{down_stays, unsettable_stays}
 use Rattle.agent_rules.proofs.TableLemmas.{no_difference, words_differ}
@@ -50,19 +50,19 @@ neither a b (inl not_a) = absurd (not_a a)
 neither a b (inr not_b) = absurd (not_b b)
 
 info_changes : (smp : List ℕ) (port : SwitchPort) (info : Port) → attribute_asked smp ≡ Ok PortInfo
-    → port_info_after (nat_lt 0 (modifier_of smp)) port.info (port_setting smp) ≡ Ok info
+    → port_info_after (nat_lt 0 (modifier_of smp)) port.info (port_setting (data_of smp)) ≡ Ok info
     → PortChangesAtMost smp (modifier_of smp) port (record port { info = info })
 info_changes smp port info is taken =
     record {
       info = λ other. neither is refl other;
-      unsettable = unsettable_stays (nat_lt 0 (modifier_of smp)) port.info (port_setting smp) info taken;
-      down = down_stays (nat_lt 0 (modifier_of smp)) port.info (port_setting smp) info taken;
+      unsettable = unsettable_stays (nat_lt 0 (modifier_of smp)) port.info (port_setting (data_of smp)) info taken;
+      down = down_stays (nat_lt 0 (modifier_of smp)) port.info (port_setting (data_of smp)) info taken;
       keys = λ other. refl;
       key_block = no_difference 32 (key_block (modifier_of smp)) port.keys;
     }
 
 keys_change : (smp : List ℕ) (port : SwitchPort) (keys : List ℕ) → attribute_asked smp ≡ Ok PKeyTable
-    → set_word_block (key_block (modifier_of smp)) smp port.keys ≡ Ok keys
+    → set_word_block (key_block (modifier_of smp)) (data_of smp) port.keys ≡ Ok keys
     → PortChangesAtMost smp (key_port (modifier_of smp)) port (record port { keys = keys })
 keys_change smp port keys is taken =
     record {
@@ -70,14 +70,14 @@ keys_change smp port keys is taken =
       unsettable = refl;
       down = refl;
       keys = λ other. neither is refl other;
-      key_block = words_differ (key_block (modifier_of smp)) smp port.keys keys taken;
+      key_block = words_differ (key_block (modifier_of smp)) (data_of smp) port.keys keys taken;
     }
 
 masks_change : (smp words masks : List ℕ) → attribute_asked smp ≡ Ok MulticastForwardingTable
-    → set_word_block (mask_block (modifier_of smp)) smp words ≡ Ok masks
+    → set_word_block (mask_block (modifier_of smp)) (data_of smp) words ≡ Ok masks
     → MasksChangeAtMost smp (mask_position (modifier_of smp)) words masks
 masks_change smp words masks is taken =
-    record { masks = λ other. neither is refl other; block = words_differ (mask_block (modifier_of smp)) smp words masks taken }
+    record { masks = λ other. neither is refl other; block = words_differ (mask_block (modifier_of smp)) (data_of smp) words masks taken }
 
 nothing_changes : (held : SwitchState) (smp : List ℕ) → ChangesAtMost held held smp
 nothing_changes held smp =
@@ -113,18 +113,18 @@ ports_change held smp number port next there here =
     }
 
 set_changes : (held next : SwitchState) (smp : List ℕ) (attribute : SmpAttribute) → attribute_asked smp ≡ Ok attribute
-    → set held attribute smp ≡ Ok next → ChangesAtMost held next smp
+    → set held attribute (modifier_of smp) (data_of smp) ≡ Ok next → ChangesAtMost held next smp
 unfolding set
 set_changes held next smp PortInfo is h =
-    let s = port_set held next smp h in
+    let s = port_set held next (modifier_of smp) (data_of smp) h in
     let P : SwitchState → Type 0 = λ x. ChangesAtMost held x smp in
     subst P s.same (ports_change held smp (modifier_of smp) s.port (record s.port { info = s.after }) s.there (info_changes smp s.port s.after is s.taken))
 set_changes held next smp PKeyTable is h =
-    let s = keys_are_set held next smp h in
+    let s = keys_are_set held next (modifier_of smp) (data_of smp) h in
     let P : SwitchState → Type 0 = λ x. ChangesAtMost held x smp in
     subst P s.same (ports_change held smp (key_port (modifier_of smp)) s.port (record s.port { keys = s.after }) s.there (keys_change smp s.port s.after is s.taken))
 set_changes held next smp SwitchInfo is h =
-    let s = top_set held next smp h in
+    let s = top_set held next (modifier_of smp) (data_of smp) h in
     let P : SwitchState → Type 0 = λ x. ChangesAtMost held x smp in
     subst P s.same (record {
       node_guid = refl;
@@ -139,7 +139,7 @@ set_changes held next smp SwitchInfo is h =
       masks = λ position. masks_same smp position (get_or held.masks position []);
     })
 set_changes held next smp LinearForwardingTable is h =
-    let s = linear_is_set held next smp h in
+    let s = linear_is_set held next (modifier_of smp) (data_of smp) h in
     let P : SwitchState → Type 0 = λ x. ChangesAtMost held x smp in
     subst P s.same (record {
       node_guid = refl;
@@ -149,12 +149,12 @@ set_changes held next smp LinearForwardingTable is h =
       top = refl;
       ports = λ number none. port_same smp number (get_or held.ports number none);
       linear = λ other. absurd (other is);
-      linear_block = linear_differs (modifier_of smp) smp held.linear s.there;
+      linear_block = linear_differs (modifier_of smp) (data_of smp) held.linear s.there;
       positions = refl;
       masks = λ position. masks_same smp position (get_or held.masks position []);
     })
 set_changes held next smp MulticastForwardingTable is h =
-    let s = masks_are_set held next smp h in
+    let s = masks_are_set held next (modifier_of smp) (data_of smp) h in
     let p = mask_position (modifier_of smp) in
     let P : SwitchState → Type 0 = λ x. ChangesAtMost held x smp in
     subst P s.same (record {

@@ -1,3 +1,4 @@
 pub mod PortLemmas
 pub mod AgentLemmas
 pub mod ChangeLemmas
+pub mod GoodLemmas

@@ -14,7 +14,7 @@ use Rattle.attr_tables.specs.NodeInfo.{node_info_bytes}
 use Rattle.attr_tables.specs.PortInfo.{port_info_bytes}
 use Rattle.agent_rules.specs.PortSetting.{port_setting, port_info_after}
 use Rattle.agent_rules.specs.PowerUp.{node_info_of}
-use Rattle.agent_rules.specs.Request.{asked, asked_ports, modifier_of}
+use Rattle.agent_rules.specs.Carried.{linear_fdb_top_in, ports_in}
 use Rattle.attr_tables.specs.SwitchInfo.{switch_info_bytes}
 use Rattle.attr_tables.specs.declared.switch_info.SwitchInfo.{SwitchInfo as Info}
 use Rattle.switch_model.specs.declared.switch_port.SwitchPort.{SwitchPort}
@@ -76,48 +76,48 @@ get in_port held PKeyTable modifier = get_keys modifier held.ports
 get in_port held LinearForwardingTable modifier = get_linear modifier held.linear
 get in_port held MulticastForwardingTable modifier = get_masks modifier held.masks
 
--- ---- what is held after a Set
+-- ---- what is held after a Set of an attribute to these 64 bytes
 -- only ports from 1 on can enforce partitions
-abbrev pub set_port_info : List ℕ → List SwitchPort → Result (List SwitchPort) MadStatus
-set_port_info smp ports = do
-  port ← part_at (modifier_of smp) ports
-  info ← port_info_after (nat_lt 0 (modifier_of smp)) port.info (port_setting smp)
-  Ok (slice_set ports (modifier_of smp) (record port { info = info }))
+abbrev pub set_port_info : ℕ → List ℕ → List SwitchPort → Result (List SwitchPort) MadStatus
+set_port_info number wanted ports = do
+  port ← part_at number ports
+  info ← port_info_after (nat_lt 0 number) port.info (port_setting wanted)
+  Ok (slice_set ports number (record port { info = info }))
 
-abbrev pub set_keys : List ℕ → List SwitchPort → Result (List SwitchPort) MadStatus
-set_keys smp ports = do
-  port ← part_at (key_port (modifier_of smp)) ports
-  keys ← set_word_block (key_block (modifier_of smp)) smp port.keys
-  Ok (slice_set ports (key_port (modifier_of smp)) (record port { keys = keys }))
+abbrev pub set_keys : ℕ → List ℕ → List SwitchPort → Result (List SwitchPort) MadStatus
+set_keys modifier wanted ports = do
+  port ← part_at (key_port modifier) ports
+  keys ← set_word_block (key_block modifier) wanted port.keys
+  Ok (slice_set ports (key_port modifier) (record port { keys = keys }))
 
 -- LinearFDBTop, which is one of the LIDs that the table has
-abbrev pub set_linear_top : List ℕ → ℕ → Info → Result Info MadStatus
-set_linear_top smp lids info =
-    if (modifier_of smp == 0) && nat_lt (asked smp 48 16) lids then Ok (record info { linear_fdb_top = asked smp 48 16 })
+abbrev pub set_linear_top : ℕ → List ℕ → ℕ → Info → Result Info MadStatus
+set_linear_top modifier wanted lids info =
+    if (modifier == 0) && nat_lt (linear_fdb_top_in wanted) lids
+    then Ok (record info { linear_fdb_top = linear_fdb_top_in wanted })
     else Err InvalidField
 
-abbrev pub set_linear : List ℕ → List ℕ → Result (List ℕ) MadStatus
-set_linear smp linear =
-    if has_block 64 (modifier_of smp) linear then Ok (with_block 64 (modifier_of smp) (asked_ports smp) linear)
-    else Err InvalidField
+abbrev pub set_linear : ℕ → List ℕ → List ℕ → Result (List ℕ) MadStatus
+set_linear block wanted linear =
+    if has_block 64 block linear then Ok (with_block 64 block (ports_in wanted) linear) else Err InvalidField
 
-abbrev pub set_masks : List ℕ → List (List ℕ) → Result (List (List ℕ)) MadStatus
-set_masks smp masks = do
-  words ← masks_at (modifier_of smp) masks
-  next ← set_word_block (mask_block (modifier_of smp)) smp words
-  Ok (slice_set masks (mask_position (modifier_of smp)) next)
+abbrev pub set_masks : ℕ → List ℕ → List (List ℕ) → Result (List (List ℕ)) MadStatus
+set_masks modifier wanted masks = do
+  words ← masks_at modifier masks
+  next ← set_word_block (mask_block modifier) wanted words
+  Ok (slice_set masks (mask_position modifier) next)
 
-unfoldable pub set : SwitchState → SmpAttribute → List ℕ → Result SwitchState MadStatus
-set held SwitchInfo smp =
-    set_linear_top smp (length held.linear) held.info >>= λ info. Ok (record held { info = info })
-set held PortInfo smp = set_port_info smp held.ports >>= λ ports. Ok (record held { ports = ports })
-set held PKeyTable smp = set_keys smp held.ports >>= λ ports. Ok (record held { ports = ports })
-set held LinearForwardingTable smp =
-    set_linear smp held.linear >>= λ linear. Ok (record held { linear = linear })
-set held MulticastForwardingTable smp =
-    set_masks smp held.masks >>= λ masks. Ok (record held { masks = masks })
-set held NodeDescription smp = Err AttributeNotSupported
-set held NodeInfo smp = Err AttributeNotSupported
+unfoldable pub set : SwitchState → SmpAttribute → ℕ → List ℕ → Result SwitchState MadStatus
+set held SwitchInfo modifier wanted =
+    set_linear_top modifier wanted (length held.linear) held.info >>= λ info. Ok (record held { info = info })
+set held PortInfo modifier wanted = set_port_info modifier wanted held.ports >>= λ ports. Ok (record held { ports = ports })
+set held PKeyTable modifier wanted = set_keys modifier wanted held.ports >>= λ ports. Ok (record held { ports = ports })
+set held LinearForwardingTable modifier wanted =
+    set_linear modifier wanted held.linear >>= λ linear. Ok (record held { linear = linear })
+set held MulticastForwardingTable modifier wanted =
+    set_masks modifier wanted held.masks >>= λ masks. Ok (record held { masks = masks })
+set held NodeDescription modifier wanted = Err AttributeNotSupported
+set held NodeInfo modifier wanted = Err AttributeNotSupported
 
 -- the reply to an SMP that came in at this port, if it is a request
 unfoldable pub agent_reply : SwitchState → ℕ → List ℕ → Option (List ℕ)

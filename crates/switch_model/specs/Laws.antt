@@ -1,18 +1,39 @@
 -- What holds of the agent of a switch, and of its ports at power-up.
-use Rattle.std.specs.Prelude.{ℕ, ◌≡◌, List, ◌∷◌, slice_get, option_map, IfOk}
+use Rattle.std.specs.Prelude.{ℕ, ◌≡◌, ◌<◌, List, ◌∷◌, length, slice_get, option_map, Ok, IfOk}
 use Rattle.mad_layout.specs.Bits.{put_field}
 use Rattle.attr_tables.specs.Attribute.{IsAttribute}
+use Rattle.attr_tables.specs.declared.smp_attribute.SmpAttribute.{SmpAttribute}
 use Rattle.agent_rules.specs.declared.link.Link.{Link}
 use Rattle.agent_rules.specs.declared.link.Link.TheVariants.{Internal}
 use Rattle.agent_rules.specs.Agent.{answer}
 use Rattle.agent_rules.specs.Laws.{IsSettled, IsUnseenPut, ReadsAlike}
 use Rattle.switch_model.specs.Agent.{agent_after, agent_reply, get, set}
 use Rattle.switch_model.specs.Changes.{ChangesAtMost}
-use Rattle.switch_model.specs.SwitchState.{SwitchState, port_at_power_up, ports_from}
+use Rattle.switch_model.specs.Good.{IsGoodSwitch}
+use Rattle.switch_model.specs.SwitchState.{SwitchState, at_power_up, port_at_power_up, ports_from}
 
 -- an SMP changes at most what it names
 abbrev pub SmpsChangeWhatTheyName : Type 0
 SmpsChangeWhatTheyName = (held : SwitchState) (smp : List ℕ) → ChangesAtMost held (agent_after held smp) smp
+
+-- a switch at power-up is good, with no more links than a port number can name
+abbrev pub NewSwitchesAreGood : Type 0
+NewSwitchesAreGood =
+    (node_guid : ℕ) (description : List ℕ) (links : List Link) (lids multicast_lids : ℕ) → IsAttribute description
+    → length links < 255 → lids < 65536 → multicast_lids < 65536
+    → IsGoodSwitch lids multicast_lids (at_power_up node_guid description links lids multicast_lids)
+
+-- whatever SMP comes, a good switch stays good
+abbrev pub SmpsKeepGood : Type 0
+SmpsKeepGood =
+    (lids multicast_lids : ℕ) (held : SwitchState) (smp : List ℕ) → IsGoodSwitch lids multicast_lids held
+    → IsGoodSwitch lids multicast_lids (agent_after held smp)
+
+-- what a good switch gives fills an attribute
+abbrev pub GoodSwitchesGiveAttributes : Type 0
+GoodSwitchesGiveAttributes =
+    (lids multicast_lids in_port : ℕ) (held : SwitchState) (attribute : SmpAttribute) (modifier : ℕ) (bytes : List ℕ)
+    → IsGoodSwitch lids multicast_lids held → get in_port held attribute modifier ≡ Ok bytes → IsAttribute bytes
 
 -- what sets nothing changes nothing, and what is set is there, as it is shown at the same port
 abbrev pub SmpsSettle : Type 0

@@ -1,9 +1,21 @@
-ghost use Rattle.switch_model.specs.Laws.{PortsHaveTheirLinks, SmpsAreReadAlike, SmpsChangeWhatTheyName, SmpsSettle, UnseenComesBack};
+ghost use Rattle.switch_model.specs.Laws.{GoodSwitchesGiveAttributes, NewSwitchesAreGood, PortsHaveTheirLinks, SmpsAreReadAlike, SmpsChangeWhatTheyName, SmpsKeepGood, SmpsSettle, UnseenComesBack};
 
 /// An SMP changes at most what it names, and each port is Down afterwards exactly where it was Down. Like
 /// the laws below it does nothing: its contract is the law.
 pub fn smps_change_what_they_name()
     ensures { SmpsChangeWhatTheyName }
+{}
+
+/// A switch at power-up is good, and whatever SMP comes, a good switch stays good: it holds what
+/// attributes can say, its tables keep their lengths, and its ports take back what they have.
+pub fn switches_stay_good()
+    ensures new { NewSwitchesAreGood }
+    ensures kept { SmpsKeepGood }
+{}
+
+/// What a good switch gives fills an attribute.
+pub fn good_switches_give_attributes()
+    ensures { GoodSwitchesGiveAttributes }
 {}
 
 /// What asks no agent, a Get, and what is refused change nothing; what a Set is answered with is what

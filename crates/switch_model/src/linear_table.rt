@@ -2,9 +2,9 @@ ghost use Rattle.std.specs.Prelude.{◌≡◌};
 ghost use Rattle.agent_rules.specs.Agent.{Leaves};
 ghost use Rattle.switch_model.specs.Agent.{get_linear, set_linear, set_linear_top};
 
-use agent_rules::{asked_linear_fdb_top, asked_ports, modifier_of};
+use agent_rules::{linear_fdb_top_in, ports_in};
 use attr_tables::{PORTS_PER_BLOCK, SwitchInfo};
-use mad_layout::{Mad, MadStatus};
+use mad_layout::MadStatus;
 
 /// The block of that number of a linear forwarding table.
 #[tactic(auto, unfolding(attr_tables::specs::Blocks::block_of))]
@@ -20,29 +20,33 @@ pub fn get_linear(block: usize, linear: &[u8]) -> Result<[u8; 64], MadStatus>
     Ok(ports)
 }
 
-/// Sets the block of a linear forwarding table that the SMP names.
+/// Sets the block of that number of a linear forwarding table.
 #[tactic(auto, unfolding(attr_tables::specs::Blocks::with_block))]
-pub fn set_linear(smp: &Mad, linear: &mut [u8]) -> Result<(), MadStatus>
-    ensures { Leaves result linear.old linear.new (set_linear smp.now linear.old) }
+pub fn set_linear(block: usize, wanted: &[u8; 64], linear: &mut [u8]) -> Result<(), MadStatus>
+    ensures { Leaves result linear.old linear.new (set_linear block wanted.now linear.old) }
 {
-    let block = modifier_of(smp) as usize;
     if block >= linear.len() / PORTS_PER_BLOCK {
         return Err(MadStatus::InvalidField);
     }
     let first = PORTS_PER_BLOCK * block;
-    linear[first..first + PORTS_PER_BLOCK].copy_from_slice(&asked_ports(smp).ports);
+    linear[first..first + PORTS_PER_BLOCK].copy_from_slice(&ports_in(wanted));
     Ok(())
 }
 
 /// Sets LinearFDBTop of a switch whose table has so many LIDs.
-pub fn set_linear_top(smp: &Mad, lids: usize, info: &mut SwitchInfo) -> Result<(), MadStatus>
-    ensures set { Leaves result info.old info.new (set_linear_top smp.now lids info.old) }
+pub fn set_linear_top(
+    modifier: u32,
+    wanted: &[u8; 64],
+    lids: usize,
+    info: &mut SwitchInfo,
+) -> Result<(), MadStatus>
+    ensures set { Leaves result info.old info.new (set_linear_top modifier wanted.now lids info.old) }
     ensures life_time_value { info.new.life_time_value ≡ info.old.life_time_value }
 {
-    if modifier_of(smp) != 0 {
+    if modifier != 0 {
         return Err(MadStatus::InvalidField);
     }
-    let top = asked_linear_fdb_top(smp);
+    let top = linear_fdb_top_in(wanted);
     if usize::from(top) >= lids {
         return Err(MadStatus::InvalidField);
     }

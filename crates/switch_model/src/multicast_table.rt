@@ -2,8 +2,8 @@ ghost use Rattle.std.specs.Prelude.{◌≡◌};
 ghost use Rattle.agent_rules.specs.Agent.{Leaves};
 ghost use Rattle.switch_model.specs.Agent.{is_mask_modifier, mask_block, mask_position, get_masks, set_masks};
 
-use agent_rules::{modifier_of, set_word_block, word_block_at};
-use mad_layout::{Mad, MadStatus};
+use agent_rules::{set_word_block, word_block_at};
+use mad_layout::MadStatus;
 
 /// How many positions a multicast forwarding table has: each has a mask of 16 ports.
 pub const POSITIONS: usize = 3;
@@ -22,19 +22,19 @@ pub fn get_masks<const MFT: usize>(
     word_block_at(&masks[position], mask_block(modifier))
 }
 
-/// Sets the block of masks that the SMP names.
+/// Sets the block of masks that the modifier names.
 pub fn set_masks<const MFT: usize>(
-    smp: &Mad,
+    modifier: u32,
+    wanted: &[u8; 64],
     masks: &mut [[u16; MFT]; POSITIONS],
 ) -> Result<(), MadStatus>
-    ensures { Leaves result masks.old masks.new (set_masks smp.now masks.old) }
+    ensures { Leaves result masks.old masks.new (set_masks modifier wanted.now masks.old) }
 {
-    let modifier = modifier_of(smp);
     let position = mask_position(modifier);
     if !is_mask_modifier(modifier) || position >= POSITIONS {
         return Err(MadStatus::InvalidField);
     }
-    set_word_block(&mut masks[position], mask_block(modifier), smp)
+    set_word_block(&mut masks[position], mask_block(modifier), wanted)
 }
 
 /// Whether the bits between position and block are 0.

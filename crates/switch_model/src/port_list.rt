@@ -7,10 +7,10 @@ ghost use Rattle.switch_model.specs.declared.switch.TheConstants.{PORTS};
 use crate::switch::PORTS_WITH_0;
 use crate::switch_port::SwitchPort;
 use agent_rules::{
-    Link, PortSetting, modifier_of, port_info_after, set_word_block, shown_at, word_block_at,
+    Link, PortSetting, port_info_after, set_word_block, shown_at, word_block_at,
 };
 use arrayvec::ArrayVec;
-use mad_layout::{Mad, MadStatus};
+use mad_layout::MadStatus;
 
 /// PortInfo of the port of that number, as it is shown to who comes in at that other port.
 pub fn get_port_info(
@@ -38,36 +38,42 @@ pub fn get_keys(modifier: u32, ports: &[SwitchPort]) -> Result<[u8; 64], MadStat
     word_block_at(&ports[number].keys, key_block(modifier))
 }
 
-/// Sets PortInfo of the port that the SMP names. Port 0 cannot enforce partitions.
+/// Sets PortInfo of the port of that number. Port 0 cannot enforce partitions.
 #[tactic(auto, using(crate::proofs::PortLemmas::set_fits))]
-pub fn set_port_info(smp: &Mad, ports: &mut [SwitchPort]) -> Result<(), MadStatus>
+pub fn set_port_info(
+    number: usize,
+    wanted: &[u8; 64],
+    ports: &mut [SwitchPort],
+) -> Result<(), MadStatus>
     requires { AllFit ports.old }
-    ensures set { Leaves result ports.old ports.new (set_port_info smp.now ports.old) }
+    ensures set { Leaves result ports.old ports.new (set_port_info number wanted.now ports.old) }
     ensures fits { AllFit ports.new }
 {
-    let number = modifier_of(smp) as usize;
     if number >= ports.len() {
         return Err(MadStatus::InvalidField);
     }
-    let setting = PortSetting::read(smp);
+    let setting = PortSetting::read(wanted);
     ports[number].info = port_info_after(&ports[number].info, &setting, number > 0)?;
     Ok(())
 }
 
-/// Sets the block of a port's key table that the SMP names.
+/// Sets the block of a port's key table that the modifier names.
 #[tactic(auto, using(crate::proofs::PortLemmas::set_fits))]
-pub fn set_keys(smp: &Mad, ports: &mut [SwitchPort]) -> Result<(), MadStatus>
+pub fn set_keys(
+    modifier: u32,
+    wanted: &[u8; 64],
+    ports: &mut [SwitchPort],
+) -> Result<(), MadStatus>
     requires { AllFit ports.old }
-    ensures set { Leaves result ports.old ports.new (set_keys smp.now ports.old) }
+    ensures set { Leaves result ports.old ports.new (set_keys modifier wanted.now ports.old) }
     ensures fits { AllFit ports.new }
 {
-    let modifier = modifier_of(smp);
     let number = key_port(modifier);
     if number >= ports.len() {
         return Err(MadStatus::InvalidField);
     }
     let mut port = ports[number];
-    set_word_block(&mut port.keys, key_block(modifier), smp)?;
+    set_word_block(&mut port.keys, key_block(modifier), wanted)?;
     ports[number] = port;
     Ok(())
 }

@@ -12,7 +12,7 @@ use crate::multicast_table::{POSITIONS, get_masks, set_masks};
 use crate::port_list::{get_keys, get_port_info, ports_at_power_up, set_keys, set_port_info};
 use crate::switch_port::SwitchPort;
 use agent_rules::{
-    Link, attribute_asked, is_request, is_set, modifier_of, node_info_of, put_reply,
+    Link, attribute_asked, data_of, is_request, is_set, modifier_of, node_info_of, put_reply,
     switch_info_at_power_up, whole,
 };
 use arrayvec::ArrayVec;
@@ -113,7 +113,7 @@ impl<const LFT: usize, const MFT: usize> Switch<LFT, MFT> {
     {
         let attribute = attribute_asked(smp)?;
         if is_set(smp) {
-            self.set(attribute, smp)?;
+            self.set(attribute, modifier_of(smp), &data_of(smp))?;
         }
         self.get(in_port, attribute, modifier_of(smp))
     }
@@ -149,15 +149,22 @@ impl<const LFT: usize, const MFT: usize> Switch<LFT, MFT> {
     }
 
     #[tactic(auto, unfolding(crate::specs::Agent::set))]
-    fn set(&mut self, attribute: SmpAttribute, smp: &Mad) -> Result<(), MadStatus>
-        ensures { Leaves result self.old self.new (set self.old attribute smp.now) }
+    fn set(
+        &mut self,
+        attribute: SmpAttribute,
+        modifier: u32,
+        wanted: &[u8; 64],
+    ) -> Result<(), MadStatus>
+        ensures { Leaves result self.old self.new (set self.old attribute modifier wanted.now) }
     {
         match attribute {
-            SmpAttribute::SwitchInfo => set_linear_top(smp, LFT, &mut self.info),
-            SmpAttribute::PortInfo => set_port_info(smp, &mut self.ports),
-            SmpAttribute::PKeyTable => set_keys(smp, &mut self.ports),
-            SmpAttribute::LinearForwardingTable => set_linear(smp, &mut self.linear),
-            SmpAttribute::MulticastForwardingTable => set_masks(smp, &mut self.masks),
+            SmpAttribute::SwitchInfo => set_linear_top(modifier, wanted, LFT, &mut self.info),
+            SmpAttribute::PortInfo => set_port_info(modifier as usize, wanted, &mut self.ports),
+            SmpAttribute::PKeyTable => set_keys(modifier, wanted, &mut self.ports),
+            SmpAttribute::LinearForwardingTable => {
+                set_linear(modifier as usize, wanted, &mut self.linear)
+            }
+            SmpAttribute::MulticastForwardingTable => set_masks(modifier, wanted, &mut self.masks),
             SmpAttribute::NodeDescription | SmpAttribute::NodeInfo => {
                 Err(MadStatus::AttributeNotSupported)
             }
