@@ -1,5 +1,5 @@
 -- What is read in an attribute that an SMP carries, and that it is what was spelled there.
-use Rattle.std.proofs.Common.{◌≡◌, ℕ, ◌+◌, ◌*◌, ◌<◌, ◌≤◌, ◌==◌, Bool, true, false, nat_lt, List, length, get_or, drop, map, refl, sym, subst, ◌∙◌, ap, arith}
+use Rattle.std.proofs.Common.{◌≡◌, ℕ, ◌*◌, ◌<◌, ◌==◌, Bool, true, false, nat_lt, List, length, get_or, drop, map, refl, sym, subst, ◌∙◌, arith}
 use Rattle.std.specs.Int.Digits.{AllBelowBase}
 use Rattle.std.specs.List.{range_with_len}
 use Rattle.std.proofs.lemmas.Bool.Decides.{nat_tests}
@@ -23,7 +23,7 @@ use Rattle.agent_rules.specs.Carried.{linear_fdb_top_in, ports_in, words_in}
 use Rattle.agent_rules.specs.Good.{IsTable}
 use Rattle.agent_rules.specs.Laws.{SpelledIsRead}
 use Rattle.result_words.proofs.ListLemmas.{all_at}
-use Rattle.agent_rules.specs.PortSetting.{port_setting, setting_of}
+use Rattle.agent_rules.specs.PortSetting.{port_setting, setting_asked}
 use Rattle.agent_rules.specs.Request.{data_of}
 
 -- what an SMP carries fills an attribute
@@ -48,7 +48,7 @@ flag_of true n h = rw (← h) refl
 flag_of false n h = rw (← h) refl
 
 -- PortInfo that bytes hold asks for what is read in them
-pub setting_is : (bytes : List ℕ) (info : PortInfo) → Holds bytes (port_info info) → setting_of info ≡ port_setting bytes
+pub setting_is : (bytes : List ℕ) (info : PortInfo) → Holds bytes (port_info info) → setting_asked info ≡ port_setting bytes
 unfolding port_setting
 setting_is bytes info h =
     let rest = h.1.1.1.1.1.1.1.1.1.1.1.1 in
@@ -68,7 +68,7 @@ setting_is bytes info h =
     }
 
 -- ---- what is spelled
-setting_spelled : (info : PortInfo) → Fits (port_info info) → port_setting (port_info_bytes info) ≡ setting_of info
+setting_spelled : (info : PortInfo) → Fits (port_info info) → port_setting (port_info_bytes info) ≡ setting_asked info
 unfolding port_info_bytes
 setting_spelled info fits = sym (setting_is (port_info_bytes info) info (spells_put_all (port_info info) 64 refl fits).fields)
 

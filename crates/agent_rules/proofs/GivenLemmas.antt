@@ -1,5 +1,5 @@
 -- What an agent gives for a Get fills an attribute.
-use Rattle.std.proofs.Common.{ℕ, ◌≡◌, ◌+◌, ◌*◌, ◌<◌, ◌==◌, Bool, true, nat_lt, List, [], ◌∷◌, length, take, drop, Ok, subst, arith, length-drop, length-take-le}
+use Rattle.std.proofs.Common.{ℕ, ◌≡◌, ◌*◌, ◌<◌, ◌==◌, true, nat_lt, List, [], ◌∷◌, length, take, drop, Ok, subst, arith, length-drop, length-take-le}
 use Rattle.std.specs.Int.Digits.{AllBelowBase}
 use Rattle.std.specs.List.{list_all}
 use Rattle.std.proofs.lemmas.Bool.{and_parts}
@@ -10,7 +10,6 @@ use Rattle.attr_tables.specs.Blocks.{block_of, has_block, word_bytes}
 use Rattle.attr_tables.proofs.AttributeLemmas.{attributes}
 use Rattle.result_words.proofs.ListLemmas.{all_cut}
 use Rattle.agent_rules.specs.Agent.{whole, word_block}
-use Rattle.agent_rules.specs.Good.{IsTable}
 use Rattle.agent_rules.proofs.GuardLemmas.{taken_ok}
 use Rattle.agent_rules.proofs.TableLemmas.{block_within}
 

@@ -1,5 +1,5 @@
 -- What a port or a table holds after a Set is good where it was.
-use Rattle.std.proofs.Common.{◌≡◌, ℕ, ◌*◌, ◌+◌, ◌^◌, ◌<◌, ◌==◌, ◌∙◌, Bool, true, false, ◌&&◌, ◌||◌, nat_le, nat_lt, if◌then◌else◌, List, [], ◌∷◌, take, drop, map, Result, Ok, refl, sym, subst, ap, arith}
+use Rattle.std.proofs.Common.{◌≡◌, ℕ, ◌*◌, ◌+◌, ◌^◌, ◌<◌, ◌==◌, ◌∙◌, Bool, true, false, ◌&&◌, ◌||◌, nat_le, nat_lt, if◌then◌else◌, List, [], ◌∷◌, take, drop, map, Ok, refl, subst, ap, arith}
 use Rattle.std.specs.List.{list_all, range_with_len}
 use Rattle.std.proofs.lemmas.Bool.{and_from, and_parts, lt-ltb}
 use Rattle.std.proofs.lemmas.Bool.Decides.{nat_tests}
@@ -22,7 +22,7 @@ use Rattle.agent_rules.specs.Agent.{set_word_block}
 use Rattle.agent_rules.specs.Carried.{ports_in, words_in}
 use Rattle.agent_rules.specs.Good.{IsGoodInfo, IsKeyTable, IsTable, is_regular}
 use Rattle.agent_rules.specs.Laws.{PortsTakeBack, SettingsKeepGood}
-use Rattle.agent_rules.specs.PortSetting.{IsNarrow, is_no_change, is_valid, may_follow, port_info_after, port_setting, setting_of, taken_over}
+use Rattle.agent_rules.specs.PortSetting.{IsNarrow, is_valid, may_follow, port_setting, setting_asked, taken_over}
 use Rattle.agent_rules.specs.declared.port_setting.PortSetting.{PortSetting}
 use Rattle.agent_rules.proofs.GuardLemmas.{passed, taken_ok}
 use Rattle.agent_rules.proofs.PortSettingLemmas.{taken_fits}
@@ -69,7 +69,7 @@ settings_keep_good enforces info next attribute good h =
       regular = regular_taken enforces info wanted good.regular t.0;
     })
 
-same_taken : (enforces : Bool) (info : PortInfo) → taken_over enforces info (record (setting_of info) { port_state = 0 }) ≡ info
+same_taken : (enforces : Bool) (info : PortInfo) → taken_over enforces info (record (setting_asked info) { port_state = 0 }) ≡ info
 unfolding taken_over
 same_taken true info = refl
 same_taken false info = refl
@@ -77,7 +77,7 @@ same_taken false info = refl
 pub ports_take_back : PortsTakeBack
 unfolding is_valid
 ports_take_back enforces info good =
-    let wanted : PortSetting = record (setting_of info) { port_state = 0 } in
+    let wanted : PortSetting = record (setting_asked info) { port_state = 0 } in
     let a = and_parts (info.lmc == 0) _ good.regular in
     let b = and_parts (nat_le 1 info.neighbor_mtu && nat_le info.neighbor_mtu 4) _ a.1 in
     let c = and_parts (nat_le info.lid LAST_UNICAST_LID) _ b.1 in

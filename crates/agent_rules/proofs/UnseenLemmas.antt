@@ -1,5 +1,5 @@
 -- What an agent does not see of an SMP.
-use Rattle.std.proofs.Common.{◌≡◌, ℕ, ◌+◌, ◌*◌, ◌%◌, ◌^◌, ◌<◌, ◌≤◌, ◌==◌, ◌⊎◌, inl, inr, true, nat_le, if◌then◌else◌, Ok, Err, List, length, map, refl, sym, ◌∙◌, ap, arith}
+use Rattle.std.proofs.Common.{◌≡◌, ℕ, ◌+◌, ◌%◌, ◌^◌, ◌<◌, ◌≤◌, ◌==◌, ◌⊎◌, inl, inr, true, nat_le, if◌then◌else◌, Ok, Err, List, length, refl, sym, ◌∙◌, ap, arith}
 use Rattle.std.proofs.lemmas.Bool.{and_parts, leb-true, or_cases}
 use Rattle.mad_layout.specs.Bits.{number, field, put_field}
 use Rattle.mad_layout.specs.Layout.{at, is_apart}
@@ -7,7 +7,6 @@ use Rattle.mad_layout.specs.MadStatus.{mad_status_code}
 use Rattle.mad_layout.specs.declared.status.MadStatus.{MadStatus}
 use Rattle.mad_layout.proofs.AlignedLemmas.{bytes_stand, field_aligned}
 use Rattle.mad_layout.proofs.LayoutLemmas.{field-put_apart, length-put_field, put_below}
-
 use Rattle.agent_rules.specs.Laws.{AsksSame, IsUnseenPut, UnseenPasses, is_unseen}
 use Rattle.attr_tables.specs.Attribute.{IsAttribute}
 use Rattle.agent_rules.specs.Request.{attribute_asked, data_of, is_request, is_set, reply_method, reply_to}

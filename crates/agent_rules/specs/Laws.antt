@@ -14,7 +14,7 @@ use Rattle.attr_tables.specs.SwitchInfo.{switch_info, switch_info_bytes}
 use Rattle.agent_rules.specs.Agent.{Getter, Setter, after, answer}
 use Rattle.agent_rules.specs.Carried.{linear_fdb_top_in, ports_in, words_in}
 use Rattle.agent_rules.specs.Good.{IsGoodInfo, IsTable}
-use Rattle.agent_rules.specs.PortSetting.{port_info_after, port_setting, setting_of}
+use Rattle.agent_rules.specs.PortSetting.{port_info_after, port_setting, setting_asked}
 use Rattle.agent_rules.specs.Request.{KeepsRest, attribute_asked, data_of, is_request, is_set, modifier_of}
 use Rattle.agent_rules.specs.Request.{reply_method, reply_to}
 
@@ -79,7 +79,7 @@ pub record RepliesCarry : Type 0 where
 
 -- what is spelled in an attribute is read in it
 pub record SpelledIsRead : Type 0 where
-  pub setting : (info : PortInfo) → Fits (port_info info) → port_setting (port_info_bytes info) ≡ setting_of info
+  pub setting : (info : PortInfo) → Fits (port_info info) → port_setting (port_info_bytes info) ≡ setting_asked info
   pub linear_fdb_top : (info : SwitchInfo) → Fits (switch_info info)
       → linear_fdb_top_in (switch_info_bytes info) ≡ info.linear_fdb_top
   pub words : (words : List ℕ) → IsTable 32 65536 words → words_in (word_bytes words) ≡ words
@@ -89,7 +89,7 @@ pub record SpelledIsRead : Type 0 where
 abbrev pub PortsTakeBack : Type 0
 PortsTakeBack =
     (enforces : Bool) (info : PortInfo) → IsGoodInfo info
-    → port_info_after enforces info (record (setting_of info) { port_state = 0 }) ≡ Ok info
+    → port_info_after enforces info (record (setting_asked info) { port_state = 0 }) ≡ Ok info
 
 -- what a port has after a Set is good where it was
 abbrev pub SettingsKeepGood : Type 0

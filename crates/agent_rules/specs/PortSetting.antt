@@ -11,8 +11,8 @@ use Rattle.attr_tables.specs.PortState.{port_state_code}
 use Rattle.mad_layout.specs.Bits.{field}
 
 -- what PortInfo asks for
-abbrev pub setting_of : PortInfo → PortSetting
-setting_of info =
+abbrev pub setting_asked : PortInfo → PortSetting
+setting_asked info =
     record {
       gid_prefix = info.gid_prefix;
       lid = info.lid;

@@ -5,7 +5,7 @@ ghost use Rattle.std.specs.Prelude.{◌≤◌, ◌<◌, length};
 
 use crate::fixtures::fabric_of;
 use attr_tables::SmpAttribute;
-use fabric_wire::{Fabric, read_attribute};
+use fabric_wire::{Fabric, get_attribute};
 use std::alloc::Global;
 use std::process::Abort;
 use std::test::Fail;
@@ -76,8 +76,8 @@ fn read_along_paths(rt: &impl Abort, fabric: &mut Fabric, hops: usize)
         let down = (spine + 32 - leaf) % 32 + 1;
         for last in 1..11u8 {
             let path = [1, 9 + spine, down, last];
-            let read = read_attribute(fabric, SmpAttribute::NodeInfo, 0, &path[..hops]);
-            assert!(rt; read.is_some());
+            let read = get_attribute(fabric, 1, SmpAttribute::NodeInfo, 0, &path[..hops]);
+            assert!(rt; read.is_ok());
         }
     }
 }

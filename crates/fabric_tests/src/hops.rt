@@ -10,7 +10,7 @@ use std::test::Fail;
 
 #[test]
 fn an_smp_goes_its_path_and_its_answer_comes_back(rt: HostRuntime) -> Result<(), Fail> {
-    let mut smp = get_request(SmpAttribute::NodeInfo, 0, &[1, 3]);
+    let mut smp = get_request(1, SmpAttribute::NodeInfo, 0, &[1, 3]);
     assert_eq!(rt;
         outward(NodeType::ChannelAdapter, 0, &mut smp),
         Hop::Forward(1),
@@ -53,7 +53,7 @@ fn an_smp_goes_its_path_and_its_answer_comes_back(rt: HostRuntime) -> Result<(),
 
 #[test]
 fn without_a_hop_an_smp_asks_the_managers_own_node(rt: HostRuntime) -> Result<(), Fail> {
-    let mut smp = get_request(SmpAttribute::NodeInfo, 0, &[]);
+    let mut smp = get_request(1, SmpAttribute::NodeInfo, 0, &[]);
     assert_eq!(rt;
         outward(NodeType::ChannelAdapter, 0, &mut smp),
         Hop::ToAgent

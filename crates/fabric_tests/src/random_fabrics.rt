@@ -4,8 +4,8 @@ ghost use Rattle.std.specs.Prelude.{◌<◌};
 
 use crate::fixtures::plain_wire_of;
 use attr_tables::SmpAttribute;
-use fabric_wire::{Fabric, SmpWire, get_request};
-use mad_layout::{DrSmp, Mad};
+use fabric_wire::{Fabric, SmpWire, get_request, set_request};
+use mad_layout::Mad;
 use std::alloc::Global;
 use std::test::Fail;
 use topo_file::read;
@@ -98,14 +98,14 @@ fn some_request(chance: &mut Chance) -> Mad {
     let hops = chance.below(4) as usize;
     let attribute = ATTRIBUTES[chance.below(7) as usize];
     let modifier = u32::from(chance.below(3));
-    let mut smp = get_request(attribute, modifier, &path[..hops]);
+    let number = u64::from(chance.below(200));
+    let mut smp = get_request(number, attribute, modifier, &path[..hops]);
     if chance.below(2) == 0 {
-        smp[3] = 2;
-        let mut fields = DrSmp::read(&smp);
-        for byte in &mut fields.data {
+        let mut wanted = [0; 64];
+        for byte in &mut wanted {
             *byte = chance.below(4);
         }
-        fields.write(&mut smp);
+        smp = set_request(number, attribute, modifier, &path[..hops], &wanted);
     }
     if chance.below(4) == 0 {
         smp[chance.below(8) as usize] = chance.below(255);

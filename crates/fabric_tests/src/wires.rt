@@ -3,7 +3,10 @@
 use crate::fixtures::{two_switch_fabric, two_switch_wire};
 use attr_tables::{NodeInfo, SmpAttribute};
 use example_texts::TWO_SWITCHES;
-use fabric_wire::{CountingWire, Fabric, SilencedWire, SmpWire, get_request, read_attribute};
+use fabric_wire::{
+    CountingWire, Fabric, ReplyFault, SilencedWire, SmpWire, get_attribute, get_request,
+    set_attribute,
+};
 use mad_layout::{DrSmp, Header};
 use std::alloc::AllocError;
 use std::process::Abort;
@@ -20,14 +23,8 @@ const PATHS: [(&[u8], &[u8], u64); 6] = [
     (&[1, 3, 2], b"h3\0", 0x130),
 ];
 
-/// What is asked for at the end of a path, and comes from nowhere: h1 hands nothing on, port 4 of A has
-/// no cable, A has no port 5, an adapter has no SwitchInfo.
-const NOWHERE: [(SmpAttribute, &[u8]); 4] = [
-    (SmpAttribute::NodeInfo, &[1, 2, 1]),
-    (SmpAttribute::NodeInfo, &[1, 4]),
-    (SmpAttribute::NodeInfo, &[1, 5]),
-    (SmpAttribute::SwitchInfo, &[1, 2]),
-];
+/// Paths that lead nowhere: h1 hands nothing on, port 4 of A has no cable, and A has no port 5.
+const NOWHERE: [&[u8]; 3] = [&[1, 2, 1], &[1, 4], &[1, 5]];
 
 /// Whether these bytes stand at that place.
 fn has_at(bytes: &[u8], place: usize, part: &[u8]) -> bool {
@@ -38,14 +35,20 @@ fn has_at(bytes: &[u8], place: usize, part: &[u8]) -> bool {
 
 fn nodes_are_read<W: SmpWire>(rt: &impl Abort, wire: &mut W) -> Result<(), Fail> {
     for (path, name, guid) in PATHS {
-        let text = read_attribute(wire, SmpAttribute::NodeDescription, 0, path).ok_or("a name")?;
+        let text = get_attribute(wire, 1, SmpAttribute::NodeDescription, 0, path).or(Err(
+            "a name",
+        ))?;
         assert!(rt; has_at(&text, 0, name));
-        let info = read_attribute(wire, SmpAttribute::NodeInfo, 0, path).ok_or("NodeInfo")?;
+        let info = get_attribute(wire, 2, SmpAttribute::NodeInfo, 0, path).or(Err("NodeInfo"))?;
         assert_eq!(rt; NodeInfo::read(&info).node_guid, guid);
     }
-    for (attribute, path) in NOWHERE {
-        assert_eq!(rt; read_attribute(wire, attribute, 0, path), None);
+    for path in NOWHERE {
+        let read = get_attribute(wire, 3, SmpAttribute::NodeInfo, 0, path);
+        assert_eq!(rt; read, Err(ReplyFault::NoReply));
     }
+    // A channel adapter has no SwitchInfo.
+    let read = get_attribute(wire, 4, SmpAttribute::SwitchInfo, 0, &[1, 2]);
+    assert_eq!(rt; read, Err(ReplyFault::Refused));
     Ok(())
 }
 
@@ -56,10 +59,10 @@ fn nodes_are_read_along_paths(rt: HostRuntime) -> Result<(), Fail> {
 }
 
 fn an_answer_comes_back<W: SmpWire>(rt: &impl Abort, wire: &mut W) -> Result<(), Fail> {
-    let request = get_request(SmpAttribute::NodeInfo, 0, &[1, 3]);
+    let request = get_request(0x0102_0304, SmpAttribute::NodeInfo, 0, &[1, 3]);
     let answer = wire.exchange(&request).ok_or("an answer")?;
     let smp = DrSmp::read(&answer);
-    assert!(rt; has_at(&answer, 4, &[0x80, 0, 0, 2]));
+    assert!(rt; has_at(&answer, 4, &[0x80, 0, 0, 2, 0, 0, 0, 0, 1, 2, 3, 4]));
     assert!(rt; has_at(&smp.return_path, 0, &[0, 1, 3, 0]));
     assert_eq!(rt; Header::read(&answer).method, 0x81);
     assert!(rt; has_at(&smp.data, 12, &[0, 0, 0, 0, 0, 0, 0, 0x20]));
@@ -77,6 +80,25 @@ fn an_answer_has_its_direction_its_ports_and_no_hop_left(rt: HostRuntime) -> Res
     an_answer_comes_back(&rt, &mut two_switch_fabric(rt.alloc())?)
 }
 
+/// Block 7 of the linear forwarding table of B is set to 3 throughout; block 8 it has not.
+fn a_block_is_set<W: SmpWire>(rt: &impl Abort, wire: &mut W) -> Result<(), Fail> {
+    let table = SmpAttribute::LinearForwardingTable;
+    let set = set_attribute(wire, 1, table, 7, &[1, 3], &[3; 64]);
+    assert_eq!(rt; set, Ok([3; 64]));
+    assert_eq!(rt; get_attribute(wire, 2, table, 7, &[1, 3]), Ok([3; 64]));
+    assert_eq!(rt; get_attribute(wire, 3, table, 6, &[1, 3]), Ok([255; 64]));
+    assert_eq!(rt; get_attribute(wire, 4, table, 7, &[1]), Ok([255; 64]));
+    let set = set_attribute(wire, 5, table, 8, &[1, 3], &[3; 64]);
+    assert_eq!(rt; set, Err(ReplyFault::Refused));
+    Ok(())
+}
+
+#[test]
+fn a_block_that_is_set_is_there_and_no_other(rt: HostRuntime) -> Result<(), Fail> {
+    a_block_is_set(&rt, &mut two_switch_wire(rt.alloc())?)?;
+    a_block_is_set(&rt, &mut two_switch_fabric(rt.alloc())?)
+}
+
 #[test]
 fn wires_round_a_wire_count_and_fall_silent(rt: HostRuntime) -> Result<(), Fail> {
     let counting = CountingWire {
@@ -88,8 +110,8 @@ fn wires_round_a_wire_count_and_fall_silent(rt: HostRuntime) -> Result<(), Fail>
         left: 2,
     };
     for answered in [true, true, false, false] {
-        let read = read_attribute(&mut silenced, SmpAttribute::NodeInfo, 0, &[1]);
-        assert_eq!(rt; read.is_some(), answered);
+        let read = get_attribute(&mut silenced, 5, SmpAttribute::NodeInfo, 0, &[1]);
+        assert_eq!(rt; read.is_ok(), answered);
     }
     assert_eq!(rt; silenced.wire.count, 2);
     Ok(())

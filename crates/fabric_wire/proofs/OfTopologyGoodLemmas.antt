@@ -1,5 +1,5 @@
 -- The fabric of a topology is good: its GUIDs, the ports of its nodes, and its cables.
-use Rattle.std.proofs.Common.{ℕ, zero, suc, ◌≡◌, ◌<◌, ◌≤◌, length, ◌+◌, ◌==◌, ◌∙◌, refl, sym, true, false, not, List, [], ◌∷◌, map, flat_map, ◌&&◌, arith}
+use Rattle.std.proofs.Common.{ℕ, zero, suc, ◌≡◌, ◌≤◌, ◌+◌, ◌==◌, ◌∙◌, refl, sym, true, false, not, List, [], ◌∷◌, map, flat_map, ◌&&◌, arith}
 use Rattle.std.specs.List.{All, list_all, list_any, range_with_len, IsDistinct}
 use Rattle.std.specs.Str.{bytes_eq}
 use Rattle.std.proofs.lemmas.Bool.{and_from, and_left, and_parts, eq-eqb, not_from_false, not-true, or_from}

@@ -1,2 +1,3 @@
 pub mod KeyTableLemmas
 pub mod PKeyLemmas
+pub mod StoredKeyLemmas

@@ -1,2 +1,4 @@
 pub mod PKey
 pub mod KeyTable
+pub mod StoredKeys
+pub mod Laws

@@ -7,9 +7,9 @@ ghost use Rattle.port_model.specs.AdapterState.{at_power_up};
 ghost use Rattle.port_model.specs.Agent.{agent_after, agent_reply, get, is_own, set, set_keys, set_port_info};
 
 use agent_rules::{
-    Link, PortSetting, attribute_asked, data_of, is_request, is_set, keys_at_power_up,
-    modifier_of, node_info_of, port_info_after, port_info_at_power_up, put_reply, set_word_block,
-    shown_at, whole, word_block_at,
+    Link, PortSetting, attribute_asked, data_of, is_request, is_set, keys_at_power_up, modifier_of,
+    node_info_of, port_info_after, port_info_at_power_up, put_reply, set_word_block, shown_at,
+    whole, word_block_at,
 };
 use attr_tables::{NodeDescription, PortInfo, SmpAttribute};
 use fabric_parts::NodeType;
@@ -161,9 +161,7 @@ impl AdapterPort {
     {
         match attribute {
             SmpAttribute::PortInfo => self.set_port_info(modifier, wanted),
-            SmpAttribute::PKeyTable => {
-                set_word_block(&mut self.keys, modifier as usize, wanted)
-            }
+            SmpAttribute::PKeyTable => { set_word_block(&mut self.keys, modifier as usize, wanted) }
             SmpAttribute::NodeDescription
             | SmpAttribute::NodeInfo
             | SmpAttribute::SwitchInfo

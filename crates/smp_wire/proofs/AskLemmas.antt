@@ -1,5 +1,5 @@
 -- Gets and Sets over a wire.
-use Rattle.std.proofs.Common.{ℕ, ◌≡◌, ◌∙◌, ap, refl, sym, subst, List, Option, Some, Result, Ok, true}
+use Rattle.std.proofs.Common.{ℕ, ◌≡◌, ◌∙◌, ap, refl, sym, List, Option, Some, Result, Ok}
 use Rattle.std.specs.Option.{ForSome}
 use Rattle.std.specs.Result.{IsOk}
 use Rattle.attr_tables.specs.declared.smp_attribute.SmpAttribute.{SmpAttribute}

@@ -1,5 +1,5 @@
 -- What an exchange leaves of a fabric.
-use Rattle.std.proofs.Common.{ℕ, ◌≡◌, ◌∙◌, not, ap, ap₂, refl, sym, Bool, true, false, List, [], ◌∷◌, map, flat_map, slice_get, slice_set, Option, Some, None, option_map}
+use Rattle.std.proofs.Common.{ℕ, ◌≡◌, ◌∙◌, not, ap, ap₂, refl, sym, Bool, false, List, [], ◌∷◌, map, flat_map, slice_get, slice_set, Option, Some, None, option_map}
 use Rattle.std.specs.List.{All, list_all}
 use Rattle.std.specs.Option.{option_and_then}
 use Rattle.std.proofs.lemmas.List.Folds.{flat_map-map}

@@ -10,6 +10,7 @@ pub mod WalkedLemmas
 pub mod ChangeLemmas
 pub mod ReplyToLemmas
 pub mod PathLemmas
+pub mod PortLemmas
 pub mod TellLemmas
 pub mod SetLemmas
 pub mod AskLemmas

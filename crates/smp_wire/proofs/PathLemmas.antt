@@ -1,14 +1,12 @@
 -- A path with one more port, and one that begins with the subnet manager's own.
-use Rattle.std.proofs.Common.{ℕ, arith, ◌≡◌, ◌∙◌, ◌==◌, ◌&&◌, ap, refl, sym, Bool, true, false, if◌then◌else◌, List, [], ◌∷◌, ◌++◌, length, Option, Some, None, option_map}
+use Rattle.std.proofs.Common.{ℕ, arith, ◌≡◌, ◌∙◌, ◌==◌, ◌&&◌, ap, refl, Bool, true, false, List, [], ◌∷◌, ◌++◌, length, Option, Some, None, option_map}
 use Rattle.std.specs.Option.{option_and_then}
 use Rattle.std.proofs.lemmas.Bool.Decides.{nat_tests}
 use Rattle.fabric_parts.specs.declared.cable.Cable.{Cable}
 use Rattle.fabric_parts.specs.declared.cable.PortRef.{PortRef}
-use Rattle.fabric_parts.specs.Cable.{far_end}
 use Rattle.smp_wire.specs.declared.node.Node.{Node}
-use Rattle.smp_wire.specs.FabricState.{FabricState, is_port}
 use Rattle.smp_wire.specs.Laws.{PathsBegin, PathsGoOn, WalksGoOn}
-use Rattle.smp_wire.specs.Walk.{end_of, hop, last_of, walk}
+use Rattle.smp_wire.specs.Walk.{hop, last_of, walk}
 
 -- one hop more at the end of a walk
 abbrev more : List Node → List Cable → Bool → PortRef → ℕ → Option (List PortRef) → Option (List PortRef)

@@ -1,15 +1,15 @@
 -- What comes back over a good fabric is the request with its answer, and it answers the request.
-use Rattle.std.proofs.Common.{ℕ, ◌≡◌, ◌⊎◌, ◌+◌, ◌*◌, ◌%◌, ◌<◌, ◌≤◌, ◌==◌, ◌∙◌, ap, refl, sym, inl, inr, Bool, true, false, not, ◌&&◌, if◌then◌else◌, List, [], ◌∷◌, length, take, drop, Option, Some, None, option_map, Ok, Err, arith}
+use Rattle.std.proofs.Common.{ℕ, ◌≡◌, ◌⊎◌, ◌+◌, ◌%◌, ◌≤◌, ◌==◌, ◌∙◌, ap, refl, sym, inl, inr, true, if◌then◌else◌, List, [], ◌∷◌, length, Option, Some, None, option_map, arith}
 use Rattle.std.specs.Int.Digits.{AllBelowBase}
 use Rattle.std.proofs.lemmas.Bool.{and_from, and_parts, eq-eqb}
 use Rattle.std.proofs.lemmas.Bool.Decides.{nat_tests}
 use Rattle.std.proofs.lemmas.Option.{same_Some}
-use Rattle.mad_layout.specs.Bits.{field, number, put_field}
+use Rattle.mad_layout.specs.Bits.{field, put_field}
 use Rattle.mad_layout.specs.Layout.{at, is_apart, is_free}
 use Rattle.mad_layout.proofs.AlignedLemmas.{byte_is_set}
 use Rattle.mad_layout.proofs.LayoutLemmas.{field-put_apart, field-put_same, length-put_field}
 use Rattle.std.proofs.lemmas.List.{length-set}
-use Rattle.agent_rules.specs.Request.{is_set, reply_method}
+use Rattle.agent_rules.specs.Request.{reply_method}
 use Rattle.agent_rules.proofs.UnseenLemmas.{apart_parts}
 use Rattle.fabric_parts.specs.declared.cable.PortRef.{PortRef}
 use Rattle.smp_wire.specs.FabricState.{FabricState, reply_at}

@@ -1,5 +1,5 @@
 -- What a Set does and tells: what the agent at the end of its path takes.
-use Rattle.std.proofs.Common.{ℕ, ◌≡◌, ◌-◌, ◌==◌, ◌∙◌, ap, refl, sym, Bool, true, false, if◌then◌else◌, List, length, slice_get, slice_set, Option, Some, None, option_map, Result, Ok, Err}
+use Rattle.std.proofs.Common.{ℕ, ◌≡◌, ◌-◌, ◌==◌, ◌∙◌, ap, refl, sym, Bool, true, false, List, slice_get, slice_set, Option, Some, None, option_map, Result, Ok, Err}
 use Rattle.std.specs.Option.{option_and_then, option_map_or}
 use Rattle.std.specs.Result.{result_unwrap_or}
 use Rattle.std.proofs.lemmas.Option.{same_Some}
@@ -19,13 +19,13 @@ use Rattle.fabric_parts.specs.declared.cable.PortRef.{PortRef}
 use Rattle.smp_wire.specs.Laws.{SetsTell}
 use Rattle.smp_wire.specs.declared.node.Node.{Node}
 use Rattle.smp_wire.specs.declared.node.Node.TheVariants.{Switch, Adapter}
-use Rattle.smp_wire.specs.FabricState.{FabricState, adapter_port, adapter_ports_after, node_after, node_reply, nodes_after, reply_at}
+use Rattle.smp_wire.specs.FabricState.{FabricState, adapter_port, node_after, node_reply, nodes_after, reply_at}
 use Rattle.smp_wire.specs.Get.{gives_along, gives_at, node_gives}
 use Rattle.smp_wire.specs.Good.{IsGood}
 use Rattle.smp_wire.specs.Replies.{told_for, told_of}
-use Rattle.smp_wire.specs.Requests.{AsksFor, AsksToSet}
-use Rattle.smp_wire.specs.Set.{SetTells, node_takes, set_along, set_gives, set_gives_along, takes_along, takes_at}
-use Rattle.smp_wire.specs.Walk.{arrived, end_of, exchange_after, last_of, returned, walk}
+use Rattle.smp_wire.specs.Requests.{AsksToSet}
+use Rattle.smp_wire.specs.Set.{SetTells, node_takes, takes_along}
+use Rattle.smp_wire.specs.Walk.{arrived, exchange_after, last_of, returned, walk}
 use Rattle.smp_wire.proofs.ArrivalLemmas.{IsCarrier}
 use Rattle.smp_wire.proofs.GivenLemmas.{AreAttributes, attributes_given, nothing_given}
 use Rattle.smp_wire.proofs.KeptLemmas.{after_exchange, good, walk_same}
@@ -151,8 +151,10 @@ carrier_sets attribute modifier path wanted sent smp set here = record {
 pub record Ends (fabric : FabricState) (path : List ℕ) (smp : List ℕ) (ends : List PortRef) : Type 0 where
   pub walked : walk fabric.nodes fabric.cables true fabric.manager path ≡ Some ends
   pub carrier : IsCarrier smp (arrived ends smp)
-  pub holds : exchange_after fabric smp ≡ record fabric { nodes = nodes_after fabric.nodes (last_of fabric.manager ends) (arrived ends smp)
-      (slice_get fabric.nodes (last_of fabric.manager ends).node) }
+  pub holds : exchange_after fabric smp ≡ record fabric {
+    nodes = nodes_after fabric.nodes (last_of fabric.manager ends) (arrived ends smp)
+        (slice_get fabric.nodes (last_of fabric.manager ends).node);
+  }
   pub reply : (given : Option (Result (List ℕ) MadStatus))
       → reply_at fabric (last_of fabric.manager ends) (arrived ends smp) ≡ option_map (λ one. reply_to (arrived ends smp) one) given
       → AreAttributes given → told_of fabric smp ≡ told_for given

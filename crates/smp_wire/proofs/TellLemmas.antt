@@ -1,12 +1,10 @@
 -- What a Get tells: its reply carries what is given.
-use Rattle.std.proofs.Common.{ℕ, ◌≡◌, ◌<◌, ◌==◌, ◌∙◌, ap, refl, sym, inl, inr, true, false, List, length, take, drop, slice_get, Option, Some, None, option_map, Result, Ok, Err, arith}
+use Rattle.std.proofs.Common.{ℕ, ◌≡◌, ◌==◌, ◌∙◌, ap, refl, sym, inl, inr, true, false, List, length, take, drop, slice_get, Option, Some, None, option_map, Result, Ok, Err, arith}
 use Rattle.std.specs.Int.Digits.{AllBelowBase}
 use Rattle.std.specs.Option.{option_and_then}
-use Rattle.std.proofs.lemmas.Bool.Decides.{nat_tests}
 use Rattle.std.proofs.lemmas.List.{length-set}
 use Rattle.mad_layout.specs.Bits.{field, number, put_field}
 use Rattle.mad_layout.specs.MadStatus.{mad_status_code}
-use Rattle.mad_layout.specs.Method.{method_code}
 use Rattle.mad_layout.specs.declared.method.Method.{Method}
 use Rattle.mad_layout.specs.declared.method.Method.TheVariants as method
 use Rattle.mad_layout.specs.declared.status.MadStatus.{MadStatus}
@@ -27,13 +25,12 @@ use Rattle.fabric_parts.specs.declared.cable.PortRef.{PortRef}
 use Rattle.smp_wire.specs.Laws.{GetsTell}
 use Rattle.smp_wire.specs.declared.node.Node.{Node}
 use Rattle.smp_wire.specs.declared.node.Node.TheVariants.{Switch, Adapter}
-use Rattle.smp_wire.specs.declared.reply.ReplyFault.{ReplyFault}
 use Rattle.smp_wire.specs.FabricState.{FabricState, adapter_port, node_reply}
-use Rattle.smp_wire.specs.Get.{Tells, gives_along, gives_at, node_gives}
+use Rattle.smp_wire.specs.Get.{Tells, gives_at, node_gives}
 use Rattle.smp_wire.specs.Good.{IsGood}
-use Rattle.smp_wire.specs.Replies.{IsReplyTo, answers, told_by, told_for, told_of}
+use Rattle.smp_wire.specs.Replies.{answers, told_by, told_for, told_of}
 use Rattle.smp_wire.specs.Requests.{AsksFor, AsksToGet}
-use Rattle.smp_wire.specs.Walk.{arrived, exchange_after, exchange_reply, last_of, returned, walk, walk_of}
+use Rattle.smp_wire.specs.Walk.{arrived, exchange_reply, last_of, returned, walk, walk_of}
 use Rattle.smp_wire.proofs.ArrivalLemmas.{IsCarrier, put_below}
 use Rattle.smp_wire.proofs.ChangeLemmas.{nodes_stay, unset}
 use Rattle.smp_wire.proofs.GivenLemmas.{AreAttributes, attributes_given, nothing_given}

@@ -6,6 +6,8 @@ use Rattle.std.specs.Str.{bytes_eq}
 use Rattle.std.specs.Option.{option_and_then, option_map_or}
 use Rattle.agent_rules.specs.PortSetting.{is_down}
 use Rattle.attr_tables.specs.declared.port_info.PortInfo.{PortInfo}
+use Rattle.attr_tables.specs.declared.port_state.PortState.TheVariants.{Initialize, Active}
+use Rattle.attr_tables.specs.PortState.{port_state_code}
 use Rattle.agent_rules.specs.declared.power_up.TheConstants.{LINEAR_TABLE, MULTICAST_TABLE}
 use Rattle.port_model.specs.AdapterState.{AdapterState}
 use Rattle.port_model.specs.Good.{IsGoodPort}
@@ -105,6 +107,10 @@ abbrev pub ShowsLinks : FabricState → Type 0
 ShowsLinks fabric =
     (at : PortRef) (info : PortInfo) → is_port fabric.nodes at ≡ true → info_at fabric at ≡ Some info
     → is_down info ≡ not (is_cabled fabric.cables at)
+
+-- the state is one that a port with a cable has: Initialize, Armed or Active
+abbrev pub is_up : PortInfo → Bool
+is_up info = nat_le (port_state_code Initialize) info.port_state && nat_le info.port_state (port_state_code Active)
 
 -- ---- that switches are joined: a cable may be taken away later, so this stands apart
 -- a walk out of these ports leads from one node to the other

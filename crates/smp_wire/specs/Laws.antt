@@ -5,7 +5,9 @@ use Rattle.attr_tables.specs.declared.smp_attribute.SmpAttribute.{SmpAttribute}
 use Rattle.smp_wire.specs.Changes.{ChangesAtMost}
 use Rattle.smp_wire.specs.FabricState.{FabricState, is_port}
 use Rattle.smp_wire.specs.Get.{Tells, gives_along}
-use Rattle.smp_wire.specs.Good.{IsGood, ShowsLinks, SwitchesJoined}
+use Rattle.attr_tables.specs.declared.port_info.PortInfo.{PortInfo}
+use Rattle.agent_rules.specs.Good.{IsGoodInfo}
+use Rattle.smp_wire.specs.Good.{IsGood, ShowsLinks, SwitchesJoined, info_at, is_up}
 use Rattle.smp_wire.specs.Replies.{IsReplyTo}
 use Rattle.smp_wire.specs.Requests.{AsksToGet, AsksToSet}
 use Rattle.smp_wire.specs.Set.{SetTells}
@@ -14,7 +16,7 @@ use Rattle.smp_wire.specs.Walk.{end_of, exchange_after, exchange_reply, hop, las
 use Rattle.smp_wire.specs.declared.node.Node.{Node}
 use Rattle.fabric_parts.specs.declared.cable.Cable.{Cable}
 use Rattle.fabric_parts.specs.declared.cable.PortRef.{PortRef}
-use Rattle.fabric_parts.specs.Cable.{far_end}
+use Rattle.fabric_parts.specs.Cable.{far_end, is_cabled}
 use Rattle.std.specs.Option.{option_and_then}
 
 -- whatever SMP is sent, a good fabric stays good
@@ -45,6 +47,16 @@ abbrev pub RepliesAnswer : Type 0
 RepliesAnswer =
     (fabric : FabricState) (smp reply : List ℕ) → IsGood fabric → length smp ≡ 256 → AllBelowBase 256 smp
     → exchange_reply fabric smp ≡ Some reply → IsReplyTo smp reply
+
+-- what a port of a good fabric has can be said in PortInfo, and the port takes it back
+abbrev pub PortsAreGood : Type 0
+PortsAreGood = (fabric : FabricState) (at : PortRef) (info : PortInfo) → IsGood fabric → info_at fabric at ≡ Some info → IsGoodInfo info
+
+-- and where links show, a port with a cable is Initialize, Armed or Active
+abbrev pub CabledPortsAreUp : Type 0
+CabledPortsAreUp =
+    (fabric : FabricState) (at : PortRef) (info : PortInfo) → IsGood fabric → ShowsLinks fabric
+    → is_port fabric.nodes at ≡ true → is_cabled fabric.cables at ≡ true → info_at fabric at ≡ Some info → is_up info ≡ true
 
 -- a Get leaves a good fabric as it was, and tells what the agent at the end of its path gives
 abbrev pub GetsTell : Type 0

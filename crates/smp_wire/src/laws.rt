@@ -1,7 +1,7 @@
 //! The laws of exchanges, whatever wire makes them. Each function's contract is its law; it does nothing.
 
 ghost use Rattle.smp_wire.specs.Laws.{ExchangesChangeWhatTheyName, ExchangesKeepGood, ExchangesKeepJoined, ExchangesKeepLinks, ExchangesKeepShape, GetsTell};
-ghost use Rattle.smp_wire.specs.Laws.{PathsBegin, PathsGoOn, RepliesAnswer, SetsTell, WalksGoOn};
+ghost use Rattle.smp_wire.specs.Laws.{CabledPortsAreUp, PathsBegin, PathsGoOn, PortsAreGood, RepliesAnswer, SetsTell, WalksGoOn};
 
 /// Whatever SMP is sent, a good fabric stays good; one in which a port is Down exactly where it has no
 /// cable stays such a one; one whose switches are joined stays such a one; and its shape stays: which nodes
@@ -23,6 +23,13 @@ pub fn exchanges_change_what_they_name()
 /// attribute where it is given; its path, TransactionID and all else stay.
 pub fn replies_answer()
     ensures { RepliesAnswer }
+{}
+
+/// What a port of a good fabric has can be said in PortInfo, and the port takes it back; where links show, a
+/// port with a cable is Initialize, Armed or Active.
+pub fn ports_are_good()
+    ensures good { PortsAreGood }
+    ensures up { CabledPortsAreUp }
 {}
 
 /// A Get along a path leaves a good fabric as it was. It tells the 64 bytes that the agent at the end of

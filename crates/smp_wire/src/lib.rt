@@ -23,7 +23,7 @@ mod wrappers;
 pub use crate::asking::{get_attribute, set_attribute};
 pub use crate::laws::{
     exchanges_change_what_they_name, exchanges_keep_the_fabric, gets_tell, paths_go_on,
-    replies_answer, sets_tell,
+    ports_are_good, replies_answer, sets_tell,
 };
 pub use crate::node::{AdapterPorts, Node};
 pub use crate::plain_wire::PlainWire;

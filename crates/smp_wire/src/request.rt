@@ -12,17 +12,19 @@ use fabric_parts::PERMISSIVE_LID;
 use mad_layout::{DrSmp, Header, Mad, Method, known_bytes};
 
 /// The SMP that asks for that part of an attribute, at the end of that path.
-pub fn get_request(
-    transaction_id: u64,
-    attribute: SmpAttribute,
-    modifier: u32,
-    path: &[u8],
-) -> Mad
+pub fn get_request(transaction_id: u64, attribute: SmpAttribute, modifier: u32, path: &[u8]) -> Mad
     requires { length path.now ≤ 63 }
     ensures asks { AsksToGet attribute modifier path.now result }
     ensures plain { Holds result (plain_get transaction_id attribute modifier path.now) }
 {
-    request(Method::Get, transaction_id, attribute, modifier, path, [0; 64])
+    request(
+        Method::Get,
+        transaction_id,
+        attribute,
+        modifier,
+        path,
+        [0; 64],
+    )
 }
 
 /// The SMP that sets that part of an attribute to these 64 bytes, at the end of that path.
@@ -37,7 +39,14 @@ pub fn set_request(
     ensures asks { AsksToSet attribute modifier path.now wanted.now result }
     ensures plain { Holds result (plain_set transaction_id attribute modifier path.now wanted.now) }
 {
-    request(Method::Set, transaction_id, attribute, modifier, path, *wanted)
+    request(
+        Method::Set,
+        transaction_id,
+        attribute,
+        modifier,
+        path,
+        *wanted,
+    )
 }
 
 /// A request by that method, which is no method of a response.

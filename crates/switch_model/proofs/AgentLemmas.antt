@@ -1,11 +1,10 @@
 -- What a switch gives and takes, case by case.
-use Rattle.std.proofs.Common.{◌≡◌, ℕ, zero, suc, true, if◌then◌else◌, Err, nat_lt, ◌==◌, ◌&&◌, Some, slice_get, slice_set, Result, Ok, List, [], ◌∷◌, length, refl, ◌∙◌, ap, subst, arith}
+use Rattle.std.proofs.Common.{◌≡◌, ℕ, zero, suc, true, nat_lt, ◌==◌, ◌&&◌, Some, slice_get, slice_set, Result, Ok, List, [], ◌∷◌, length, refl, ◌∙◌, ap, subst, arith}
 use Rattle.std.proofs.lemmas.Bool.{and_parts}
 use Rattle.mad_layout.specs.declared.status.MadStatus.{MadStatus}
 use Rattle.mad_layout.specs.declared.status.MadStatus.TheVariants.{InvalidField}
 use Rattle.attr_tables.specs.declared.port_info.PortInfo.{PortInfo as Port}
 use Rattle.attr_tables.specs.declared.switch_info.SwitchInfo.{SwitchInfo as Info}
-use Rattle.attr_tables.specs.declared.smp_attribute.SmpAttribute.{SmpAttribute}
 use Rattle.attr_tables.specs.declared.smp_attribute.SmpAttribute.TheVariants.{NodeDescription, NodeInfo, SwitchInfo, PortInfo, PKeyTable, LinearForwardingTable, MulticastForwardingTable}
 use Rattle.result_words.specs.Steps.{◌>>=◌}
 use Rattle.agent_rules.specs.Agent.{shown_at, word_block, set_word_block}

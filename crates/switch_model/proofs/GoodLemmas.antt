@@ -1,6 +1,6 @@
 -- A switch is good at power-up, stays so, and what it gives fills an attribute.
-use Rattle.std.proofs.Common.{ℕ, suc, ◌≡◌, ◌+◌, ◌<◌, ◌≤◌, ◌^◌, nat_lt, true, List, [], ◌∷◌, length, take, drop, replicate, Ok, ◌∙◌, ap, refl, sym, subst, arith}
-use Rattle.std.specs.List.{All, list_all}
+use Rattle.std.proofs.Common.{ℕ, ◌≡◌, ◌+◌, ◌<◌, ◌≤◌, ◌^◌, nat_lt, true, List, [], ◌∷◌, length, drop, replicate, Ok, ◌∙◌, refl, subst, arith}
+use Rattle.std.specs.List.{All}
 use Rattle.std.proofs.Math.ListN.{length-set}
 use Rattle.std.proofs.lemmas.List.{length-replicate}
 use Rattle.std.proofs.lemmas.List.Elements.{All-cons, All-nil, All-replicate, All-set}
@@ -131,9 +131,34 @@ table_good entries limit entry below = record {
 
 info_good : (lids multicast_lids : ℕ) → lids < 65536 → multicast_lids < 65536
     → Fits (switch_info (record switch_info_at_power_up { linear_fdb_cap = lids; multicast_fdb_cap = multicast_lids }))
-info_good lids multicast_lids few multicast_few =
-    (few, (omega arith, (multicast_few, (omega arith, (omega arith, (omega arith, (omega arith, (omega arith, (omega arith,
-    (omega arith, (omega arith, (omega arith, (omega arith, (omega arith, (omega arith, (omega arith, tt))))))))))))))))
+info_good lids multicast_lids few multicast_few = (
+  few,
+  (
+    omega arith,
+    (
+      multicast_few,
+      (
+        omega arith,
+        (
+          omega arith,
+          (
+            omega arith,
+            (
+              omega arith,
+              (
+                omega arith,
+                (
+                  omega arith,
+                  (omega arith, (omega arith, (omega arith, (omega arith, (omega arith, (omega arith, (omega arith, tt))))))),
+                ),
+              ),
+            ),
+          ),
+        ),
+      ),
+    ),
+  ),
+)
 
 pub new_switches_good : NewSwitchesAreGood
 new_switches_good node_guid description links lids multicast_lids is few lids_few multicast_few = record {

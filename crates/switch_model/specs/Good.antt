@@ -1,5 +1,5 @@
 -- What a switch holds at all times, whatever SMPs came to it.
-use Rattle.std.specs.Prelude.{ℕ, ◌≡◌, List, length}
+use Rattle.std.specs.Prelude.{ℕ, ◌≡◌, length}
 use Rattle.std.specs.List.{All}
 use Rattle.mad_layout.specs.Layout.{Fits}
 use Rattle.attr_tables.specs.Attribute.{IsAttribute}

@@ -6,9 +6,7 @@ ghost use Rattle.switch_model.specs.declared.switch.TheConstants.{PORTS};
 
 use crate::switch::PORTS_WITH_0;
 use crate::switch_port::SwitchPort;
-use agent_rules::{
-    Link, PortSetting, port_info_after, set_word_block, shown_at, word_block_at,
-};
+use agent_rules::{Link, PortSetting, port_info_after, set_word_block, shown_at, word_block_at};
 use arrayvec::ArrayVec;
 use mad_layout::MadStatus;
 
@@ -59,11 +57,7 @@ pub fn set_port_info(
 
 /// Sets the block of a port's key table that the modifier names.
 #[tactic(auto, using(crate::proofs::PortLemmas::set_fits))]
-pub fn set_keys(
-    modifier: u32,
-    wanted: &[u8; 64],
-    ports: &mut [SwitchPort],
-) -> Result<(), MadStatus>
+pub fn set_keys(modifier: u32, wanted: &[u8; 64], ports: &mut [SwitchPort]) -> Result<(), MadStatus>
     requires { AllFit ports.old }
     ensures set { Leaves result ports.old ports.new (set_keys modifier wanted.now ports.old) }
     ensures fits { AllFit ports.new }
