@@ -1,9 +1,11 @@
 -- What stays so with one more node and one more cable, and so of every topology that was read.
-use Rattle.std.proofs.Common.{◌≡◌, ◌∙◌, ap₂, Bool, ◌||◌, ◌==◌, ℕ, zero, suc, ◌≤◌, true, false, not, ◌&&◌, nat_le, List, [], ◌∷◌, ◌++◌, Option, Some, None, refl, arith}
+use Rattle.std.proofs.Common.{◌≡◌, ◌∙◌, ap₂, Bool, ◌||◌, ◌==◌, ℕ, zero, suc, ◌≤◌, true, false, not, ◌&&◌, nat_eq, nat_le, List, [], ◌∷◌, ◌++◌, Option, Some, None, refl, arith}
 use Rattle.std.specs.List.{list_all, list_any, AllByRecursion, IsDistinct}
 use Rattle.std.specs.Str.{bytes_eq}
 use Rattle.std.proofs.Math.Bool.{and_comm}
-use Rattle.std.proofs.lemmas.Bool.{and_parts, and_from, or_from, or_parts}
+use Rattle.std.proofs.lemmas.Bool.{and_parts, and_from, false≢true, or_from, or_parts}
+use Rattle.std.proofs.lemmas.Cmp.{nat_eq_equiv}
+use Rattle.std.proofs.lemmas.Map.Keys.{IsDistinct-push}
 use Rattle.result_words.proofs.ListLemmas.{IsDistinct-nil, list_all_push}
 use Rattle.std.proofs.lemmas.Bool.Decides.{nat_tests}
 use Rattle.std.proofs.lemmas.List.Elements.{All-nil, All-push}
@@ -13,8 +15,8 @@ use Rattle.topo_file.specs.declared.node.Node.{Node}
 use Rattle.topo_file.specs.declared.draft.Manager.{Manager}
 use Rattle.topo_file.specs.Node.{HasGuids, is_one_too_many, is_switch_at, last_guid, ports_at, shares_guid}
 use Rattle.fabric_parts.specs.Cable.{ends_at, is_cabled, is_same_port}
-use Rattle.topo_file.specs.Sound.{is_named, is_port, is_sized, ends_at_ports, is_manager_port, joins_right, on_adapter, shares_name, shares_port, AreSound, IsSoundSoFar}
-use Rattle.topo_file.specs.Topology.{Declarations, nothing}
+use Rattle.topo_file.specs.Sound.{is_named, is_port, is_sized, ends_at_ports, is_manager_port, joins_right, on_adapter, shares_name, shares_port, AreRoots, AreSound, IsSoundSoFar}
+use Rattle.topo_file.specs.Topology.{Declarations, is_root, nothing}
 use Rattle.topo_file.proofs.AcceptedLemmas.{IsNewNode, IsNewCable}
 use Rattle.topo_file.proofs.LimitLemmas.{within_limits_more}
 
@@ -95,6 +97,7 @@ nothing_sound = record {
     joins = refl;
     own_ports = IsDistinct-nil shares_port;
   };
+  roots = record { switches = refl; own = IsDistinct-nil nat_eq };
   manager = refl;
 }
 
@@ -125,11 +128,42 @@ lines_still nodes node cables sound guids room new = record {
   own_ports = sound.own_ports;
 }
 
+-- ---- roots
+-- a switch stays one when a node is added
+switch_still : (nodes : List Node) (node : Node) (place : ℕ) → is_switch_at nodes place ≡ true
+    → is_switch_at (nodes ++ node ∷ []) place ≡ true
+switch_still [] node place h = absurd (false≢true h)
+switch_still (first ∷ nodes) node zero h = h
+switch_still (first ∷ nodes) node (suc place) h = switch_still nodes node place h
+
+switches_still : (nodes : List Node) (node : Node) (roots : List ℕ) → list_all (is_switch_at nodes) roots ≡ true
+    → list_all (is_switch_at (nodes ++ node ∷ [])) roots ≡ true
+switches_still nodes node [] h = refl
+switches_still nodes node (root ∷ roots) h =
+    let parts = and_parts (is_switch_at nodes root) _ h in
+    and_from (is_switch_at (nodes ++ node ∷ []) root) _ (switch_still nodes node root parts.0) (switches_still nodes node roots parts.1)
+
+roots_still : (nodes : List Node) (node : Node) (roots : List ℕ) → AreRoots nodes roots → AreRoots (nodes ++ node ∷ []) roots
+roots_still nodes node roots sound = record { switches = switches_still nodes node roots sound.switches; own = sound.own }
+
+-- a switch that is no root yet leaves all sound
+pub sound_rooted : (so_far : Declarations) (root : ℕ) → IsSoundSoFar so_far → is_switch_at so_far.nodes root ≡ true
+    → is_root so_far.roots root ≡ false → IsSoundSoFar (record so_far { roots = so_far.roots ++ root ∷ [] })
+sound_rooted so_far root sound switch own = record {
+  lines = sound.lines;
+  roots = record {
+    switches = list_all_push (is_switch_at so_far.nodes) so_far.roots root sound.roots.switches switch;
+    own = IsDistinct-push nat_eq_equiv so_far.roots root sound.roots.own own;
+  };
+  manager = sound.manager;
+}
+
 -- a node with GUIDs of its own and room for it leaves all sound
 pub sound_still : (so_far : Declarations) (node : Node) → IsSoundSoFar so_far → HasGuids node → is_one_too_many so_far.nodes node.node_type node.ports ≡ false → IsNewNode so_far.nodes node
     → IsSoundSoFar (record so_far { nodes = so_far.nodes ++ node ∷ [] })
 sound_still so_far node sound guids room new = record {
   lines = lines_still so_far.nodes node so_far.cables sound.lines guids room new;
+  roots = roots_still so_far.nodes node so_far.roots sound.roots;
   manager = manager_still so_far.nodes node so_far.manager sound.manager;
 }
 
@@ -172,5 +206,6 @@ sound_with so_far cable sound ends new = record {
     joins = list_all_push (joins_right so_far.nodes) so_far.cables cable sound.lines.joins new.joins;
     own_ports = distinct_more shares_port ends_turned so_far.cables cable sound.lines.own_ports (no_port_shared so_far.cables cable new.first new.second);
   };
+  roots = sound.roots;
   manager = sound.manager;
 }
