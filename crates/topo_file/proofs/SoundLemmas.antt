@@ -32,7 +32,8 @@ below_more number few many more h = grind (arith, nat_tests)
 is_port_still : (nodes : List Node) (node : Node) (port : PortRef) → is_port nodes port ≡ true → is_port (nodes ++ node ∷ []) port ≡ true
 is_port_still nodes node port h = below_more port.port (ports_at nodes port.node) (ports_at (nodes ++ node ∷ []) port.node) (ports_grow nodes port.node node) h
 
-ends_still : (nodes : List Node) (node : Node) (cables : List Cable) → list_all (ends_at_ports nodes) cables ≡ true → list_all (ends_at_ports (nodes ++ node ∷ [])) cables ≡ true
+ends_still : (nodes : List Node) (node : Node) (cables : List Cable) → list_all (ends_at_ports nodes) cables ≡ true
+    → list_all (ends_at_ports (nodes ++ node ∷ [])) cables ≡ true
 ends_still nodes node [] h = refl
 ends_still nodes node (cable ∷ cables) h =
     let parts = and_parts (ends_at_ports nodes cable) _ h in
@@ -41,7 +42,9 @@ ends_still nodes node (cable ∷ cables) h =
     (and_from (is_port (nodes ++ node ∷ []) cable.first) _ (is_port_still nodes node cable.first ends.0) (is_port_still nodes node cable.second ends.1))
     (ends_still nodes node cables parts.1)
 
-type_still : (nodes : List Node) (node : Node) (place number : ℕ) → (nat_le 1 number && nat_le number (ports_at nodes place)) ≡ true → is_switch_at (nodes ++ node ∷ []) place ≡ is_switch_at nodes place
+type_still : (nodes : List Node) (node : Node) (place number : ℕ)
+    → (nat_le 1 number && nat_le number (ports_at nodes place)) ≡ true
+    → is_switch_at (nodes ++ node ∷ []) place ≡ is_switch_at nodes place
 type_still [] node place number h = absurd (let none = none_at number in cc)
   where
     none_at : (number : ℕ) → (nat_le 1 number && nat_le number 0) ≡ false
@@ -65,12 +68,14 @@ eq_turned m n = grind (arith, nat_tests)
 shares_turned : (a b : Node) → shares_guid a b ≡ shares_guid b a
 shares_turned a b = and_comm (nat_le a.guid (last_guid b)) (nat_le b.guid (last_guid a))
 
-apart_more : {X : Type 0} (same : X → X → Bool) (x y : X) (zs : List X) → same y x ≡ false → AllByRecursion (λ z. same y z ≡ false) zs → AllByRecursion (λ z. same y z ≡ false) (zs ++ x ∷ [])
+apart_more : {X : Type 0} (same : X → X → Bool) (x y : X) (zs : List X) → same y x ≡ false
+    → AllByRecursion (λ z. same y z ≡ false) zs → AllByRecursion (λ z. same y z ≡ false) (zs ++ x ∷ [])
 apart_more same x y [] apart h = (apart, tt)
 apart_more same x y (z ∷ zs) apart h = (h.0, apart_more same x y zs apart h.1)
 
 -- one more that the test finds in none of them, the test being the same both ways
-distinct_more : {X : Type 0} (same : X → X → Bool) → ((a b : X) → same a b ≡ same b a) → (xs : List X) (x : X) → IsDistinct same xs → list_any (same x) xs ≡ false → IsDistinct same (xs ++ x ∷ [])
+distinct_more : {X : Type 0} (same : X → X → Bool) → ((a b : X) → same a b ≡ same b a) → (xs : List X) (x : X)
+    → IsDistinct same xs → list_any (same x) xs ≡ false → IsDistinct same (xs ++ x ∷ [])
 unfolding IsDistinct
 distinct_more same turned [] x own none = (tt, tt)
 distinct_more same turned (y ∷ ys) x own none =
@@ -102,7 +107,8 @@ nothing_sound = record {
 }
 
 -- ---- cables between nodes that are there
-join_still : (nodes : List Node) (node : Node) (cable : Cable) → ends_at_ports nodes cable ≡ true → joins_right nodes cable ≡ true → joins_right (nodes ++ node ∷ []) cable ≡ true
+join_still : (nodes : List Node) (node : Node) (cable : Cable) → ends_at_ports nodes cable ≡ true
+    → joins_right nodes cable ≡ true → joins_right (nodes ++ node ∷ []) cable ≡ true
 join_still nodes node cable ends joins =
     let parts = and_parts (is_port nodes cable.first) (is_port nodes cable.second) ends in
     rw (type_still nodes node cable.first.node cable.first.port parts.0, type_still nodes node cable.second.node cable.second.port parts.1) joins
@@ -115,7 +121,9 @@ joins_still nodes node (cable ∷ cables) ends joins =
     let j = and_parts (joins_right nodes cable) _ joins in
     and_from (joins_right (nodes ++ node ∷ []) cable) _ (join_still nodes node cable e.0 j.0) (joins_still nodes node cables e.1 j.1)
 
-lines_still : (nodes : List Node) (node : Node) (cables : List Cable) → AreSound nodes cables → HasGuids node → is_one_too_many nodes node.node_type node.ports ≡ false → IsNewNode nodes node → AreSound (nodes ++ node ∷ []) cables
+lines_still : (nodes : List Node) (node : Node) (cables : List Cable) → AreSound nodes cables → HasGuids node
+    → is_one_too_many nodes node.node_type node.ports ≡ false → IsNewNode nodes node
+    → AreSound (nodes ++ node ∷ []) cables
 lines_still nodes node cables sound guids room new = record {
   names = list_all_push is_named nodes node sound.names new.named;
   own_names = distinct_more shares_name (λ a b. name_turned a.name b.name) nodes node sound.own_names new.own_name;
@@ -159,7 +167,8 @@ sound_rooted so_far root sound switch own = record {
 }
 
 -- a node with GUIDs of its own and room for it leaves all sound
-pub sound_still : (so_far : Declarations) (node : Node) → IsSoundSoFar so_far → HasGuids node → is_one_too_many so_far.nodes node.node_type node.ports ≡ false → IsNewNode so_far.nodes node
+pub sound_still : (so_far : Declarations) (node : Node) → IsSoundSoFar so_far → HasGuids node
+    → is_one_too_many so_far.nodes node.node_type node.ports ≡ false → IsNewNode so_far.nodes node
     → IsSoundSoFar (record so_far { nodes = so_far.nodes ++ node ∷ [] })
 sound_still so_far node sound guids room new = record {
   lines = lines_still so_far.nodes node so_far.cables sound.lines guids room new;
@@ -184,7 +193,8 @@ ends_turned a b =
     crossed false false false four = refl
 
 -- neither end of the cable has a cable
-no_port_shared : (cables : List Cable) (cable : Cable) → is_cabled cables cable.first ≡ false → is_cabled cables cable.second ≡ false → list_any (shares_port cable) cables ≡ false
+no_port_shared : (cables : List Cable) (cable : Cable) → is_cabled cables cable.first ≡ false
+    → is_cabled cables cable.second ≡ false → list_any (shares_port cable) cables ≡ false
 no_port_shared [] cable first second = refl
 no_port_shared (other ∷ cables) cable first second =
     let one = or_parts (ends_at cable.first other) _ first in
