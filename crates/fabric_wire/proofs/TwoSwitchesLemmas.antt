@@ -1,5 +1,5 @@
 -- The topology of our examples is sound.
-use Rattle.std.proofs.Common.{ℕ, zero, suc, ◌≡◌, refl, true, nat_lt, List, [], ◌∷◌, All, arith}
+use Rattle.std.proofs.Common.{ℕ, zero, suc, ◌≡◌, refl, true, nat_eq, nat_lt, List, [], ◌∷◌, All, arith}
 use Rattle.std.specs.List.{list_all}
 use Rattle.std.proofs.lemmas.Bool.{and_parts, false≢true}
 use Rattle.std.proofs.lemmas.Bool.Decides.{nat_tests}
@@ -48,6 +48,7 @@ sound = record {
     own_ports = distinct shares_port two_switches.cables refl;
   };
   connected = joined;
+  roots = record { switches = refl; own = distinct nat_eq [] refl };
   manager_port = refl;
   manager_cabled = refl;
 }

@@ -18,7 +18,7 @@ port node number = record { node = node; port = number }
 abbrev pub cable : PortRef → PortRef → Cable
 cable first second = record { first = first; second = second }
 
--- the subnet manager runs on h0
+-- the subnet manager runs on h0; no line names a root
 abbrev pub two_switches : Plan
 two_switches = record {
   nodes =
@@ -36,5 +36,6 @@ two_switches = record {
       ∷ cable (port 1 1) (port 4 1)
       ∷ cable (port 1 2) (port 5 1)
       ∷ [];
+  roots = [];
   sm = port 2 1;
 }

@@ -3,6 +3,25 @@ use fabric_parts::{Cable, NodeType, PortRef};
 use std::test::Fail;
 use topo_file::{TopoFault, Topology, is_connected, read};
 
+/// The same with both switches as roots, B before A.
+const TWO_ROOTS: &str = "\
+switch A 0x10 4
+switch B 0x20 4
+adapter h0 0x100 1
+adapter h1 0x110 1
+root B
+adapter h2 0x120 1
+adapter h3 0x130 1
+adapter h4 0x140 1
+cable A/1 h0/1
+cable A/2 h1/1
+cable A/3 B/3
+cable B/1 h2/1
+cable B/2 h3/1
+sm h0/1
+root A
+";
+
 fn port(node: usize, port: u8) -> PortRef {
     PortRef { node, port }
 }
@@ -41,12 +60,45 @@ fn is_two_switches(topology: &Topology) -> bool {
         && topology.sm() == port(2, 1)
 }
 
+fn have_same_nodes(one: &Topology, other: &Topology) -> bool {
+    one.nodes().len() == other.nodes().len()
+        && one.nodes().iter().zip(other.nodes()).all(|(a, b)| {
+            a.name.as_bytes() == b.name.as_bytes()
+                && a.node_type == b.node_type
+                && a.guid == b.guid
+                && a.ports == b.ports
+        })
+}
+
 #[test]
 fn a_text_is_read_or_memory_is_refused(rt: HostRuntime) {
     match read(rt.alloc(), TWO_SWITCHES.as_bytes()) {
         Ok(topology) => assert!(rt; is_two_switches(&topology)),
         Err(fault) => assert_eq!(rt; fault, TopoFault::NoMemory),
     }
+}
+
+#[test]
+fn a_text_with_roots_is_read_or_memory_is_refused(rt: HostRuntime) {
+    match read(rt.alloc(), TWO_ROOTS.as_bytes()) {
+        Ok(topology) => {
+            assert!(rt; is_two_switches(&topology));
+            assert_eq!(rt; topology.roots(), [1, 0].as_slice());
+        }
+        Err(fault) => assert_eq!(rt; fault, TopoFault::NoMemory),
+    }
+}
+
+#[test]
+fn roots_change_nothing_else_of_a_topology(rt: HostRuntime) -> Result<(), Fail> {
+    let without = read(rt.alloc(), TWO_SWITCHES.as_bytes())?;
+    let with = read(rt.alloc(), TWO_ROOTS.as_bytes())?;
+    assert_eq!(rt; without.roots().len(), 0);
+    assert_eq!(rt; with.roots(), [1, 0].as_slice());
+    assert!(rt; have_same_nodes(&with, &without));
+    assert!(rt; with.cables() == without.cables());
+    assert_eq!(rt; with.sm(), without.sm());
+    Ok(())
 }
 
 #[test]

@@ -22,7 +22,8 @@ switches_more nodes node = grind (arith, common_steps)
 ports_more : (nodes : List Node) (node : Node) → adapter_ports (nodes ++ node ∷ []) ≡ adapter_ports nodes + port_guids node.node_type node.ports
 ports_more nodes node = sum_by-append (λ n. port_guids n.node_type n.ports) nodes (node ∷ []) ∙ ap (λ k. adapter_ports nodes + k) (omega arith)
 
-more_of_type : (nodes : List Node) (node : Node) (node_type : NodeType) → node.node_type ≡ node_type → IsWithinLimits nodes → is_one_too_many nodes node_type node.ports ≡ false → IsWithinLimits (nodes ++ node ∷ [])
+more_of_type : (nodes : List Node) (node : Node) (node_type : NodeType) → node.node_type ≡ node_type
+    → IsWithinLimits nodes → is_one_too_many nodes node_type node.ports ≡ false → IsWithinLimits (nodes ++ node ∷ [])
 more_of_type nodes node Switch e within room = (
   omega (arith, switches_more nodes node, switches_of node Switch e, leb-false 64 (switch_count nodes) room),
   omega (arith, ports_more nodes node, ap (λ k. port_guids k node.ports) e),
@@ -33,5 +34,6 @@ more_of_type nodes node ChannelAdapter e within room = (
 )
 
 -- a node that is not one too many keeps the limits
-pub within_limits_more : (nodes : List Node) (node : Node) → IsWithinLimits nodes → is_one_too_many nodes node.node_type node.ports ≡ false → IsWithinLimits (nodes ++ node ∷ [])
+pub within_limits_more : (nodes : List Node) (node : Node) → IsWithinLimits nodes
+    → is_one_too_many nodes node.node_type node.ports ≡ false → IsWithinLimits (nodes ++ node ∷ [])
 within_limits_more nodes node within room = more_of_type nodes node node.node_type refl within room

@@ -13,7 +13,8 @@ use Rattle.topo_file.specs.Node.{is_switch, is_switch_at, switch_count}
 use Rattle.topo_file.specs.Rounds.{is_marked, leads_to, spread, only, after_rounds}
 
 -- ---- the mark at a place
-mark_from : (f : ℕ × Node → Bool) (m i : ℕ) (nodes : List Node) → is_marked (map f (enumerate_from m nodes)) i ≡ option_map_or (λ n. f (m + i, n)) (slice_get nodes i) false
+mark_from : (f : ℕ × Node → Bool) (m i : ℕ) (nodes : List Node)
+    → is_marked (map f (enumerate_from m nodes)) i ≡ option_map_or (λ n. f (m + i, n)) (slice_get nodes i) false
 mark_from f m i [] = refl
 mark_from f m zero (n ∷ nodes) = ap (λ (k : ℕ). f (k, n)) (sym (add-zero m))
 mark_from f m (suc i) (n ∷ nodes) =
@@ -73,7 +74,8 @@ count-unmarked : (marks : List Bool) → marked_count (false ∷ marks) ≡ mark
 count-unmarked marks = sum_by-cons (λ mark. cond mark 1 0) false marks ∙ zero-add (marked_count marks)
 
 -- marks that only grow are the same, or more
-same_or_more : (xs ys : List Bool) → length xs ≡ length ys → ((i : ℕ) → is_marked xs i ≡ true → is_marked ys i ≡ true) → (xs ≡ ys) ⊎ (marked_count xs + 1 ≤ marked_count ys)
+same_or_more : (xs ys : List Bool) → length xs ≡ length ys → ((i : ℕ) → is_marked xs i ≡ true → is_marked ys i ≡ true)
+    → (xs ≡ ys) ⊎ (marked_count xs + 1 ≤ marked_count ys)
 same_or_more [] [] e h = inl refl
 same_or_more [] (y ∷ ys) e h = absurd cc
 same_or_more (x ∷ xs) [] e h = absurd cc
@@ -127,7 +129,8 @@ count_switches : (f : ℕ × Node → Bool) (m : ℕ) (nodes : List Node) → ((
 count_switches f m [] h = omega arith
 count_switches f m (n ∷ nodes) h = by (f (m, n)) refl (count_switches f (m + 1) nodes h)
   where
-    by : (b : Bool) → f (m, n) ≡ b → marked_count (map f (enumerate_from (m + 1) nodes)) ≤ switch_count nodes → marked_count (map f (enumerate_from m (n ∷ nodes))) ≤ switch_count (n ∷ nodes)
+    by : (b : Bool) → f (m, n) ≡ b → marked_count (map f (enumerate_from (m + 1) nodes)) ≤ switch_count nodes
+        → marked_count (map f (enumerate_from m (n ∷ nodes))) ≤ switch_count (n ∷ nodes)
     by true e later =
         let more : switch_count (n ∷ nodes) ≡ 1 + switch_count nodes = sum_by-cons (λ n. cond (is_switch n) 1 0) n nodes ∙ rw (h (m, n) e) refl in
         let marked : marked_count (map f (enumerate_from m (n ∷ nodes))) ≡ 1 + marked_count (map f (enumerate_from (m + 1) nodes)) = ap (λ (b : Bool). marked_count (b ∷ map f (enumerate_from (m + 1) nodes))) e ∙ count-marked (map f (enumerate_from (m + 1) nodes)) in

@@ -1,9 +1,11 @@
 -- What stays so with one more node and one more cable, and so of every topology that was read.
-use Rattle.std.proofs.Common.{◌≡◌, ◌∙◌, ap₂, Bool, ◌||◌, ◌==◌, ℕ, zero, suc, ◌≤◌, true, false, not, ◌&&◌, nat_le, List, [], ◌∷◌, ◌++◌, Option, Some, None, refl, arith}
+use Rattle.std.proofs.Common.{◌≡◌, ◌∙◌, ap₂, Bool, ◌||◌, ◌==◌, ℕ, zero, suc, ◌≤◌, true, false, not, ◌&&◌, nat_eq, nat_le, List, [], ◌∷◌, ◌++◌, Option, Some, None, refl, arith}
 use Rattle.std.specs.List.{list_all, list_any, AllByRecursion, IsDistinct}
 use Rattle.std.specs.Str.{bytes_eq}
 use Rattle.std.proofs.Math.Bool.{and_comm}
-use Rattle.std.proofs.lemmas.Bool.{and_parts, and_from, or_from, or_parts}
+use Rattle.std.proofs.lemmas.Bool.{and_parts, and_from, false≢true, or_from, or_parts}
+use Rattle.std.proofs.lemmas.Cmp.{nat_eq_equiv}
+use Rattle.std.proofs.lemmas.Map.Keys.{IsDistinct-push}
 use Rattle.result_words.proofs.ListLemmas.{IsDistinct-nil, list_all_push}
 use Rattle.std.proofs.lemmas.Bool.Decides.{nat_tests}
 use Rattle.std.proofs.lemmas.List.Elements.{All-nil, All-push}
@@ -13,8 +15,8 @@ use Rattle.topo_file.specs.declared.node.Node.{Node}
 use Rattle.topo_file.specs.declared.draft.Manager.{Manager}
 use Rattle.topo_file.specs.Node.{HasGuids, is_one_too_many, is_switch_at, last_guid, ports_at, shares_guid}
 use Rattle.fabric_parts.specs.Cable.{ends_at, is_cabled, is_same_port}
-use Rattle.topo_file.specs.Sound.{is_named, is_port, is_sized, ends_at_ports, is_manager_port, joins_right, on_adapter, shares_name, shares_port, AreSound, IsSoundSoFar}
-use Rattle.topo_file.specs.Topology.{Declarations, nothing}
+use Rattle.topo_file.specs.Sound.{is_named, is_port, is_sized, ends_at_ports, is_manager_port, joins_right, on_adapter, shares_name, shares_port, AreRoots, AreSound, IsSoundSoFar}
+use Rattle.topo_file.specs.Topology.{Declarations, is_root, nothing}
 use Rattle.topo_file.proofs.AcceptedLemmas.{IsNewNode, IsNewCable}
 use Rattle.topo_file.proofs.LimitLemmas.{within_limits_more}
 
@@ -30,7 +32,8 @@ below_more number few many more h = grind (arith, nat_tests)
 is_port_still : (nodes : List Node) (node : Node) (port : PortRef) → is_port nodes port ≡ true → is_port (nodes ++ node ∷ []) port ≡ true
 is_port_still nodes node port h = below_more port.port (ports_at nodes port.node) (ports_at (nodes ++ node ∷ []) port.node) (ports_grow nodes port.node node) h
 
-ends_still : (nodes : List Node) (node : Node) (cables : List Cable) → list_all (ends_at_ports nodes) cables ≡ true → list_all (ends_at_ports (nodes ++ node ∷ [])) cables ≡ true
+ends_still : (nodes : List Node) (node : Node) (cables : List Cable) → list_all (ends_at_ports nodes) cables ≡ true
+    → list_all (ends_at_ports (nodes ++ node ∷ [])) cables ≡ true
 ends_still nodes node [] h = refl
 ends_still nodes node (cable ∷ cables) h =
     let parts = and_parts (ends_at_ports nodes cable) _ h in
@@ -39,7 +42,9 @@ ends_still nodes node (cable ∷ cables) h =
     (and_from (is_port (nodes ++ node ∷ []) cable.first) _ (is_port_still nodes node cable.first ends.0) (is_port_still nodes node cable.second ends.1))
     (ends_still nodes node cables parts.1)
 
-type_still : (nodes : List Node) (node : Node) (place number : ℕ) → (nat_le 1 number && nat_le number (ports_at nodes place)) ≡ true → is_switch_at (nodes ++ node ∷ []) place ≡ is_switch_at nodes place
+type_still : (nodes : List Node) (node : Node) (place number : ℕ)
+    → (nat_le 1 number && nat_le number (ports_at nodes place)) ≡ true
+    → is_switch_at (nodes ++ node ∷ []) place ≡ is_switch_at nodes place
 type_still [] node place number h = absurd (let none = none_at number in cc)
   where
     none_at : (number : ℕ) → (nat_le 1 number && nat_le number 0) ≡ false
@@ -63,12 +68,14 @@ eq_turned m n = grind (arith, nat_tests)
 shares_turned : (a b : Node) → shares_guid a b ≡ shares_guid b a
 shares_turned a b = and_comm (nat_le a.guid (last_guid b)) (nat_le b.guid (last_guid a))
 
-apart_more : {X : Type 0} (same : X → X → Bool) (x y : X) (zs : List X) → same y x ≡ false → AllByRecursion (λ z. same y z ≡ false) zs → AllByRecursion (λ z. same y z ≡ false) (zs ++ x ∷ [])
+apart_more : {X : Type 0} (same : X → X → Bool) (x y : X) (zs : List X) → same y x ≡ false
+    → AllByRecursion (λ z. same y z ≡ false) zs → AllByRecursion (λ z. same y z ≡ false) (zs ++ x ∷ [])
 apart_more same x y [] apart h = (apart, tt)
 apart_more same x y (z ∷ zs) apart h = (h.0, apart_more same x y zs apart h.1)
 
 -- one more that the test finds in none of them, the test being the same both ways
-distinct_more : {X : Type 0} (same : X → X → Bool) → ((a b : X) → same a b ≡ same b a) → (xs : List X) (x : X) → IsDistinct same xs → list_any (same x) xs ≡ false → IsDistinct same (xs ++ x ∷ [])
+distinct_more : {X : Type 0} (same : X → X → Bool) → ((a b : X) → same a b ≡ same b a) → (xs : List X) (x : X)
+    → IsDistinct same xs → list_any (same x) xs ≡ false → IsDistinct same (xs ++ x ∷ [])
 unfolding IsDistinct
 distinct_more same turned [] x own none = (tt, tt)
 distinct_more same turned (y ∷ ys) x own none =
@@ -95,11 +102,13 @@ nothing_sound = record {
     joins = refl;
     own_ports = IsDistinct-nil shares_port;
   };
+  roots = record { switches = refl; own = IsDistinct-nil nat_eq };
   manager = refl;
 }
 
 -- ---- cables between nodes that are there
-join_still : (nodes : List Node) (node : Node) (cable : Cable) → ends_at_ports nodes cable ≡ true → joins_right nodes cable ≡ true → joins_right (nodes ++ node ∷ []) cable ≡ true
+join_still : (nodes : List Node) (node : Node) (cable : Cable) → ends_at_ports nodes cable ≡ true
+    → joins_right nodes cable ≡ true → joins_right (nodes ++ node ∷ []) cable ≡ true
 join_still nodes node cable ends joins =
     let parts = and_parts (is_port nodes cable.first) (is_port nodes cable.second) ends in
     rw (type_still nodes node cable.first.node cable.first.port parts.0, type_still nodes node cable.second.node cable.second.port parts.1) joins
@@ -112,7 +121,9 @@ joins_still nodes node (cable ∷ cables) ends joins =
     let j = and_parts (joins_right nodes cable) _ joins in
     and_from (joins_right (nodes ++ node ∷ []) cable) _ (join_still nodes node cable e.0 j.0) (joins_still nodes node cables e.1 j.1)
 
-lines_still : (nodes : List Node) (node : Node) (cables : List Cable) → AreSound nodes cables → HasGuids node → is_one_too_many nodes node.node_type node.ports ≡ false → IsNewNode nodes node → AreSound (nodes ++ node ∷ []) cables
+lines_still : (nodes : List Node) (node : Node) (cables : List Cable) → AreSound nodes cables → HasGuids node
+    → is_one_too_many nodes node.node_type node.ports ≡ false → IsNewNode nodes node
+    → AreSound (nodes ++ node ∷ []) cables
 lines_still nodes node cables sound guids room new = record {
   names = list_all_push is_named nodes node sound.names new.named;
   own_names = distinct_more shares_name (λ a b. name_turned a.name b.name) nodes node sound.own_names new.own_name;
@@ -125,11 +136,43 @@ lines_still nodes node cables sound guids room new = record {
   own_ports = sound.own_ports;
 }
 
+-- ---- roots
+-- a switch stays one when a node is added
+switch_still : (nodes : List Node) (node : Node) (place : ℕ) → is_switch_at nodes place ≡ true
+    → is_switch_at (nodes ++ node ∷ []) place ≡ true
+switch_still [] node place h = absurd (false≢true h)
+switch_still (first ∷ nodes) node zero h = h
+switch_still (first ∷ nodes) node (suc place) h = switch_still nodes node place h
+
+switches_still : (nodes : List Node) (node : Node) (roots : List ℕ) → list_all (is_switch_at nodes) roots ≡ true
+    → list_all (is_switch_at (nodes ++ node ∷ [])) roots ≡ true
+switches_still nodes node [] h = refl
+switches_still nodes node (root ∷ roots) h =
+    let parts = and_parts (is_switch_at nodes root) _ h in
+    and_from (is_switch_at (nodes ++ node ∷ []) root) _ (switch_still nodes node root parts.0) (switches_still nodes node roots parts.1)
+
+roots_still : (nodes : List Node) (node : Node) (roots : List ℕ) → AreRoots nodes roots → AreRoots (nodes ++ node ∷ []) roots
+roots_still nodes node roots sound = record { switches = switches_still nodes node roots sound.switches; own = sound.own }
+
+-- a switch that is no root yet leaves all sound
+pub sound_rooted : (so_far : Declarations) (root : ℕ) → IsSoundSoFar so_far → is_switch_at so_far.nodes root ≡ true
+    → is_root so_far.roots root ≡ false → IsSoundSoFar (record so_far { roots = so_far.roots ++ root ∷ [] })
+sound_rooted so_far root sound switch own = record {
+  lines = sound.lines;
+  roots = record {
+    switches = list_all_push (is_switch_at so_far.nodes) so_far.roots root sound.roots.switches switch;
+    own = IsDistinct-push nat_eq_equiv so_far.roots root sound.roots.own own;
+  };
+  manager = sound.manager;
+}
+
 -- a node with GUIDs of its own and room for it leaves all sound
-pub sound_still : (so_far : Declarations) (node : Node) → IsSoundSoFar so_far → HasGuids node → is_one_too_many so_far.nodes node.node_type node.ports ≡ false → IsNewNode so_far.nodes node
+pub sound_still : (so_far : Declarations) (node : Node) → IsSoundSoFar so_far → HasGuids node
+    → is_one_too_many so_far.nodes node.node_type node.ports ≡ false → IsNewNode so_far.nodes node
     → IsSoundSoFar (record so_far { nodes = so_far.nodes ++ node ∷ [] })
 sound_still so_far node sound guids room new = record {
   lines = lines_still so_far.nodes node so_far.cables sound.lines guids room new;
+  roots = roots_still so_far.nodes node so_far.roots sound.roots;
   manager = manager_still so_far.nodes node so_far.manager sound.manager;
 }
 
@@ -150,7 +193,8 @@ ends_turned a b =
     crossed false false false four = refl
 
 -- neither end of the cable has a cable
-no_port_shared : (cables : List Cable) (cable : Cable) → is_cabled cables cable.first ≡ false → is_cabled cables cable.second ≡ false → list_any (shares_port cable) cables ≡ false
+no_port_shared : (cables : List Cable) (cable : Cable) → is_cabled cables cable.first ≡ false
+    → is_cabled cables cable.second ≡ false → list_any (shares_port cable) cables ≡ false
 no_port_shared [] cable first second = refl
 no_port_shared (other ∷ cables) cable first second =
     let one = or_parts (ends_at cable.first other) _ first in
@@ -172,5 +216,6 @@ sound_with so_far cable sound ends new = record {
     joins = list_all_push (joins_right so_far.nodes) so_far.cables cable sound.lines.joins new.joins;
     own_ports = distinct_more shares_port ends_turned so_far.cables cable sound.lines.own_ports (no_port_shared so_far.cables cable new.first new.second);
   };
+  roots = sound.roots;
   manager = sound.manager;
 }

@@ -50,7 +50,8 @@ walk_back nodes cables a (next ∷ steps) b w =
     let back : Joined nodes cables b next = walk_back nodes cables next steps b second.1 in
     (back.0 ++ a ∷ [], walk_more nodes cables b back.0 next a back.1 (list_any_weaker (λ cable. joins a next cable) (λ cable. joins next a cable) (λ cable h. joins-back a next cable h) cables second.0) first.0)
 
-walk_on : (nodes : List Node) (cables : List Cable) (a : ℕ) (steps : List ℕ) (b c : ℕ) → is_walk nodes cables a steps b ≡ true → Joined nodes cables b c → Joined nodes cables a c
+walk_on : (nodes : List Node) (cables : List Cable) (a : ℕ) (steps : List ℕ) (b c : ℕ)
+    → is_walk nodes cables a steps b ≡ true → Joined nodes cables b c → Joined nodes cables a c
 walk_on nodes cables a [] b c w more =
     let parts = and_parts (is_switch_at nodes a) (a == b) w in
     subst (λ (k : ℕ). Joined nodes cables k c) (sym (eqb-true a b parts.1)) more
@@ -111,7 +112,8 @@ starts_at_switch nodes cables a (next ∷ steps) b w = (and_parts (is_switch_at 
 
 -- once the rounds rest, a walk from a mark leads to marks alone
 complete : (nodes : List Node) (cables : List Cable) (place : ℕ) → is_switch_at nodes place ≡ true → (a : ℕ) (steps : List ℕ) (b : ℕ)
-    → is_marked (after_rounds nodes cables place (switch_count nodes)) a ≡ true → is_walk nodes cables a steps b ≡ true → is_marked (after_rounds nodes cables place (switch_count nodes)) b ≡ true
+    → is_marked (after_rounds nodes cables place (switch_count nodes)) a ≡ true → is_walk nodes cables a steps b ≡ true
+    → is_marked (after_rounds nodes cables place (switch_count nodes)) b ≡ true
 complete nodes cables place start a [] b m w =
     let parts = and_parts (is_switch_at nodes a) (a == b) w in
     subst (λ (k : ℕ). is_marked (after_rounds nodes cables place (switch_count nodes)) k ≡ true) (eqb-true a b parts.1) m
@@ -124,12 +126,14 @@ complete nodes cables place start a (next ∷ steps) b m w =
     complete nodes cables place start next steps b (subst (λ (l : List Bool). is_marked l next ≡ true) (sym (rests nodes cables place start)) after) second.1
 
 -- the start is marked in each round
-start_marked : (nodes : List Node) (cables : List Cable) (place rounds : ℕ) → is_switch_at nodes place ≡ true → is_marked (after_rounds nodes cables place rounds) place ≡ true
+start_marked : (nodes : List Node) (cables : List Cable) (place rounds : ℕ) → is_switch_at nodes place ≡ true
+    → is_marked (after_rounds nodes cables place rounds) place ≡ true
 start_marked nodes cables place zero start = only_marks nodes place start
 start_marked nodes cables place (suc rounds) start = stays nodes cables place rounds place start (start_marked nodes cables place rounds start)
 
 -- ---- the first switch
-passes_at : {X : Type 0} (p : X → Bool) (xs : List X) → nat_lt (position_or_len p xs) (length xs) ≡ true → option_map_or p (slice_get xs (position_or_len p xs)) false ≡ true
+passes_at : {X : Type 0} (p : X → Bool) (xs : List X) → nat_lt (position_or_len p xs) (length xs) ≡ true
+    → option_map_or p (slice_get xs (position_or_len p xs)) false ≡ true
 passes_at p [] h = absurd cc
 passes_at p (x ∷ xs) h = by (p x) refl (passes_at p xs)
   where
@@ -186,7 +190,8 @@ any_of : {X : Type 0} (p q : X → Bool) (xs : List X) → list_any q (filter p 
 any_of p q [] = refl
 any_of p q (x ∷ xs) = by (p x) (any_of p q xs)
   where
-    by : (b : Bool) → list_any q (filter p xs) ≡ list_any (λ y. p y && q y) xs → list_any q (cond b (x ∷ filter p xs) (filter p xs)) ≡ ((b && q x) || list_any (λ y. p y && q y) xs)
+    by : (b : Bool) → list_any q (filter p xs) ≡ list_any (λ y. p y && q y) xs
+        → list_any q (cond b (x ∷ filter p xs) (filter p xs)) ≡ ((b && q x) || list_any (λ y. p y && q y) xs)
     by true later = ap (λ (o : Bool). q x || o) later
     by false later = later
 
@@ -194,7 +199,8 @@ all_of : {X : Type 0} (p q : X → Bool) (xs : List X) → list_all q (filter p 
 all_of p q [] = refl
 all_of p q (x ∷ xs) = by (p x) (all_of p q xs)
   where
-    by : (b : Bool) → list_all q (filter p xs) ≡ list_all (λ y. not (p y) || q y) xs → list_all q (cond b (x ∷ filter p xs) (filter p xs)) ≡ ((not b || q x) && list_all (λ y. not (p y) || q y) xs)
+    by : (b : Bool) → list_all q (filter p xs) ≡ list_all (λ y. not (p y) || q y) xs
+        → list_all q (cond b (x ∷ filter p xs) (filter p xs)) ≡ ((not b || q x) && list_all (λ y. not (p y) || q y) xs)
     by true later = ap (λ (o : Bool). q x && o) later
     by false later = later
 
@@ -237,7 +243,8 @@ all_switches nodes q each = from (range_with_len 0 (length nodes))
     from [] = refl
     from (i ∷ places) = by (is_switch_at nodes i) refl (from places)
       where
-        by : (b : Bool) → is_switch_at nodes i ≡ b → list_all q (filter (is_switch_at nodes) places) ≡ true → list_all q (cond b (i ∷ filter (is_switch_at nodes) places) (filter (is_switch_at nodes) places)) ≡ true
+        by : (b : Bool) → is_switch_at nodes i ≡ b → list_all q (filter (is_switch_at nodes) places) ≡ true
+            → list_all q (cond b (i ∷ filter (is_switch_at nodes) places) (filter (is_switch_at nodes) places)) ≡ true
         by true e later = and_from (q i) _ (each i e) later
         by false e later = later
 
@@ -245,7 +252,8 @@ all_switches nodes q each = from (range_with_len 0 (length nodes))
 abbrev leads_on : List Node → List Cable → ℕ → ℕ → ℕ → ℕ → Bool
 leads_on nodes cables steps a b next = list_any (λ cable. joins a next cable) cables && is_joined_within nodes cables steps next b
 
-within_joined : (nodes : List Node) (cables : List Cable) (steps a b : ℕ) → is_switch_at nodes a ≡ true → is_joined_within nodes cables steps a b ≡ true → Joined nodes cables a b
+within_joined : (nodes : List Node) (cables : List Cable) (steps a b : ℕ) → is_switch_at nodes a ≡ true
+    → is_joined_within nodes cables steps a b ≡ true → Joined nodes cables a b
 within_joined nodes cables zero a b s h = ([], and_from (is_switch_at nodes a) (a == b) s h)
 within_joined nodes cables (suc steps) a b s h =
     elim (or_cases (a == b) (list_any (leads_on nodes cables steps a b) (switches nodes)) h) [
@@ -256,7 +264,8 @@ within_joined nodes cables (suc steps) a b s h =
           (next.0 ∷ rest.0, and_from (is_switch_at nodes a) _ s (and_from (list_any (λ cable. joins a next.0 cable) cables) _ parts.0 rest.1))
     ]
 
-within_more : (nodes : List Node) (cables : List Cable) (steps a b : ℕ) → is_joined_within nodes cables steps a b ≡ true → is_joined_within nodes cables (suc steps) a b ≡ true
+within_more : (nodes : List Node) (cables : List Cable) (steps a b : ℕ) → is_joined_within nodes cables steps a b ≡ true
+    → is_joined_within nodes cables (suc steps) a b ≡ true
 within_more nodes cables zero a b h = or_left (a == b) _ h
 within_more nodes cables (suc steps) a b h =
     elim (or_cases (a == b) (list_any (leads_on nodes cables steps a b) (switches nodes)) h) [

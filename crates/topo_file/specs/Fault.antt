@@ -4,7 +4,7 @@ use Rattle.result_words.specs.AtLine.{AtLine}
 use Rattle.topo_file.specs.declared.fault.TopoFault.{TopoFault}
 use Rattle.topo_file.specs.declared.fault.TopoFault.TheVariants.{NoMemory, At}
 use Rattle.topo_file.specs.declared.fault.TopologyCause.{TopologyCause}
-use Rattle.topo_file.specs.declared.fault.TopologyCause.TheVariants.{Malformed, DuplicateName, DuplicateGuid, UnknownNode, NoSuchPort, PortTaken, WrongCableEnds, WrongManager, Disconnected, OverLimit, ManagerUncabled}
+use Rattle.topo_file.specs.declared.fault.TopologyCause.TheVariants.{Malformed, DuplicateName, DuplicateGuid, UnknownNode, NoSuchPort, PortTaken, WrongCableEnds, WrongManager, Disconnected, OverLimit, ManagerUncabled, RootNotSwitch}
 
 abbrev pub code_of : TopologyCause → List ℕ
 code_of Malformed = codes "TF1"
@@ -18,6 +18,7 @@ code_of WrongManager = codes "TF8"
 code_of Disconnected = codes "TF9"
 code_of OverLimit = codes "TF10"
 code_of ManagerUncabled = codes "TF11"
+code_of RootNotSwitch = codes "TF12"
 
 -- what is wrong with the text, if the error tells it; none where memory was refused
 abbrev pub fault_in : TopoFault → Option (AtLine TopologyCause)

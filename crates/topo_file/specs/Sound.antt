@@ -1,5 +1,5 @@
 -- What is so of every topology that was read, whatever its text.
-use Rattle.std.specs.Prelude.{◌≡◌, Bool, true, not, ◌&&◌, ◌||◌, nat_le, List, Option, Some, None, All}
+use Rattle.std.specs.Prelude.{ℕ, ◌≡◌, Bool, true, not, ◌&&◌, ◌||◌, nat_eq, nat_le, List, Option, Some, None, All}
 use Rattle.std.specs.List.{list_all, IsDistinct}
 use Rattle.std.specs.Str.{bytes_eq}
 use Rattle.text_words.specs.Words.{is_name}
@@ -64,14 +64,21 @@ pub record AreSound (nodes : List Node) (cables : List Cable) : Type 0 where
   pub joins : list_all (joins_right nodes) cables ≡ true
   pub own_ports : IsDistinct shares_port cables
 
+-- each root is the place of a switch, and no two are the same
+pub record AreRoots (nodes : List Node) (roots : List ℕ) : Type 0 where
+  pub switches : list_all (is_switch_at nodes) roots ≡ true
+  pub own : IsDistinct nat_eq roots
+
 -- what stands after each line
 pub record IsSoundSoFar (so_far : Declarations) : Type 0 where
   pub lines : AreSound so_far.nodes so_far.cables
+  pub roots : AreRoots so_far.nodes so_far.roots
   pub manager : on_adapter so_far.nodes so_far.manager ≡ true
 
 -- what stands of the whole
 pub record IsSound (plan : Plan) : Type 0 where
   pub lines : AreSound plan.nodes plan.cables
   pub connected : AllJoined plan.nodes plan.cables
+  pub roots : AreRoots plan.nodes plan.roots
   pub manager_port : is_manager_port plan.nodes plan.sm ≡ true
   pub manager_cabled : is_cabled plan.cables plan.sm ≡ true

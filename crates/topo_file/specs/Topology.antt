@@ -1,5 +1,6 @@
 -- What a topology text describes, or the first line that is at fault.
-use Rattle.std.specs.Prelude.{ℕ, ◌-◌, ◌^◌, not, ◌&&◌, ◌||◌, nat_le, List, [], ◌∷◌, ◌++◌, codes, Option, Some, None, is_some, Result, Ok, Err, if◌then◌else◌}
+use Rattle.std.specs.Prelude.{ℕ, Bool, ◌-◌, ◌^◌, ◌==◌, not, ◌&&◌, ◌||◌, nat_le, List, [], ◌∷◌, ◌++◌, codes, Option, Some, None, is_some, Result, Ok, Err, if◌then◌else◌}
+use Rattle.std.specs.List.{list_any}
 use Rattle.std.specs.Option.{ok_or}
 use Rattle.std.specs.Str.{bytes_eq}
 use Rattle.result_words.specs.AtLine.{AtLine, after_lines, on_line}
@@ -12,7 +13,7 @@ use Rattle.fabric_parts.specs.declared.cable.PortRef.{PortRef}
 use Rattle.fabric_parts.specs.Cable.{is_cabled}
 use Rattle.fabric_parts.specs.NodeType.{most_ports}
 use Rattle.topo_file.specs.declared.fault.TopologyCause.{TopologyCause}
-use Rattle.topo_file.specs.declared.fault.TopologyCause.TheVariants.{Malformed, DuplicateName, DuplicateGuid, UnknownNode, NoSuchPort, PortTaken, WrongCableEnds, WrongManager, Disconnected, OverLimit, ManagerUncabled}
+use Rattle.topo_file.specs.declared.fault.TopologyCause.TheVariants.{Malformed, DuplicateName, DuplicateGuid, UnknownNode, NoSuchPort, PortTaken, WrongCableEnds, WrongManager, Disconnected, OverLimit, ManagerUncabled, RootNotSwitch}
 use Rattle.topo_file.specs.declared.node.Node.{Node}
 use Rattle.fabric_parts.specs.declared.node_type.NodeType.{NodeType}
 use Rattle.fabric_parts.specs.declared.node_type.NodeType.TheVariants.{Switch, ChannelAdapter}
@@ -21,16 +22,19 @@ use Rattle.topo_file.specs.Node.{place_of, is_switch_at, lacks_guids, is_one_too
 use Rattle.topo_file.specs.Cable.{port_at, may_join}
 use Rattle.topo_file.specs.Connectivity.{is_connected}
 
--- a topology: its nodes and cables in the order of their lines, and the subnet manager's port
+-- a topology: its nodes, cables and roots in the order of their lines, and the subnet manager's port. A root is the
+-- place of its switch among the nodes.
 pub record Plan : Type 0 where
   pub nodes : List Node
   pub cables : List Cable
+  pub roots : List ℕ
   pub sm : PortRef
 
 -- what the lines so far declare
 pub record Declarations : Type 0 where
   pub nodes : List Node
   pub cables : List Cable
+  pub roots : List ℕ
   pub manager : Option Manager
 
 -- ---- words
@@ -89,6 +93,26 @@ unfoldable pub cable_of : List Node → List Cable → List (List ℕ) → Resul
 cable_of nodes cables (one ∷ other ∷ []) = cable_spelt nodes cables one other
 cable_of nodes cables _ = Err Malformed
 
+-- `root NAME`, of a switch that is no root yet
+abbrev pub is_root : List ℕ → ℕ → Bool
+is_root roots place = list_any (λ root. place == root) roots
+
+abbrev pub new_root : List Node → List ℕ → ℕ → Result ℕ TopologyCause
+new_root nodes roots place =
+    if not (is_switch_at nodes place) then Err RootNotSwitch
+    else (if is_root roots place then Err DuplicateName
+    else Ok place)
+
+unfoldable pub root_spelt : List Node → List ℕ → List ℕ → Result ℕ TopologyCause
+root_spelt nodes roots word = do
+  name ← name_of word
+  place ← ok_or (place_of name nodes) UnknownNode
+  new_root nodes roots place
+
+unfoldable pub root_of : List Node → List ℕ → List (List ℕ) → Result ℕ TopologyCause
+root_of nodes roots (word ∷ []) = root_spelt nodes roots word
+root_of nodes roots _ = Err Malformed
+
 -- `sm PORT`, which stands once and names a port of an adapter
 abbrev pub new_manager : List Node → Option Manager → ℕ → PortRef → Result Manager TopologyCause
 new_manager nodes manager number port =
@@ -112,6 +136,9 @@ with_node so_far told = told >>= λ node. Ok (record so_far { nodes = so_far.nod
 abbrev pub with_cable : Declarations → Result Cable TopologyCause → Result Declarations TopologyCause
 with_cable so_far told = told >>= λ cable. Ok (record so_far { cables = so_far.cables ++ cable ∷ [] })
 
+abbrev pub with_root : Declarations → Result ℕ TopologyCause → Result Declarations TopologyCause
+with_root so_far told = told >>= λ root. Ok (record so_far { roots = so_far.roots ++ root ∷ [] })
+
 abbrev pub with_manager : Declarations → Result Manager TopologyCause → Result Declarations TopologyCause
 with_manager so_far told = told >>= λ manager. Ok (record so_far { manager = Some manager })
 
@@ -122,8 +149,9 @@ after_words number so_far (first ∷ rest) =
     if bytes_eq first (codes "switch") then with_node so_far (node_of Switch so_far.nodes rest)
     else (if bytes_eq first (codes "adapter") then with_node so_far (node_of ChannelAdapter so_far.nodes rest)
     else (if bytes_eq first (codes "cable") then with_cable so_far (cable_of so_far.nodes so_far.cables rest)
+    else (if bytes_eq first (codes "root") then with_root so_far (root_of so_far.nodes so_far.roots rest)
     else (if bytes_eq first (codes "sm") then with_manager so_far (manager_of so_far.nodes so_far.manager number rest)
-    else Err Malformed)))
+    else Err Malformed))))
 
 unfoldable pub after_line : ℕ → Declarations → List ℕ → Result Declarations TopologyCause
 after_line number so_far line = do
@@ -136,7 +164,7 @@ abbrev pub plan_of : Declarations → Manager → Result Plan (AtLine TopologyCa
 plan_of all manager =
     if not (is_cabled all.cables manager.port) then Err (record { line = manager.line; cause = ManagerUncabled })
     else (if not (is_connected all.nodes all.cables) then Err (record { line = 0; cause = Disconnected })
-    else Ok (record { nodes = all.nodes; cables = all.cables; sm = manager.port }))
+    else Ok (record { nodes = all.nodes; cables = all.cables; roots = all.roots; sm = manager.port }))
 
 unfoldable pub whole : Declarations → Result Plan (AtLine TopologyCause)
 whole all = do
@@ -145,7 +173,7 @@ whole all = do
 
 -- before the first line nothing is declared
 abbrev pub nothing : Declarations
-nothing = record { nodes = []; cables = []; manager = None }
+nothing = record { nodes = []; cables = []; roots = []; manager = None }
 
 -- what all lines declare
 abbrev pub declarations_of : List ℕ → Result Declarations (AtLine TopologyCause)

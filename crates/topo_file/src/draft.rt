@@ -6,7 +6,7 @@ ghost use Rattle.topo_file.specs.NewNode.{seen};
 ghost use Rattle.topo_file.specs.Cable.{port_at};
 ghost use Rattle.topo_file.specs.Sound.{is_port};
 ghost use Rattle.result_words.specs.Gives.{seen_by};
-ghost use Rattle.topo_file.specs.Topology.{new_node, new_cable, new_manager, nothing};
+ghost use Rattle.topo_file.specs.Topology.{is_root, new_node, new_cable, new_root, new_manager, nothing};
 
 use crate::cable::{CableList, may_join, port_at};
 use crate::fault::TopologyCause;
@@ -27,6 +27,8 @@ pub(crate) struct Manager {
 pub(crate) struct Draft {
     pub(crate) nodes: NodeList,
     pub(crate) cables: CableList,
+    // The places of their switches among the nodes.
+    pub(crate) roots: Vec<usize>,
     pub(crate) manager: Option<Manager>,
 }
 
@@ -36,9 +38,9 @@ impl Model for Draft {
 
     ghost Value = { Declarations };
 
-    ghost view = { λ draft. record { nodes = draft.nodes; cables = draft.cables; manager = draft.manager } };
+    ghost view = { λ draft. record { nodes = draft.nodes; cables = draft.cables; roots = draft.roots.items; manager = draft.manager } };
 
-    ghost invariant = { λ draft. IsSoundSoFar (record { nodes = draft.nodes; cables = draft.cables; manager = draft.manager }) };
+    ghost invariant = { λ draft. IsSoundSoFar (record { nodes = draft.nodes; cables = draft.cables; roots = draft.roots.items; manager = draft.manager }) };
 }
 
 impl Draft {
@@ -49,6 +51,7 @@ impl Draft {
         Draft {
             nodes: NodeList::new(alloc),
             cables: CableList::new(alloc),
+            roots: Vec::new(alloc),
             manager: None,
         }
     }
@@ -87,6 +90,21 @@ impl Draft {
         Ok(Cable { first, second })
     }
 
+    /// The root at this place, judged against what was declared before it.
+    pub(crate) fn new_root(&self, place: usize) -> Result<usize, TopologyCause>
+        ensures value { result ≡ new_root self.now.nodes self.now.roots place }
+        ensures switch { IfOk result (λ root. is_switch_at self.now.nodes root ≡ true) }
+        ensures own { IfOk result (λ root. is_root self.now.roots root ≡ false) }
+    {
+        if !is_switch_at(self.nodes.as_slice(), place) {
+            return Err(TopologyCause::RootNotSwitch);
+        }
+        if is_root(&self.roots, place) {
+            return Err(TopologyCause::DuplicateName);
+        }
+        Ok(place)
+    }
+
     /// The manager on this port, judged against what was declared before it.
     pub(crate) fn new_manager(&self, number: usize, port: PortRef) -> Result<Manager, TopologyCause>
         ensures value { result ≡ new_manager self.now.nodes self.now.manager number port }
@@ -111,4 +129,11 @@ impl Draft {
     {
         port_at(self.nodes.as_slice(), place, number).ok_or(TopologyCause::NoSuchPort)
     }
+}
+
+/// Whether the node there is one of the roots.
+fn is_root(roots: &[usize], place: usize) -> bool
+    ensures { result ≡ is_root roots.now place }
+{
+    roots.iter().any(|root| place == *root)
 }

@@ -14,8 +14,8 @@ pub enum TopologyCause {
     /// that is misspelt or out of its range.
     #[error("the line is malformed")]
     Malformed,
-    /// A node of this name is declared already.
-    #[error("a node of this name is declared already")]
+    /// A node of this name is declared already, or is a root already.
+    #[error("a node of this name is declared already, or is a root already")]
     DuplicateName,
     /// A GUID of the node is used already, or would be past 64 bits.
     #[error("a GUID of the node is used already, or does not fit in 64 bits")]
@@ -44,6 +44,9 @@ pub enum TopologyCause {
     /// The subnet manager's port has no cable.
     #[error("the subnet manager's port has no cable")]
     ManagerUncabled,
+    /// The root is no switch.
+    #[error("the root is no switch")]
+    RootNotSwitch,
 }
 
 impl TopologyCause {
@@ -63,6 +66,7 @@ impl TopologyCause {
             TopologyCause::Disconnected => "TF9",
             TopologyCause::OverLimit => "TF10",
             TopologyCause::ManagerUncabled => "TF11",
+            TopologyCause::RootNotSwitch => "TF12",
         }
     }
 }

@@ -1,4 +1,4 @@
-//! Topology files: the nodes, cables and subnet manager of a simulated fabric, read from a text.
+//! Topology files: the nodes, cables, roots and subnet manager of a simulated fabric, read from a text.
 //!
 //! [`read`] gives the [`Topology`] that a text describes, or the first fault with its line. What a
 //! text describes is stated in `specs/Topology.antt`, line by line, over the words of `text_words`.

@@ -2,13 +2,13 @@ ghost use Rattle.std.specs.Prelude.{◌≡◌, ◌≤◌, true, false, None, len
 ghost use Rattle.text_words.specs.Lines.{lines};
 ghost use Rattle.text_words.specs.declared.word.TheConstants.{NAME_LENGTH};
 ghost use Rattle.text_words.specs.Words.{seen as port_seen};
-ghost use Rattle.topo_file.specs.Node.{HasGuids, is_one_too_many, place_of};
+ghost use Rattle.topo_file.specs.Node.{HasGuids, is_one_too_many, is_switch_at, place_of};
 ghost use Rattle.topo_file.specs.NewNode.{seen};
 ghost use Rattle.topo_file.specs.Sound.{ends_at_ports, is_manager_port};
 ghost use Rattle.result_words.specs.AtLine.{on_line};
 ghost use Rattle.result_words.specs.Gives.{Gives, LineGives, seen_by};
 ghost use Rattle.topo_file.specs.Fault.{fault_in};
-ghost use Rattle.topo_file.specs.Topology.{name_of, port_of, number_up_to, node_spelt, node_of, cable_spelt, cable_of, manager_spelt, manager_of, with_node, with_cable, with_manager, after_words, after_line, whole, declarations_of, topology_of};
+ghost use Rattle.topo_file.specs.Topology.{name_of, port_of, number_up_to, node_spelt, node_of, cable_spelt, cable_of, root_spelt, root_of, manager_spelt, manager_of, is_root, with_node, with_cable, with_root, with_manager, after_words, after_line, whole, declarations_of, topology_of};
 
 use crate::connectivity::is_connected;
 use crate::draft::{Draft, Manager};
@@ -100,6 +100,31 @@ impl Draft {
         self.new_cable(first, second)
     }
 
+    /// The root that a line names, by the words after the first.
+    #[tactic(auto, unfolding(crate::specs::Topology::root_of))]
+    fn root_of(&self, words: Words<'_>) -> Result<usize, TopologyCause>
+        ensures value { result ≡ root_of self.now.nodes self.now.roots words.entry }
+        ensures switch { IfOk result (λ root. is_switch_at self.now.nodes root ≡ true) }
+        ensures own { IfOk result (λ root. is_root self.now.roots root ≡ false) }
+    {
+        let mut words = words;
+        let (Some(word), None) = (words.next(), words.next()) else {
+            return Err(TopologyCause::Malformed);
+        };
+        self.root_spelt(word)
+    }
+
+    #[tactic(auto, unfolding(crate::specs::Topology::root_spelt))]
+    fn root_spelt(&self, word: &[u8]) -> Result<usize, TopologyCause>
+        ensures value { result ≡ root_spelt self.now.nodes self.now.roots word.now }
+        ensures switch { IfOk result (λ root. is_switch_at self.now.nodes root ≡ true) }
+        ensures own { IfOk result (λ root. is_root self.now.roots root ≡ false) }
+    {
+        let name = name_of(word)?;
+        let place = self.node_named(name)?;
+        self.new_root(place)
+    }
+
     /// The port that a line places the subnet manager on, by the words after the first.
     #[tactic(auto, unfolding(crate::specs::Topology::manager_of))]
     fn manager_of(&self, number: usize, words: Words<'_>) -> Result<Manager, TopologyCause>
@@ -145,6 +170,14 @@ impl Draft {
         Ok(())
     }
 
+    fn take_root(&mut self, words: Words<'_>) -> Result<(), LineError<TopologyCause>>
+        ensures { LineGives (λ _. self.new) result (with_root self.old (root_of self.old.nodes self.old.roots words.entry)) }
+    {
+        let root = self.root_of(words)?;
+        self.roots.push(root)?;
+        Ok(())
+    }
+
     fn take_manager(
         &mut self,
         number: usize,
@@ -178,6 +211,9 @@ impl Draft {
         }
         if first == b"cable".as_slice() {
             return self.take_cable(words);
+        }
+        if first == b"root".as_slice() {
+            return self.take_root(words);
         }
         if first == b"sm".as_slice() {
             return self.take_manager(number, words);
@@ -238,6 +274,7 @@ impl Draft {
         Ok(Topology {
             nodes: self.nodes,
             cables: self.cables,
+            roots: self.roots,
             sm: manager.port,
         })
     }

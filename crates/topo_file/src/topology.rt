@@ -1,4 +1,4 @@
-ghost use Rattle.std.specs.Prelude.{◌≡◌, ◌+◌, ◌≤◌, true, false, All, IfSome};
+ghost use Rattle.std.specs.Prelude.{◌≡◌, ◌+◌, ◌≤◌, true, false, All, IfSome, nat_eq};
 ghost use Rattle.std.specs.List.{list_all, IsDistinct};
 ghost use Rattle.fabric_parts.specs.Cable.{is_cabled};
 ghost use Rattle.topo_file.specs.Cable.{port_at};
@@ -11,11 +11,13 @@ use crate::node::{Node, NodeList, is_switch_at};
 use fabric_parts::{Cable, PortRef};
 use std::marker::Model;
 
-/// The nodes and cables of a fabric, and the port that the subnet manager runs on.
+/// The nodes and cables of a fabric, the roots of its routes, and the port that the subnet manager runs on.
 #[derive(Debug, Drop)]
 pub struct Topology {
     pub(crate) nodes: NodeList,
     pub(crate) cables: CableList,
+    // The places of their switches among the nodes.
+    pub(crate) roots: Vec<usize>,
     pub(crate) sm: PortRef,
 }
 
@@ -25,9 +27,9 @@ impl Model for Topology {
 
     ghost Value = { Plan };
 
-    ghost view = { λ topology. record { nodes = topology.nodes; cables = topology.cables; sm = topology.sm } };
+    ghost view = { λ topology. record { nodes = topology.nodes; cables = topology.cables; roots = topology.roots.items; sm = topology.sm } };
 
-    ghost invariant = { λ topology. IsSound (record { nodes = topology.nodes; cables = topology.cables; sm = topology.sm }) };
+    ghost invariant = { λ topology. IsSound (record { nodes = topology.nodes; cables = topology.cables; roots = topology.roots.items; sm = topology.sm }) };
 }
 
 impl Topology {
@@ -61,6 +63,16 @@ impl Topology {
         ensures connected { AllJoined self.now.nodes result.now }
     {
         self.cables.as_slice()
+    }
+
+    /// The roots that routes go up to, in the order of their lines: each is the place of a switch among the
+    /// nodes. There may be none, and then the switch of least GUID is the root.
+    pub fn roots(&self) -> &[usize]
+        ensures value { result.now ≡ self.now.roots }
+        ensures switches { list_all (is_switch_at self.now.nodes) result.now ≡ true }
+        ensures own { IsDistinct nat_eq result.now }
+    {
+        self.roots.as_slice()
     }
 
     /// The port that the subnet manager runs on, which is an adapter's and has a cable.

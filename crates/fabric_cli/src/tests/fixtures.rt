@@ -25,7 +25,7 @@ pub const BAD_PARTITIONS: [(&str, &str, usize); 8] = [
 ];
 
 /// Topologies with a fault, one of each code that a short text can have, and its line.
-pub const BAD_TOPOLOGIES: [(&str, &str, usize); 10] = [
+pub const BAD_TOPOLOGIES: [(&str, &str, usize); 11] = [
     ("swich A 0x10 4\n", "TF1", 1),
     ("switch A 0x10 4\nswitch A 0x20 4\n", "TF2", 2),
     ("switch A 0x10 4\nswitch B 0x10 4\n", "TF3", 2),
@@ -48,6 +48,7 @@ pub const BAD_TOPOLOGIES: [(&str, &str, usize); 10] = [
         0,
     ),
     ("switch A 0x10 4\nadapter h 0x30 1\nsm h/1\n", "TF11", 3),
+    ("adapter h 0x30 1\nroot h\n", "TF12", 2),
 ];
 
 /// Scripts over the two switches with a fault, one of each code, and its line.

@@ -15,5 +15,5 @@ invariant_of-self-2 c =
     let made : cable_of inside.nodes inside.cables words ≡ Ok cable =
     ap (λ draft. cable_of draft.nodes draft.cables words) c.self.view_is ∙ sym c.in_ok-cable.ensures.value in
     rw c.in_ok-push.ensures.ok
-    (sound_with (record { nodes = inside.nodes; cables = inside.cables; manager = inside.manager }) cable c.self.invariant ends
+    (sound_with (record { nodes = inside.nodes; cables = inside.cables; roots = inside.roots.items; manager = inside.manager }) cable c.self.invariant ends
     (new_cable_is inside.nodes inside.cables words cable made))

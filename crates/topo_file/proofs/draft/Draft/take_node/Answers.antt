@@ -16,5 +16,5 @@ invariant_of-self-2 c =
     let made : node_of c.args.node_type inside.nodes words ≡ Ok (seen node) =
     ap (λ draft. node_of c.args.node_type draft.nodes words) c.self.view_is ∙ sym c.in_ok-node.ensures.value in
     rw c.in_ok-push.ensures.ok
-    (sound_still (record { nodes = inside.nodes; cables = inside.cables; manager = inside.manager }) (seen node) c.self.invariant c.in_ok-node.ensures.guids room
+    (sound_still (record { nodes = inside.nodes; cables = inside.cables; roots = inside.roots.items; manager = inside.manager }) (seen node) c.self.invariant c.in_ok-node.ensures.guids room
     (new_node_is c.args.node_type inside.nodes words (seen node) made))
