@@ -1,0 +1,10 @@
+pub mod CablingLemmas
+pub mod PlaceLemmas
+pub mod NumberLemmas
+pub mod RouteLemmas
+pub mod UniqueLemmas
+pub mod CircleLemmas
+pub mod OrderLemmas
+pub mod DistanceLemmas
+pub mod TreeLemmas
+pub mod PlacedLemmas

@@ -1,0 +1,10 @@
+use Rattle.updn_routes.specs.Order.{is_first_root}
+use Rattle.updn_routes.proofs.TreeLemmas.{leads_home, no_tree_port, port_of}
+use Rattle.updn_routes.proofs.laws.the_tree_leads_to_the_first_root.Goals as goal
+
+pub returns : goal.returns
+returns c = λ rows guids roots depths cabling right s less. (
+  no_tree_port rows (is_first_root guids roots) depths cabling right s less,
+  port_of rows (is_first_root guids roots) depths cabling right s less,
+  leads_home rows (is_first_root guids roots) depths cabling right s less,
+)

@@ -1,0 +1,48 @@
+//! What follows from the definitions of `specs/` alone. Each function's contract is its law; it does nothing.
+
+ghost use Rattle.updn_routes.specs.Laws.{ChoicesLeadHome, JoinedSwitchesHaveDistances, NoCircleWaits, OneChoiceIsLeft, OneDistanceIsLeft, PlacesKeepTheChoices, PlacesKeepTheOrder, PlacesKeepTheWalks, RanksAndGuidsOrder, TheTreeLeadsToTheFirstRoot, WaysDownComeFirst};
+
+/// Joined switches have distances from whatever switches, and so ranks and depths, and one list of each.
+pub fn joined_switches_have_distances()
+    ensures some { JoinedSwitchesHaveDistances }
+    ensures one { OneDistanceIsLeft }
+{}
+
+/// Ranks, and GUIDs where ranks are equal, put all switches in order.
+pub fn ranks_and_guids_order()
+    ensures { RanksAndGuidsOrder }
+{}
+
+/// Where a port is chosen, following the choices arrives: over fewer than twice as many cables as there are
+/// switches, up and then down, and over channels whose numbers rise. Where none is chosen, no legal walk leads there.
+pub fn choices_lead_home()
+    ensures { ChoicesLeadHome }
+{}
+
+/// Choices that obey the definition are the same, though each speaks of those of its neighbours.
+pub fn one_choice_is_left()
+    ensures { OneChoiceIsLeft }
+{}
+
+/// No channel waits, over others, for itself.
+pub fn no_circle_waits()
+    ensures { NoCircleWaits }
+{}
+
+/// Where one can go down all the way, the route does, and by a shortest such way.
+pub fn ways_down_come_first()
+    ensures { WaysDownComeFirst }
+{}
+
+/// Each switch but the first root has one tree port, and the tree ports lead to the first root, a step of
+/// depth at a time.
+pub fn the_tree_leads_to_the_first_root()
+    ensures { TheTreeLeadsToTheFirstRoot }
+{}
+
+/// What is said of places holds of switches: places keep their order, their walks and what is chosen.
+pub fn places_keep_order_and_walks()
+    ensures order { PlacesKeepTheOrder }
+    ensures walks { PlacesKeepTheWalks }
+    ensures choices { PlacesKeepTheChoices }
+{}
