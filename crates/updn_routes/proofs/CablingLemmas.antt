@@ -1,10 +1,11 @@
 -- Rows of links: what one port leads to, and where links end.
-use Rattle.std.proofs.Common.{◌≡◌, ℕ, zero, suc, ◌+◌, ◌<◌, ◌≤◌, Bool, true, false, not, ◌==◌, ◌&&◌, ◌||◌, nat_lt, List, [], ◌∷◌, map, length, get_or, refl, sym, ap, subst, ◌∙◌, inl, inr, arith}
+use Rattle.std.proofs.Common.{◌≡◌, ℕ, zero, suc, ◌+◌, ◌<◌, ◌≤◌, Bool, true, false, not, ◌==◌, ◌&&◌, nat_lt, List, [], ◌∷◌, map, length, refl, sym, ap, subst, ◌∙◌, inl, inr, arith}
 use Rattle.std.specs.List.{list_all, list_any, range_with_len}
-use Rattle.std.proofs.lemmas.Bool.{and_parts, and_from, or_cases, or_left, or_right, eqb-true, eqb-false, eq-eqb, ne_eqb, ltb-true, false≢true, not-true}
+use Rattle.std.proofs.lemmas.Bool.{and_parts, and_from, or_cases, or_left, or_right, cases_lt, eqb-true, eqb-false, eq-eqb, ne_eqb, ltb-true, false≢true, not-true}
+use Rattle.std.proofs.lemmas.List.{get_or_past}
 use Rattle.result_words.proofs.ListLemmas.{list_any_weaker}
 use Rattle.updn_routes.specs.declared.link.Link.{Link}
-use Rattle.updn_routes.specs.Cabling.{is_cabling, is_next_to, is_row, is_walk, leads, links_of, rises}
+use Rattle.updn_routes.specs.Cabling.{is_cabling, is_next_to, is_row, leads, links_of, rises}
 
 -- ---- lists
 -- what passes at each number of a range
@@ -94,6 +95,14 @@ ends rows s t cabling less h =
     (omega (arith, below, same), ne_eqb s t (λ e. other (same ∙ sym e)))
 
 -- ---- next to one another
+-- what leads somewhere is a switch
+pub leads_there : (rows : List (List Link)) (s port t : ℕ) → leads rows s port t ≡ true → s < length rows
+leads_there rows s port t h =
+    elim (cases_lt s (length rows)) [
+      | inl less ↦ less
+      | inr past ↦ absurd (false≢true (ap (λ (row : List Link). list_any (goes port t) row) (sym (get_or_past rows s [] past)) ∙ h))
+    ]
+
 pub leads_next : (rows : List (List Link)) (s port t : ℕ) → leads rows s port t ≡ true → is_next_to rows s t ≡ true
 leads_next rows s port t h =
     list_any_weaker (goes port t) (λ link. link.to == t) (λ link is. (and_parts (link.port == port) (link.to == t) is).1) (links_of rows s) h

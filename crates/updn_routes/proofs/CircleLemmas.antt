@@ -1,14 +1,14 @@
 -- No channel waits, over others, for itself: the numbers rise from one to the next.
-use Rattle.std.proofs.Common.{◌≡◌, ℕ, suc, ◌+◌, ◌<◌, ◌≤◌, Bool, true, false, ◌&&◌, nat_lt, List, [], ◌∷◌, length, Option, Some, None, refl, sym, ap, subst, ◌∙◌, arith}
+use Rattle.std.proofs.Common.{◌≡◌, ℕ, ◌<◌, Bool, true, nat_lt, List, [], ◌∷◌, length, Option, sym, subst, ◌∙◌, arith}
 use Rattle.std.specs.List.{list_all}
 use Rattle.std.proofs.lemmas.Bool.{and_parts, ltb-true}
 use Rattle.updn_routes.specs.declared.link.Link.{Link}
 use Rattle.updn_routes.specs.Cabling.{is_cabling, leads, rises}
-use Rattle.updn_routes.specs.Choice.{AllChosen, is_route}
+use Rattle.updn_routes.specs.Choice.{AllChosen}
 use Rattle.updn_routes.specs.Order.{IsOrder}
 use Rattle.updn_routes.specs.UpDown.{channel_number, channel_numbers}
 use Rattle.updn_routes.specs.Waiting.{Channel, WaitsFor, WaitsOver}
-use Rattle.updn_routes.proofs.CablingLemmas.{ends, leads_next, one_end}
+use Rattle.updn_routes.proofs.CablingLemmas.{ends, leads_next, leads_there, one_end}
 use Rattle.updn_routes.proofs.NumberLemmas.{legal_numbers}
 use Rattle.updn_routes.proofs.RouteLemmas.{first_step, route_legal, route_walks, same_port}
 
@@ -52,8 +52,19 @@ module _ (rows : List (List Link)) (before : ℕ → ℕ → Bool) (next : ℕ �
       let far = rest.less in
       (c.from, more.1, record { there = rest.there; over_a = one.over_a; over_b = rest.over_b; less = omega (arith, near, far) })
 
-  pub no_circle : (a : Channel) (others : List Channel) → a.from < length rows → ¬ (WaitsOver rows next a others a)
-  no_circle a others less w =
+  -- a channel that waits leaves a switch
+  waits_there : (a b : Channel) → WaitsFor rows next a b → a.from < length rows
+  waits_there a b w =
+      let f = first_step rows (next w.target) a.from b.from (w.beyond ∷ w.steps) w.target w.route in
+      leads_there rows a.from f.port b.from f.out
+
+  over_there : (a : Channel) (others : List Channel) (b : Channel) → WaitsOver rows next a others b → a.from < length rows
+  over_there a [] b w = waits_there a b w
+  over_there a (c ∷ others) b w = waits_there a c w.0
+
+  pub no_circle : (a : Channel) (others : List Channel) → ¬ (WaitsOver rows next a others a)
+  no_circle a others w =
+      let less = over_there a others a w in
       let round : (t : ℕ) × (u : ℕ) × Rises a a t u = over_rise a others a less w in
       let same = one_end rows a.from a.port round.0 round.1 cabling less round.2.over_a round.2.over_b in
       let rise : channel_number before (length rows) a.from round.1 < channel_number before (length rows) a.from round.1 =

@@ -8,3 +8,6 @@ pub mod OrderLemmas
 pub mod DistanceLemmas
 pub mod TreeLemmas
 pub mod PlacedLemmas
+pub mod TableLemmas
+pub mod TestLemmas
+pub mod ExampleLemmas

@@ -1,15 +1,14 @@
 -- A cabling whose switches are numbered by their places has the same walks, and the same choices.
-use Rattle.std.proofs.Common.{◌≡◌, ◌≢◌, ℕ, zero, suc, ◌+◌, ◌<◌, ◌≤◌, Bool, true, false, cond, not, ◌==◌, ◌&&◌, ◌||◌, nat_lt, List, [], ◌∷◌, map, length, Option, Some, None, refl, sym, ap, subst, ◌∙◌, inl, inr, arith}
+use Rattle.std.proofs.Common.{◌≡◌, ℕ, suc, ◌<◌, Bool, true, false, ◌==◌, ◌&&◌, nat_lt, List, [], ◌∷◌, map, length, Option, Some, None, refl, sym, ap, subst, ◌∙◌, inl, inr, arith}
 use Rattle.std.specs.List.{list_all, list_any}
-use Rattle.std.specs.Option.{option_map_or}
 use Rattle.std.proofs.lemmas.Bool.{and_parts, and_from, or_cases, or_left, or_right, eqb-true, eqb-false, eq-eqb, ne_eqb, ltb-true, false≢true}
 use Rattle.updn_routes.specs.declared.link.Link.{Link}
 use Rattle.updn_routes.specs.Cabling.{is_cabling, is_next_to, is_walk, leads, links_of}
 use Rattle.updn_routes.specs.Choice.{AllChosen, HasNone, IsChosenOf, IsLeastOf, is_route, is_way_down, is_way_up}
 use Rattle.updn_routes.specs.Laws.{KeepsTheOrder, KeepsTheWalks}
 use Rattle.updn_routes.specs.Places.{IsPlaced, placed_link}
-use Rattle.updn_routes.specs.UpDown.{goes_down, is_down, is_up}
-use Rattle.updn_routes.proofs.CablingLemmas.{ends, goes, leads_next, links_within, next_leads}
+use Rattle.updn_routes.specs.UpDown.{goes_down}
+use Rattle.updn_routes.proofs.CablingLemmas.{ends, goes, leads_next, links_within}
 use Rattle.updn_routes.proofs.RouteLemmas.{first_step, step_first, up_way, way_up}
 
 same_and : (a b c e : Bool) → a ≡ b → c ≡ e → (a && c) ≡ (b && e)

@@ -1,10 +1,10 @@
 -- Routes: where the choices lead.
-use Rattle.std.proofs.Common.{◌≡◌, ◌≢◌, ℕ, zero, suc, ◌+◌, ◌<◌, ◌≤◌, Bool, true, false, not, ◌==◌, ◌&&◌, ◌||◌, List, [], ◌∷◌, length, Option, Some, None, refl, sym, ap, subst, ◌∙◌, inl, inr, arith}
-use Rattle.std.proofs.lemmas.Bool.{and_parts, and_from, or_cases, or_left, or_right, eqb-true, eqb-false, eq-eqb, ne_eqb, not-true, not_from_false, false≢true}
+use Rattle.std.proofs.Common.{◌≡◌, ◌≢◌, ℕ, zero, suc, ◌<◌, ◌≤◌, Bool, true, false, not, ◌==◌, ◌&&◌, List, [], ◌∷◌, length, Option, Some, None, refl, sym, ap, subst, ◌∙◌, inl, inr, arith}
+use Rattle.std.proofs.lemmas.Bool.{and_parts, and_from, or_cases, or_left, or_right, eqb-true, eqb-false, ne_eqb, not-true, not_from_false, false≢true}
 use Rattle.std.specs.Option.{option_map_or}
 use Rattle.updn_routes.specs.declared.link.Link.{Link}
 use Rattle.updn_routes.specs.Cabling.{is_cabling, is_next_to, is_walk, leads}
-use Rattle.updn_routes.specs.Choice.{AllChosen, HasNone, IsChosenOf, IsLeastOf, follows, is_route, is_way_down, is_way_up}
+use Rattle.updn_routes.specs.Choice.{AllChosen, IsChosenOf, IsLeastOf, follows, is_route, is_way_down, is_way_up}
 use Rattle.updn_routes.specs.UpDown.{goes_down, is_down, is_legal, is_up}
 use Rattle.updn_routes.proofs.CablingLemmas.{ends, leads_next, next_leads, one_end}
 

@@ -1,12 +1,12 @@
 -- The tree: each switch but the first root has a tree port, and they lead to the first root.
-use Rattle.std.proofs.Common.{◌≡◌, ◌≢◌, ℕ, zero, suc, ◌+◌, ◌<◌, ◌≤◌, Bool, true, false, ◌==◌, ◌&&◌, ◌||◌, nat_lt, List, [], ◌∷◌, map, cond, find, length, get_or, Option, Some, None, option_map, refl, sym, ap, subst, ◌∙◌, inl, inr, arith}
+use Rattle.std.proofs.Common.{◌≡◌, ◌≢◌, ℕ, zero, suc, ◌+◌, ◌<◌, ◌≤◌, Bool, true, false, ◌==◌, nat_lt, List, [], ◌∷◌, map, cond, find, length, get_or, Option, Some, None, option_map, refl, sym, ap, subst, ◌∙◌, inl, inr, arith}
 use Rattle.std.specs.List.{list_all, list_any}
-use Rattle.std.proofs.lemmas.Bool.{and_parts, and_from, or_cases, or_left, or_right, eqb-true, eqb-false, eq-eqb, ne_eqb, ltb-true, false≢true}
+use Rattle.std.proofs.lemmas.Bool.{and_parts, and_from, or_cases, or_left, or_right, eqb-true, eq-eqb, ne_eqb, false≢true}
 use Rattle.updn_routes.specs.declared.link.Link.{Link}
-use Rattle.updn_routes.specs.Cabling.{is_cabling, is_next_to, is_walk, leads, links_of, rises}
+use Rattle.updn_routes.specs.Cabling.{is_cabling, is_next_to, is_walk, links_of, rises}
 use Rattle.updn_routes.specs.Choice.{is_route}
 use Rattle.updn_routes.specs.Laws.{IsTreePort}
-use Rattle.updn_routes.specs.Order.{AreDistances, IsDistance}
+use Rattle.updn_routes.specs.Order.{AreDistances}
 use Rattle.updn_routes.specs.Tree.{tree_port}
 use Rattle.updn_routes.proofs.CablingLemmas.{ends, goes, later_port, leads_next, row_rises}
 use Rattle.updn_routes.proofs.RouteLemmas.{step_first}

@@ -1,10 +1,10 @@
 -- What follows from the definitions alone: the statements of the laws of `src/laws.rt`.
-use Rattle.std.specs.Prelude.{ℕ, ◌≡◌, ◌≢◌, ◌==◌, ◌+◌, ◌*◌, ◌<◌, ◌≤◌, ◌&&◌, nat_lt, Bool, true, false, List, [], ◌∷◌, length, map, get_or, Option, Some, None}
-use Rattle.std.specs.List.{list_all, list_any, IsDistinct}
+use Rattle.std.specs.Prelude.{ℕ, ◌≡◌, ◌≢◌, ◌==◌, ◌+◌, ◌*◌, ◌<◌, ◌≤◌, ◌&&◌, nat_lt, Bool, true, false, List, length, map, get_or, Option, Some, None}
+use Rattle.std.specs.List.{list_all, IsDistinct}
 use Rattle.updn_routes.specs.declared.link.Link.{Link}
 use Rattle.updn_routes.specs.Cabling.{AllJoined, is_cabling, is_walk, leads, rises}
 use Rattle.updn_routes.specs.Choice.{AllChosen, is_route}
-use Rattle.updn_routes.specs.Order.{AreDistances, IsDistance, IsOrder, is_first_root, is_root, place_of, precedes}
+use Rattle.updn_routes.specs.Order.{AreDistances, IsDistance, IsOrder, is_first_root, place_of, precedes}
 use Rattle.updn_routes.specs.Places.{IsPlaced}
 use Rattle.updn_routes.specs.Tree.{AreDepths, tree_port}
 use Rattle.updn_routes.specs.UpDown.{channel_numbers, goes_down, is_legal}
@@ -56,7 +56,7 @@ abbrev pub NoCircleWaits : Type 0
 NoCircleWaits =
     (rows : List (List Link)) (before : ℕ → ℕ → Bool) (next : ℕ → ℕ → Option ℕ)
     → is_cabling rows ≡ true → IsOrder (length rows) before → ((d : ℕ) → d < length rows → AllChosen rows before (next d) d)
-    → (a : Channel) (others : List Channel) → a.from < length rows → ¬ (WaitsOver rows next a others a)
+    → (a : Channel) (others : List Channel) → ¬ (WaitsOver rows next a others a)
 
 -- where some walk goes down all the way, the route does too, and no such walk is shorter: so a step up is taken only where none does
 abbrev pub WaysDownComeFirst : Type 0

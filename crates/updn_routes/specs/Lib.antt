@@ -6,3 +6,4 @@ pub mod Waiting
 pub mod Tree
 pub mod Places
 pub mod Laws
+pub mod Examples

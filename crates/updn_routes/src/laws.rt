@@ -1,5 +1,6 @@
 //! What follows from the definitions of `specs/` alone. Each function's contract is its law; it does nothing.
 
+ghost use Rattle.updn_routes.specs.Examples.{FourSwitchesMeetTheLaws, SevenSwitchesMeetTheLaws, TwoSwitchesMeetTheLaws};
 ghost use Rattle.updn_routes.specs.Laws.{ChoicesLeadHome, JoinedSwitchesHaveDistances, NoCircleWaits, OneChoiceIsLeft, OneDistanceIsLeft, PlacesKeepTheChoices, PlacesKeepTheOrder, PlacesKeepTheWalks, RanksAndGuidsOrder, TheTreeLeadsToTheFirstRoot, WaysDownComeFirst};
 
 /// Joined switches have distances from whatever switches, and so ranks and depths, and one list of each.
@@ -45,4 +46,19 @@ pub fn places_keep_order_and_walks()
     ensures order { PlacesKeepTheOrder }
     ensures walks { PlacesKeepTheWalks }
     ensures choices { PlacesKeepTheChoices }
+{}
+
+/// Two switches, worked out by hand, meet all that the laws ask for: so these are not proved of nothing.
+pub fn the_two_switch_fabric_meets_the_laws()
+    ensures { TwoSwitchesMeetTheLaws }
+{}
+
+/// Four switches with two roots. Each root is at the other's depth 2, and neither has a way to the other.
+pub fn the_four_switch_fabric_meets_the_laws()
+    ensures { FourSwitchesMeetTheLaws }
+{}
+
+/// Seven switches, one of which follows the routes that its neighbours take, and not the shortest that they could.
+pub fn the_seven_switch_fabric_meets_the_laws()
+    ensures { SevenSwitchesMeetTheLaws }
 {}
