@@ -40,7 +40,8 @@ module _ (rows : List (List Link)) (before : ℕ → ℕ → Bool) (next : ℕ �
         less = ltb-true x y (and_parts (nat_lt x y) (list_all (λ z. nat_lt x z) rest) one.0).0;
       }
 
-  over_rise : (a : Channel) (others : List Channel) (b : Channel) → a.from < length rows → WaitsOver rows next a others b → (t : ℕ) × (u : ℕ) × Rises a b t u
+  over_rise : (a : Channel) (others : List Channel) (b : Channel) → a.from < length rows
+      → WaitsOver rows next a others b → (t : ℕ) × (u : ℕ) × Rises a b t u
   over_rise a [] b less w = (b.from, w.beyond, waits_rise a b less w)
   over_rise a (c ∷ others) b less w =
       let one = waits_rise a c less w.0 in
@@ -58,7 +59,8 @@ module _ (rows : List (List Link)) (before : ℕ → ℕ → Bool) (next : ℕ �
       let f = first_step rows (next w.target) a.from b.from (w.beyond ∷ w.steps) w.target w.route in
       leads_there rows a.from f.port b.from f.out
 
-  over_there : (a : Channel) (others : List Channel) (b : Channel) → WaitsOver rows next a others b → a.from < length rows
+  over_there : (a : Channel) (others : List Channel) (b : Channel) → WaitsOver rows next a others b
+      → a.from < length rows
   over_there a [] b w = waits_there a b w
   over_there a (c ∷ others) b w = waits_there a c w.0
 

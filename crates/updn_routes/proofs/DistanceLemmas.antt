@@ -9,7 +9,8 @@ use Rattle.updn_routes.specs.Order.{AreDistances, IsDistance}
 use Rattle.updn_routes.proofs.CablingLemmas.{at_each, ends, some_of}
 
 -- ---- one distance
-pub one_distance : (rows : List (List Link)) (passes : ℕ → Bool) (s one other : ℕ) → IsDistance rows passes s one → IsDistance rows passes s other → one ≡ other
+pub one_distance : (rows : List (List Link)) (passes : ℕ → Bool) (s one other : ℕ) → IsDistance rows passes s one
+    → IsDistance rows passes s other → one ≡ other
 one_distance rows passes s one other f g =
     let a = f.some in
     let b = g.some in
@@ -25,9 +26,11 @@ reaches rows passes zero s = passes s
 reaches rows passes (suc k) s = list_any (λ link. reaches rows passes k link.to) (links_of rows s)
 
 abbrev EndsOf : List (List Link) → (ℕ → Bool) → ℕ → ℕ → Type 0
-EndsOf rows passes s k = (d : ℕ) × (steps : List ℕ) × (passes d ≡ true) × (is_walk rows s steps d ≡ true) × (length steps ≡ k)
+EndsOf rows passes s k =
+    (d : ℕ) × (steps : List ℕ) × (passes d ≡ true) × (is_walk rows s steps d ≡ true) × (length steps ≡ k)
 
-next_of : (p : ℕ → Bool) (row : List Link) → list_any (λ link. p link.to) row ≡ true → (t : ℕ) × ((list_any (λ link. link.to == t) row ≡ true) × (p t ≡ true))
+next_of : (p : ℕ → Bool) (row : List Link) → list_any (λ link. p link.to) row ≡ true
+    → (t : ℕ) × ((list_any (λ link. link.to == t) row ≡ true) × (p t ≡ true))
 next_of p [] h = absurd (false≢true h)
 next_of p (link ∷ row) h =
     elim (or_cases (p link.to) (list_any (λ link. p link.to) row) h) [
@@ -35,7 +38,8 @@ next_of p (link ∷ row) h =
       | inr later ↦ let more = next_of p row later in (more.0, (or_right (link.to == more.0) _ more.1.0, more.1.1))
     ]
 
-reaches_walk : (rows : List (List Link)) (passes : ℕ → Bool) (k s : ℕ) → reaches rows passes k s ≡ true → EndsOf rows passes s k
+reaches_walk : (rows : List (List Link)) (passes : ℕ → Bool) (k s : ℕ) → reaches rows passes k s ≡ true
+    → EndsOf rows passes s k
 unfolding reaches
 reaches_walk rows passes zero s h = (s, [], h, eq-eqb s s refl, refl)
 reaches_walk rows passes (suc k) s h =
@@ -43,7 +47,8 @@ reaches_walk rows passes (suc k) s h =
     let more : EndsOf rows passes t.0 k = reaches_walk rows passes k t.0 t.1.1 in
     (more.0, t.0 ∷ more.1, more.2, and_from (is_next_to rows s t.0) _ t.1.0 more.3, ap suc more.4)
 
-walk_reaches : (rows : List (List Link)) (passes : ℕ → Bool) (s d : ℕ) (steps : List ℕ) → passes d ≡ true → is_walk rows s steps d ≡ true → reaches rows passes (length steps) s ≡ true
+walk_reaches : (rows : List (List Link)) (passes : ℕ → Bool) (s d : ℕ) (steps : List ℕ) → passes d ≡ true
+    → is_walk rows s steps d ≡ true → reaches rows passes (length steps) s ≡ true
 unfolding reaches
 walk_reaches rows passes s d [] end walk = subst (λ (k : ℕ). passes k ≡ true) (sym (eqb-true s d walk)) end
 walk_reaches rows passes s d (t ∷ steps) end walk =
@@ -60,12 +65,20 @@ below : (p : ℕ → Bool) (m : ℕ) → ((k : ℕ) × IsLeast p k) ⊎ ((j : �
 below p zero = inr (λ j less. absurd (let no_room : ⊥ = omega (arith, less) in no_room))
 below p (suc m) = elim (below p m) [ inl found ↦ inl found | inr none ↦ by none (p m) refl ]
   where
-    by : ((j : ℕ) → j < m → p j ≡ false) → (b : Bool) → p m ≡ b → ((k : ℕ) × IsLeast p k) ⊎ ((j : ℕ) → j < suc m → p j ≡ false)
-    by none true e = inl (m, (e, λ j h. elim (cases_lt j m) [ inl less ↦ absurd (false≢true (sym (none j less) ∙ h)) | inr more ↦ more ]))
-    by none false e = inr (λ j less. elim (cases_lt j m) [ inl lower ↦ none j lower | inr more ↦ (let same : j ≡ m = omega (arith, less, more) in subst (λ (k : ℕ). p k ≡ false) (sym same) e) ])
+    by : ((j : ℕ) → j < m → p j ≡ false) → (b : Bool) → p m ≡ b
+        → ((k : ℕ) × IsLeast p k) ⊎ ((j : ℕ) → j < suc m → p j ≡ false)
+    by none true e =
+        inl (m, (e, λ j h. elim (cases_lt j m) [ inl less ↦ absurd (false≢true (sym (none j less) ∙ h)) | inr more ↦ more ]))
+    by none false e =
+        inr (λ j less. elim (cases_lt j m) [
+          | inl lower ↦ none j lower
+          | inr more ↦ (let same : j ≡ m =
+              omega (arith, less, more) in subst (λ (k : ℕ). p k ≡ false) (sym same) e)
+        ])
 
 least_of : (p : ℕ → Bool) (m : ℕ) → p m ≡ true → (k : ℕ) × IsLeast p k
-least_of p m h = elim (below p (suc m)) [ inl found ↦ found | inr none ↦ absurd (false≢true (sym (none m (omega arith)) ∙ h)) ]
+least_of p m h =
+    elim (below p (suc m)) [ inl found ↦ found | inr none ↦ absurd (false≢true (sym (none m (omega arith)) ∙ h)) ]
 
 -- ---- a number for each of so many
 listed : (P : ℕ → ℕ → Type 0) (first count : ℕ) → ((s : ℕ) → first ≤ s → s < first + count → (k : ℕ) × P s k)
@@ -74,15 +87,18 @@ listed P first zero each = ([], refl, λ i less. absurd (let no_room : ⊥ = ome
 listed P first (suc count) each =
     with (each first (omega arith) (omega arith)) (listed P (first + 1) count (λ s low high. each s (omega (arith, low)) (omega (arith, high))))
   where
-    with : (k : ℕ) × P first k → (ks : List ℕ) × (length ks ≡ count) × ((i : ℕ) → i < count → P (first + 1 + i) (get_or ks i 0))
+    with : (k : ℕ) × P first k
+        → (ks : List ℕ) × (length ks ≡ count) × ((i : ℕ) → i < count → P (first + 1 + i) (get_or ks i 0))
         → (ks : List ℕ) × (length ks ≡ suc count) × ((i : ℕ) → i < suc count → P (first + i) (get_or ks i 0))
     with one more = (one.0 ∷ more.0, ap suc more.1, at)
       where
         at : (i : ℕ) → i < suc count → P (first + i) (get_or (one.0 ∷ more.0) i 0)
         at zero less = let same : first ≡ first + 0 = omega arith in subst (λ (s : ℕ). P s one.0) same one.1
-        at (suc i) less = let same : first + 1 + i ≡ first + suc i = omega arith in subst (λ (s : ℕ). P s (get_or more.0 i 0)) same (more.2 i (omega (arith, less)))
+        at (suc i) less =
+            let same : first + 1 + i ≡ first + suc i = omega arith in subst (λ (s : ℕ). P s (get_or more.0 i 0)) same (more.2 i (omega (arith, less)))
 
-pub joined_distances : (rows : List (List Link)) (passes : ℕ → Bool) (root : ℕ) → AllJoined rows → root < length rows → passes root ≡ true → (distances : List ℕ) × AreDistances rows passes distances
+pub joined_distances : (rows : List (List Link)) (passes : ℕ → Bool) (root : ℕ) → AllJoined rows → root < length rows
+    → passes root ≡ true → (distances : List ℕ) × AreDistances rows passes distances
 joined_distances rows passes root joined there is = (all.0, record { count = all.1; each = λ s less. subst (λ (k : ℕ). IsDistance rows passes k (get_or all.0 s 0)) (zero_more s) (all.2 s less) })
   where
     zero_more : (s : ℕ) → 0 + s ≡ s
@@ -106,7 +122,8 @@ is_distance_at rows passes distances s =
     && list_all (λ link. nat_le (get_or distances s 0) (get_or distances link.to 0 + 1)) (links_of rows s)))
 
 abbrev pub are_distances : List (List Link) → (ℕ → Bool) → List ℕ → Bool
-are_distances rows passes distances = (length distances == length rows) && list_all (is_distance_at rows passes distances) (range_with_len 0 (length rows))
+are_distances rows passes distances =
+    (length distances == length rows) && list_all (is_distance_at rows passes distances) (range_with_len 0 (length rows))
 
 module _ (rows : List (List Link)) (passes : ℕ → Bool) (distances : List ℕ) (cabling : is_cabling rows ≡ true) (tested : are_distances rows passes distances ≡ true) where
   abbrev far : ℕ → ℕ
@@ -122,7 +139,8 @@ module _ (rows : List (List Link)) (passes : ℕ → Bool) (distances : List ℕ
     beside : is_next_to rows s parent ≡ true
     nearer : far parent + 1 ≡ far s
 
-  cases : (s : ℕ) → s < length rows → (far s ≡ 0) × (passes s ≡ true) ⊎ (passes s ≡ false) × Near s × ((t : ℕ) → is_next_to rows s t ≡ true → far s ≤ far t + 1)
+  cases : (s : ℕ) → s < length rows
+      → (far s ≡ 0) × (passes s ≡ true) ⊎ (passes s ≡ false) × Near s × ((t : ℕ) → is_next_to rows s t ≡ true → far s ≤ far t + 1)
   cases s less =
       elim (or_cases (passes s && (far s == 0)) _ (at s less)) [
         | inl h ↦ let parts = and_parts (passes s) (far s == 0) h in inl (eqb-true (far s) 0 parts.1, parts.0)
@@ -133,12 +151,14 @@ module _ (rows : List (List Link)) (passes : ℕ → Bool) (distances : List ℕ
             inr (
               not-true (passes s) one.0,
               record { parent = t.0; beside = t.1.0; nearer = eqb-true (far t.0 + 1) (far s) t.1.1 },
-              λ v beside. let link = some_of (λ link. link.to == v) (λ link. nat_le (far s) (far link.to + 1)) (links_of rows s) two.1 beside in
+              λ v beside. let link =
+                  some_of (λ link. link.to == v) (λ link. nat_le (far s) (far link.to + 1)) (links_of rows s) two.1 beside in
                   subst (λ (u : ℕ). far s ≤ far u + 1) (eqb-true link.0.to v link.1.0) (leb-true (far s) (far link.0.to + 1) link.1.1),
             )
       ]
 
-  shortest : (s d : ℕ) (steps : List ℕ) → s < length rows → passes d ≡ true → is_walk rows s steps d ≡ true → far s ≤ length steps
+  shortest : (s d : ℕ) (steps : List ℕ) → s < length rows → passes d ≡ true → is_walk rows s steps d ≡ true
+      → far s ≤ length steps
   shortest s d [] less end walk =
       elim (cases s less) [
         | inl h ↦ (let none = h.0 in omega (arith, none))

@@ -9,8 +9,10 @@ use Rattle.updn_routes.specs.Order.{IsOrder, is_first_root, is_root}
 use Rattle.updn_routes.proofs.DistanceLemmas.{are_distances, distances_tested}
 use Rattle.updn_routes.proofs.OrderLemmas.{ranks_order}
 
-pub is_right : (w : Worked) → is_cabling w.rows ≡ true → distinct_count nat_eq w.guids ≡ length w.guids → length w.guids ≡ length w.rows
-    → are_distances w.rows (is_root w.guids w.roots) w.ranks ≡ true → are_distances w.rows (is_first_root w.guids w.roots) w.depths ≡ true → IsRight w
+pub is_right : (w : Worked) → is_cabling w.rows ≡ true → distinct_count nat_eq w.guids ≡ length w.guids
+    → length w.guids ≡ length w.rows
+    → are_distances w.rows (is_root w.guids w.roots) w.ranks ≡ true
+    → are_distances w.rows (is_first_root w.guids w.roots) w.depths ≡ true → IsRight w
 is_right w cabling own count ranks depths =
     record {
       cabling = cabling;

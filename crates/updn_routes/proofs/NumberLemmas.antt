@@ -26,7 +26,8 @@ lower low lowest high ys less r =
 nothing : (low high : ℕ) → RiseBetween low high []
 nothing low high = record { rising = refl; above = refl; below = refl }
 
-one_more : (low high next y : ℕ) (ys : List ℕ) → low ≤ y → y < next → y < high → RiseBetween next high ys → RiseBetween low high (y ∷ ys)
+one_more : (low high next y : ℕ) (ys : List ℕ) → low ≤ y → y < next → y < high → RiseBetween next high ys
+    → RiseBetween low high (y ∷ ys)
 one_more low high next y ys from less to r =
     record {
       rising = and_from (list_all (λ z. nat_lt y z) ys) (rises ys)
@@ -61,7 +62,8 @@ module _ (rows : List (List Link)) (before : ℕ → ℕ → Bool) (cabling : is
   down_number : (s t : ℕ) → before s t ≡ true → channel_number before (length rows) s t ≡ length rows + place s
   down_number s t h = rw (after (length rows) before order s t h) refl
 
-  pub down_numbers : (s d : ℕ) (steps : List ℕ) → s < length rows → is_walk rows s steps d ≡ true → goes_down before s steps ≡ true
+  pub down_numbers : (s d : ℕ) (steps : List ℕ) → s < length rows → is_walk rows s steps d ≡ true
+      → goes_down before s steps ≡ true
       → RiseBetween (length rows + place s) (2 * length rows - 1) (channel_numbers before (length rows) s steps)
   down_numbers s d [] less walk down = nothing _ _
   down_numbers s d (t ∷ steps) less walk down =
@@ -74,7 +76,8 @@ module _ (rows : List (List Link)) (before : ℕ → ℕ → Bool) (cabling : is
       one_more (length rows + place s) (2 * length rows - 1) (length rows + place t) (channel_number before (length rows) s t) (channel_numbers before (length rows) t steps)
       (omega (arith, number)) (omega (arith, number, far)) (omega (arith, number, far, within)) (down_numbers t d steps there w.1 g.1)
 
-  pub legal_numbers : (s d : ℕ) (steps : List ℕ) → s < length rows → is_walk rows s steps d ≡ true → is_legal before s steps ≡ true
+  pub legal_numbers : (s d : ℕ) (steps : List ℕ) → s < length rows → is_walk rows s steps d ≡ true
+      → is_legal before s steps ≡ true
       → RiseBetween (length rows - 1 - place s) (2 * length rows - 1) (channel_numbers before (length rows) s steps)
   legal_numbers s d [] less walk legal = nothing _ _
   legal_numbers s d (t ∷ steps) less walk legal =
@@ -95,7 +98,8 @@ module _ (rows : List (List Link)) (before : ℕ → ℕ → Bool) (cabling : is
   numbers_of s [] = refl
   numbers_of s (t ∷ steps) = ap suc (numbers_of t steps)
 
-  pub legal_short : (s d : ℕ) (steps : List ℕ) → s < length rows → is_walk rows s steps d ≡ true → is_legal before s steps ≡ true → length steps < 2 * length rows
+  pub legal_short : (s d : ℕ) (steps : List ℕ) → s < length rows → is_walk rows s steps d ≡ true
+      → is_legal before s steps ≡ true → length steps < 2 * length rows
   legal_short s d steps less walk legal =
       let within = place_below (length rows) before order s less in
       let most = few (length rows - 1 - place s) (2 * length rows - 1) _ (omega (arith, less)) (legal_numbers s d steps less walk legal) in

@@ -8,7 +8,8 @@ use Rattle.updn_routes.specs.Order.{IsOrder, place_of}
 
 -- ---- what filters keep
 -- fewer pass the stronger test
-fewer : (strong weak : ℕ → Bool) → ((t : ℕ) → strong t ≡ true → weak t ≡ true) → (xs : List ℕ) → length (filter strong xs) ≤ length (filter weak xs)
+fewer : (strong weak : ℕ → Bool) → ((t : ℕ) → strong t ≡ true → weak t ≡ true) → (xs : List ℕ)
+    → length (filter strong xs) ≤ length (filter weak xs)
 fewer strong weak implies [] = omega arith
 fewer strong weak implies (x ∷ xs) = by (strong x) (weak x) (implies x) (fewer strong weak implies xs)
   where
@@ -20,9 +21,12 @@ fewer strong weak implies (x ∷ xs) = by (strong x) (weak x) (implies x) (fewer
     by false false i h = h
 
 -- and where one number passes the weaker alone, fewer by one at least
-fewer_by_one : (strong weak : ℕ → Bool) → ((t : ℕ) → strong t ≡ true → weak t ≡ true) → (first count s : ℕ) → first ≤ s → s < first + count
-    → strong s ≡ false → weak s ≡ true → length (filter strong (range_with_len first count)) < length (filter weak (range_with_len first count))
-fewer_by_one strong weak implies first zero s low high gone there = absurd (let no_room : ⊥ = omega (arith, low, high) in no_room)
+fewer_by_one : (strong weak : ℕ → Bool) → ((t : ℕ) → strong t ≡ true → weak t ≡ true) → (first count s : ℕ)
+    → first ≤ s → s < first + count
+    → strong s ≡ false → weak s ≡ true
+    → length (filter strong (range_with_len first count)) < length (filter weak (range_with_len first count))
+fewer_by_one strong weak implies first zero s low high gone there =
+    absurd (let no_room : ⊥ = omega (arith, low, high) in no_room)
 fewer_by_one strong weak implies first (suc count) s low high gone there =
     by (first == s) refl (λ more. fewer_by_one strong weak implies (first + 1) count s more (omega (arith, high)) gone there)
   where
@@ -45,7 +49,8 @@ fewer_by_one strong weak implies first (suc count) s low high gone there =
     by true e later =
         let same = eqb-true first s e in
         one (strong first) (weak first) (subst (λ (k : ℕ). strong k ≡ false) (sym same) gone) (subst (λ (k : ℕ). weak k ≡ true) (sym same) there) (fewer strong weak implies rest)
-    by false e later = let other = eqb-false first s e in more (strong first) (weak first) (implies first) (later (omega (arith, low, other)))
+    by false e later =
+        let other = eqb-false first s e in more (strong first) (weak first) (implies first) (later (omega (arith, low, other)))
 
 all_stay : (xs : List ℕ) → length (filter (λ _. true) xs) ≡ length xs
 all_stay [] = refl
@@ -75,7 +80,8 @@ module _ (count : ℕ) (before : ℕ → ℕ → Bool) (order : IsOrder count be
   place_less s t less h =
       fewer_by_one (λ u. before u s) (λ u. before u t) (λ u k. order.transitive u s t k h) 0 count s (omega arith) (omega (arith, less)) (order.irreflexive s) h
 
-  cases : (s t : ℕ) → s < count → t < count → (b : Bool) → (s == t) ≡ b → nat_lt (place_of before count s) (place_of before count t) ≡ before s t
+  cases : (s t : ℕ) → s < count → t < count → (b : Bool) → (s == t) ≡ b
+      → nat_lt (place_of before count s) (place_of before count t) ≡ before s t
   cases s t sl tl true e =
       let same = eqb-true s t e in
       subst (λ (k : ℕ). nat_lt (place_of before count s) (place_of before count k) ≡ before s k) same
@@ -86,7 +92,8 @@ module _ (count : ℕ) (before : ℕ → ℕ → Bool) (order : IsOrder count be
         | inr h ↦ le-ltb _ _ (let far = place_less t s tl h in omega (arith, far)) ∙ sym (after t s h)
       ]
 
-  pub place_tells : (s t : ℕ) → s < count → t < count → nat_lt (place_of before count s) (place_of before count t) ≡ before s t
+  pub place_tells : (s t : ℕ) → s < count → t < count
+      → nat_lt (place_of before count s) (place_of before count t) ≡ before s t
   place_tells s t sl tl = cases s t sl tl (s == t) refl
 
   pub place_own : (s t : ℕ) → s < count → t < count → place_of before count s ≡ place_of before count t → s ≡ t

@@ -22,7 +22,8 @@ long_map f (x ∷ xs) = ap suc (long_map f xs)
 -- a way of the one kind is one of the other between the places, and each of these is one of those
 record SameWays (place : ℕ → ℕ) (w v : ℕ → List ℕ → Bool) : Type 0 where
   there : (p : ℕ) (path : List ℕ) → w p path ≡ true → v p (map place path) ≡ true
-  back : (p : ℕ) (path : List ℕ) → v p path ≡ true → (steps : List ℕ) × ((map place steps ≡ path) × (w p steps ≡ true))
+  back : (p : ℕ) (path : List ℕ) → v p path ≡ true
+      → (steps : List ℕ) × ((map place steps ≡ path) × (w p steps ≡ true))
 
 none_moves : (place : ℕ → ℕ) (w v : ℕ → List ℕ → Bool) → SameWays place w v → HasNone v → HasNone w
 none_moves place w v same none p path = by (w p path) refl
@@ -42,11 +43,14 @@ least_moves place w v same p best =
       least = λ q steps way even. best.least q (map place steps) (same.there q steps way) (long_map place steps ∙ (even ∙ sym long));
     }
 
-choice_moves : (place : ℕ → ℕ) (down down_there up up_there : ℕ → List ℕ → Bool) → SameWays place down down_there → SameWays place up up_there
+choice_moves : (place : ℕ → ℕ) (down down_there up up_there : ℕ → List ℕ → Bool) → SameWays place down down_there
+    → SameWays place up up_there
     → (o : Option ℕ) → IsChosenOf down_there up_there o → IsChosenOf down up o
-choice_moves place down down_there up up_there d u None h = (none_moves place down down_there d h.0, none_moves place up up_there u h.1)
+choice_moves place down down_there up up_there d u None h =
+    (none_moves place down down_there d h.0, none_moves place up up_there u h.1)
 choice_moves place down down_there up up_there d u (Some p) (inl h) = inl (least_moves place down down_there d p h)
-choice_moves place down down_there up up_there d u (Some p) (inr h) = inr (none_moves place down down_there d h.0, least_moves place up up_there u p h.1)
+choice_moves place down down_there up up_there d u (Some p) (inr h) =
+    inr (none_moves place down down_there d h.0, least_moves place up up_there u p h.1)
 
 -- ---- places
 module _ (rows placed : List (List Link)) (before : ℕ → ℕ → Bool) (place : ℕ → ℕ) (cabling : is_cabling rows ≡ true)
@@ -61,24 +65,28 @@ module _ (rows placed : List (List Link)) (before : ℕ → ℕ → Bool) (place
   abbrev Within : List Link → Type 0
   Within row = list_all (λ link. nat_lt link.to (length rows)) row ≡ true
 
-  ports_in : (port t : ℕ) (row : List Link) → t < length rows → Within row → list_any (goes port (place t)) (map (placed_link place) row) ≡ list_any (goes port t) row
+  ports_in : (port t : ℕ) (row : List Link) → t < length rows → Within row
+      → list_any (goes port (place t)) (map (placed_link place) row) ≡ list_any (goes port t) row
   ports_in port t [] tl all = refl
   ports_in port t (link ∷ row) tl all =
       let parts = and_parts (nat_lt link.to (length rows)) (list_all (λ l. nat_lt l.to (length rows)) row) all in
       let one : goes port (place t) (placed_link place link) ≡ goes port t link = ap (λ (b : Bool). (link.port == port) && b) (same_place link.to t (ltb-true link.to (length rows) parts.0) tl) in
       rw (one, ports_in port t row tl parts.1) refl
 
-  leads_same : (s port t : ℕ) → s < length rows → t < length rows → leads placed (place s) port (place t) ≡ leads rows s port t
+  leads_same : (s port t : ℕ) → s < length rows → t < length rows
+      → leads placed (place s) port (place t) ≡ leads rows s port t
   leads_same s port t sl tl =
       ap (λ (row : List Link). list_any (goes port (place t)) row) (is.each s sl) ∙ ports_in port t (links_of rows s) tl (links_within rows s cabling sl)
 
-  next_in : (t : ℕ) (row : List Link) → t < length rows → Within row → list_any (λ link. link.to == place t) (map (placed_link place) row) ≡ list_any (λ link. link.to == t) row
+  next_in : (t : ℕ) (row : List Link) → t < length rows → Within row
+      → list_any (λ link. link.to == place t) (map (placed_link place) row) ≡ list_any (λ link. link.to == t) row
   next_in t [] tl all = refl
   next_in t (link ∷ row) tl all =
       let parts = and_parts (nat_lt link.to (length rows)) (list_all (λ l. nat_lt l.to (length rows)) row) all in
       rw (same_place link.to t (ltb-true link.to (length rows) parts.0) tl, next_in t row tl parts.1) refl
 
-  next_same : (s t : ℕ) → s < length rows → t < length rows → is_next_to placed (place s) (place t) ≡ is_next_to rows s t
+  next_same : (s t : ℕ) → s < length rows → t < length rows
+      → is_next_to placed (place s) (place t) ≡ is_next_to rows s t
   next_same s t sl tl =
       ap (λ (row : List Link). list_any (λ link. link.to == place t) row) (is.each s sl) ∙ next_in t (links_of rows s) tl (links_within rows s cabling sl)
 
@@ -86,7 +94,8 @@ module _ (rows placed : List (List Link)) (before : ℕ → ℕ → Bool) (place
   abbrev FromRow : List Link → ℕ → Type 0
   FromRow row v = (t : ℕ) × (t < length rows) × (place t ≡ v) × (list_any (λ link. link.to == t) row ≡ true)
 
-  from_row : (v : ℕ) (row : List Link) → Within row → list_any (λ link. link.to == v) (map (placed_link place) row) ≡ true → FromRow row v
+  from_row : (v : ℕ) (row : List Link) → Within row
+      → list_any (λ link. link.to == v) (map (placed_link place) row) ≡ true → FromRow row v
   from_row v [] all h = absurd (false≢true h)
   from_row v (link ∷ row) all h =
       let parts = and_parts (nat_lt link.to (length rows)) (list_all (λ l. nat_lt l.to (length rows)) row) all in
@@ -96,10 +105,12 @@ module _ (rows placed : List (List Link)) (before : ℕ → ℕ → Bool) (place
       ]
 
   from_place : (s v : ℕ) → s < length rows → is_next_to placed (place s) v ≡ true → FromRow (links_of rows s) v
-  from_place s v sl h = from_row v (links_of rows s) (links_within rows s cabling sl) (subst (λ (row : List Link). list_any (λ link. link.to == v) row ≡ true) (is.each s sl) h)
+  from_place s v sl h =
+      from_row v (links_of rows s) (links_within rows s cabling sl) (subst (λ (row : List Link). list_any (λ link. link.to == v) row ≡ true) (is.each s sl) h)
 
   -- ---- walks
-  walks_same : (s d : ℕ) (steps : List ℕ) → s < length rows → d < length rows → list_all (λ t. nat_lt t (length rows)) steps ≡ true
+  walks_same : (s d : ℕ) (steps : List ℕ) → s < length rows → d < length rows
+      → list_all (λ t. nat_lt t (length rows)) steps ≡ true
       → is_walk placed (place s) (map place steps) (place d) ≡ is_walk rows s steps d
   walks_same s d [] sl dl all = same_place s d sl dl
   walks_same s d (t ∷ steps) sl dl all =
@@ -110,7 +121,8 @@ module _ (rows placed : List (List Link)) (before : ℕ → ℕ → Bool) (place
   abbrev Between : ℕ → ℕ → List ℕ → Type 0
   Between s d steps = (between : List ℕ) × (map place between ≡ steps) × (is_walk rows s between d ≡ true)
 
-  no_other : (s d : ℕ) (steps : List ℕ) → s < length rows → d < length rows → is_walk placed (place s) steps (place d) ≡ true → Between s d steps
+  no_other : (s d : ℕ) (steps : List ℕ) → s < length rows → d < length rows
+      → is_walk placed (place s) steps (place d) ≡ true → Between s d steps
   no_other s d [] sl dl walk = ([], refl, sym (same_place s d sl dl) ∙ walk)
   no_other s d (v ∷ steps) sl dl walk =
       let parts = and_parts (is_next_to placed (place s) v) (is_walk placed v steps (place d)) walk in
@@ -122,14 +134,16 @@ module _ (rows placed : List (List Link)) (before : ℕ → ℕ → Bool) (place
   keeps_walks = record { links = leads_same; walks = walks_same; no_other = no_other }
 
   -- ---- ways down
-  walk_there : (s d : ℕ) (steps : List ℕ) → s < length rows → d < length rows → is_walk rows s steps d ≡ true → is_walk placed (place s) (map place steps) (place d) ≡ true
+  walk_there : (s d : ℕ) (steps : List ℕ) → s < length rows → d < length rows → is_walk rows s steps d ≡ true
+      → is_walk placed (place s) (map place steps) (place d) ≡ true
   walk_there s d [] sl dl walk = same_place s d sl dl ∙ walk
   walk_there s d (t ∷ steps) sl dl walk =
       let parts = and_parts (is_next_to rows s t) (is_walk rows t steps d) walk in
       let tl = (ends rows s t cabling sl parts.0).0 in
       and_from (is_next_to placed (place s) (place t)) _ (next_same s t sl tl ∙ parts.0) (walk_there t d steps tl dl parts.1)
 
-  down_same : (s d : ℕ) (steps : List ℕ) → s < length rows → is_walk rows s steps d ≡ true → goes_down nat_lt (place s) (map place steps) ≡ goes_down before s steps
+  down_same : (s d : ℕ) (steps : List ℕ) → s < length rows → is_walk rows s steps d ≡ true
+      → goes_down nat_lt (place s) (map place steps) ≡ goes_down before s steps
   down_same s d [] sl walk = refl
   down_same s d (t ∷ steps) sl walk =
       let parts = and_parts (is_next_to rows s t) (is_walk rows t steps d) walk in
@@ -137,15 +151,18 @@ module _ (rows placed : List (List Link)) (before : ℕ → ℕ → Bool) (place
       same_and (nat_lt (place s) (place t)) (before s t) _ _ (keeps.less s t sl tl) (down_same t d steps tl parts.1)
 
   -- a port of a place leads to the place of a switch
-  port_back : (s port v : ℕ) → s < length rows → leads placed (place s) port v ≡ true → (t : ℕ) × (t < length rows) × (place t ≡ v) × (leads rows s port t ≡ true)
+  port_back : (s port v : ℕ) → s < length rows → leads placed (place s) port v ≡ true
+      → (t : ℕ) × (t < length rows) × (place t ≡ v) × (leads rows s port t ≡ true)
   port_back s port v sl h =
       let t = from_place s v sl (leads_next placed (place s) port v h) in
       (t.0, t.1, t.2, sym (leads_same s port t.0 sl t.1) ∙ subst (λ (k : ℕ). leads placed (place s) port k ≡ true) (sym t.2) h)
 
-  downs_same : (s d : ℕ) → s < length rows → d < length rows → SameWays place (is_way_down rows before s d) (is_way_down placed nat_lt (place s) (place d))
+  downs_same : (s d : ℕ) → s < length rows → d < length rows
+      → SameWays place (is_way_down rows before s d) (is_way_down placed nat_lt (place s) (place d))
   downs_same s d sl dl = record { there = there; back = back }
     where
-      there : (p : ℕ) (path : List ℕ) → is_way_down rows before s d p path ≡ true → is_way_down placed nat_lt (place s) (place d) p (map place path) ≡ true
+      there : (p : ℕ) (path : List ℕ) → is_way_down rows before s d p path ≡ true
+          → is_way_down placed nat_lt (place s) (place d) p (map place path) ≡ true
       there p [] way = absurd (false≢true way)
       there p (t ∷ steps) way =
           let one = and_parts (leads rows s p t) _ way in
@@ -156,7 +173,8 @@ module _ (rows placed : List (List Link)) (before : ℕ → ℕ → Bool) (place
           and_from (leads placed (place s) p (place t)) _ (leads_same s p t sl tl ∙ one.0)
           (and_from (is_walk placed (place t) (map place steps) (place d)) _ (walk_there t d steps tl dl two.0) (down_same s d (t ∷ steps) sl all ∙ two.1))
 
-      back : (p : ℕ) (path : List ℕ) → is_way_down placed nat_lt (place s) (place d) p path ≡ true → (steps : List ℕ) × ((map place steps ≡ path) × (is_way_down rows before s d p steps ≡ true))
+      back : (p : ℕ) (path : List ℕ) → is_way_down placed nat_lt (place s) (place d) p path ≡ true
+          → (steps : List ℕ) × ((map place steps ≡ path) × (is_way_down rows before s d p steps ≡ true))
       back p [] way = absurd (false≢true way)
       back p (v ∷ path) way =
           let one = and_parts (leads placed (place s) p v) _ way in
@@ -173,7 +191,8 @@ module _ (rows placed : List (List Link)) (before : ℕ → ℕ → Bool) (place
     abbrev own : ℕ → Option ℕ
     own s = next (place s)
 
-    route_there : (s d : ℕ) (steps : List ℕ) → s < length rows → d < length rows → is_route rows own s steps d ≡ true → is_route placed next (place s) (map place steps) (place d) ≡ true
+    route_there : (s d : ℕ) (steps : List ℕ) → s < length rows → d < length rows → is_route rows own s steps d ≡ true
+        → is_route placed next (place s) (map place steps) (place d) ≡ true
     route_there s d [] sl dl route = same_place s d sl dl ∙ route
     route_there s d (t ∷ steps) sl dl route =
         let f = first_step rows own s t steps d route in
@@ -189,7 +208,8 @@ module _ (rows placed : List (List Link)) (before : ℕ → ℕ → Bool) (place
     abbrev Routed : ℕ → ℕ → List ℕ → Type 0
     Routed s d path = (steps : List ℕ) × (map place steps ≡ path) × (is_route rows own s steps d ≡ true)
 
-    route_back : (s d : ℕ) (path : List ℕ) → s < length rows → d < length rows → is_route placed next (place s) path (place d) ≡ true → Routed s d path
+    route_back : (s d : ℕ) (path : List ℕ) → s < length rows → d < length rows
+        → is_route placed next (place s) path (place d) ≡ true → Routed s d path
     route_back s d [] sl dl route = ([], refl, sym (same_place s d sl dl) ∙ route)
     route_back s d (v ∷ path) sl dl route =
         let f = first_step placed next (place s) v path (place d) route in
@@ -200,10 +220,12 @@ module _ (rows placed : List (List Link)) (before : ℕ → ℕ → Bool) (place
           step_first rows own s t.0 more.0 d (record { away = λ same. f.away (ap place same); port = f.port; picked = f.picked; out = t.3; rest = more.2 }),
         )
 
-    ups_same : (s d : ℕ) → s < length rows → d < length rows → SameWays place (is_way_up rows before own s d) (is_way_up placed nat_lt next (place s) (place d))
+    ups_same : (s d : ℕ) → s < length rows → d < length rows
+        → SameWays place (is_way_up rows before own s d) (is_way_up placed nat_lt next (place s) (place d))
     ups_same s d sl dl = record { there = there; back = back }
       where
-        there : (p : ℕ) (path : List ℕ) → is_way_up rows before own s d p path ≡ true → is_way_up placed nat_lt next (place s) (place d) p (map place path) ≡ true
+        there : (p : ℕ) (path : List ℕ) → is_way_up rows before own s d p path ≡ true
+            → is_way_up placed nat_lt next (place s) (place d) p (map place path) ≡ true
         there p [] way = absurd (false≢true way)
         there p (t ∷ steps) way =
             let w = way_up rows before own s d p t steps way in
@@ -211,7 +233,8 @@ module _ (rows placed : List (List Link)) (before : ℕ → ℕ → Bool) (place
             up_way placed nat_lt next (place s) (place d) p (place t) (map place steps)
             (record { out = leads_same s p t sl tl ∙ w.out; step = keeps.less t s tl sl ∙ w.step; rest = route_there t d steps tl dl w.rest })
 
-        back : (p : ℕ) (path : List ℕ) → is_way_up placed nat_lt next (place s) (place d) p path ≡ true → (steps : List ℕ) × ((map place steps ≡ path) × (is_way_up rows before own s d p steps ≡ true))
+        back : (p : ℕ) (path : List ℕ) → is_way_up placed nat_lt next (place s) (place d) p path ≡ true
+            → (steps : List ℕ) × ((map place steps ≡ path) × (is_way_up rows before own s d p steps ≡ true))
         back p [] way = absurd (false≢true way)
         back p (v ∷ path) way =
             let w = way_up placed nat_lt next (place s) (place d) p v path way in
@@ -220,7 +243,8 @@ module _ (rows placed : List (List Link)) (before : ℕ → ℕ → Bool) (place
             let step = sym (keeps.less t.0 s t.1 sl) ∙ subst (λ (k : ℕ). nat_lt k (place s) ≡ true) (sym t.2) w.step in
             (t.0 ∷ more.0, (ap (λ k. k ∷ map place more.0) t.2 ∙ ap (λ r. v ∷ r) more.1, up_way rows before own s d p t.0 more.0 (record { out = t.3; step = step; rest = more.2 })))
 
-    pub keeps_choices : (d : ℕ) → d < length rows → AllChosen placed nat_lt next (place d) → AllChosen rows before own d
+    pub keeps_choices : (d : ℕ) → d < length rows → AllChosen placed nat_lt next (place d)
+        → AllChosen rows before own d
     keeps_choices d dl chosen s sl away =
         let below = keeps.below s sl in
         let count = is.count in

@@ -16,7 +16,8 @@ pub record FirstStep (rows : List (List Link)) (next : ℕ → Option ℕ) (s t 
   pub out : leads rows s port t ≡ true
   pub rest : is_route rows next t steps d ≡ true
 
-pub first_step : (rows : List (List Link)) (next : ℕ → Option ℕ) (s t : ℕ) (steps : List ℕ) (d : ℕ) → is_route rows next s (t ∷ steps) d ≡ true → FirstStep rows next s t steps d
+pub first_step : (rows : List (List Link)) (next : ℕ → Option ℕ) (s t : ℕ) (steps : List ℕ) (d : ℕ)
+    → is_route rows next s (t ∷ steps) d ≡ true → FirstStep rows next s t steps d
 first_step rows next s t steps d h = by (next s) refl parts.0
   where
     one : (not (s == d) ≡ true) × ((follows rows next s t && is_route rows next t steps d) ≡ true)
@@ -25,11 +26,13 @@ first_step rows next s t steps d h = by (next s) refl parts.0
     parts : (follows rows next s t ≡ true) × (is_route rows next t steps d ≡ true)
     parts = and_parts (follows rows next s t) (is_route rows next t steps d) one.1
 
-    by : (o : Option ℕ) → next s ≡ o → option_map_or (λ port. leads rows s port t) o false ≡ true → FirstStep rows next s t steps d
+    by : (o : Option ℕ) → next s ≡ o → option_map_or (λ port. leads rows s port t) o false ≡ true
+        → FirstStep rows next s t steps d
     by None e out = absurd (false≢true out)
     by (Some port) e out = record { away = eqb-false s d (not-true (s == d) one.0); port = port; picked = e; out = out; rest = parts.1 }
 
-pub step_first : (rows : List (List Link)) (next : ℕ → Option ℕ) (s t : ℕ) (steps : List ℕ) (d : ℕ) → FirstStep rows next s t steps d → is_route rows next s (t ∷ steps) d ≡ true
+pub step_first : (rows : List (List Link)) (next : ℕ → Option ℕ) (s t : ℕ) (steps : List ℕ) (d : ℕ)
+    → FirstStep rows next s t steps d → is_route rows next s (t ∷ steps) d ≡ true
 step_first rows next s t steps d f =
     and_from (not (s == d)) _ (not_from_false (s == d) (ne_eqb s d f.away))
     (and_from (follows rows next s t) (is_route rows next t steps d) (followed (next s) f.picked) f.rest)
@@ -37,7 +40,8 @@ step_first rows next s t steps d f =
     followed : (o : Option ℕ) → o ≡ Some f.port → option_map_or (λ port. leads rows s port t) o false ≡ true
     followed o e = rw e f.out
 
-pub route_walks : (rows : List (List Link)) (next : ℕ → Option ℕ) (s : ℕ) (steps : List ℕ) (d : ℕ) → is_route rows next s steps d ≡ true → is_walk rows s steps d ≡ true
+pub route_walks : (rows : List (List Link)) (next : ℕ → Option ℕ) (s : ℕ) (steps : List ℕ) (d : ℕ)
+    → is_route rows next s steps d ≡ true → is_walk rows s steps d ≡ true
 route_walks rows next s [] d h = h
 route_walks rows next s (t ∷ steps) d h =
     let f = first_step rows next s t steps d h in
@@ -51,10 +55,13 @@ same_port p q h = cc
 
 -- where each port leads to one switch there is one route
 pub one_route : (rows : List (List Link)) (next : ℕ → Option ℕ) (d : ℕ) → is_cabling rows ≡ true
-    → (s : ℕ) (one other : List ℕ) → s < length rows → is_route rows next s one d ≡ true → is_route rows next s other d ≡ true → one ≡ other
+    → (s : ℕ) (one other : List ℕ) → s < length rows → is_route rows next s one d ≡ true
+    → is_route rows next s other d ≡ true → one ≡ other
 one_route rows next d cabling s [] [] less h k = refl
-one_route rows next d cabling s [] (u ∷ other) less h k = absurd ((first_step rows next s u other d k).away (eqb-true s d h))
-one_route rows next d cabling s (t ∷ one) [] less h k = absurd ((first_step rows next s t one d h).away (eqb-true s d k))
+one_route rows next d cabling s [] (u ∷ other) less h k =
+    absurd ((first_step rows next s u other d k).away (eqb-true s d h))
+one_route rows next d cabling s (t ∷ one) [] less h k =
+    absurd ((first_step rows next s t one d h).away (eqb-true s d k))
 one_route rows next d cabling s (t ∷ one) (u ∷ other) less h k =
     let f = first_step rows next s t one d h in
     let g = first_step rows next s u other d k in
@@ -71,7 +78,8 @@ pub record WayDown (rows : List (List Link)) (before : ℕ → ℕ → Bool) (s 
   pub step : is_down before s t ≡ true
   pub down : goes_down before t steps ≡ true
 
-pub way_down : (rows : List (List Link)) (before : ℕ → ℕ → Bool) (s d port t : ℕ) (steps : List ℕ) → is_way_down rows before s d port (t ∷ steps) ≡ true → WayDown rows before s d port t steps
+pub way_down : (rows : List (List Link)) (before : ℕ → ℕ → Bool) (s d port t : ℕ) (steps : List ℕ)
+    → is_way_down rows before s d port (t ∷ steps) ≡ true → WayDown rows before s d port t steps
 way_down rows before s d port t steps h =
     let one = and_parts (leads rows s port t) _ h in
     let two = and_parts (is_walk rows t steps d) (goes_down before s (t ∷ steps)) one.1 in
@@ -79,7 +87,8 @@ way_down rows before s d port t steps h =
     record { out = one.0; walk = two.0; step = three.0; down = three.1 }
 
 -- a walk down is a way down, out of some port
-pub way_of : (rows : List (List Link)) (before : ℕ → ℕ → Bool) (s d t : ℕ) (steps : List ℕ) → is_walk rows s (t ∷ steps) d ≡ true → goes_down before s (t ∷ steps) ≡ true
+pub way_of : (rows : List (List Link)) (before : ℕ → ℕ → Bool) (s d t : ℕ) (steps : List ℕ)
+    → is_walk rows s (t ∷ steps) d ≡ true → goes_down before s (t ∷ steps) ≡ true
     → (port : ℕ) × (is_way_down rows before s d port (t ∷ steps) ≡ true)
 way_of rows before s d t steps walk down =
     let parts = and_parts (is_next_to rows s t) (is_walk rows t steps d) walk in
@@ -91,13 +100,15 @@ pub record WayUp (rows : List (List Link)) (before : ℕ → ℕ → Bool) (next
   pub step : is_up before s t ≡ true
   pub rest : is_route rows next t steps d ≡ true
 
-pub way_up : (rows : List (List Link)) (before : ℕ → ℕ → Bool) (next : ℕ → Option ℕ) (s d port t : ℕ) (steps : List ℕ) → is_way_up rows before next s d port (t ∷ steps) ≡ true → WayUp rows before next s d port t steps
+pub way_up : (rows : List (List Link)) (before : ℕ → ℕ → Bool) (next : ℕ → Option ℕ) (s d port t : ℕ) (steps : List ℕ)
+    → is_way_up rows before next s d port (t ∷ steps) ≡ true → WayUp rows before next s d port t steps
 way_up rows before next s d port t steps h =
     let one = and_parts (leads rows s port t) _ h in
     let two = and_parts (is_up before s t) (is_route rows next t steps d) one.1 in
     record { out = one.0; step = two.0; rest = two.1 }
 
-pub up_way : (rows : List (List Link)) (before : ℕ → ℕ → Bool) (next : ℕ → Option ℕ) (s d port t : ℕ) (steps : List ℕ) → WayUp rows before next s d port t steps → is_way_up rows before next s d port (t ∷ steps) ≡ true
+pub up_way : (rows : List (List Link)) (before : ℕ → ℕ → Bool) (next : ℕ → Option ℕ) (s d port t : ℕ) (steps : List ℕ)
+    → WayUp rows before next s d port t steps → is_way_up rows before next s d port (t ∷ steps) ≡ true
 up_way rows before next s d port t steps w =
     and_from (leads rows s port t) _ w.out (and_from (is_up before s t) (is_route rows next t steps d) w.step w.rest)
 
@@ -114,7 +125,8 @@ pub record DownRoute (rows : List (List Link)) (before : ℕ → ℕ → Bool) (
 
 module _ (rows : List (List Link)) (before : ℕ → ℕ → Bool) (next : ℕ → Option ℕ) (d : ℕ) (cabling : is_cabling rows ≡ true) (chosen : AllChosen rows before next d) where
   -- where some way leads down, the choice is down
-  pub chosen_down : (s port : ℕ) (steps : List ℕ) → s < length rows → s ≢ d → is_way_down rows before s d port steps ≡ true
+  pub chosen_down : (s port : ℕ) (steps : List ℕ) → s < length rows → s ≢ d
+      → is_way_down rows before s d port steps ≡ true
       → (p : ℕ) × ((next s ≡ Some p) × IsLeastOf (is_way_down rows before s d) p)
   chosen_down s port steps less away way = by (next s) refl (chosen s less away)
     where
@@ -125,15 +137,18 @@ module _ (rows : List (List Link)) (before : ℕ → ℕ → Bool) (next : ℕ �
       by (Some p) e (inr h) = absurd (neither (is_way_down rows before s d port steps) (h.0 port steps) way)
 
   -- and where it can go down all the way, it does, and by a shortest way
-  pub down_route : (k s : ℕ) (walk : List ℕ) → length walk ≤ k → s < length rows → is_walk rows s walk d ≡ true → goes_down before s walk ≡ true → DownRoute rows before next s d (length walk)
+  pub down_route : (k s : ℕ) (walk : List ℕ) → length walk ≤ k → s < length rows → is_walk rows s walk d ≡ true
+      → goes_down before s walk ≡ true → DownRoute rows before next s d (length walk)
   down_route k s [] fits less walk down = record { steps = []; route = walk; down = refl; short = omega arith }
   down_route zero s (t ∷ rest) fits less walk down = absurd (let no_room : ⊥ = omega (arith, fits) in no_room)
   down_route (suc k) s (t ∷ rest) fits less walk down = by (s == d) refl (λ u us. down_route k u us)
     where
       Shorter : Type 0
-      Shorter = (u : ℕ) (us : List ℕ) → length us ≤ k → u < length rows → is_walk rows u us d ≡ true → goes_down before u us ≡ true → DownRoute rows before next u d (length us)
+      Shorter =
+          (u : ℕ) (us : List ℕ) → length us ≤ k → u < length rows → is_walk rows u us d ≡ true → goes_down before u us ≡ true → DownRoute rows before next u d (length us)
 
-      on : Shorter → s ≢ d → (p : ℕ) → next s ≡ Some p → (path : List ℕ) → is_way_down rows before s d p path ≡ true → length path ≤ length (t ∷ rest) → DownRoute rows before next s d (length (t ∷ rest))
+      on : Shorter → s ≢ d → (p : ℕ) → next s ≡ Some p → (path : List ℕ) → is_way_down rows before s d p path ≡ true
+          → length path ≤ length (t ∷ rest) → DownRoute rows before next s d (length (t ∷ rest))
       on shorter away p e [] way short = absurd (false≢true way)
       on shorter away p e (u ∷ us) way short =
           let w = way_down rows before s d p u us way in
@@ -156,7 +171,8 @@ module _ (rows : List (List Link)) (before : ℕ → ℕ → Bool) (next : ℕ �
           on shorter away picked.0 picked.1.0 best.path best.way (best.shortest way.0 (t ∷ rest) way.1)
 
   -- every route does so
-  pub down_first : (s : ℕ) (steps down : List ℕ) → s < length rows → is_route rows next s steps d ≡ true → is_walk rows s down d ≡ true → goes_down before s down ≡ true
+  pub down_first : (s : ℕ) (steps down : List ℕ) → s < length rows → is_route rows next s steps d ≡ true
+      → is_walk rows s down d ≡ true → goes_down before s down ≡ true
       → (goes_down before s steps ≡ true) × (length steps ≤ length down)
   down_first s steps down less route walk falls =
       let best = down_route (length down) s down (omega arith) less walk falls in
@@ -164,10 +180,12 @@ module _ (rows : List (List Link)) (before : ℕ → ℕ → Bool) (next : ℕ �
       (subst (λ (r : List ℕ). goes_down before s r ≡ true) same best.down, subst (λ (r : List ℕ). length r ≤ length down) same best.short)
 
   -- where a port is chosen there is a route
-  pub arrives : (s port : ℕ) → s < length rows → s ≢ d → next s ≡ Some port → (steps : List ℕ) × (is_route rows next s steps d ≡ true)
+  pub arrives : (s port : ℕ) → s < length rows → s ≢ d → next s ≡ Some port
+      → (steps : List ℕ) × (is_route rows next s steps d ≡ true)
   arrives s port less away picked = by (next s) refl (chosen s less away)
     where
-      down : (p : ℕ) (path : List ℕ) → is_way_down rows before s d p path ≡ true → (steps : List ℕ) × (is_route rows next s steps d ≡ true)
+      down : (p : ℕ) (path : List ℕ) → is_way_down rows before s d p path ≡ true
+          → (steps : List ℕ) × (is_route rows next s steps d ≡ true)
       down p [] way = absurd (false≢true way)
       down p (t ∷ steps) way =
           let w = way_down rows before s d p t steps way in
@@ -175,19 +193,22 @@ module _ (rows : List (List Link)) (before : ℕ → ℕ → Bool) (next : ℕ �
           (and_from (is_next_to rows s t) _ (leads_next rows s p t w.out) w.walk) (and_from (is_down before s t) _ w.step w.down) in
           (route.steps, route.route)
 
-      up : (p : ℕ) → next s ≡ Some p → (path : List ℕ) → is_way_up rows before next s d p path ≡ true → (steps : List ℕ) × (is_route rows next s steps d ≡ true)
+      up : (p : ℕ) → next s ≡ Some p → (path : List ℕ) → is_way_up rows before next s d p path ≡ true
+          → (steps : List ℕ) × (is_route rows next s steps d ≡ true)
       up p e [] way = absurd (false≢true way)
       up p e (t ∷ steps) way =
           let w = way_up rows before next s d p t steps way in
           (t ∷ steps, step_first rows next s t steps d (record { away = away; port = p; picked = e; out = w.out; rest = w.rest }))
 
-      by : (o : Option ℕ) → next s ≡ o → IsChosenOf (is_way_down rows before s d) (is_way_up rows before next s d) o → (steps : List ℕ) × (is_route rows next s steps d ≡ true)
+      by : (o : Option ℕ) → next s ≡ o → IsChosenOf (is_way_down rows before s d) (is_way_up rows before next s d) o
+          → (steps : List ℕ) × (is_route rows next s steps d ≡ true)
       by None e h = absurd (not_both port (sym e ∙ picked))
       by (Some p) e (inl h) = down p h.path h.way
       by (Some p) e (inr h) = up p e h.1.path h.1.way
 
   -- a route is legal
-  pub route_legal : (s : ℕ) (steps : List ℕ) → s < length rows → is_route rows next s steps d ≡ true → is_legal before s steps ≡ true
+  pub route_legal : (s : ℕ) (steps : List ℕ) → s < length rows → is_route rows next s steps d ≡ true
+      → is_legal before s steps ≡ true
   route_legal s [] less route = refl
   route_legal s (t ∷ steps) less route = by (next s) refl (chosen s less f.away) (route_legal t steps there f.rest)
     where
@@ -197,14 +218,16 @@ module _ (rows : List (List Link)) (before : ℕ → ℕ → Bool) (next : ℕ �
       there : t < length rows
       there = (ends rows s t cabling less (leads_next rows s f.port t f.out)).0
 
-      down : (p : ℕ) (path : List ℕ) → is_way_down rows before s d p path ≡ true → is_legal before s (t ∷ steps) ≡ true
+      down : (p : ℕ) (path : List ℕ) → is_way_down rows before s d p path ≡ true
+          → is_legal before s (t ∷ steps) ≡ true
       down p [] way = absurd (false≢true way)
       down p (u ∷ us) way =
           let w = way_down rows before s d p u us way in
           or_right (is_up before s t && is_legal before t steps) _ (down_first s (t ∷ steps) (u ∷ us) less route
           (and_from (is_next_to rows s u) _ (leads_next rows s p u w.out) w.walk) (and_from (is_down before s u) _ w.step w.down)).0
 
-      up : is_legal before t steps ≡ true → (p : ℕ) → next s ≡ Some p → (path : List ℕ) → is_way_up rows before next s d p path ≡ true → is_legal before s (t ∷ steps) ≡ true
+      up : is_legal before t steps ≡ true → (p : ℕ) → next s ≡ Some p → (path : List ℕ)
+          → is_way_up rows before next s d p path ≡ true → is_legal before s (t ∷ steps) ≡ true
       up later p e [] way = absurd (false≢true way)
       up later p e (u ∷ us) way =
           let w = way_up rows before next s d p u us way in
@@ -212,13 +235,15 @@ module _ (rows : List (List Link)) (before : ℕ → ℕ → Bool) (next : ℕ �
           let same = one_end rows s f.port u t cabling less (subst (λ (q : ℕ). leads rows s q u ≡ true) port w.out) f.out in
           or_left _ (goes_down before s (t ∷ steps)) (and_from (is_up before s t) (is_legal before t steps) (subst (λ (v : ℕ). is_up before s v ≡ true) same w.step) later)
 
-      by : (o : Option ℕ) → next s ≡ o → IsChosenOf (is_way_down rows before s d) (is_way_up rows before next s d) o → is_legal before t steps ≡ true → is_legal before s (t ∷ steps) ≡ true
+      by : (o : Option ℕ) → next s ≡ o → IsChosenOf (is_way_down rows before s d) (is_way_up rows before next s d) o
+          → is_legal before t steps ≡ true → is_legal before s (t ∷ steps) ≡ true
       by None e h later = absurd (not_both f.port (sym e ∙ f.picked))
       by (Some p) e (inl h) later = down p h.path h.way
       by (Some p) e (inr h) later = up later p e h.1.path h.1.way
 
   -- where a legal walk leads there is a route
-  pub legal_routed : (s : ℕ) (walk : List ℕ) → s < length rows → is_walk rows s walk d ≡ true → is_legal before s walk ≡ true → (steps : List ℕ) × (is_route rows next s steps d ≡ true)
+  pub legal_routed : (s : ℕ) (walk : List ℕ) → s < length rows → is_walk rows s walk d ≡ true
+      → is_legal before s walk ≡ true → (steps : List ℕ) × (is_route rows next s steps d ≡ true)
   legal_routed s [] less walk legal = ([], walk)
   legal_routed s (t ∷ rest) less walk legal = by (s == d) refl (λ k. legal_routed t rest there w.1 k)
     where
@@ -231,9 +256,11 @@ module _ (rows : List (List Link)) (before : ℕ → ℕ → Bool) (next : ℕ �
       Routed : ℕ → Type 0
       Routed v = (steps : List ℕ) × (is_route rows next v steps d ≡ true)
 
-      on : s ≢ d → (port : ℕ) (steps : List ℕ) → is_way_up rows before next s d port steps ≡ true → (o : Option ℕ) → next s ≡ o
+      on : s ≢ d → (port : ℕ) (steps : List ℕ) → is_way_up rows before next s d port steps ≡ true → (o : Option ℕ)
+          → next s ≡ o
           → IsChosenOf (is_way_down rows before s d) (is_way_up rows before next s d) o → Routed s
-      on away port steps way None e h = absurd (neither (is_way_up rows before next s d port steps) (h.1 port steps) way)
+      on away port steps way None e h =
+          absurd (neither (is_way_up rows before next s d port steps) (h.1 port steps) way)
       on away port steps way (Some p) e h = arrives s p less away e
 
       by : (b : Bool) → (s == d) ≡ b → (is_legal before t rest ≡ true → Routed t) → Routed s
@@ -250,14 +277,16 @@ module _ (rows : List (List Link)) (before : ℕ → ℕ → Bool) (next : ℕ �
           ]
 
   -- where nothing is chosen no legal walk leads
-  pub none_legal : (s : ℕ) (walk : List ℕ) → s < length rows → s ≢ d → next s ≡ None → (is_walk rows s walk d && is_legal before s walk) ≡ false
+  pub none_legal : (s : ℕ) (walk : List ℕ) → s < length rows → s ≢ d → next s ≡ None
+      → (is_walk rows s walk d && is_legal before s walk) ≡ false
   none_legal s walk less away gone = by (is_walk rows s walk d && is_legal before s walk) refl
     where
       off : (steps : List ℕ) → is_route rows next s steps d ≡ true → ⊥
       off [] route = away (eqb-true s d route)
       off (t ∷ steps) route = let f = first_step rows next s t steps d route in not_both f.port (sym gone ∙ f.picked)
 
-      by : (b : Bool) → (is_walk rows s walk d && is_legal before s walk) ≡ b → (is_walk rows s walk d && is_legal before s walk) ≡ false
+      by : (b : Bool) → (is_walk rows s walk d && is_legal before s walk) ≡ b
+          → (is_walk rows s walk d && is_legal before s walk) ≡ false
       by false e = e
       by true e =
           let parts = and_parts (is_walk rows s walk d) (is_legal before s walk) e in

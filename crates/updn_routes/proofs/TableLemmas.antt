@@ -48,7 +48,8 @@ pub record Rests (rows : List (List Link)) (before : ℕ → ℕ → Bool) (down
   pub next_is : next s ≡ None
 
 abbrev pub IsEntry : List (List Link) → (ℕ → ℕ → Bool) → (ℕ → Option ℕ) → (ℕ → Option ℕ) → (ℕ → Option ℕ) → ℕ → Type 0
-IsEntry rows before down own next s = Falls rows before down own next s ⊎ (Climbs rows before down own next s ⊎ Rests rows before down own next s)
+IsEntry rows before down own next s =
+    Falls rows before down own next s ⊎ (Climbs rows before down own next s ⊎ Rests rows before down own next s)
 
 -- ---- all of them
 same_some : (j k : ℕ) → ◌≡◌ {A = Option ℕ} (Some j) (Some k) → j ≡ k
@@ -66,7 +67,8 @@ module _ (rows : List (List Link)) (before : ℕ → ℕ → Bool) (d : ℕ) (ca
   abbrev Within : ℕ → ℕ → Type 0
   Within s most = (k : ℕ) × (down s ≡ Some k) × (k ≤ most)
 
-  walk_down : (s : ℕ) (steps : List ℕ) → s < length rows → is_walk rows s steps d ≡ true → goes_down before s steps ≡ true → Within s (length steps)
+  walk_down : (s : ℕ) (steps : List ℕ) → s < length rows → is_walk rows s steps d ≡ true
+      → goes_down before s steps ≡ true → Within s (length steps)
   walk_down s [] less walk falls = (0, at_home s (eqb-true s d walk), omega arith)
   walk_down s (t ∷ steps) less walk falls = by (s == d) refl (walk_down t steps there w.1 g.1)
     where
@@ -96,13 +98,16 @@ module _ (rows : List (List Link)) (before : ℕ → ℕ → Bool) (d : ℕ) (ca
 
   -- and where there is a distance some way of that length leads down
   abbrev DownWalk : ℕ → ℕ → Type 0
-  DownWalk s k = (steps : List ℕ) × (is_walk rows s steps d ≡ true) × (goes_down before s steps ≡ true) × (length steps ≡ k)
+  DownWalk s k =
+      (steps : List ℕ) × (is_walk rows s steps d ≡ true) × (goes_down before s steps ≡ true) × (length steps ≡ k)
 
   down_walk : (k s : ℕ) → s < length rows → down s ≡ Some k → DownWalk s k
   down_walk zero s less e = by (s == d) refl
     where
       on : s ≢ d → IsEntry rows before down own next s → DownWalk s zero
-      on away (inl f) = absurd (let same = same_some (suc f.more) zero (sym f.down_is ∙ e) in let no_room : ⊥ = omega (arith, same) in no_room)
+      on away (inl f) =
+          absurd (let same =
+          same_some (suc f.more) zero (sym f.down_is ∙ e) in let no_room : ⊥ = omega (arith, same) in no_room)
       on away (inr (inl f)) = absurd (not_both zero (sym f.down_is ∙ e))
       on away (inr (inr f)) = absurd (not_both zero (sym f.down_is ∙ e))
 
@@ -125,7 +130,9 @@ module _ (rows : List (List Link)) (before : ℕ → ℕ → Bool) (d : ℕ) (ca
       on later (inr (inr f)) = absurd (not_both (suc k) (sym f.down_is ∙ e))
 
       by : (b : Bool) → (s == d) ≡ b → Later → DownWalk s (suc k)
-      by true f later = absurd (let same = same_some (suc k) zero (sym e ∙ at_home s (eqb-true s d f)) in let no_room : ⊥ = omega (arith, same) in no_room)
+      by true f later =
+          absurd (let same =
+          same_some (suc k) zero (sym e ∙ at_home s (eqb-true s d f)) in let no_room : ⊥ = omega (arith, same) in no_room)
       by false f later = on later (each s less (eqb-false s d f))
 
   -- the own route is the way down where there is one
@@ -173,8 +180,12 @@ module _ (rows : List (List Link)) (before : ℕ → ℕ → Bool) (d : ℕ) (ca
   own_route zero s less e = by (s == d) refl
     where
       on : IsEntry rows before down own next s → Routed s zero
-      on (inl f) = absurd (let same = same_some (suc f.more) zero (sym f.own_is ∙ e) in let no_room : ⊥ = omega (arith, same) in no_room)
-      on (inr (inl f)) = absurd (let same = same_some (suc f.more) zero (sym f.own_is ∙ e) in let no_room : ⊥ = omega (arith, same) in no_room)
+      on (inl f) =
+          absurd (let same =
+          same_some (suc f.more) zero (sym f.own_is ∙ e) in let no_room : ⊥ = omega (arith, same) in no_room)
+      on (inr (inl f)) =
+          absurd (let same =
+          same_some (suc f.more) zero (sym f.own_is ∙ e) in let no_room : ⊥ = omega (arith, same) in no_room)
       on (inr (inr f)) = absurd (not_both zero (sym f.own_is ∙ e))
 
       by : (b : Bool) → (s == d) ≡ b → Routed s zero
@@ -186,7 +197,9 @@ module _ (rows : List (List Link)) (before : ℕ → ℕ → Bool) (d : ℕ) (ca
       Later = (t : ℕ) → t < length rows → own t ≡ Some k → Routed t k
 
       by : (b : Bool) → (s == d) ≡ b → Later → Routed s (suc k)
-      by true f later = absurd (let same = same_some (suc k) zero (sym e ∙ own_at_home s (eqb-true s d f)) in let no_room : ⊥ = omega (arith, same) in no_room)
+      by true f later =
+          absurd (let same =
+          same_some (suc k) zero (sym e ∙ own_at_home s (eqb-true s d f)) in let no_room : ⊥ = omega (arith, same) in no_room)
       by false f later =
           let away = eqb-false s d f in
           let a = ahead s k less away e in
@@ -194,7 +207,8 @@ module _ (rows : List (List Link)) (before : ℕ → ℕ → Bool) (d : ℕ) (ca
           (a.to ∷ more.0, step_first rows next s a.to more.0 d (record { away = away; port = a.port; picked = a.picked; out = a.out; rest = more.1 }), ap suc more.2)
 
   -- and a route is as long as told
-  route_own : (s : ℕ) (steps : List ℕ) → s < length rows → is_route rows next s steps d ≡ true → own s ≡ Some (length steps)
+  route_own : (s : ℕ) (steps : List ℕ) → s < length rows → is_route rows next s steps d ≡ true
+      → own s ≡ Some (length steps)
   route_own s [] less route = own_at_home s (eqb-true s d route)
   route_own s (t ∷ steps) less route = on (each s less f.away) (route_own t steps there f.rest)
     where
@@ -208,7 +222,8 @@ module _ (rows : List (List Link)) (before : ℕ → ℕ → Bool) (d : ℕ) (ca
       same_end port to picked out =
           one_end rows s f.port to t cabling less (subst (λ (q : ℕ). leads rows s q to ≡ true) (same_port port f.port (sym picked ∙ f.picked)) out) f.out
 
-      so_long : (to more : ℕ) → to ≡ t → own to ≡ Some more → own t ≡ Some (length steps) → own s ≡ Some (suc more) → own s ≡ Some (length (t ∷ steps))
+      so_long : (to more : ℕ) → to ≡ t → own to ≡ Some more → own t ≡ Some (length steps) → own s ≡ Some (suc more)
+          → own s ≡ Some (length (t ∷ steps))
       so_long to more same nearer e own_is =
           own_is ∙ ap (λ k. Some (suc k)) (same_some more (length steps) (sym nearer ∙ (ap own same ∙ e)))
 
@@ -216,7 +231,8 @@ module _ (rows : List (List Link)) (before : ℕ → ℕ → Bool) (d : ℕ) (ca
       on (inl g) e =
           let same = same_end g.port g.best.to g.next_is g.best.out in
           so_long g.best.to g.more same (down_own g.best.to g.more (ends rows s g.best.to cabling less (leads_next rows s g.port g.best.to g.best.out)).0 g.best.at) e g.own_is
-      on (inr (inl g)) e = so_long g.best.to g.more (same_end g.port g.best.to g.next_is g.best.out) g.best.at e g.own_is
+      on (inr (inl g)) e =
+          so_long g.best.to g.more (same_end g.port g.best.to g.next_is g.best.out) g.best.at e g.own_is
       on (inr (inr g)) e = absurd (not_both f.port (sym g.next_is ∙ f.picked))
 
   pub table_chosen : AllChosen rows before next d
@@ -231,7 +247,8 @@ module _ (rows : List (List Link)) (before : ℕ → ℕ → Bool) (d : ℕ) (ca
       reached : (q t : ℕ) → leads rows s q t ≡ true → t < length rows
       reached q t out = (ends rows s t cabling less (leads_next rows s q t out)).0
 
-      no_downs : NoneAt rows (is_down before s) down s → (p : ℕ) (path : List ℕ) (b : Bool) → downs p path ≡ b → downs p path ≡ false
+      no_downs : NoneAt rows (is_down before s) down s → (p : ℕ) (path : List ℕ) (b : Bool) → downs p path ≡ b
+          → downs p path ≡ false
       no_downs none p path false e = e
       no_downs none p [] true e = refl
       no_downs none p (t ∷ steps) true e =
@@ -239,7 +256,8 @@ module _ (rows : List (List Link)) (before : ℕ → ℕ → Bool) (d : ℕ) (ca
           let far = walk_down t steps (reached p t w.out) w.walk w.down in
           absurd (not_both far.0 (sym (none p t w.out w.step) ∙ far.1))
 
-      no_ups : NoneAt rows (is_up before s) own s → (p : ℕ) (path : List ℕ) (b : Bool) → ups p path ≡ b → ups p path ≡ false
+      no_ups : NoneAt rows (is_up before s) own s → (p : ℕ) (path : List ℕ) (b : Bool) → ups p path ≡ b
+          → ups p path ≡ false
       no_ups none p path false e = e
       no_ups none p [] true e = refl
       no_ups none p (t ∷ steps) true e =
@@ -249,7 +267,8 @@ module _ (rows : List (List Link)) (before : ℕ → ℕ → Bool) (d : ℕ) (ca
       best_down : (port more : ℕ) → IsBest rows (is_down before s) down s port more → IsLeastOf downs port
       best_down port more best = from (down_walk more best.to (reached port best.to best.out) best.at)
         where
-          shorter : (walk : List ℕ) → length walk ≡ more → (q : ℕ) (steps : List ℕ) → downs q steps ≡ true → length (best.to ∷ walk) ≤ length steps
+          shorter : (walk : List ℕ) → length walk ≡ more → (q : ℕ) (steps : List ℕ) → downs q steps ≡ true
+              → length (best.to ∷ walk) ≤ length steps
           shorter walk long q [] way = absurd (false≢true way)
           shorter walk long q (t ∷ steps) way =
               let w = way_down rows before s d q t steps way in
@@ -258,7 +277,8 @@ module _ (rows : List (List Link)) (before : ℕ → ℕ → Bool) (d : ℕ) (ca
               let most = far.2 in
               omega (arith, near, most, long)
 
-          lesser : (walk : List ℕ) → length walk ≡ more → (q : ℕ) (steps : List ℕ) → downs q steps ≡ true → length steps ≡ length (best.to ∷ walk) → port ≤ q
+          lesser : (walk : List ℕ) → length walk ≡ more → (q : ℕ) (steps : List ℕ) → downs q steps ≡ true
+              → length steps ≡ length (best.to ∷ walk) → port ≤ q
           lesser walk long q [] way even = absurd (false≢true way)
           lesser walk long q (t ∷ steps) way even =
               let w = way_down rows before s d q t steps way in
@@ -280,14 +300,16 @@ module _ (rows : List (List Link)) (before : ℕ → ℕ → Bool) (d : ℕ) (ca
       best_up : (port more : ℕ) → IsBest rows (is_up before s) own s port more → IsLeastOf ups port
       best_up port more best = from (own_route more best.to (reached port best.to best.out) best.at)
         where
-          shorter : (walk : List ℕ) → length walk ≡ more → (q : ℕ) (steps : List ℕ) → ups q steps ≡ true → length (best.to ∷ walk) ≤ length steps
+          shorter : (walk : List ℕ) → length walk ≡ more → (q : ℕ) (steps : List ℕ) → ups q steps ≡ true
+              → length (best.to ∷ walk) ≤ length steps
           shorter walk long q [] way = absurd (false≢true way)
           shorter walk long q (t ∷ steps) way =
               let w = way_up rows before next s d q t steps way in
               let near = best.nearest q t (length steps) w.out w.step (route_own t steps (reached q t w.out) w.rest) in
               omega (arith, near, long)
 
-          lesser : (walk : List ℕ) → length walk ≡ more → (q : ℕ) (steps : List ℕ) → ups q steps ≡ true → length steps ≡ length (best.to ∷ walk) → port ≤ q
+          lesser : (walk : List ℕ) → length walk ≡ more → (q : ℕ) (steps : List ℕ) → ups q steps ≡ true
+              → length steps ≡ length (best.to ∷ walk) → port ≤ q
           lesser walk long q [] way even = absurd (false≢true way)
           lesser walk long q (t ∷ steps) way even =
               let w = way_up rows before next s d q t steps way in
@@ -304,8 +326,10 @@ module _ (rows : List (List Link)) (before : ℕ → ℕ → Bool) (d : ℕ) (ca
               }
 
       on : IsEntry rows before down own next s → IsChosenOf downs ups (next s)
-      on (inl f) = subst (λ (o : Option ℕ). IsChosenOf downs ups o) (sym f.next_is) (inl (best_down f.port f.more f.best))
-      on (inr (inl f)) = subst (λ (o : Option ℕ). IsChosenOf downs ups o) (sym f.next_is) (inr (λ p path. no_downs f.none_down p path (downs p path) refl, best_up f.port f.more f.best))
+      on (inl f) =
+          subst (λ (o : Option ℕ). IsChosenOf downs ups o) (sym f.next_is) (inl (best_down f.port f.more f.best))
+      on (inr (inl f)) =
+          subst (λ (o : Option ℕ). IsChosenOf downs ups o) (sym f.next_is) (inr (λ p path. no_downs f.none_down p path (downs p path) refl, best_up f.port f.more f.best))
       on (inr (inr f)) =
           subst (λ (o : Option ℕ). IsChosenOf downs ups o) (sym f.next_is)
           (λ p path. no_downs f.none_down p path (downs p path) refl, λ p path. no_ups f.none_up p path (ups p path) refl)

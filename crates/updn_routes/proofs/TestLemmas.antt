@@ -27,8 +27,10 @@ is_best row kind far port k =
 abbrev pub is_none_at : List Link → (ℕ → Bool) → (ℕ → Option ℕ) → Bool
 is_none_at row kind far = list_all (λ link. not (kind link.to) || is_none (far link.to)) row
 
-abbrev pub is_entry : List (List Link) → (ℕ → ℕ → Bool) → (ℕ → Option ℕ) → (ℕ → Option ℕ) → ℕ → Option ℕ → Option ℕ → Option ℕ → Bool
-is_entry rows before down own s (Some (suc k)) (Some m) (Some port) = (m == suc k) && is_best (links_of rows s) (is_down before s) down port k
+abbrev pub is_entry : List (List Link) → (ℕ → ℕ → Bool) → (ℕ → Option ℕ) → (ℕ → Option ℕ) → ℕ → Option ℕ → Option ℕ
+    → Option ℕ → Bool
+is_entry rows before down own s (Some (suc k)) (Some m) (Some port) =
+    (m == suc k) && is_best (links_of rows s) (is_down before s) down port k
 is_entry rows before down own s None (Some (suc k)) (Some port) =
     is_none_at (links_of rows s) (is_down before s) down && is_best (links_of rows s) (is_up before s) own port k
 is_entry rows before down own s None None None =
@@ -38,13 +40,15 @@ is_entry rows before down own s _ _ _ = false
 abbrev pub entry_of : List (Option ℕ) → ℕ → Option ℕ
 entry_of table s = get_or table s None
 
-abbrev pub is_table : List (List Link) → (ℕ → ℕ → Bool) → ℕ → List (Option ℕ) → List (Option ℕ) → List (Option ℕ) → Bool
+abbrev pub is_table : List (List Link) → (ℕ → ℕ → Bool) → ℕ → List (Option ℕ) → List (Option ℕ) → List (Option ℕ)
+    → Bool
 is_table rows before d down own next =
     (is_at (entry_of down d) 0 && is_at (entry_of own d) 0)
     && list_all (λ s. (s == d) || is_entry rows before (entry_of down) (entry_of own) s (entry_of down s) (entry_of own s) (entry_of next s)) (range_with_len 0 (length rows))
 
 -- ---- what it says
-at_link : (test : ℕ → ℕ → Bool) (row : List Link) (q t : ℕ) → list_all (λ link. test link.port link.to) row ≡ true → list_any (goes q t) row ≡ true → test q t ≡ true
+at_link : (test : ℕ → ℕ → Bool) (row : List Link) (q t : ℕ) → list_all (λ link. test link.port link.to) row ≡ true
+    → list_any (goes q t) row ≡ true → test q t ≡ true
 at_link test row q t all h =
     let link = some_of (goes q t) (λ link. test link.port link.to) row all h in
     let parts = and_parts (link.0.port == q) (link.0.to == t) link.1.0 in
@@ -62,7 +66,8 @@ none_is : (o : Option ℕ) → is_none o ≡ true → o ≡ None
 none_is None h = refl
 none_is (Some j) h = absurd (false≢true h)
 
-no_better : (o : Option ℕ) (k port q j : ℕ) → is_no_better o k port q ≡ true → o ≡ Some j → (k ≤ j) × (j ≡ k → port ≤ q)
+no_better : (o : Option ℕ) (k port q j : ℕ) → is_no_better o k port q ≡ true → o ≡ Some j
+    → (k ≤ j) × (j ≡ k → port ≤ q)
 no_better o k port q j h e = from (rw e at h)
   where
     from : (nat_lt k j || ((j == k) && nat_le port q)) ≡ true → (k ≤ j) × (j ≡ k → port ≤ q)
@@ -78,7 +83,9 @@ record Out (row : List Link) (kind : ℕ → Bool) (far : ℕ → Option ℕ) (p
   fits : kind to ≡ true
   at : far to ≡ Some k
 
-out_of : (row : List Link) (kind : ℕ → Bool) (far : ℕ → Option ℕ) (port k : ℕ) → list_any (λ link. (link.port == port) && (kind link.to && is_at (far link.to) k)) row ≡ true → Out row kind far port k
+out_of : (row : List Link) (kind : ℕ → Bool) (far : ℕ → Option ℕ) (port k : ℕ)
+    → list_any (λ link. (link.port == port) && (kind link.to && is_at (far link.to) k)) row ≡ true
+    → Out row kind far port k
 out_of [] kind far port k h = absurd (false≢true h)
 out_of (link ∷ row) kind far port k h =
     elim (or_cases ((link.port == port) && (kind link.to && is_at (far link.to) k)) _ h) [
@@ -90,7 +97,8 @@ out_of (link ∷ row) kind far port k h =
           record { to = more.to; there = or_right (goes port more.to link) _ more.there; fits = more.fits; at = more.at }
     ]
 
-best_of : (rows : List (List Link)) (kind : ℕ → Bool) (far : ℕ → Option ℕ) (s port k : ℕ) → is_best (links_of rows s) kind far port k ≡ true → IsBest rows kind far s port k
+best_of : (rows : List (List Link)) (kind : ℕ → Bool) (far : ℕ → Option ℕ) (s port k : ℕ)
+    → is_best (links_of rows s) kind far port k ≡ true → IsBest rows kind far s port k
 best_of rows kind far s port k h =
     let parts = and_parts (list_any (λ link. (link.port == port) && (kind link.to && is_at (far link.to) k)) (links_of rows s)) _ h in
     let out = out_of (links_of rows s) kind far port k parts.0 in
@@ -105,10 +113,13 @@ best_of rows kind far s port k h =
       least = λ q t way fits e. (no_better (far t) k port q k (worse q t way fits) e).1 refl;
     }
 
-none_at : (rows : List (List Link)) (kind : ℕ → Bool) (far : ℕ → Option ℕ) (s : ℕ) → is_none_at (links_of rows s) kind far ≡ true → NoneAt rows kind far s
-none_at rows kind far s h q t way fits = none_is (far t) (is_so (kind t) _ (at_link (λ q t. not (kind t) || is_none (far t)) (links_of rows s) q t h way) fits)
+none_at : (rows : List (List Link)) (kind : ℕ → Bool) (far : ℕ → Option ℕ) (s : ℕ)
+    → is_none_at (links_of rows s) kind far ≡ true → NoneAt rows kind far s
+none_at rows kind far s h q t way fits =
+    none_is (far t) (is_so (kind t) _ (at_link (λ q t. not (kind t) || is_none (far t)) (links_of rows s) q t h way) fits)
 
-entry_is : (rows : List (List Link)) (before : ℕ → ℕ → Bool) (down own next : ℕ → Option ℕ) (s : ℕ) (o r p : Option ℕ) → down s ≡ o → own s ≡ r → next s ≡ p
+entry_is : (rows : List (List Link)) (before : ℕ → ℕ → Bool) (down own next : ℕ → Option ℕ) (s : ℕ) (o r p : Option ℕ)
+    → down s ≡ o → own s ≡ r → next s ≡ p
     → is_entry rows before down own s o r p ≡ true → IsEntry rows before down own next s
 entry_is rows before down own next s (Some (suc k)) (Some m) (Some port) e f g h =
     let parts = and_parts (m == suc k) _ h in
@@ -121,7 +132,8 @@ entry_is rows before down own next s None None None e f g h =
     inr (inr (record { down_is = e; none_down = none_at rows (is_down before s) down s parts.0; own_is = f; none_up = none_at rows (is_up before s) own s parts.1; next_is = g }))
 entry_is rows before down own next s _ _ _ e f g h = absurd (false≢true h)
 
-pub table_tested : (rows : List (List Link)) (before : ℕ → ℕ → Bool) (d : ℕ) (down own next : List (Option ℕ)) → is_cabling rows ≡ true → is_table rows before d down own next ≡ true
+pub table_tested : (rows : List (List Link)) (before : ℕ → ℕ → Bool) (d : ℕ) (down own next : List (Option ℕ))
+    → is_cabling rows ≡ true → is_table rows before d down own next ≡ true
     → AllChosen rows before (entry_of next) d
 table_tested rows before d down own next cabling tested =
     table_chosen rows before d cabling (entry_of down) (entry_of own) (entry_of next) (at_is (entry_of down d) 0 home.0) (at_is (entry_of own d) 0 home.1)
@@ -129,10 +141,12 @@ table_tested rows before d down own next cabling tested =
     (is_so (not (s == d)) _ (two_nots (s == d) _ (at_each test 0 (length rows) s parts.1 (omega arith) (omega (arith, less)))) (not_is (s == d) (ne_eqb s d away))))
   where
     test : ℕ → Bool
-    test s = (s == d) || is_entry rows before (entry_of down) (entry_of own) s (entry_of down s) (entry_of own s) (entry_of next s)
+    test s =
+        (s == d) || is_entry rows before (entry_of down) (entry_of own) s (entry_of down s) (entry_of own s) (entry_of next s)
 
     parts : ((is_at (entry_of down d) 0 && is_at (entry_of own d) 0) ≡ true) × (list_all test (range_with_len 0 (length rows)) ≡ true)
-    parts = and_parts (is_at (entry_of down d) 0 && is_at (entry_of own d) 0) (list_all test (range_with_len 0 (length rows))) tested
+    parts =
+        and_parts (is_at (entry_of down d) 0 && is_at (entry_of own d) 0) (list_all test (range_with_len 0 (length rows))) tested
 
     home : (is_at (entry_of down d) 0 ≡ true) × (is_at (entry_of own d) 0 ≡ true)
     home = and_parts (is_at (entry_of down d) 0) (is_at (entry_of own d) 0) parts.0

@@ -23,7 +23,8 @@ record Found (good : ℕ → Bool) (row : List Link) : Type 0 where
   there : list_any (goes link.port link.to) row ≡ true
   least : (port t : ℕ) → list_any (goes port t) row ≡ true → good t ≡ true → link.port ≤ port
 
-found : (good : ℕ → Bool) (row : List Link) → rises (map (λ link. link.port) row) ≡ true → list_any (λ l. good l.to) row ≡ true → Found good row
+found : (good : ℕ → Bool) (row : List Link) → rises (map (λ link. link.port) row) ≡ true
+    → list_any (λ l. good l.to) row ≡ true → Found good row
 found good [] up h = absurd (false≢true h)
 found good (link ∷ row) up h = by (good link.to) refl (λ more. found good row parts.1 more)
   where
@@ -31,7 +32,8 @@ found good (link ∷ row) up h = by (good link.to) refl (λ more. found good row
     parts = and_parts (list_all (λ y. nat_lt link.port y) (map (λ l. l.port) row)) (rises (map (λ l. l.port) row)) up
 
     later : good link.to ≡ false → (list_any (λ l. good l.to) row ≡ true)
-    later e = elim (or_cases (good link.to) (list_any (λ l. good l.to) row) h) [ inl here ↦ absurd (false≢true (sym e ∙ here)) | inr more ↦ more ]
+    later e =
+        elim (or_cases (good link.to) (list_any (λ l. good l.to) row) h) [ inl here ↦ absurd (false≢true (sym e ∙ here)) | inr more ↦ more ]
 
     here_first : (b : Bool) → b ≡ true → (if_so : Option Link) → cond b (Some link) if_so ≡ Some link
     here_first b e if_so = rw e refl
@@ -39,7 +41,8 @@ found good (link ∷ row) up h = by (good link.to) refl (λ more. found good row
     here_not : (b : Bool) → b ≡ false → (if_so o : Option Link) → if_so ≡ o → cond b (Some link) if_so ≡ o
     here_not b e if_so o same = rw e same
 
-    by : (b : Bool) → good link.to ≡ b → (list_any (λ l. good l.to) row ≡ true → Found good row) → Found good (link ∷ row)
+    by : (b : Bool) → good link.to ≡ b → (list_any (λ l. good l.to) row ≡ true → Found good row)
+        → Found good (link ∷ row)
     by true e more =
         record {
           link = link;
@@ -64,7 +67,8 @@ found good (link ∷ row) up h = by (good link.to) refl (λ more. found good row
           ];
         }
 
-good_next : (good : ℕ → Bool) (t : ℕ) (row : List Link) → list_any (λ l. l.to == t) row ≡ true → good t ≡ true → list_any (λ l. good l.to) row ≡ true
+good_next : (good : ℕ → Bool) (t : ℕ) (row : List Link) → list_any (λ l. l.to == t) row ≡ true → good t ≡ true
+    → list_any (λ l. good l.to) row ≡ true
 good_next good t [] h is = absurd (false≢true h)
 good_next good t (link ∷ row) h is =
     elim (or_cases (link.to == t) (list_any (λ l. l.to == t) row) h) [
@@ -91,10 +95,13 @@ module _ (rows : List (List Link)) (is_first : ℕ → Bool) (depths : List ℕ)
     nearer : depth parent + 1 ≡ depth s
 
   parent_of : (s : ℕ) → s < length rows → is_first s ≡ false → Parent s
-  parent_of s less off = by (right.each s less).some.0 (right.each s less).some.1 (right.each s less).some.2 (right.each s less).some.3 (right.each s less).some.4
+  parent_of s less off =
+      by (right.each s less).some.0 (right.each s less).some.1 (right.each s less).some.2 (right.each s less).some.3 (right.each s less).some.4
     where
-      by : (d : ℕ) (steps : List ℕ) → is_first d ≡ true → is_walk rows s steps d ≡ true → length steps ≡ depth s → Parent s
-      by d [] end walk long = absurd (false≢true (sym off ∙ subst (λ (v : ℕ). is_first v ≡ true) (sym (eqb-true s d walk)) end))
+      by : (d : ℕ) (steps : List ℕ) → is_first d ≡ true → is_walk rows s steps d ≡ true → length steps ≡ depth s
+          → Parent s
+      by d [] end walk long =
+          absurd (false≢true (sym off ∙ subst (λ (v : ℕ). is_first v ≡ true) (sym (eqb-true s d walk)) end))
       by d (t ∷ steps) end walk long =
           let parts = and_parts (is_next_to rows s t) (is_walk rows t steps d) walk in
           let there = (ends rows s t cabling less parts.0).0 in
@@ -104,7 +111,8 @@ module _ (rows : List (List Link)) (is_first : ℕ → Bool) (depths : List ℕ)
           let same = more.4 in
           record { parent = t; beside = parts.0; nearer = omega (arith, near, far, same, long) }
 
-  pub port_of : (s : ℕ) → s < length rows → is_first s ≡ false → (port : ℕ) × (tree_port rows depths s ≡ Some port) × IsTreePort rows depths s port
+  pub port_of : (s : ℕ) → s < length rows → is_first s ≡ false
+      → (port : ℕ) × (tree_port rows depths s ≡ Some port) × IsTreePort rows depths s port
   port_of s less off =
       let up = parent_of s less off in
       let good : ℕ → Bool = λ t. depth t + 1 == depth s in
@@ -120,17 +128,21 @@ module _ (rows : List (List Link)) (is_first : ℕ → Bool) (depths : List ℕ)
       )
 
   abbrev Home : ℕ → Type 0
-  Home s = (first : ℕ) × (steps : List ℕ) × (is_first first ≡ true) × (first < length rows) × (is_route rows (tree_port rows depths) s steps first ≡ true) × (length steps ≡ depth s)
+  Home s =
+      (first : ℕ) × (steps : List ℕ) × (is_first first ≡ true) × (first < length rows) × (is_route rows (tree_port rows depths) s steps first ≡ true) × (length steps ≡ depth s)
 
   home : (k s : ℕ) → s < length rows → depth s ≡ k → Home s
   home zero s less deep = by (is_first s) refl
     where
       by : (b : Bool) → is_first s ≡ b → Home s
       by true e = (s, [], e, less, eq-eqb s s refl, sym deep)
-      by false e = absurd (let up = parent_of s less e in let nearer = up.nearer in let no_room : ⊥ = omega (arith, nearer, deep) in no_room)
+      by false e =
+          absurd (let up =
+          parent_of s less e in let nearer = up.nearer in let no_room : ⊥ = omega (arith, nearer, deep) in no_room)
   home (suc k) s less deep = by (is_first s) refl (λ t there at. home k t there at)
     where
-      on : (port : ℕ) → tree_port rows depths s ≡ Some port → (at : IsTreePort rows depths s port) → Home at.parent → Home s
+      on : (port : ℕ) → tree_port rows depths s ≡ Some port → (at : IsTreePort rows depths s port) → Home at.parent
+          → Home s
       on port picked at more =
           let end = first_depth more.0 more.3 more.2 in
           let away : s ≢ more.0 = λ same. (let one : depth s ≡ depth more.0 = ap (λ v. depth v) same in omega (arith, one, end, deep)) in
@@ -145,12 +157,14 @@ module _ (rows : List (List Link)) (is_first : ℕ → Bool) (depths : List ℕ)
           )
 
       by : (b : Bool) → is_first s ≡ b → ((t : ℕ) → t < length rows → depth t ≡ k → Home t) → Home s
-      by true e later = absurd (let none = first_depth s less e in let no_room : ⊥ = omega (arith, none, deep) in no_room)
+      by true e later =
+          absurd (let none = first_depth s less e in let no_room : ⊥ = omega (arith, none, deep) in no_room)
       by false e later =
           let one = port_of s less e in
           let nearer = one.2.nearer in
           let there = (ends rows s one.2.parent cabling less (leads_next rows s one.0 one.2.parent one.2.link)).0 in
           on one.0 one.1 one.2 (later one.2.parent there (omega (arith, nearer, deep)))
 
-  pub leads_home : (s : ℕ) → s < length rows → (first : ℕ) × (steps : List ℕ) × (is_first first ≡ true) × (is_route rows (tree_port rows depths) s steps first ≡ true) × (length steps ≡ depth s)
+  pub leads_home : (s : ℕ) → s < length rows
+      → (first : ℕ) × (steps : List ℕ) × (is_first first ≡ true) × (is_route rows (tree_port rows depths) s steps first ≡ true) × (length steps ≡ depth s)
   leads_home s less = let all : Home s = home (depth s) s less refl in (all.0, all.1, all.2, all.4, all.5)
