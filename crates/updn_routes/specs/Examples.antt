@@ -1,11 +1,11 @@
 -- Three fabrics that were worked out by hand.
-use Rattle.std.specs.Prelude.{ℕ, ◌≡◌, Bool, true, List, [], ◌∷◌, length, get_or, Option, Some, None}
+use Rattle.std.specs.Prelude.{ℕ, ◌≡◌, Bool, true, false, List, [], ◌∷◌, length, get_or, Option, Some, None}
 use Rattle.updn_routes.specs.declared.link.Link.{Link}
 use Rattle.updn_routes.specs.Cabling.{AllJoined, is_cabling}
-use Rattle.updn_routes.specs.Choice.{AllChosen}
+use Rattle.updn_routes.specs.Choice.{AllChosen, is_route, is_way_down, is_way_up}
 use Rattle.updn_routes.specs.Order.{AreRanks, IsOrder, precedes}
 use Rattle.updn_routes.specs.Tree.{AreDepths, tree_port}
-use Rattle.updn_routes.specs.UpDown.{channel_number}
+use Rattle.updn_routes.specs.UpDown.{channel_number, is_legal}
 
 -- a fabric: its cabling, GUIDs and named roots, and then what was worked out of these
 pub record Worked : Type 0 where
@@ -77,10 +77,13 @@ FourAreChosen chosen d = AllChosen four_switches.rows (order_of four_switches) (
 
 pub record FourSwitchesMeetTheLaws : Type 0 where
   pub right : IsRight four_switches
-  -- no root sends to the other, since that way would go down and then up
+  -- no root sends to the other, since to go down and then up is not legal
+  pub R1_L1_R2 : is_legal (order_of four_switches) 0 (2 ∷ 1 ∷ []) ≡ false
+  pub R1_L1_R2_is_no_way_down : is_way_down four_switches.rows (order_of four_switches) 0 1 1 (2 ∷ 1 ∷ []) ≡ false
   pub to_R1 : FourAreChosen (None ∷ None ∷ Some 1 ∷ Some 1 ∷ []) 0
   pub to_R2 : FourAreChosen (None ∷ None ∷ Some 2 ∷ Some 2 ∷ []) 1
-  -- of the two ways up, which are as long, the lesser port
+  -- to go up and then down is; of the two such ways, which are as long, the lesser port is taken
+  pub L1_R1_L2 : is_legal (order_of four_switches) 2 (0 ∷ 3 ∷ []) ≡ true
   pub to_L1 : FourAreChosen (Some 1 ∷ Some 1 ∷ None ∷ Some 1 ∷ []) 2
   pub to_L2 : FourAreChosen (Some 2 ∷ Some 2 ∷ Some 1 ∷ None ∷ []) 3
   pub L1_to_R1 : number_of four_switches 2 0 ≡ 1
@@ -109,9 +112,19 @@ seven_switches = record {
   depths = 0 ∷ 1 ∷ 1 ∷ 1 ∷ 1 ∷ 1 ∷ 2 ∷ [];
 }
 
--- U1 can go down to D, by V and W, and so does, though by R it would be shorter; so X, whose choice follows the routes
+abbrev pub ports_to_D : ℕ → Option ℕ
+ports_to_D = ports (Some 5 ∷ Some 2 ∷ Some 1 ∷ Some 3 ∷ Some 3 ∷ None ∷ Some 2 ∷ [])
+
+abbrev pub is_way_up_from_X : ℕ → List ℕ → Bool
+is_way_up_from_X = is_way_up seven_switches.rows (order_of seven_switches) ports_to_D 6 5
+
+-- U1 can go down to D, by V and W, and so does, though over R it would be shorter; so X, whose choice follows the routes
 -- of U1 and U2 themselves, takes port 2
 pub record SevenSwitchesMeetTheLaws : Type 0 where
   pub right : IsRight seven_switches
-  pub to_D : AllChosen seven_switches.rows (order_of seven_switches)
-      (ports (Some 5 ∷ Some 2 ∷ Some 1 ∷ Some 3 ∷ Some 3 ∷ None ∷ Some 2 ∷ [])) 5
+  pub to_D : AllChosen seven_switches.rows (order_of seven_switches) ports_to_D 5
+  pub route_of_U1 : is_route seven_switches.rows ports_to_D 1 (3 ∷ 4 ∷ 5 ∷ []) 5 ≡ true
+  pub U1_R_D : is_legal (order_of seven_switches) 1 (0 ∷ 5 ∷ []) ≡ true
+  pub X_U1_V_W_D : is_way_up_from_X 1 (1 ∷ 3 ∷ 4 ∷ 5 ∷ []) ≡ true
+  pub X_U1_R_D : is_way_up_from_X 1 (1 ∷ 0 ∷ 5 ∷ []) ≡ false
+  pub X_U2_R_D : is_way_up_from_X 2 (2 ∷ 0 ∷ 5 ∷ []) ≡ true

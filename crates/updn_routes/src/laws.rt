@@ -1,26 +1,29 @@
-//! What follows from the definitions of `specs/` alone. Each function's contract is its law; it does nothing.
+//! What follows from the definitions of routes alone. Each function's contract is its law; it does nothing.
 
 ghost use Rattle.updn_routes.specs.Examples.{FourSwitchesMeetTheLaws, SevenSwitchesMeetTheLaws, TwoSwitchesMeetTheLaws};
 ghost use Rattle.updn_routes.specs.Laws.{ChoicesLeadHome, JoinedSwitchesHaveDistances, NoCircleWaits, OneChoiceIsLeft, OneDistanceIsLeft, PlacesKeepTheChoices, PlacesKeepTheOrder, PlacesKeepTheWalks, RanksAndGuidsOrder, TheTreeLeadsToTheFirstRoot, WaysDownComeFirst};
 
-/// Joined switches have distances from whatever switches, and so ranks and depths, and one list of each.
+/// Where cables join all switches, each of them has a distance from the nearest of any given ones, as its rank
+/// from the roots and its depth from the first root; and it has one such distance only.
 pub fn joined_switches_have_distances()
     ensures some { JoinedSwitchesHaveDistances }
     ensures one { OneDistanceIsLeft }
 {}
 
-/// Ranks, and GUIDs where ranks are equal, put all switches in order.
+/// Ranks, and GUIDs where ranks are equal, put all switches in order, if no two of them have one GUID.
 pub fn ranks_and_guids_order()
     ensures { RanksAndGuidsOrder }
 {}
 
-/// Where a port is chosen, following the choices arrives: over fewer than twice as many cables as there are
-/// switches, up and then down, and over channels whose numbers rise. Where none is chosen, no legal walk leads there.
+/// Where a port is chosen, following the choices arrives, up and then down, over fewer than twice as many
+/// cables as there are switches, and over channels whose numbers rise. Where none is chosen, no legal walk
+/// leads there at all.
 pub fn choices_lead_home()
     ensures { ChoicesLeadHome }
 {}
 
-/// Choices that obey the definition are the same, though each speaks of those of its neighbours.
+/// Tables that both obey the definition of the choice are the same: that a switch's choice follows its
+/// neighbour's choices goes round in no circle.
 pub fn one_choice_is_left()
     ensures { OneChoiceIsLeft }
 {}
@@ -30,18 +33,20 @@ pub fn no_circle_waits()
     ensures { NoCircleWaits }
 {}
 
-/// Where one can go down all the way, the route does, and by a shortest such way.
+/// Where some walk leads down all the way, the route goes down all the way, and no such walk is shorter. So a
+/// step up is taken only where none does.
 pub fn ways_down_come_first()
     ensures { WaysDownComeFirst }
 {}
 
-/// Each switch but the first root has one tree port, and the tree ports lead to the first root, a step of
-/// depth at a time.
+/// Each switch but the first root has one tree port, and depth falls by one along it; so the tree ports lead
+/// to the first root, in as many steps as the switch is deep.
 pub fn the_tree_leads_to_the_first_root()
     ensures { TheTreeLeadsToTheFirstRoot }
 {}
 
-/// What is said of places holds of switches: places keep their order, their walks and what is chosen.
+/// What is said of places holds of the switches that stand there: the order, the walks and their ports, and
+/// what is chosen.
 pub fn places_keep_order_and_walks()
     ensures order { PlacesKeepTheOrder }
     ensures walks { PlacesKeepTheWalks }
@@ -53,12 +58,13 @@ pub fn the_two_switch_fabric_meets_the_laws()
     ensures { TwoSwitchesMeetTheLaws }
 {}
 
-/// Four switches with two roots. Each root is at the other's depth 2, and neither has a way to the other.
+/// So do four, two of which are roots: both have rank 0, and the second has depth 2.
 pub fn the_four_switch_fabric_meets_the_laws()
     ensures { FourSwitchesMeetTheLaws }
 {}
 
-/// Seven switches, one of which follows the routes that its neighbours take, and not the shortest that they could.
+/// So do seven, one of which chooses by the routes that its neighbours take, and not by shorter ones that they
+/// pass over.
 pub fn the_seven_switch_fabric_meets_the_laws()
     ensures { SevenSwitchesMeetTheLaws }
 {}

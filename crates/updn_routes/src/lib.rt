@@ -1,4 +1,10 @@
-//! Up/down routes: what a route is, and what follows from it.
+//! Up/down routes between the switches of a subnet: what a route is, and what follows from that.
+//!
+//! The cables between switches are rows of [`Link`]s, one row for each switch. `specs/Order.antt` says how far
+//! switches are from roots, and which of two comes before the other: a step is up where it goes to the one that
+//! does. `specs/UpDown.antt` says which walks are legal, `specs/Choice.antt` which port a switch chooses towards
+//! another, `specs/Tree.antt` by which port it is joined to the spanning tree of multicast. The functions here are
+//! laws over these definitions; none computes a route yet.
 #![tactic(auto)]
 
 mod laws;

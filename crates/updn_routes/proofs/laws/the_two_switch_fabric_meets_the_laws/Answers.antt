@@ -1,13 +1,19 @@
 use Rattle.std.proofs.Common.{refl, Some, None, [], ◌∷◌}
 use Rattle.updn_routes.specs.Examples.{order_of, two_switches}
-use Rattle.updn_routes.proofs.ExampleLemmas.{is_right, two_joined}
+use Rattle.updn_routes.proofs.DistanceLemmas.{distances_tested}
+use Rattle.updn_routes.proofs.ExampleLemmas.{in_order, two_joined}
 use Rattle.updn_routes.proofs.TestLemmas.{table_tested}
 use Rattle.updn_routes.proofs.laws.the_two_switch_fabric_meets_the_laws.Goals as goal
 
 pub returns : goal.returns
 returns c =
     record {
-      right = is_right two_switches refl refl refl refl refl;
+      right = record {
+        cabling = refl;
+        order = in_order two_switches refl refl;
+        ranks = distances_tested two_switches.rows _ two_switches.ranks refl refl;
+        depths = distances_tested two_switches.rows _ two_switches.depths refl refl;
+      };
       joined = two_joined;
       to_A = table_tested two_switches.rows (order_of two_switches) 0 (Some 0 ∷ None ∷ []) (Some 0 ∷ Some 1 ∷ []) (None ∷ Some 3 ∷ []) refl refl;
       to_B = table_tested two_switches.rows (order_of two_switches) 1 (Some 1 ∷ Some 0 ∷ []) (Some 1 ∷ Some 0 ∷ []) (Some 3 ∷ None ∷ []) refl refl;
