@@ -300,18 +300,18 @@ module _ (rows : List (List Link)) (before : ℕ → ℕ → Bool) (d : ℕ) (ca
       best_up : (port more : ℕ) → IsBest rows (is_up before s) own s port more → IsLeastOf ups port
       best_up port more best = from (own_route more best.to (reached port best.to best.out) best.at)
         where
-          shorter : (walk : List ℕ) → length walk ≡ more → (q : ℕ) (steps : List ℕ) → ups q steps ≡ true
-              → length (best.to ∷ walk) ≤ length steps
-          shorter walk long q [] way = absurd (false≢true way)
-          shorter walk long q (t ∷ steps) way =
+          shorter : (route : List ℕ) → length route ≡ more → (q : ℕ) (steps : List ℕ) → ups q steps ≡ true
+              → length (best.to ∷ route) ≤ length steps
+          shorter route long q [] way = absurd (false≢true way)
+          shorter route long q (t ∷ steps) way =
               let w = way_up rows before next s d q t steps way in
               let near = best.nearest q t (length steps) w.out w.step (route_own t steps (reached q t w.out) w.rest) in
               omega (arith, near, long)
 
-          lesser : (walk : List ℕ) → length walk ≡ more → (q : ℕ) (steps : List ℕ) → ups q steps ≡ true
-              → length steps ≡ length (best.to ∷ walk) → port ≤ q
-          lesser walk long q [] way even = absurd (false≢true way)
-          lesser walk long q (t ∷ steps) way even =
+          lesser : (route : List ℕ) → length route ≡ more → (q : ℕ) (steps : List ℕ) → ups q steps ≡ true
+              → length steps ≡ length (best.to ∷ route) → port ≤ q
+          lesser route long q [] way even = absurd (false≢true way)
+          lesser route long q (t ∷ steps) way even =
               let w = way_up rows before next s d q t steps way in
               let same : length steps ≡ more = omega (arith, long, even) in
               best.least q t w.out w.step (route_own t steps (reached q t w.out) w.rest ∙ ap Some same)
