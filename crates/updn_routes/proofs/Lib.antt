@@ -11,3 +11,4 @@ pub mod PlacedLemmas
 pub mod TableLemmas
 pub mod TestLemmas
 pub mod ExampleLemmas
+pub mod ExistLemmas

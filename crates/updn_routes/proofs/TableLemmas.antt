@@ -52,7 +52,7 @@ IsEntry rows before down own next s =
     Falls rows before down own next s ⊎ (Climbs rows before down own next s ⊎ Rests rows before down own next s)
 
 -- ---- all of them
-same_some : (j k : ℕ) → ◌≡◌ {A = Option ℕ} (Some j) (Some k) → j ≡ k
+pub same_some : (j k : ℕ) → ◌≡◌ {A = Option ℕ} (Some j) (Some k) → j ≡ k
 same_some j k h = cc
 
 module _ (rows : List (List Link)) (before : ℕ → ℕ → Bool) (d : ℕ) (cabling : is_cabling rows ≡ true) (down own next : ℕ → Option ℕ)
@@ -132,7 +132,8 @@ module _ (rows : List (List Link)) (before : ℕ → ℕ → Bool) (d : ℕ) (ca
       by : (b : Bool) → (s == d) ≡ b → Later → DownWalk s (suc k)
       by true f later =
           absurd (let same =
-          same_some (suc k) zero (sym e ∙ at_home s (eqb-true s d f)) in let no_room : ⊥ = omega (arith, same) in no_room)
+          same_some (suc k) zero (sym e ∙ at_home s (eqb-true s d f)) in let no_room : ⊥ =
+          omega (arith, same) in no_room)
       by false f later = on later (each s less (eqb-false s d f))
 
   -- the own route is the way down where there is one
@@ -199,7 +200,8 @@ module _ (rows : List (List Link)) (before : ℕ → ℕ → Bool) (d : ℕ) (ca
       by : (b : Bool) → (s == d) ≡ b → Later → Routed s (suc k)
       by true f later =
           absurd (let same =
-          same_some (suc k) zero (sym e ∙ own_at_home s (eqb-true s d f)) in let no_room : ⊥ = omega (arith, same) in no_room)
+          same_some (suc k) zero (sym e ∙ own_at_home s (eqb-true s d f)) in let no_room : ⊥ =
+          omega (arith, same) in no_room)
       by false f later =
           let away = eqb-false s d f in
           let a = ahead s k less away e in

@@ -51,6 +51,13 @@ ChoicesLeadHome =
     → is_cabling rows ≡ true → IsOrder (length rows) before → AllChosen rows before next d
     → (s : ℕ) → s < length rows → s ≢ d → IsSettled rows before next s d
 
+-- towards every target there are choices that obey the definition
+abbrev pub ChoicesThereAre : Type 0
+ChoicesThereAre =
+    (rows : List (List Link)) (before : ℕ → ℕ → Bool) (d : ℕ)
+    → is_cabling rows ≡ true → IsOrder (length rows) before → d < length rows
+    → (next : ℕ → Option ℕ) × AllChosen rows before next d
+
 -- choices that both obey the definition are the same
 abbrev pub OneChoiceIsLeft : Type 0
 OneChoiceIsLeft =

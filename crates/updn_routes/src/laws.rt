@@ -1,7 +1,7 @@
 //! What follows from the definitions of routes alone. Each function's contract is its law; it does nothing.
 
 ghost use Rattle.updn_routes.specs.Examples.{FourSwitchesMeetTheLaws, SevenSwitchesMeetTheLaws, TwoSwitchesMeetTheLaws};
-ghost use Rattle.updn_routes.specs.Laws.{ChoicesLeadHome, JoinedSwitchesHaveDistances, NoCircleWaits, OneChoiceIsLeft, OneDistanceIsLeft, PlacesKeepTheChoices, PlacesKeepTheOrder, PlacesKeepTheWalks, RanksAndGuidsOrder, TheTreeLeadsToTheFirstRoot, WaysDownComeFirst};
+ghost use Rattle.updn_routes.specs.Laws.{ChoicesLeadHome, ChoicesThereAre, JoinedSwitchesHaveDistances, NoCircleWaits, OneChoiceIsLeft, OneDistanceIsLeft, PlacesKeepTheChoices, PlacesKeepTheOrder, PlacesKeepTheWalks, RanksAndGuidsOrder, TheTreeLeadsToTheFirstRoot, WaysDownComeFirst};
 
 /// Where cables join all switches, each of them has a distance from the nearest of any given ones, as its rank
 /// from the roots and its depth from the first root; and it has one such distance only.
@@ -22,10 +22,11 @@ pub fn choices_lead_home()
     ensures { ChoicesLeadHome }
 {}
 
-/// Tables that both obey the definition of the choice are the same: that a switch's choice follows its
-/// neighbour's choices goes round in no circle.
+/// Towards every switch there are choices that obey the definition, and such tables are the same: that a
+/// switch's choice follows its neighbours' choices goes round in no circle.
 pub fn one_choice_is_left()
-    ensures { OneChoiceIsLeft }
+    ensures some { ChoicesThereAre }
+    ensures one { OneChoiceIsLeft }
 {}
 
 /// No channel waits, over others, for itself.
