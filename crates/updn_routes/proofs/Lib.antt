@@ -12,3 +12,4 @@ pub mod TableLemmas
 pub mod TestLemmas
 pub mod ExampleLemmas
 pub mod ExistLemmas
+pub mod FabricLemmas

@@ -1,9 +1,9 @@
 -- Three fabrics that were worked out by hand.
 use Rattle.std.specs.Prelude.{ℕ, ◌≡◌, Bool, true, false, List, [], ◌∷◌, length, get_or, Option, Some, None}
 use Rattle.updn_routes.specs.declared.link.Link.{Link}
-use Rattle.updn_routes.specs.Cabling.{AllJoined, is_cabling}
 use Rattle.updn_routes.specs.Choice.{AllChosen, is_route, is_way_down, is_way_up}
-use Rattle.updn_routes.specs.Order.{AreRanks, IsOrder, precedes}
+use Rattle.updn_routes.specs.Fabric.{IsFabric}
+use Rattle.updn_routes.specs.Order.{AreRanks, precedes}
 use Rattle.updn_routes.specs.Tree.{AreDepths, tree_port}
 use Rattle.updn_routes.specs.UpDown.{channel_number, is_legal}
 
@@ -27,8 +27,7 @@ number_of w s t = channel_number (order_of w) (length w.rows) s t
 
 -- what is worked out of it is right
 pub record IsRight (w : Worked) : Type 0 where
-  pub cabling : is_cabling w.rows ≡ true
-  pub order : IsOrder (length w.rows) (order_of w)
+  pub fabric : IsFabric w.rows w.guids w.roots
   pub ranks : AreRanks w.rows w.guids w.roots w.ranks
   pub depths : AreDepths w.rows w.guids w.roots w.depths
 
@@ -48,7 +47,6 @@ two_switches = record {
 
 pub record TwoSwitchesMeetTheLaws : Type 0 where
   pub right : IsRight two_switches
-  pub joined : AllJoined two_switches.rows
   pub to_A : AllChosen two_switches.rows (order_of two_switches) (ports (None ∷ Some 3 ∷ [])) 0
   pub to_B : AllChosen two_switches.rows (order_of two_switches) (ports (Some 3 ∷ None ∷ [])) 1
   pub B_to_A : number_of two_switches 1 0 ≡ 0

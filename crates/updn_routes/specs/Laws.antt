@@ -4,6 +4,7 @@ use Rattle.std.specs.List.{list_all, IsDistinct}
 use Rattle.updn_routes.specs.declared.link.Link.{Link}
 use Rattle.updn_routes.specs.Cabling.{AllJoined, is_cabling, is_walk, leads, rises}
 use Rattle.updn_routes.specs.Choice.{AllChosen, is_route}
+use Rattle.updn_routes.specs.Fabric.{HasRoutes, IsFabric}
 use Rattle.updn_routes.specs.Order.{AreDistances, IsDistance, IsOrder, is_first_root, place_of, precedes}
 use Rattle.updn_routes.specs.Places.{IsPlaced}
 use Rattle.updn_routes.specs.Tree.{AreDepths, tree_port}
@@ -28,6 +29,12 @@ OneDistanceIsLeft =
 abbrev pub RanksAndGuidsOrder : Type 0
 RanksAndGuidsOrder =
     (ranks guids : List ℕ) → IsDistinct (λ a b. a == b) guids → IsOrder (length guids) (precedes ranks guids)
+
+-- ---- fabrics
+-- every fabric has ranks, depths and choices
+abbrev pub EveryFabricHasRoutes : Type 0
+EveryFabricHasRoutes =
+    (rows : List (List Link)) (guids roots : List ℕ) → IsFabric rows guids roots → HasRoutes rows guids roots
 
 -- ---- routes
 -- these steps from s are where the choices lead; they arrive, up and then down, over channels whose numbers rise, and

@@ -1,7 +1,7 @@
 //! What follows from the definitions of routes alone. Each function's contract is its law; it does nothing.
 
 ghost use Rattle.updn_routes.specs.Examples.{FourSwitchesMeetTheLaws, SevenSwitchesMeetTheLaws, TwoSwitchesMeetTheLaws};
-ghost use Rattle.updn_routes.specs.Laws.{ChoicesLeadHome, ChoicesThereAre, JoinedSwitchesHaveDistances, NoCircleWaits, OneChoiceIsLeft, OneDistanceIsLeft, PlacesKeepTheChoices, PlacesKeepTheOrder, PlacesKeepTheWalks, RanksAndGuidsOrder, TheTreeLeadsToTheFirstRoot, WaysDownComeFirst};
+ghost use Rattle.updn_routes.specs.Laws.{ChoicesLeadHome, ChoicesThereAre, EveryFabricHasRoutes, JoinedSwitchesHaveDistances, NoCircleWaits, OneChoiceIsLeft, OneDistanceIsLeft, PlacesKeepTheChoices, PlacesKeepTheOrder, PlacesKeepTheWalks, RanksAndGuidsOrder, TheTreeLeadsToTheFirstRoot, WaysDownComeFirst};
 
 /// Where cables join all switches, each of them has a distance from the nearest of any given ones, as its rank
 /// from the roots and its depth from the first root; and it has one such distance only.
@@ -13,6 +13,12 @@ pub fn joined_switches_have_distances()
 /// Ranks, and GUIDs where ranks are equal, put all switches in order, if no two of them have one GUID.
 pub fn ranks_and_guids_order()
     ensures { RanksAndGuidsOrder }
+{}
+
+/// Every fabric whose switches are joined has ranks, an order of its switches, depths, and choices towards each
+/// switch, whichever roots are named, and if none is.
+pub fn every_fabric_has_routes()
+    ensures { EveryFabricHasRoutes }
 {}
 
 /// Where a port is chosen, following the choices arrives, up and then down, over fewer than twice as many

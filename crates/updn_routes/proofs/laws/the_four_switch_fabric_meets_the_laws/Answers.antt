@@ -1,7 +1,7 @@
 use Rattle.std.proofs.Common.{refl, Some, None, [], ◌∷◌}
 use Rattle.updn_routes.specs.Examples.{four_switches, order_of}
 use Rattle.updn_routes.proofs.DistanceLemmas.{distances_tested}
-use Rattle.updn_routes.proofs.ExampleLemmas.{in_order}
+use Rattle.updn_routes.proofs.ExampleLemmas.{is_fabric}
 use Rattle.updn_routes.proofs.TestLemmas.{table_tested}
 use Rattle.updn_routes.proofs.laws.the_four_switch_fabric_meets_the_laws.Goals as goal
 
@@ -9,8 +9,7 @@ pub returns : goal.returns
 returns c =
     record {
       right = record {
-        cabling = refl;
-        order = in_order four_switches refl refl;
+        fabric = is_fabric four_switches ([] ∷ (2 ∷ 0 ∷ []) ∷ (0 ∷ []) ∷ (0 ∷ []) ∷ []) ([] ∷ (2 ∷ 1 ∷ []) ∷ (2 ∷ []) ∷ (3 ∷ []) ∷ []) refl refl refl refl refl refl;
         ranks = distances_tested four_switches.rows _ four_switches.ranks refl refl;
         depths = distances_tested four_switches.rows _ four_switches.depths refl refl;
       };

@@ -1,7 +1,7 @@
 use Rattle.std.proofs.Common.{refl, Some, None, [], ◌∷◌}
 use Rattle.updn_routes.specs.Examples.{order_of, seven_switches}
 use Rattle.updn_routes.proofs.DistanceLemmas.{distances_tested}
-use Rattle.updn_routes.proofs.ExampleLemmas.{in_order}
+use Rattle.updn_routes.proofs.ExampleLemmas.{is_fabric}
 use Rattle.updn_routes.proofs.TestLemmas.{table_tested}
 use Rattle.updn_routes.proofs.laws.the_seven_switch_fabric_meets_the_laws.Goals as goal
 
@@ -9,8 +9,7 @@ pub returns : goal.returns
 returns c =
     record {
       right = record {
-        cabling = refl;
-        order = in_order seven_switches refl refl;
+        fabric = is_fabric seven_switches ([] ∷ (0 ∷ []) ∷ (0 ∷ []) ∷ (0 ∷ []) ∷ (0 ∷ []) ∷ (0 ∷ []) ∷ (1 ∷ 0 ∷ []) ∷ []) ([] ∷ (1 ∷ []) ∷ (2 ∷ []) ∷ (3 ∷ []) ∷ (4 ∷ []) ∷ (5 ∷ []) ∷ (1 ∷ 6 ∷ []) ∷ []) refl refl refl refl refl refl;
         ranks = distances_tested seven_switches.rows _ seven_switches.ranks refl refl;
         depths = distances_tested seven_switches.rows _ seven_switches.depths refl refl;
       };
