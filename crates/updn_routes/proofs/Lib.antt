@@ -1,0 +1,15 @@
+pub mod CablingLemmas
+pub mod PlaceLemmas
+pub mod NumberLemmas
+pub mod RouteLemmas
+pub mod UniqueLemmas
+pub mod CircleLemmas
+pub mod OrderLemmas
+pub mod DistanceLemmas
+pub mod TreeLemmas
+pub mod PlacedLemmas
+pub mod TableLemmas
+pub mod TestLemmas
+pub mod ExampleLemmas
+pub mod ExistLemmas
+pub mod FabricLemmas

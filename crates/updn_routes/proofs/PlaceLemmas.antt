@@ -1,0 +1,111 @@
+-- The place of a switch, which is how many come before it: places keep the order.
+use Rattle.std.proofs.Common.{◌≡◌, ◌≢◌, ℕ, zero, suc, ◌+◌, ◌<◌, ◌≤◌, Bool, true, false, cond, ◌==◌, nat_lt, List, [], ◌∷◌, length, filter, refl, sym, ap, subst, ◌∙◌, inl, inr, arith}
+use Rattle.std.specs.List.{range_with_len}
+use Rattle.std.proofs.lemmas.Bool.{or_cases, eqb-true, eqb-false, lt-ltb, le-ltb, false≢true}
+use Rattle.std.proofs.lemmas.List.FromFn.{length-range_with_len}
+use Rattle.updn_routes.specs.Laws.{KeepsTheOrder}
+use Rattle.updn_routes.specs.Order.{IsOrder, place_of}
+
+-- ---- what filters keep
+-- fewer pass the stronger test
+fewer : (strong weak : ℕ → Bool) → ((t : ℕ) → strong t ≡ true → weak t ≡ true) → (xs : List ℕ)
+    → length (filter strong xs) ≤ length (filter weak xs)
+fewer strong weak implies [] = omega arith
+fewer strong weak implies (x ∷ xs) = by (strong x) (weak x) (implies x) (fewer strong weak implies xs)
+  where
+    by : (b c : Bool) → (b ≡ true → c ≡ true) → length (filter strong xs) ≤ length (filter weak xs)
+        → length (cond b (x ∷ filter strong xs) (filter strong xs)) ≤ length (cond c (x ∷ filter weak xs) (filter weak xs))
+    by true true i h = omega (arith, h)
+    by true false i h = absurd (false≢true (i refl))
+    by false true i h = omega (arith, h)
+    by false false i h = h
+
+-- and where one number passes the weaker alone, fewer by one at least
+fewer_by_one : (strong weak : ℕ → Bool) → ((t : ℕ) → strong t ≡ true → weak t ≡ true) → (first count s : ℕ)
+    → first ≤ s → s < first + count
+    → strong s ≡ false → weak s ≡ true
+    → length (filter strong (range_with_len first count)) < length (filter weak (range_with_len first count))
+fewer_by_one strong weak implies first zero s low high gone there =
+    absurd (let no_room : ⊥ = omega (arith, low, high) in no_room)
+fewer_by_one strong weak implies first (suc count) s low high gone there =
+    by (first == s) refl (λ more. fewer_by_one strong weak implies (first + 1) count s more (omega (arith, high)) gone there)
+  where
+    rest : List ℕ
+    rest = range_with_len (first + 1) count
+
+    one : (b c : Bool) → b ≡ false → c ≡ true → length (filter strong rest) ≤ length (filter weak rest)
+        → length (cond b (first ∷ filter strong rest) (filter strong rest)) < length (cond c (first ∷ filter weak rest) (filter weak rest))
+    one b c e f h = rw (e, f) (omega (arith, h))
+
+    more : (b c : Bool) → (b ≡ true → c ≡ true) → length (filter strong rest) < length (filter weak rest)
+        → length (cond b (first ∷ filter strong rest) (filter strong rest)) < length (cond c (first ∷ filter weak rest) (filter weak rest))
+    more true true i h = omega (arith, h)
+    more true false i h = absurd (false≢true (i refl))
+    more false true i h = omega (arith, h)
+    more false false i h = h
+
+    by : (b : Bool) → (first == s) ≡ b → (first + 1 ≤ s → length (filter strong rest) < length (filter weak rest))
+        → length (filter strong (range_with_len first (suc count))) < length (filter weak (range_with_len first (suc count)))
+    by true e later =
+        let same = eqb-true first s e in
+        one (strong first) (weak first) (subst (λ (k : ℕ). strong k ≡ false) (sym same) gone) (subst (λ (k : ℕ). weak k ≡ true) (sym same) there) (fewer strong weak implies rest)
+    by false e later =
+        let other = eqb-false first s e in more (strong first) (weak first) (implies first) (later (omega (arith, low, other)))
+
+all_stay : (xs : List ℕ) → length (filter (λ _. true) xs) ≡ length xs
+all_stay [] = refl
+all_stay (x ∷ xs) = ap suc (all_stay xs)
+
+apart : (s t : ℕ) → (s == t) ≡ false → s ≢ t
+apart s t e same = eqb-false s t e same
+
+-- ---- places
+module _ (count : ℕ) (before : ℕ → ℕ → Bool) (order : IsOrder count before) where
+  -- of two switches one does not come both before and after the other
+  pub after : (s t : ℕ) → before s t ≡ true → before t s ≡ false
+  after s t h = by (before t s) refl
+    where
+      by : (b : Bool) → before t s ≡ b → before t s ≡ false
+      by true e = absurd (false≢true (sym (order.irreflexive s) ∙ order.transitive s t s h e))
+      by false e = e
+
+  pub place_below : (s : ℕ) → s < count → place_of before count s < count
+  place_below s less =
+      let some = fewer_by_one (λ t. before t s) (λ _. true) (λ t h. refl) 0 count s (omega arith) (omega (arith, less)) (order.irreflexive s) refl in
+      let all = all_stay (range_with_len 0 count) in
+      let long = length-range_with_len 0 count in
+      omega (arith, some, all, long)
+
+  pub place_less : (s t : ℕ) → s < count → before s t ≡ true → place_of before count s < place_of before count t
+  place_less s t less h =
+      fewer_by_one (λ u. before u s) (λ u. before u t) (λ u k. order.transitive u s t k h) 0 count s (omega arith) (omega (arith, less)) (order.irreflexive s) h
+
+  cases : (s t : ℕ) → s < count → t < count → (b : Bool) → (s == t) ≡ b
+      → nat_lt (place_of before count s) (place_of before count t) ≡ before s t
+  cases s t sl tl true e =
+      let same = eqb-true s t e in
+      subst (λ (k : ℕ). nat_lt (place_of before count s) (place_of before count k) ≡ before s k) same
+      (le-ltb (place_of before count s) (place_of before count s) (omega arith) ∙ sym (order.irreflexive s))
+  cases s t sl tl false e =
+      elim (or_cases (before s t) (before t s) (order.total s t sl tl (apart s t e))) [
+        | inl h ↦ lt-ltb _ _ (place_less s t sl h) ∙ sym h
+        | inr h ↦ le-ltb _ _ (let far = place_less t s tl h in omega (arith, far)) ∙ sym (after t s h)
+      ]
+
+  pub place_tells : (s t : ℕ) → s < count → t < count
+      → nat_lt (place_of before count s) (place_of before count t) ≡ before s t
+  place_tells s t sl tl = cases s t sl tl (s == t) refl
+
+  pub place_own : (s t : ℕ) → s < count → t < count → place_of before count s ≡ place_of before count t → s ≡ t
+  place_own s t sl tl same = by (s == t) refl
+    where
+      by : (b : Bool) → (s == t) ≡ b → s ≡ t
+      by true e = eqb-true s t e
+      by false e =
+          absurd (elim (or_cases (before s t) (before t s) (order.total s t sl tl (apart s t e))) [
+            | inl h ↦ let far = place_less s t sl h in omega (arith, far, same)
+            | inr h ↦ let far = place_less t s tl h in omega (arith, far, same)
+          ])
+
+  pub keeps_order : KeepsTheOrder count before (place_of before count)
+  keeps_order = record { below = place_below; less = place_tells; own = place_own }

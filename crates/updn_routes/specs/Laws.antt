@@ -1,0 +1,153 @@
+-- What follows from the definitions alone: the statements of the laws of `src/laws.rt`.
+use Rattle.std.specs.Prelude.{ℕ, ◌≡◌, ◌≢◌, ◌==◌, ◌+◌, ◌*◌, ◌<◌, ◌≤◌, ◌&&◌, nat_lt, Bool, true, false, List, length, map, get_or, Option, Some, None}
+use Rattle.std.specs.List.{list_all, IsDistinct}
+use Rattle.updn_routes.specs.declared.link.Link.{Link}
+use Rattle.updn_routes.specs.Cabling.{AllJoined, is_cabling, is_walk, leads, rises}
+use Rattle.updn_routes.specs.Choice.{AllChosen, is_route}
+use Rattle.updn_routes.specs.Fabric.{HasRoutes, IsFabric}
+use Rattle.updn_routes.specs.Order.{AreDistances, IsDistance, IsOrder, is_first_root, place_of, precedes}
+use Rattle.updn_routes.specs.Places.{IsPlaced}
+use Rattle.updn_routes.specs.Tree.{AreDepths, tree_port}
+use Rattle.updn_routes.specs.UpDown.{channel_numbers, goes_down, is_legal}
+use Rattle.updn_routes.specs.Waiting.{Channel, WaitsOver}
+
+-- ---- ranks and the order
+-- where cables join all switches, and some switch passes the test, each has a distance from those that pass
+abbrev pub JoinedSwitchesHaveDistances : Type 0
+JoinedSwitchesHaveDistances =
+    (rows : List (List Link)) (passes : ℕ → Bool) (root : ℕ)
+    → AllJoined rows → root < length rows → passes root ≡ true
+    → (distances : List ℕ) × AreDistances rows passes distances
+
+-- and no switch has two
+abbrev pub OneDistanceIsLeft : Type 0
+OneDistanceIsLeft =
+    (rows : List (List Link)) (passes : ℕ → Bool) (s one other : ℕ)
+    → IsDistance rows passes s one → IsDistance rows passes s other → one ≡ other
+
+-- whatever the ranks, switches of which no two have one GUID stand in order
+abbrev pub RanksAndGuidsOrder : Type 0
+RanksAndGuidsOrder =
+    (ranks guids : List ℕ) → IsDistinct (λ a b. a == b) guids → IsOrder (length guids) (precedes ranks guids)
+
+-- ---- fabrics
+-- every fabric has ranks, depths and choices
+abbrev pub EveryFabricHasRoutes : Type 0
+EveryFabricHasRoutes =
+    (rows : List (List Link)) (guids roots : List ℕ) → IsFabric rows guids roots → HasRoutes rows guids roots
+
+-- ---- routes
+-- these steps from s are where the choices lead; they arrive, up and then down, over channels whose numbers rise, and
+-- they are fewer than twice as many as there are switches
+pub record LeadsHome (rows : List (List Link)) (before : ℕ → ℕ → Bool) (next : ℕ → Option ℕ) (s d : ℕ)
+    (steps : List ℕ) : Type 0 where
+  pub route : is_route rows next s steps d ≡ true
+  pub legal : is_legal before s steps ≡ true
+  pub rising : rises (channel_numbers before (length rows) s steps) ≡ true
+  pub short : length steps < 2 * length rows
+
+-- where a port is chosen, following the choices leads home; where none is chosen, there is no legal walk at all
+pub record IsSettled (rows : List (List Link)) (before : ℕ → ℕ → Bool) (next : ℕ → Option ℕ) (s d : ℕ) : Type 0 where
+  pub arrives : (port : ℕ) → next s ≡ Some port → (steps : List ℕ) × LeadsHome rows before next s d steps
+  pub none : next s ≡ None → (steps : List ℕ) → (is_walk rows s steps d && is_legal before s steps) ≡ false
+
+-- whatever the order of the switches
+abbrev pub ChoicesLeadHome : Type 0
+ChoicesLeadHome =
+    (rows : List (List Link)) (before : ℕ → ℕ → Bool) (next : ℕ → Option ℕ) (d : ℕ)
+    → is_cabling rows ≡ true → IsOrder (length rows) before → AllChosen rows before next d
+    → (s : ℕ) → s < length rows → s ≢ d → IsSettled rows before next s d
+
+-- towards every target there are choices that obey the definition
+abbrev pub ChoicesThereAre : Type 0
+ChoicesThereAre =
+    (rows : List (List Link)) (before : ℕ → ℕ → Bool) (d : ℕ)
+    → is_cabling rows ≡ true → IsOrder (length rows) before → d < length rows
+    → (next : ℕ → Option ℕ) × AllChosen rows before next d
+
+-- choices that both obey the definition are the same
+abbrev pub OneChoiceIsLeft : Type 0
+OneChoiceIsLeft =
+    (rows : List (List Link)) (before : ℕ → ℕ → Bool) (one other : ℕ → Option ℕ) (d : ℕ)
+    → is_cabling rows ≡ true → IsOrder (length rows) before
+    → AllChosen rows before one d → AllChosen rows before other d
+    → (s : ℕ) → s < length rows → s ≢ d → one s ≡ other s
+
+-- with choices for each target, no channel waits, over others, for itself
+abbrev pub NoCircleWaits : Type 0
+NoCircleWaits =
+    (rows : List (List Link)) (before : ℕ → ℕ → Bool) (next : ℕ → ℕ → Option ℕ)
+    → is_cabling rows ≡ true → IsOrder (length rows) before
+    → ((d : ℕ) → d < length rows → AllChosen rows before (next d) d)
+    → (a : Channel) (others : List Channel) → ¬ (WaitsOver rows next a others a)
+
+-- where some walk leads down all the way, the route goes down all the way too, and no such walk is shorter: so a step
+-- up is taken only where none does
+abbrev pub WaysDownComeFirst : Type 0
+WaysDownComeFirst =
+    (rows : List (List Link)) (before : ℕ → ℕ → Bool) (next : ℕ → Option ℕ) (d : ℕ)
+    → is_cabling rows ≡ true → IsOrder (length rows) before → AllChosen rows before next d
+    → (s : ℕ) (route walk : List ℕ) → s < length rows → is_route rows next s route d ≡ true
+    → is_walk rows s walk d ≡ true → goes_down before s walk ≡ true
+    → (goes_down before s route ≡ true) × (length route ≤ length walk)
+
+-- ---- the tree
+-- the port leads to a switch of depth one less, and no lesser port does
+pub record IsTreePort (rows : List (List Link)) (depths : List ℕ) (s port : ℕ) : Type 0 where
+  pub parent : ℕ
+  pub link : leads rows s port parent ≡ true
+  pub nearer : get_or depths parent 0 + 1 ≡ get_or depths s 0
+  pub least : (other t : ℕ) → leads rows s other t ≡ true → get_or depths t 0 + 1 ≡ get_or depths s 0 → port ≤ other
+
+-- the first root has no tree port, and every other switch one; following them leads to the first root, in as many
+-- steps as the switch is deep
+pub record IsInTheTree (rows : List (List Link)) (is_first : ℕ → Bool) (depths : List ℕ) (s : ℕ) : Type 0 where
+  pub top : is_first s ≡ true → tree_port rows depths s ≡ None
+  pub below : is_first s ≡ false → (port : ℕ) × (tree_port rows depths s ≡ Some port) × IsTreePort rows depths s port
+  pub first : ℕ
+  pub steps : List ℕ
+  pub first_is : is_first first ≡ true
+  pub leads_there : is_route rows (tree_port rows depths) s steps first ≡ true
+  pub as_deep : length steps ≡ get_or depths s 0
+
+abbrev pub TheTreeLeadsToTheFirstRoot : Type 0
+TheTreeLeadsToTheFirstRoot =
+    (rows : List (List Link)) (guids roots depths : List ℕ)
+    → is_cabling rows ≡ true → AreDepths rows guids roots depths
+    → (s : ℕ) → s < length rows → IsInTheTree rows (is_first_root guids roots) depths s
+
+-- ---- places
+-- places are below the number of switches, less exactly where the switch comes before, and no two switches have one
+pub record KeepsTheOrder (count : ℕ) (before : ℕ → ℕ → Bool) (place : ℕ → ℕ) : Type 0 where
+  pub below : (s : ℕ) → s < count → place s < count
+  pub less : (s t : ℕ) → s < count → t < count → nat_lt (place s) (place t) ≡ before s t
+  pub own : (s t : ℕ) → s < count → t < count → place s ≡ place t → s ≡ t
+
+abbrev pub PlacesKeepTheOrder : Type 0
+PlacesKeepTheOrder =
+    (count : ℕ) (before : ℕ → ℕ → Bool) → IsOrder count before → KeepsTheOrder count before (place_of before count)
+
+-- a walk between switches is one between their places, by the same ports, and between these there is no other
+pub record KeepsTheWalks (rows placed : List (List Link)) (place : ℕ → ℕ) : Type 0 where
+  pub links : (s port t : ℕ) → s < length rows → t < length rows
+      → leads placed (place s) port (place t) ≡ leads rows s port t
+  pub walks : (s d : ℕ) (steps : List ℕ) → s < length rows → d < length rows
+      → list_all (λ t. nat_lt t (length rows)) steps ≡ true
+      → is_walk placed (place s) (map place steps) (place d) ≡ is_walk rows s steps d
+  pub no_other : (s d : ℕ) (steps : List ℕ) → s < length rows → d < length rows
+      → is_walk placed (place s) steps (place d) ≡ true
+      → (between : List ℕ) × (map place between ≡ steps) × (is_walk rows s between d ≡ true)
+
+abbrev pub PlacesKeepTheWalks : Type 0
+PlacesKeepTheWalks =
+    (rows placed : List (List Link)) (before : ℕ → ℕ → Bool)
+    → is_cabling rows ≡ true → IsOrder (length rows) before → IsPlaced rows (place_of before (length rows)) placed
+    → KeepsTheWalks rows placed (place_of before (length rows))
+
+-- what is chosen between places, of which the lesser is before, is chosen between the switches that stand there
+abbrev pub PlacesKeepTheChoices : Type 0
+PlacesKeepTheChoices =
+    (rows placed : List (List Link)) (before : ℕ → ℕ → Bool) (next : ℕ → Option ℕ) (d : ℕ)
+    → is_cabling rows ≡ true → IsOrder (length rows) before → IsPlaced rows (place_of before (length rows)) placed
+    → d < length rows → AllChosen placed nat_lt next (place_of before (length rows) d)
+    → AllChosen rows before (λ s. next (place_of before (length rows) s)) d

@@ -1,0 +1,10 @@
+pub mod Cabling
+pub mod Order
+pub mod UpDown
+pub mod Choice
+pub mod Waiting
+pub mod Tree
+pub mod Fabric
+pub mod Places
+pub mod Laws
+pub mod Examples

@@ -1,0 +1,77 @@
+//! What follows from the definitions of routes alone. Each function's contract is its law; it does nothing.
+
+ghost use Rattle.updn_routes.specs.Examples.{FourSwitchesMeetTheLaws, SevenSwitchesMeetTheLaws, TwoSwitchesMeetTheLaws};
+ghost use Rattle.updn_routes.specs.Laws.{ChoicesLeadHome, ChoicesThereAre, EveryFabricHasRoutes, JoinedSwitchesHaveDistances, NoCircleWaits, OneChoiceIsLeft, OneDistanceIsLeft, PlacesKeepTheChoices, PlacesKeepTheOrder, PlacesKeepTheWalks, RanksAndGuidsOrder, TheTreeLeadsToTheFirstRoot, WaysDownComeFirst};
+
+/// Where cables join all switches, each of them has a distance from the nearest of any given ones, as its rank
+/// from the roots and its depth from the first root; and it has one such distance only.
+pub fn joined_switches_have_distances()
+    ensures some { JoinedSwitchesHaveDistances }
+    ensures one { OneDistanceIsLeft }
+{}
+
+/// Ranks, and GUIDs where ranks are equal, put all switches in order, if no two of them have one GUID.
+pub fn ranks_and_guids_order()
+    ensures { RanksAndGuidsOrder }
+{}
+
+/// Every fabric whose switches are joined has ranks, an order of its switches, depths, and choices towards each
+/// switch, whichever roots are named, and if none is.
+pub fn every_fabric_has_routes()
+    ensures { EveryFabricHasRoutes }
+{}
+
+/// Where a port is chosen, following the choices arrives, up and then down, over fewer than twice as many
+/// cables as there are switches, and over channels whose numbers rise. Where none is chosen, no legal walk
+/// leads there at all.
+pub fn choices_lead_home()
+    ensures { ChoicesLeadHome }
+{}
+
+/// Towards every switch there are choices that obey the definition, and such tables are the same: that a
+/// switch's choice follows its neighbours' choices goes round in no circle.
+pub fn one_choice_is_left()
+    ensures some { ChoicesThereAre }
+    ensures one { OneChoiceIsLeft }
+{}
+
+/// No channel waits, over others, for itself.
+pub fn no_circle_waits()
+    ensures { NoCircleWaits }
+{}
+
+/// Where some walk leads down all the way, the route goes down all the way, and no such walk is shorter. So a
+/// step up is taken only where none does.
+pub fn ways_down_come_first()
+    ensures { WaysDownComeFirst }
+{}
+
+/// Each switch but the first root has one tree port, and depth falls by one along it; so the tree ports lead
+/// to the first root, in as many steps as the switch is deep.
+pub fn the_tree_leads_to_the_first_root()
+    ensures { TheTreeLeadsToTheFirstRoot }
+{}
+
+/// What is said of places holds of the switches that stand there: the order, the walks and their ports, and
+/// what is chosen.
+pub fn places_keep_order_and_walks()
+    ensures order { PlacesKeepTheOrder }
+    ensures walks { PlacesKeepTheWalks }
+    ensures choices { PlacesKeepTheChoices }
+{}
+
+/// Two switches, worked out by hand, meet all that the laws ask for: so these are not proved of nothing.
+pub fn the_two_switch_fabric_meets_the_laws()
+    ensures { TwoSwitchesMeetTheLaws }
+{}
+
+/// So do four, two of which are roots: both have rank 0, and the second has depth 2.
+pub fn the_four_switch_fabric_meets_the_laws()
+    ensures { FourSwitchesMeetTheLaws }
+{}
+
+/// So do seven, one of which chooses by the routes that its neighbours take, and not by shorter ones that they
+/// pass over.
+pub fn the_seven_switch_fabric_meets_the_laws()
+    ensures { SevenSwitchesMeetTheLaws }
+{}

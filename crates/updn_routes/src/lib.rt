@@ -1,0 +1,19 @@
+//! Up/down routes between the switches of a subnet: what a route is, and what follows from that.
+//!
+//! The cables between switches are rows of [`Link`]s, one row for each switch. `specs/Order.antt` says how far
+//! switches are from roots, and which of two comes before the other: a step is up where it goes to the one that
+//! does. `specs/UpDown.antt` says which walks are legal, `specs/Choice.antt` which port a switch chooses towards
+//! another, `specs/Tree.antt` by which port it is joined to the spanning tree of multicast. The functions here are
+//! laws over these definitions; none computes a route yet.
+#![tactic(auto)]
+
+mod laws;
+mod link;
+
+pub use crate::laws::{
+    choices_lead_home, every_fabric_has_routes, joined_switches_have_distances, no_circle_waits,
+    one_choice_is_left, places_keep_order_and_walks, ranks_and_guids_order,
+    the_four_switch_fabric_meets_the_laws, the_seven_switch_fabric_meets_the_laws,
+    the_tree_leads_to_the_first_root, the_two_switch_fabric_meets_the_laws, ways_down_come_first,
+};
+pub use crate::link::Link;
