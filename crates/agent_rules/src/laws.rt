@@ -1,3 +1,6 @@
+ghost use Rattle.std.specs.Prelude.{◌≡◌};
+ghost use Rattle.agent_rules.specs.declared.power_up.TheConstants.{LINEAR_TABLE, MULTICAST_TABLE};
+ghost use Rattle.agent_rules.specs.declared.request.TheConstants.{DIRECTED_ROUTE_CLASS, SMP_VERSION};
 ghost use Rattle.agent_rules.specs.Laws.{PortsTakeBack, RepliesCarry, SettingsKeepGood, SpelledIsRead, UnseenPasses};
 
 /// A reply carries the attribute or the refusal that answers, and all of the request beside. Like the
@@ -25,4 +28,13 @@ pub fn ports_take_back()
 /// Whatever a Set asks for, what the port has after it is good where it was good.
 pub fn settings_keep_good()
     ensures { SettingsKeepGood }
+{}
+
+/// The numbers of agents, written out. How long the tables are is ours; the class is that of directed-route
+/// SMPs (IBA volume 1, 13.4.4 and 14.2.1.2).
+pub fn the_numbers()
+    ensures linear_table { LINEAR_TABLE ≡ 512 }
+    ensures multicast_table { MULTICAST_TABLE ≡ 1024 }
+    ensures directed_route_class { DIRECTED_ROUTE_CLASS ≡ 0x81 }
+    ensures smp_version { SMP_VERSION ≡ 1 }
 {}

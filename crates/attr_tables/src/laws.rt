@@ -1,3 +1,4 @@
+ghost use Rattle.attr_tables.specs.declared.blocks.TheConstants.{PORTS_PER_BLOCK, WORDS_PER_BLOCK};
 ghost use Rattle.std.specs.Prelude.{◌≡◌, ◌<◌};
 ghost use Rattle.attr_tables.specs.Blocks.{word_bytes};
 ghost use Rattle.attr_tables.specs.Laws.{AttributesAreSpelled, BlocksTile};
@@ -69,4 +70,10 @@ pub fn blocks_tile()
 /// What records and blocks spell fills an attribute.
 pub fn attributes_are_spelled()
     ensures { AttributesAreSpelled }
+{}
+
+/// How many entries a block has, written out: a block is one attribute of 64 bytes.
+pub fn the_numbers()
+    ensures ports_per_block { PORTS_PER_BLOCK ≡ 64 }
+    ensures words_per_block { WORDS_PER_BLOCK ≡ 32 }
 {}

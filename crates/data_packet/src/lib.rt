@@ -5,11 +5,13 @@
 //! record of numbers and a list of bytes. A port that will not send it answers a [`Refusal`].
 #![tactic(auto)]
 
+mod laws;
 mod packet;
 mod payload;
 mod queue_pair;
 mod refusal;
 
+pub use crate::laws::the_numbers;
 pub use crate::packet::Packet;
 pub use crate::payload::{PAYLOAD_BYTES, Payload};
 pub use crate::queue_pair::QueuePair;

@@ -7,9 +7,11 @@
 #![tactic(auto)]
 
 mod cable;
+mod laws;
 mod lid;
 mod node_type;
 
 pub use crate::cable::{Cable, PortRef, far_end};
+pub use crate::laws::the_numbers;
 pub use crate::lid::{LAST_UNICAST_LID, PERMISSIVE_LID, is_reserved};
 pub use crate::node_type::NodeType;

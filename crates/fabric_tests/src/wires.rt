@@ -117,6 +117,23 @@ fn wires_round_a_wire_count_and_fall_silent(rt: HostRuntime) -> Result<(), Fail>
     Ok(())
 }
 
+/// No clause of a caller says how often it uses its wire.
+#[test]
+fn a_get_and_a_set_are_one_smp_each(rt: HostRuntime) -> Result<(), Fail> {
+    let mut counting = CountingWire {
+        wire: two_switch_wire(rt.alloc())?,
+        count: 0,
+    };
+    for path in [[1, 3].as_slice(), &[1, 4], &[1, 2]] {
+        let before = counting.count;
+        let _read = get_attribute(&mut counting, 1, SmpAttribute::SwitchInfo, 0, path);
+        assert_eq!(rt; counting.count, before + 1);
+        let _set = set_attribute(&mut counting, 2, SmpAttribute::SwitchInfo, 0, path, &[0; 64]);
+        assert_eq!(rt; counting.count, before + 2);
+    }
+    Ok(())
+}
+
 #[test]
 fn a_fabric_is_made_or_memory_is_refused(rt: HostRuntime) -> Result<(), Fail> {
     let Ok(topology) = read(rt.alloc(), TWO_SWITCHES.as_bytes()) else {

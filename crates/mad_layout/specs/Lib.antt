@@ -5,6 +5,7 @@ pub mod RmppHeader
 pub mod DrSmp
 pub mod SaMad
 pub mod RmppKind
+pub mod Flags
 pub mod Method
 pub mod MadStatus
 pub mod Laws

@@ -68,6 +68,7 @@ impl DrSmp {
     pub fn write(&self, mad: &mut Mad)
         requires { self.now.status < 32768 }
         ensures fields { Sets mad.old mad.new (dr_smp self.now) }
+        ensures bytes { mad.new ≡ put_all mad.old (dr_smp self.now) }
         ensures data { slice_range mad.new 64 128 ≡ self.now.data }
         ensures initial_path { slice_range mad.new 128 192 ≡ self.now.initial_path }
         ensures return_path { slice_range mad.new 192 256 ≡ self.now.return_path }

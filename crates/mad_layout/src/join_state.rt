@@ -1,4 +1,5 @@
-ghost use Rattle.std.specs.Prelude.{⊤, [], ◌∷◌, codes};
+ghost use Rattle.std.specs.Prelude.{⊤};
+ghost use Rattle.mad_layout.specs.Flags.{join_states};
 
 use bitflags::{Flag, Flags, bitflag_items};
 
@@ -21,7 +22,7 @@ impl Flags for JoinState {
 
     ghost exact = { ⊤ };
 
-    ghost table = { (codes "FULL_MEMBER", 1) ∷ (codes "NON_MEMBER", 2) ∷ (codes "SEND_ONLY_NON_MEMBER", 4) ∷ [] };
+    ghost table = { join_states };
 
     ghost set_of = { λ state. state.0 };
 

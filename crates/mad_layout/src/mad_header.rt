@@ -63,7 +63,8 @@ impl Header {
 
     /// Writes the header, and leaves every bit outside its fields.
     pub fn write(&self, mad: &mut Mad)
-        ensures { Sets mad.old mad.new (mad_header self.now) }
+        ensures fields { Sets mad.old mad.new (mad_header self.now) }
+        ensures bytes { mad.new ≡ put_all mad.old (mad_header self.now) }
     {
         self.put_fields(mad);
     }

@@ -1,4 +1,5 @@
-ghost use Rattle.std.specs.Prelude.{⊤, [], ◌∷◌, codes};
+ghost use Rattle.std.specs.Prelude.{⊤};
+ghost use Rattle.mad_layout.specs.Flags.{rmpp_flags};
 
 use bitflags::{Flag, Flags, bitflag_items};
 
@@ -21,7 +22,7 @@ impl Flags for RmppFlags {
 
     ghost exact = { ⊤ };
 
-    ghost table = { (codes "ACTIVE", 1) ∷ (codes "FIRST", 2) ∷ (codes "LAST", 4) ∷ [] };
+    ghost table = { rmpp_flags };
 
     ghost set_of = { λ flags. flags.0 };
 

@@ -60,7 +60,8 @@ impl RmppHeader {
     pub fn write(&self, mad: &mut Mad)
         requires response_time { self.now.response_time < 32 }
         requires flags { self.now.flags < 8 }
-        ensures { Sets mad.old mad.new (rmpp_header self.now) }
+        ensures fields { Sets mad.old mad.new (rmpp_header self.now) }
+        ensures bytes { mad.new ≡ put_all mad.old (rmpp_header self.now) }
     {
         self.put_fields(mad);
     }

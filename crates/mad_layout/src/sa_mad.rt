@@ -45,6 +45,7 @@ impl SaMad {
     /// Writes these fields, and leaves every bit outside them.
     pub fn write(&self, mad: &mut Mad)
         ensures fields { Sets mad.old mad.new (sa_mad self.now) }
+        ensures bytes { mad.new ≡ put_all mad.old (sa_mad self.now) }
         ensures data { slice_range mad.new 56 256 ≡ self.now.data }
     {
         known_bytes(&self.data);

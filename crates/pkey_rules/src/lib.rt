@@ -18,6 +18,6 @@ mod tests;
 
 pub use crate::end_port::EndPort;
 pub use crate::key_table::{KeyTable, PARTITIONS, PushRefusal};
-pub use crate::laws::keys_are_stored;
+pub use crate::laws::{keys_are_stored, the_numbers};
 pub use crate::p_key::{BASES, DEFAULT_BASE, InvalidBase, PKey, base_of, key_of};
 pub use crate::stored_keys::{stored_accepts, stored_holds};

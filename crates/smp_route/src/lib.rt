@@ -17,6 +17,6 @@ pub use crate::fields::{
     set_return_port, turn_round,
 };
 pub use crate::hop::Hop;
-pub use crate::laws::fields_are_the_standards;
+pub use crate::laws::{fields_are_the_standards, the_numbers};
 pub use crate::outgoing::outward;
 pub use crate::returning::back;

@@ -1,6 +1,8 @@
 //! Isolation, over the definitions alone, which no code can change. Each function does nothing: its
 //! contract is the law.
 
+ghost use Rattle.std.specs.Prelude.{◌≡◌};
+ghost use Rattle.subnet_model.specs.declared.node_name.TheConstants.{NODE_NAME_BYTES};
 ghost use Rattle.subnet_model.specs.Laws.{EveryRunIsIsolated, StepsKeepToThoseNear, ThePortOfALidIsNear};
 
 /// A command of a port that is far from another brings that one no event and leaves its view of the state;
@@ -19,4 +21,9 @@ pub fn every_run_is_isolated()
 /// near it.
 pub fn the_port_of_a_lid_is_near()
     ensures { ThePortOfALidIsNear }
+{}
+
+/// How long a node's name may be, written out: the number is ours.
+pub fn the_numbers()
+    ensures node_name_bytes { NODE_NAME_BYTES ≡ 32 }
 {}

@@ -22,7 +22,9 @@ mod subnet_port;
 pub use crate::command::{Command, SendCommand};
 pub use crate::evaluation::{carry_out, port_of, report, step};
 pub use crate::event::{Event, Outcome};
-pub use crate::laws::{every_run_is_isolated, steps_keep_to_those_near, the_port_of_a_lid_is_near};
+pub use crate::laws::{
+    every_run_is_isolated, steps_keep_to_those_near, the_numbers, the_port_of_a_lid_is_near,
+};
 pub use crate::lids::{lid_of, lids_of};
 pub use crate::nearness::{is_near, near};
 pub use crate::node_name::{NODE_NAME_BYTES, NodeName};

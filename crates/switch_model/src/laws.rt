@@ -1,3 +1,6 @@
+ghost use Rattle.std.specs.Prelude.{◌≡◌};
+ghost use Rattle.switch_model.specs.declared.switch.TheConstants.{PORTS};
+ghost use Rattle.switch_model.specs.declared.multicast_table.TheConstants.{POSITIONS};
 ghost use Rattle.switch_model.specs.Laws.{GoodSwitchesGiveAttributes, NewSwitchesAreGood, PortsHaveTheirLinks, SmpsAreReadAlike, SmpsChangeWhatTheyName, SmpsKeepGood, SmpsSettle, UnseenComesBack};
 
 /// An SMP changes at most what it names, and each port is Down afterwards exactly where it was Down. Like
@@ -37,4 +40,11 @@ pub fn smps_are_read_alike()
 /// What an agent does not see of an SMP, as the path, comes back in its reply.
 pub fn unseen_comes_back()
     ensures { UnseenComesBack }
+{}
+
+/// How many ports a switch has at most, and how many positions its masks, written out. Both are ours: three
+/// positions of 16 ports have room for 36 ports and port 0.
+pub fn the_numbers()
+    ensures ports { PORTS ≡ 36 }
+    ensures positions { POSITIONS ≡ 3 }
 {}

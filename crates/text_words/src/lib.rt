@@ -8,12 +8,14 @@
 
 mod content;
 mod cut;
+mod laws;
 mod line;
 mod line_words;
 mod number;
 mod word;
 
 pub use crate::cut::cut_at;
+pub use crate::laws::the_numbers;
 pub use crate::line::Lines;
 pub use crate::line_words::Words;
 pub use crate::number::number_in;

@@ -13,7 +13,7 @@ returns-clause-asks c =
       wanted = c.args.wanted;
     } in
     asks_for {asked = asked} (record {
-      first = c.write.ensures;
+      first = c.write.ensures.fields;
       second = c.write-2.ensures.fields;
       initial = c.write-2.ensures.initial_path;
       long = c.write-2.array_long;
@@ -54,7 +54,7 @@ returns-clause-plain c =
       wanted = c.args.wanted;
     } in
     plain_is {asked = asked} (record {
-      first = c.write.ensures;
+      first = c.write.ensures.fields;
       second = c.write-2.ensures.fields;
       initial = c.write-2.ensures.initial_path;
       long = c.write-2.array_long;
