@@ -11,5 +11,6 @@ pub mod PlacedLemmas
 pub mod TableLemmas
 pub mod TestLemmas
 pub mod ExampleLemmas
+pub mod BestLemmas
 pub mod ExistLemmas
 pub mod FabricLemmas

@@ -1,7 +1,7 @@
 -- The place of a switch, which is how many come before it: places keep the order.
-use Rattle.std.proofs.Common.{◌≡◌, ◌≢◌, ℕ, zero, suc, ◌+◌, ◌<◌, ◌≤◌, Bool, true, false, cond, ◌==◌, nat_lt, List, [], ◌∷◌, length, filter, refl, sym, ap, subst, ◌∙◌, inl, inr, arith}
+use Rattle.std.proofs.Common.{◌≡◌, ◌≢◌, ℕ, zero, suc, ◌+◌, ◌-◌, ◌<◌, ◌≤◌, Bool, true, false, cond, ◌==◌, nat_lt, List, [], ◌∷◌, length, filter, refl, sym, ap, subst, ◌∙◌, inl, inr, arith}
 use Rattle.std.specs.List.{range_with_len}
-use Rattle.std.proofs.lemmas.Bool.{or_cases, eqb-true, eqb-false, lt-ltb, le-ltb, false≢true}
+use Rattle.std.proofs.lemmas.Bool.{cases_lt, or_cases, eqb-true, eqb-false, lt-ltb, le-ltb, false≢true}
 use Rattle.std.proofs.lemmas.List.FromFn.{length-range_with_len}
 use Rattle.updn_routes.specs.Laws.{KeepsTheOrder}
 use Rattle.updn_routes.specs.Order.{IsOrder, place_of}
@@ -58,6 +58,28 @@ all_stay (x ∷ xs) = ap suc (all_stay xs)
 
 apart : (s t : ℕ) → (s == t) ≡ false → s ≢ t
 apart s t e same = eqb-false s t e same
+
+-- ---- places of places
+none_less : (place first count : ℕ) → place ≤ first
+    → length (filter (λ t. nat_lt t place) (range_with_len first count)) ≡ 0
+none_less place first zero past = refl
+none_less place first (suc count) past =
+    rw (le-ltb first place past) (none_less place (first + 1) count (omega (arith, past)))
+
+so_many : (place first count : ℕ) → first ≤ place → place ≤ first + count
+    → length (filter (λ t. nat_lt t place) (range_with_len first count)) ≡ place - first
+so_many place first zero low high = omega (arith, low, high)
+so_many place first (suc count) low high =
+    elim (cases_lt first place) [
+      | inl less ↦
+          let more = so_many place (first + 1) count (omega (arith, less)) (omega (arith, high)) in
+          rw (lt-ltb first place less) (omega (arith, more, less))
+      | inr past ↦ let none = none_less place first (suc count) past in omega (arith, none, past)
+    ]
+
+pub place_itself : (count place : ℕ) → place < count → place_of nat_lt count place ≡ place
+place_itself count place less =
+    let many = so_many place 0 count (omega arith) (omega (arith, less)) in omega (arith, many)
 
 -- ---- places
 module _ (count : ℕ) (before : ℕ → ℕ → Bool) (order : IsOrder count before) where

@@ -1,5 +1,5 @@
 -- A cabling whose switches are numbered by their places has the same walks, and the same choices.
-use Rattle.std.proofs.Common.{◌≡◌, ℕ, suc, ◌<◌, Bool, true, false, ◌==◌, ◌&&◌, nat_lt, List, [], ◌∷◌, map, length, Option, Some, None, refl, sym, ap, subst, ◌∙◌, inl, inr, arith}
+use Rattle.std.proofs.Common.{◌≡◌, ℕ, suc, ◌<◌, Bool, true, false, ◌==◌, ◌&&◌, ◌||◌, nat_lt, List, [], ◌∷◌, map, length, Option, Some, None, refl, sym, ap, subst, ◌∙◌, inl, inr, arith}
 use Rattle.std.specs.List.{list_all, list_any}
 use Rattle.std.proofs.lemmas.Bool.{and_parts, and_from, or_cases, or_left, or_right, eqb-true, eqb-false, eq-eqb, ne_eqb, ltb-true, false≢true}
 use Rattle.updn_routes.specs.declared.link.Link.{Link}
@@ -7,12 +7,15 @@ use Rattle.updn_routes.specs.Cabling.{is_cabling, is_next_to, is_walk, leads, li
 use Rattle.updn_routes.specs.Choice.{AllChosen, HasNone, IsChosenOf, IsLeastOf, is_route, is_way_down, is_way_up}
 use Rattle.updn_routes.specs.Laws.{KeepsTheOrder, KeepsTheWalks}
 use Rattle.updn_routes.specs.Places.{IsPlaced, placed_link}
-use Rattle.updn_routes.specs.UpDown.{goes_down}
+use Rattle.updn_routes.specs.UpDown.{goes_down, is_legal}
 use Rattle.updn_routes.proofs.CablingLemmas.{ends, goes, leads_next, links_within}
 use Rattle.updn_routes.proofs.RouteLemmas.{first_step, step_first, up_way, way_up}
 
 same_and : (a b c e : Bool) → a ≡ b → c ≡ e → (a && c) ≡ (b && e)
 same_and a b c e h k = rw (h, k) refl
+
+same_or : (a b c e : Bool) → a ≡ b → c ≡ e → (a || c) ≡ (b || e)
+same_or a b c e h k = rw (h, k) refl
 
 long_map : (f : ℕ → ℕ) (xs : List ℕ) → length (map f xs) ≡ length xs
 long_map f [] = refl
@@ -130,9 +133,6 @@ module _ (rows placed : List (List Link)) (before : ℕ → ℕ → Bool) (place
       let more : Between t.0 d steps = no_other t.0 d steps t.1 dl (subst (λ (k : ℕ). is_walk placed k steps (place d) ≡ true) (sym t.2) parts.1) in
       (t.0 ∷ more.0, ap (λ k. k ∷ map place more.0) t.2 ∙ ap (λ r. v ∷ r) more.1, and_from (is_next_to rows s t.0) _ t.3 more.2)
 
-  pub keeps_walks : KeepsTheWalks rows placed place
-  keeps_walks = record { links = leads_same; walks = walks_same; no_other = no_other }
-
   -- ---- ways down
   walk_there : (s d : ℕ) (steps : List ℕ) → s < length rows → d < length rows → is_walk rows s steps d ≡ true
       → is_walk placed (place s) (map place steps) (place d) ≡ true
@@ -149,6 +149,18 @@ module _ (rows placed : List (List Link)) (before : ℕ → ℕ → Bool) (place
       let parts = and_parts (is_next_to rows s t) (is_walk rows t steps d) walk in
       let tl = (ends rows s t cabling sl parts.0).0 in
       same_and (nat_lt (place s) (place t)) (before s t) _ _ (keeps.less s t sl tl) (down_same t d steps tl parts.1)
+
+  legal_same : (s d : ℕ) (steps : List ℕ) → s < length rows → is_walk rows s steps d ≡ true
+      → is_legal nat_lt (place s) (map place steps) ≡ is_legal before s steps
+  legal_same s d [] sl walk = refl
+  legal_same s d (t ∷ steps) sl walk =
+      let parts = and_parts (is_next_to rows s t) (is_walk rows t steps d) walk in
+      let tl = (ends rows s t cabling sl parts.0).0 in
+      same_or _ _ _ _ (same_and (nat_lt (place t) (place s)) (before t s) _ _ (keeps.less t s tl sl) (legal_same t d steps tl parts.1))
+      (down_same s d (t ∷ steps) sl walk)
+
+  pub keeps_walks : KeepsTheWalks rows placed before place
+  keeps_walks = record { links = leads_same; walks = walks_same; no_other = no_other; legal = legal_same }
 
   -- a port of a place leads to the place of a switch
   port_back : (s port v : ℕ) → s < length rows → leads placed (place s) port v ≡ true

@@ -127,8 +127,13 @@ abbrev pub PlacesKeepTheOrder : Type 0
 PlacesKeepTheOrder =
     (count : ℕ) (before : ℕ → ℕ → Bool) → IsOrder count before → KeepsTheOrder count before (place_of before count)
 
--- a walk between switches is one between their places, by the same ports, and between these there is no other
-pub record KeepsTheWalks (rows placed : List (List Link)) (place : ℕ → ℕ) : Type 0 where
+-- the place of a place, among those that are less, is itself
+abbrev pub PlacesAreTheirOwn : Type 0
+PlacesAreTheirOwn = (count place : ℕ) → place < count → place_of nat_lt count place ≡ place
+
+-- a walk between switches is one between their places, by the same ports, and as legal, and between these there is no
+-- other
+pub record KeepsTheWalks (rows placed : List (List Link)) (before : ℕ → ℕ → Bool) (place : ℕ → ℕ) : Type 0 where
   pub links : (s port t : ℕ) → s < length rows → t < length rows
       → leads placed (place s) port (place t) ≡ leads rows s port t
   pub walks : (s d : ℕ) (steps : List ℕ) → s < length rows → d < length rows
@@ -137,12 +142,14 @@ pub record KeepsTheWalks (rows placed : List (List Link)) (place : ℕ → ℕ) 
   pub no_other : (s d : ℕ) (steps : List ℕ) → s < length rows → d < length rows
       → is_walk placed (place s) steps (place d) ≡ true
       → (between : List ℕ) × (map place between ≡ steps) × (is_walk rows s between d ≡ true)
+  pub legal : (s d : ℕ) (steps : List ℕ) → s < length rows → is_walk rows s steps d ≡ true
+      → is_legal nat_lt (place s) (map place steps) ≡ is_legal before s steps
 
 abbrev pub PlacesKeepTheWalks : Type 0
 PlacesKeepTheWalks =
     (rows placed : List (List Link)) (before : ℕ → ℕ → Bool)
     → is_cabling rows ≡ true → IsOrder (length rows) before → IsPlaced rows (place_of before (length rows)) placed
-    → KeepsTheWalks rows placed (place_of before (length rows))
+    → KeepsTheWalks rows placed before (place_of before (length rows))
 
 -- what is chosen between places, of which the lesser is before, is chosen between the switches that stand there
 abbrev pub PlacesKeepTheChoices : Type 0

@@ -1,7 +1,7 @@
 //! What follows from the definitions of routes alone. Each function's contract is its law; it does nothing.
 
 ghost use Rattle.updn_routes.specs.Examples.{FourSwitchesMeetTheLaws, SevenSwitchesMeetTheLaws, TwoSwitchesMeetTheLaws};
-ghost use Rattle.updn_routes.specs.Laws.{ChoicesLeadHome, ChoicesThereAre, EveryFabricHasRoutes, JoinedSwitchesHaveDistances, NoCircleWaits, OneChoiceIsLeft, OneDistanceIsLeft, PlacesKeepTheChoices, PlacesKeepTheOrder, PlacesKeepTheWalks, RanksAndGuidsOrder, TheTreeLeadsToTheFirstRoot, WaysDownComeFirst};
+ghost use Rattle.updn_routes.specs.Laws.{ChoicesLeadHome, ChoicesThereAre, EveryFabricHasRoutes, JoinedSwitchesHaveDistances, NoCircleWaits, OneChoiceIsLeft, OneDistanceIsLeft, PlacesAreTheirOwn, PlacesKeepTheChoices, PlacesKeepTheOrder, PlacesKeepTheWalks, RanksAndGuidsOrder, TheTreeLeadsToTheFirstRoot, WaysDownComeFirst};
 
 /// Where cables join all switches, each of them has a distance from the nearest of any given ones, as its rank
 /// from the roots and its depth from the first root; and it has one such distance only.
@@ -56,6 +56,7 @@ pub fn the_tree_leads_to_the_first_root()
 /// what is chosen.
 pub fn places_keep_order_and_walks()
     ensures order { PlacesKeepTheOrder }
+    ensures own { PlacesAreTheirOwn }
     ensures walks { PlacesKeepTheWalks }
     ensures choices { PlacesKeepTheChoices }
 {}
