@@ -3,6 +3,7 @@
 mod calls;
 mod faults;
 mod fixtures;
+mod large;
 mod memory;
 mod refusals;
 mod runs;

@@ -3,6 +3,7 @@
 #![tactic(auto)]
 
 #[cfg(test)]
+mod error_texts;
 mod fixtures;
 #[cfg(test)]
 mod neighbours;
