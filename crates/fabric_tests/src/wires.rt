@@ -117,6 +117,10 @@ fn wires_round_a_wire_count_and_fall_silent(rt: HostRuntime) -> Result<(), Fail>
     Ok(())
 }
 
+/// A path, and how many SMPs were sent after a Get along it, and after a Set: from B comes an answer, over
+/// port 4 of A none, and from h1 a refusal.
+const SENT: [(&[u8], u64, u64); 3] = [(&[1, 3], 1, 2), (&[1, 4], 3, 4), (&[1, 2], 5, 6)];
+
 /// No clause of a caller says how often it uses its wire.
 #[test]
 fn a_get_and_a_set_are_one_smp_each(rt: HostRuntime) -> Result<(), Fail> {
@@ -124,12 +128,18 @@ fn a_get_and_a_set_are_one_smp_each(rt: HostRuntime) -> Result<(), Fail> {
         wire: two_switch_wire(rt.alloc())?,
         count: 0,
     };
-    for path in [[1, 3].as_slice(), &[1, 4], &[1, 2]] {
-        let before = counting.count;
+    for (path, after_get, after_set) in SENT {
         let _read = get_attribute(&mut counting, 1, SmpAttribute::SwitchInfo, 0, path);
-        assert_eq!(rt; counting.count, before + 1);
-        let _set = set_attribute(&mut counting, 2, SmpAttribute::SwitchInfo, 0, path, &[0; 64]);
-        assert_eq!(rt; counting.count, before + 2);
+        assert_eq!(rt; counting.count, after_get);
+        let _set = set_attribute(
+            &mut counting,
+            2,
+            SmpAttribute::SwitchInfo,
+            0,
+            path,
+            &[0; 64],
+        );
+        assert_eq!(rt; counting.count, after_set);
     }
     Ok(())
 }
