@@ -3,7 +3,6 @@
 mod calls;
 mod faults;
 mod fixtures;
-mod large;
 mod memory;
 mod refusals;
 mod runs;

@@ -3,7 +3,6 @@
 #![tactic(auto)]
 
 #[cfg(test)]
-mod error_texts;
 mod fixtures;
 #[cfg(test)]
 mod neighbours;
