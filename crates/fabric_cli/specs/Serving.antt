@@ -68,7 +68,7 @@ texts_of file names = do
 -- the listing of a subnet, and the report of a script in it
 abbrev pub listed : List ℕ → Option (List ℕ) → Result (List ℕ) RunFault
 listed topology partitions =
-    subnet_of topology partitions >>= λ subnet. Ok (listing_text subnet.headings subnet.ports)
+    subnet_of topology partitions >>= λ subnet. Ok (listing_text subnet.configuration)
 
 abbrev pub reported : List ℕ → Option (List ℕ) → List ℕ → Result (List ℕ) RunFault
 reported topology partitions script =

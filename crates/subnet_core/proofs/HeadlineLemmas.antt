@@ -5,7 +5,7 @@ use Rattle.partition_file.specs.declared.partition.Partition.{Partition}
 use Rattle.subnet_model.proofs.IsolationLemmas.{report_is_isolated}
 use Rattle.subnet_core.specs.declared.fault.RunFault.{RunFault}
 use Rattle.subnet_core.specs.Headline.{KeepsPartitionsApart}
-use Rattle.subnet_core.specs.Ports.{ports_of}
+use Rattle.subnet_core.specs.Ports.{configuration_of}
 use Rattle.subnet_core.specs.Run.{Told, RunGives, of_text, partitions_for, report_of, started, subnet_of, told}
 use Rattle.subnet_core.specs.Script.{commands_in}
 use Rattle.result_words.specs.Steps.{◌>>=◌}
@@ -28,7 +28,7 @@ told_apart topology script partitions r h = λ plan all commands e p f.
     let there : Result Told RunFault = Ok r in
     let done : here ≡ there = rw f at read in
     let same : told subnet commands ≡ r = cc in
-    report_is_isolated (ports_of all plan) commands r.events (ap (λ (t : Told). t.events) (sym same))
+    report_is_isolated (configuration_of all plan) commands r.events (ap (λ (t : Told). t.events) (sym same))
 
 pub answered_apart : (topology script : List ℕ) (partitions : Option (List ℕ)) (result : Result Told RunFault)
     → RunGives (λ (r : Told). r) result (report_of topology partitions script)

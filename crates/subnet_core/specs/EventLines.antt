@@ -9,11 +9,11 @@ use Rattle.subnet_model.specs.declared.subnet_port.SubnetPort.{SubnetPort}
 use Rattle.subnet_model.specs.declared.event.Event.{Event}
 use Rattle.subnet_model.specs.declared.event.Outcome.{Outcome}
 use Rattle.subnet_model.specs.declared.event.Outcome.TheVariants.{Received, Refused}
-use Rattle.subnet_model.specs.Delivery.{port_of}
+use Rattle.subnet_model.specs.Delivery.{port_with_guid}
 
 -- a port by its node and number, as `h1/1`
 abbrev pub port_text : SubnetPort → List ℕ
-port_text port = port.node ++ codes "/" ++ decimal port.number
+port_text port = port.node_name ++ codes "/" ++ decimal port.number
 
 abbrev pub name_text : Option SubnetPort → List ℕ
 name_text (Some port) = port_text port
@@ -48,7 +48,7 @@ outcome_text (Refused refusal) = codes " refused " ++ code_of refusal
 
 -- the port, what happens there, and LF
 abbrev pub line_text : List SubnetPort → Event → List ℕ
-line_text ports event = name_text (port_of ports event.port) ++ outcome_text event.what ++ 10 ∷ []
+line_text ports event = name_text (port_with_guid ports event.port_guid) ++ outcome_text event.what ++ 10 ∷ []
 
 -- a line for each event, in order
 abbrev pub report_text : List SubnetPort → List Event → List ℕ

@@ -5,7 +5,7 @@ use Rattle.topo_file.specs.Topology.{Plan, topology_of}
 use Rattle.subnet_model.specs.declared.command.Command.{Command}
 use Rattle.subnet_model.specs.declared.event.Event.{Event}
 use Rattle.subnet_model.specs.Isolation.{IsIsolated}
-use Rattle.subnet_core.specs.Ports.{ports_of}
+use Rattle.subnet_core.specs.Ports.{configuration_of}
 use Rattle.subnet_core.specs.Run.{partitions_for}
 use Rattle.subnet_core.specs.Script.{commands_in}
 
@@ -16,4 +16,4 @@ abbrev pub KeepsPartitionsApart : List ℕ → Option (List ℕ) → List ℕ �
 KeepsPartitionsApart topology partitions script events =
     (plan : Plan) (all : List Partition) (commands : List Command)
     → topology_of topology ≡ Ok plan → partitions_for partitions ≡ Ok all → commands_in plan script ≡ Ok commands
-    → IsIsolated (ports_of all plan) commands events
+    → IsIsolated (configuration_of all plan) commands events

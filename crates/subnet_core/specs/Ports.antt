@@ -3,8 +3,9 @@ use Rattle.std.specs.Prelude.{ℕ, Bool, true, false, List, [], ◌∷◌, map, 
 use Rattle.std.specs.List.{flat_map, enumerate_from, range_with_len}
 use Rattle.std.specs.Option.{option_map_or}
 use Rattle.partition_file.specs.declared.partition.Partition.{Partition}
-use Rattle.partition_file.specs.Members.{keys_in}
+use Rattle.partition_file.specs.Members.{heading_of, keys_in}
 use Rattle.pkey_rules.specs.declared.end_port.EndPort.{EndPort}
+use Rattle.subnet_model.specs.Configuration.{Configured}
 use Rattle.subnet_model.specs.EndPorts.{lid_of}
 use Rattle.subnet_model.specs.declared.subnet_port.SubnetPort.{SubnetPort}
 use Rattle.fabric_parts.specs.declared.cable.PortRef.{PortRef}
@@ -13,7 +14,7 @@ use Rattle.fabric_parts.specs.declared.node_type.NodeType.TheVariants.{ChannelAd
 use Rattle.fabric_parts.specs.Cable.{is_cabled, is_same_port}
 use Rattle.topo_file.specs.declared.node.Node.{Node}
 use Rattle.subnet_core.specs.declared.end_ports.Seat.{Seat}
-use Rattle.topo_file.specs.Node.{port_guid}
+use Rattle.topo_file.specs.Node.{port_guid, ports_at}
 use Rattle.topo_file.specs.Topology.{Plan}
 
 -- port 0 of a switch, which has the GUID of the switch
@@ -60,16 +61,21 @@ abbrev pub type_of : Bool → NodeType
 type_of true = Switch
 type_of false = ChannelAdapter
 
--- the name of the node there
+-- the name and the GUID of the node there
 abbrev pub name_at : List Node → ℕ → List ℕ
 name_at nodes place = option_map_or (λ node. node.name) (slice_get nodes place) []
+
+abbrev pub guid_at : List Node → ℕ → ℕ
+guid_at nodes place = option_map_or (λ node. node.guid) (slice_get nodes place) 0
 
 -- an end port as the subnet knows it
 abbrev pub seated : List Node → List ℕ → ℕ → Seat → SubnetPort
 seated nodes keys lid seat = record {
   lid = lid;
   guid = seat.port.guid;
-  node = name_at nodes seat.place;
+  node_name = name_at nodes seat.place;
+  node_guid = guid_at nodes seat.place;
+  num_ports = ports_at nodes seat.place;
   number = seat.number;
   node_type = type_of seat.port.is_switch;
   keys = keys;
@@ -96,3 +102,7 @@ in_order nodes all some = fold (with_seat nodes all) [] some
 -- the end ports of a topology under these partitions
 abbrev pub ports_of : List Partition → Plan → List SubnetPort
 ports_of partitions plan = in_order plan.nodes (end_ports (seats plan)) (keyed partitions (seats plan))
+
+-- and what a subnet is brought up as
+abbrev pub configuration_of : List Partition → Plan → Configured
+configuration_of partitions plan = record { ports = ports_of partitions plan; partitions = map heading_of partitions }

@@ -1,39 +1,37 @@
 -- What a whole run answers, from its texts alone.
-use Rattle.std.specs.Prelude.{ℕ, Bool, false, List, map, Option, Some, None, Result, Ok, Err}
+use Rattle.std.specs.Prelude.{ℕ, Bool, false, List, Option, Some, None, Result, Ok, Err}
 use Rattle.partition_file.specs.declared.partition.Partition.{Partition}
-use Rattle.partition_file.specs.declared.heading.Heading.{Heading}
 use Rattle.result_words.specs.AtLine.{AtLine, on_line}
 use Rattle.result_words.specs.Gives.{Gives}
 use Rattle.result_words.specs.Steps.{◌>>=◌}
-use Rattle.partition_file.specs.Members.{heading_of, no_file}
+use Rattle.partition_file.specs.Members.{no_file}
 use Rattle.partition_file.specs.Partitions.{partitions_of}
 use Rattle.topo_file.specs.Topology.{Plan, topology_of}
 use Rattle.subnet_model.specs.declared.command.Command.{Command}
 use Rattle.subnet_model.specs.declared.event.Event.{Event}
 use Rattle.subnet_model.specs.declared.state.State.{State}
 use Rattle.subnet_model.specs.declared.subnet_port.SubnetPort.{SubnetPort}
+use Rattle.subnet_model.specs.Configuration.{Configured}
 use Rattle.subnet_model.specs.State.{start}
 use Rattle.subnet_model.specs.Report.{events_from, step}
 use Rattle.subnet_core.specs.declared.fault.RunFault.{RunFault}
 use Rattle.subnet_core.specs.declared.fault.RunFault.TheVariants.{NoMemory, Topology, Partitions, Script}
-use Rattle.subnet_core.specs.Ports.{ports_of}
+use Rattle.subnet_core.specs.Ports.{configuration_of}
 use Rattle.subnet_core.specs.Script.{command_of, commands_in}
 
--- a subnet that runs: its topology, its partitions in order of their numbers, its ports, and what it
--- remembers; after memory was refused it is broken
+-- a subnet that runs: its topology, its end ports and partitions, and what it remembers; after memory was
+-- refused it is broken
 pub record Running : Type 0 where
   pub plan : Plan
-  pub headings : List Heading
-  pub ports : List SubnetPort
+  pub configuration : Configured
   pub state : State
   pub is_broken : Bool
 
 abbrev pub started : Plan → List Partition → Running
 started plan partitions = record {
   plan = plan;
-  headings = map heading_of partitions;
-  ports = ports_of partitions plan;
-  state = start;
+  configuration = configuration_of partitions plan;
+  state = start (configuration_of partitions plan);
   is_broken = false;
 }
 
@@ -66,8 +64,8 @@ parsed plan number line = of_text Script (on_line number (command_of plan line))
 -- what is told of a subnet that carries out these commands
 abbrev pub told : Running → List Command → Told
 told subnet commands = record {
-  ports = subnet.ports;
-  events = events_from (step subnet.ports) subnet.state commands;
+  ports = subnet.configuration.ports;
+  events = events_from (step subnet.configuration) subnet.state commands;
 }
 
 -- the topology and the partitions first, then the whole script, and only then its commands, one after the

@@ -86,7 +86,7 @@ send_spelt plan port dlid p_key qp payload = do
   key ← field_of (2 ^ 16) p_key
   number ← field_of (2 ^ 24) qp
   bytes ← payload_of written
-  Ok (Send (record { port = sender; dlid = lid; p_key = key; destination_qp = number; payload = bytes }))
+  Ok (Send (record { port_guid = sender; dlid = lid; p_key = key; destination_qp = number; payload = bytes }))
 
 unfoldable pub send_of : Plan → List (List ℕ) → Result Command ScriptCause
 send_of plan (port ∷ dlid ∷ p_key ∷ qp ∷ payload ∷ []) = send_spelt plan port dlid p_key qp payload

@@ -1,16 +1,15 @@
 ghost use Rattle.std.specs.Prelude.{◌≡◌, ◌+◌, ◌^◌, ◌<◌, ◌≤◌, [], ◌∷◌, ◌++◌, length, map, nat_le, All, IfOk, OnOk};
 ghost use Rattle.std.specs.List.{prefix_len, zip};
-ghost use Rattle.partition_file.specs.Members.{heading_of};
-ghost use Rattle.topo_file.specs.Node.{HasGuids, port_guid};
+ghost use Rattle.topo_file.specs.Node.{HasGuids, port_guid, ports_at};
 ghost use Rattle.topo_file.specs.declared.node.TheConstants.{SWITCHES, ADAPTER_PORTS};
-ghost use Rattle.subnet_core.specs.Ports.{switch_seat, adapter_seat, seat_if_cabled, adapter_seats, seats_of_type, seats, end_ports, type_of, name_at, seated, with_port, with_seat, in_order, ports_of};
+ghost use Rattle.subnet_core.specs.Ports.{switch_seat, adapter_seat, seat_if_cabled, adapter_seats, seats_of_type, seats, end_ports, type_of, guid_at, name_at, seated, with_port, with_seat, in_order, configuration_of};
 ghost use Rattle.subnet_model.specs.EndPorts.{lid_of};
 
 use fabric_parts::{NodeType, PortRef};
-use partition_file::{Heading, Partitions, members};
+use partition_file::{Partitions, members};
 use pkey_rules::{EndPort, KeyTable, PARTITIONS};
 use std::alloc::{AllocError, Global};
-use subnet_model::{NodeName, SubnetPort, lid_of};
+use subnet_model::{Configuration, NodeName, SubnetPort, lid_of};
 use topo_file::{Node, Topology};
 
 /// Where an end port stands: the place of its node in the topology, and its number there.
@@ -22,32 +21,19 @@ pub(crate) struct Seat {
 }
 
 /// The end ports of a topology, in order of their LIDs, each with the keys that the partitions give
-/// it.
-pub fn ports_of(
+/// it; and the partitions without their lists.
+pub fn configuration_of(
     alloc: Global,
     topology: &Topology,
     partitions: &Partitions,
-) -> Result<Vec<SubnetPort>, AllocError>
-    ensures { IfOk result (λ ports. ports.items ≡ ports_of partitions.now topology.now) }
-{
-    let (_, ports) = partitions_and_ports(alloc, topology, partitions)?;
-    Ok(ports)
-}
-
-/// The partitions without their lists, and the end ports as [`ports_of`] gives them.
-pub(crate) fn partitions_and_ports(
-    alloc: Global,
-    topology: &Topology,
-    partitions: &Partitions,
-) -> Result<(Vec<Heading>, Vec<SubnetPort>), AllocError>
-    ensures headings { IfOk result (λ both. both.0.items ≡ map heading_of partitions.now) }
-    ensures ports { IfOk result (λ both. both.1.items ≡ ports_of partitions.now topology.now) }
+) -> Result<Configuration, AllocError>
+    ensures { IfOk result (λ configuration. configuration ≡ configuration_of partitions.now topology.now) }
 {
     let seats = seats(alloc, topology)?;
     let all = end_ports(alloc, &seats)?;
     let (headings, keys) = members(alloc, partitions, &all)?.into_parts();
     let ports = in_order(alloc, topology.nodes(), &all, &seats, keys)?;
-    Ok((headings, ports))
+    Ok(Configuration::new(ports, headings))
 }
 
 fn seats(alloc: Global, topology: &Topology) -> Result<Vec<Seat>, AllocError>
@@ -191,7 +177,9 @@ fn seated(nodes: &[Node], lid: u16, seat: &Seat, keys: KeyTable<PARTITIONS>) -> 
     SubnetPort {
         lid,
         guid: seat.port.guid,
-        node: name_at(nodes, seat.place),
+        node_name: name_at(nodes, seat.place),
+        node_guid: guid_at(nodes, seat.place),
+        num_ports: ports_at(nodes, seat.place),
         number: seat.number,
         node_type: type_of(seat.port.is_switch),
         keys,
@@ -214,5 +202,23 @@ fn name_at(nodes: &[Node], place: usize) -> NodeName
     match nodes.get(place) {
         Some(node) => NodeName::new(node.name.as_bytes()),
         None => NodeName::new(&[]),
+    }
+}
+
+fn guid_at(nodes: &[Node], place: usize) -> u64
+    ensures { result ≡ guid_at nodes.now place }
+{
+    match nodes.get(place) {
+        Some(node) => node.guid,
+        None => 0,
+    }
+}
+
+fn ports_at(nodes: &[Node], place: usize) -> u8
+    ensures { result ≡ ports_at nodes.now place }
+{
+    match nodes.get(place) {
+        Some(node) => node.ports,
+        None => 0,
     }
 }

@@ -1,7 +1,7 @@
 ghost use Rattle.std.specs.Prelude.{◌≡◌, ◌≤◌, ◌*◌, ◌++◌, [], ◌∷◌, length, drop, OnOk, IfOk, decimal};
 ghost use Rattle.data_packet.specs.declared.payload.TheConstants.{PAYLOAD_BYTES};
 ghost use Rattle.std.specs.Int.{w16, w32, to_be_bytes};
-ghost use Rattle.subnet_model.specs.Delivery.{port_of};
+ghost use Rattle.subnet_model.specs.Delivery.{port_with_guid};
 ghost use Rattle.hex.specs.Hex.{encode_lower};
 ghost use Rattle.subnet_core.specs.EventLines.{port_text, name_text, hex_text, trimmed, payload_text, packet_text, outcome_text, line_text, report_text};
 
@@ -9,7 +9,7 @@ use data_packet::{PAYLOAD_BYTES, Packet};
 use hex::encode_to_slice;
 use itoa::Buffer;
 use std::alloc::{AllocError, Global};
-use subnet_model::{Event, Outcome, SubnetPort, port_of};
+use subnet_model::{Event, Outcome, SubnetPort, port_with_guid};
 
 /// The lines of these events, one each.
 pub(crate) fn report_text(
@@ -29,16 +29,16 @@ pub(crate) fn report_text(
 fn push_line(text: &mut Vec<u8>, ports: &[SubnetPort], event: &Event) -> Result<(), AllocError>
     ensures { OnOk result (text.new.items ≡ text.old.items ++ line_text ports.now event.now) }
 {
-    push_name(text, ports, event.port)?;
+    push_name(text, ports, event.port_guid)?;
     push_outcome(text, &event.what)?;
     text.push(b'\n')?;
     Ok(())
 }
 
 fn push_name(text: &mut Vec<u8>, ports: &[SubnetPort], guid: u64) -> Result<(), AllocError>
-    ensures { OnOk result (text.new.items ≡ text.old.items ++ name_text (port_of ports.now guid)) }
+    ensures { OnOk result (text.new.items ≡ text.old.items ++ name_text (port_with_guid ports.now guid)) }
 {
-    match port_of(ports, guid) {
+    match port_with_guid(ports, guid) {
         Some(port) => push_port(text, port),
         None => Ok(()),
     }
@@ -48,7 +48,7 @@ fn push_name(text: &mut Vec<u8>, ports: &[SubnetPort], guid: u64) -> Result<(), 
 pub(crate) fn push_port(text: &mut Vec<u8>, port: &SubnetPort) -> Result<(), AllocError>
     ensures { OnOk result (text.new.items ≡ text.old.items ++ port_text port.now) }
 {
-    text.extend_from_slice(port.node.as_slice())?;
+    text.extend_from_slice(port.node_name.as_slice())?;
     text.extend_from_slice(b"/")?;
     push_decimal(text, usize::from(port.number))
 }

@@ -17,7 +17,7 @@ mod running;
 mod script;
 mod subnet;
 
-pub use crate::end_ports::ports_of;
+pub use crate::end_ports::configuration_of;
 pub use crate::fault::{RunFault, ScriptCause, StepFault};
 pub use crate::report::Report;
 pub use crate::running::run;

@@ -8,19 +8,18 @@ use crate::event_lines::{push_decimal, push_hex, push_port};
 use partition_file::Heading;
 use pkey_rules::PKey;
 use std::alloc::{AllocError, Global};
-use subnet_model::SubnetPort;
+use subnet_model::{Configuration, SubnetPort};
 
-/// The lines of these partitions and ports.
+/// The lines of the ports and partitions of a subnet.
 pub(crate) fn listing_text(
     alloc: Global,
-    headings: &[Heading],
-    ports: &[SubnetPort],
+    configuration: &Configuration,
 ) -> Result<Vec<u8>, AllocError>
-    ensures { IfOk result (λ text. text.items ≡ listing_text headings.now ports.now) }
+    ensures { IfOk result (λ text. text.items ≡ listing_text configuration.now) }
 {
     let mut text = Vec::new(alloc);
-    push_ports(&mut text, ports)?;
-    push_partitions(&mut text, headings, ports)?;
+    push_ports(&mut text, configuration.ports())?;
+    push_partitions(&mut text, configuration.partitions(), configuration.ports())?;
     Ok(text)
 }
 

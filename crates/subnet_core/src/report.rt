@@ -4,13 +4,13 @@ ghost use Rattle.subnet_core.specs.EventLines.{report_text};
 use crate::event_lines;
 use std::alloc::{AllocError, Global};
 use std::marker::Model;
-use subnet_model::{Event, SubnetPort};
+use subnet_model::{Configuration, Event};
 
 /// What happened in a run: its events, in order, at ports that have names.
 #[derive(Debug, Drop)]
 pub struct Report {
     alloc: Global,
-    ports: Vec<SubnetPort>,
+    configuration: Configuration,
     events: Vec<Event>,
 }
 
@@ -19,18 +19,18 @@ impl Model for Report {
 
     ghost Value = { Told };
 
-    ghost view = { λ report. record { ports = report.ports.items; events = report.events.items } };
+    ghost view = { λ report. record { ports = report.configuration.ports; events = report.events.items } };
 }
 
 impl Report {
     ghost use Rattle.subnet_core.specs.Run.{Told};
 
-    pub(crate) fn new(alloc: Global, ports: Vec<SubnetPort>, events: Vec<Event>) -> Report
-        ensures { result ≡ record { ports = ports.items; events = events.items } }
+    pub(crate) fn new(alloc: Global, configuration: Configuration, events: Vec<Event>) -> Report
+        ensures { result ≡ record { ports = configuration.ports; events = events.items } }
     {
         Report {
             alloc,
-            ports,
+            configuration,
             events,
         }
     }
@@ -46,6 +46,6 @@ impl Report {
     pub fn text(&self) -> Result<Vec<u8>, AllocError>
         ensures { IfOk result (λ text. text.items ≡ report_text self.now.ports self.now.events) }
     {
-        event_lines::report_text(self.alloc, &self.ports, &self.events)
+        event_lines::report_text(self.alloc, self.configuration.ports(), &self.events)
     }
 }

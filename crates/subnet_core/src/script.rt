@@ -60,14 +60,14 @@ fn send_spelt(
 ) -> Result<Command, ScriptCause>
     ensures { result ≡ send_spelt topology.now port.now dlid.now p_key.now qp.now payload.now }
 {
-    let port = sender_of(topology, port)?;
+    let port_guid = sender_of(topology, port)?;
     let written = fitting(written_in(payload))?;
     let dlid = u16_field(dlid)?;
     let p_key = u16_field(p_key)?;
     let destination_qp = queue_pair_field(qp)?;
     let payload = payload_of(written)?;
     Ok(Command::Send(SendCommand {
-        port,
+        port_guid,
         dlid,
         p_key,
         destination_qp,

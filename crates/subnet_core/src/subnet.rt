@@ -6,14 +6,14 @@ ghost use Rattle.subnet_core.specs.Listing.{listing_text};
 ghost use Rattle.subnet_core.specs.Run.{RunGives, of_text, parsed, partitions_for, subnet_of, told};
 ghost use Rattle.subnet_core.specs.declared.fault.RunFault.TheVariants as run;
 
-use crate::end_ports::partitions_and_ports;
+use crate::end_ports::configuration_of;
 use crate::fault::{RunFault, StepFault};
 use crate::report::Report;
 use crate::{listing, script};
-use partition_file::{Heading, PartFault, Partitions, no_file};
+use partition_file::{PartFault, Partitions, no_file};
 use std::alloc::{AllocError, Global};
 use std::marker::Model;
-use subnet_model::{Command, Event, State, SubnetPort, carry_out, step};
+use subnet_model::{Command, Configuration, Event, State, carry_out, step};
 use topo_file::{TopoFault, Topology};
 
 /// A subnet that was brought up and takes commands one by one.
@@ -21,8 +21,7 @@ use topo_file::{TopoFault, Topology};
 pub struct Subnet {
     alloc: Global,
     topology: Topology,
-    headings: Vec<Heading>,
-    ports: Vec<SubnetPort>,
+    configuration: Configuration,
     state: State,
     is_broken: bool,
 }
@@ -34,8 +33,7 @@ impl Model for Subnet {
 
     ghost view = { λ subnet. record {
       plan = subnet.topology;
-      headings = subnet.headings.items;
-      ports = subnet.ports.items;
+      configuration = subnet.configuration;
       state = subnet.state;
       is_broken = subnet.is_broken;
     } };
@@ -53,13 +51,13 @@ pub fn bring_up(
 {
     let topology = topology_of(alloc, topology)?;
     let partitions = partitions_for(alloc, partitions)?;
-    let (headings, ports) = partitions_and_ports(alloc, &topology, &partitions)?;
+    let configuration = configuration_of(alloc, &topology, &partitions)?;
+    let state = State::new(&configuration);
     Ok(Subnet {
         alloc,
         topology,
-        headings,
-        ports,
-        state: State::new(),
+        configuration,
+        state,
         is_broken: false,
     })
 }
@@ -91,9 +89,9 @@ impl Subnet {
     /// Who is in the subnet, as it is printed in ASCII: a line for each end port by LID, then for each
     /// partition its line, and a line for each of its members by LID, with the key that it holds.
     pub fn listing(&self) -> Result<Vec<u8>, AllocError>
-        ensures { IfOk result (λ text. text.items ≡ listing_text self.now.headings self.now.ports) }
+        ensures { IfOk result (λ text. text.items ≡ listing_text self.now.configuration) }
     {
-        listing::listing_text(self.alloc, &self.headings, &self.ports)
+        listing::listing_text(self.alloc, &self.configuration)
     }
 
     /// The command that a line gives; none for a line without words. The line may have its LF and
@@ -110,21 +108,24 @@ impl Subnet {
         }
     }
 
-    /// Carries out one command, and tells its events in order. After memory was refused once, every
-    /// later step answers `Broken`.
+    /// Carries out one command, and tells its events in order. Once memory was refused the subnet is broken
+    /// for good: every later step answers `Broken`. Its topology and configuration stay, so that lines can be
+    /// parsed and members listed; what it remembers may be anything.
     pub fn step(&mut self, command: &Command) -> Result<Vec<Event>, StepFault>
         ensures events { IfOk result (λ events.
-            events.items ≡ (step self.old.ports self.old.state command.now).0) }
+            events.items ≡ (step self.old.configuration self.old.state command.now).0) }
         ensures next { OnOk result (self.new
-            ≡ record self.old { state = (step self.old.ports self.old.state command.now).1 }) }
+            ≡ record self.old { state = (step self.old.configuration self.old.state command.now).1 }) }
         ensures broken { IsErrOf result StepFault.Broken ↔ (self.old.is_broken ≡ true) }
-        ensures err { OnErr result (self.new ≡ record self.old { is_broken = true }) }
+        ensures for_good { OnErr result (self.new.is_broken ≡ true) }
+        ensures plan { OnErr result (self.new.plan ≡ self.old.plan) }
+        ensures configuration { OnErr result (self.new.configuration ≡ self.old.configuration) }
     {
         if self.is_broken {
             return Err(StepFault::Broken);
         }
         let mut events = Vec::new(self.alloc);
-        match step(&mut events, &self.ports, &mut self.state, command) {
+        match step(&mut events, &self.configuration, &mut self.state, command) {
             Ok(()) => Ok(events),
             Err(_) => {
                 self.is_broken = true;
@@ -139,7 +140,7 @@ impl Subnet {
     {
         let mut subnet = self;
         let mut events = Vec::new(subnet.alloc);
-        carry_out(&mut events, &subnet.ports, &mut subnet.state, commands)?;
-        Ok(Report::new(subnet.alloc, subnet.ports, events))
+        carry_out(&mut events, &subnet.configuration, &mut subnet.state, commands)?;
+        Ok(Report::new(subnet.alloc, subnet.configuration, events))
     }
 }

@@ -1,3 +1,4 @@
+pub mod Configuration
 pub mod EndPorts
 pub mod Near
 pub mod State

@@ -4,14 +4,14 @@ use Rattle.subnet_model.specs.declared.command.Command.{Command}
 use Rattle.subnet_model.specs.declared.command.Command.TheVariants.{Send}
 use Rattle.subnet_model.specs.declared.event.Event.{Event}
 
--- the port that acts
+-- the port that acts, by its GUID
 abbrev pub actor : Command → ℕ
-actor (Send command) = command.port
+actor (Send command) = command.port_guid
 
--- the commands of the ports of a set, in order
+-- the commands of the ports of a set of GUIDs, in order
 abbrev pub commands_of : (ℕ → Bool) → List Command → List Command
 commands_of in_set commands = filter (λ command. in_set (actor command)) commands
 
--- the events at a port, in order
+-- the events at the port of this GUID, in order
 abbrev pub events_at : ℕ → List Event → List Event
-events_at port events = filter (λ event. event.port == port) events
+events_at guid events = filter (λ event. event.port_guid == guid) events

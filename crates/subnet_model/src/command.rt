@@ -11,7 +11,7 @@ pub enum Command {
 #[derive(Debug, Drop, PartialEq, Eq)]
 pub struct SendCommand {
     /// The GUID of the port that sends.
-    pub port: u64,
+    pub port_guid: u64,
     /// The LID that it sends to.
     pub dlid: u16,
     /// The key under which it is to travel, valid or not.

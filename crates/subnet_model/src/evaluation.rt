@@ -1,11 +1,12 @@
 ghost use Rattle.std.specs.Prelude.{◌≡◌, [], ◌∷◌, ◌++◌, Some, None, IfOk, OnOk, MatchResult};
 ghost use Rattle.std.specs.Option.{option_copied};
 ghost use Rattle.subnet_model.specs.declared.event.Outcome.TheVariants.{Received, Refused};
-ghost use Rattle.subnet_model.specs.Delivery.{port_of, refusal_of, reaches, is_for_sa};
+ghost use Rattle.subnet_model.specs.Delivery.{port_with_guid, refusal_of, reaches, is_for_sa};
 ghost use Rattle.subnet_model.specs.Isolation.{IsIsolated};
 ghost use Rattle.subnet_model.specs.Report.{events_from, packet_of, received, sent_from, step, report};
 
 use crate::command::{Command, SendCommand};
+use crate::configuration::Configuration;
 use crate::event::{Event, Outcome};
 use crate::state::State;
 use crate::subnet_port::SubnetPort;
@@ -14,31 +15,32 @@ use fabric_parts::{NodeType, is_reserved};
 use pkey_rules::PKey;
 use std::alloc::{AllocError, Global};
 
-/// What the commands bring about, one after another, in a subnet of these ports.
+/// What the commands bring about, one after another, in a subnet of this configuration.
 pub fn report(
     alloc: Global,
-    ports: &[SubnetPort],
+    configuration: &Configuration,
     commands: &[Command],
 ) -> Result<Vec<Event>, AllocError>
-    ensures exact { IfOk result (λ events. events.items ≡ report ports.now commands.now) }
-    ensures private { IfOk result (λ events. IsIsolated ports.now commands.now events.items) }
+    ensures exact { IfOk result (λ events. events.items ≡ report configuration.now commands.now) }
+    ensures private { IfOk result (λ events. IsIsolated configuration.now commands.now events.items) }
 {
     let mut events = Vec::new(alloc);
-    carry_out(&mut events, ports, &mut State::new(), commands)?;
+    let mut state = State::new(configuration);
+    carry_out(&mut events, configuration, &mut state, commands)?;
     Ok(events)
 }
 
 /// Carries out commands one after another, and adds their events to those before.
 pub fn carry_out(
     events: &mut Vec<Event>,
-    ports: &[SubnetPort],
+    configuration: &Configuration,
     state: &mut State,
     commands: &[Command],
 ) -> Result<(), AllocError>
-    ensures { OnOk result (events.new.items ≡ events.old.items ++ events_from (step ports.now) state.old commands.now) }
+    ensures { OnOk result (events.new.items ≡ events.old.items ++ events_from (step configuration.now) state.old commands.now) }
 {
     for command in commands {
-        step(events, ports, state, command)?;
+        step(events, configuration, state, command)?;
     }
     Ok(())
 }
@@ -46,15 +48,15 @@ pub fn carry_out(
 /// Carries out one command: adds its events to those before, and leaves the state after it.
 pub fn step(
     events: &mut Vec<Event>,
-    ports: &[SubnetPort],
+    configuration: &Configuration,
     state: &mut State,
     command: &Command,
 ) -> Result<(), AllocError>
-    ensures events { OnOk result (events.new.items ≡ events.old.items ++ (step ports.now state.old command.now).0) }
-    ensures state { OnOk result (state.new ≡ (step ports.now state.old command.now).1) }
+    ensures events { OnOk result (events.new.items ≡ events.old.items ++ (step configuration.now state.old command.now).0) }
+    ensures state { OnOk result (state.new ≡ (step configuration.now state.old command.now).1) }
 {
     match command {
-        Command::Send(send) => push_sent(events, ports, send),
+        Command::Send(send) => push_sent(events, configuration.ports(), send),
     }
 }
 
@@ -64,20 +66,21 @@ fn push_sent(
     command: &SendCommand,
 ) -> Result<(), AllocError>
     ensures { OnOk result (events.new.items
-        ≡ events.old.items ++ sent_from (port_of ports.now command.now.port) ports.now command.now) }
+        ≡ events.old.items ++ sent_from (port_with_guid ports.now command.now.port_guid) ports.now command.now) }
 {
-    let Some(sender) = port_of(ports, command.port) else {
+    let Some(sender) = port_with_guid(ports, command.port_guid) else {
         return Ok(());
     };
     match key_to_send(sender, command) {
+        Ok(_) if is_for_sa(command) => Ok(()),
         Ok(key) => push_received(events, ports, sender, key, command),
-        Err(refusal) => push_refused(events, command.port, refusal),
+        Err(refusal) => push_refused(events, command.port_guid, refusal),
     }
 }
 
 /// The port of this GUID; the first, if a list repeats it.
-pub fn port_of(ports: &[SubnetPort], guid: u64) -> Option<&SubnetPort>
-    ensures { option_copied result ≡ port_of ports.now guid }
+pub fn port_with_guid(ports: &[SubnetPort], guid: u64) -> Option<&SubnetPort>
+    ensures { option_copied result ≡ port_with_guid ports.now guid }
 {
     ports.iter().find(|port| port.guid == guid)
 }
@@ -100,12 +103,12 @@ fn key_to_send(sender: &SubnetPort, command: &SendCommand) -> Result<PKey, Refus
     Ok(key)
 }
 
-fn push_refused(events: &mut Vec<Event>, port: u64, refusal: Refusal) -> Result<(), AllocError>
+fn push_refused(events: &mut Vec<Event>, port_guid: u64, refusal: Refusal) -> Result<(), AllocError>
     ensures { OnOk result (events.new.items
-        ≡ events.old.items ++ record { port = port; what = Refused refusal } ∷ []) }
+        ≡ events.old.items ++ record { port_guid = port_guid; what = Refused refusal } ∷ []) }
 {
     events.push(Event {
-        port,
+        port_guid,
         what: Outcome::Refused(refusal),
     })?;
     Ok(())
@@ -140,7 +143,7 @@ fn push_if_reached(
     ensures { OnOk result (events.new.items
         ≡ events.old.items ++ received (port.now ∷ []) sender.now command.now) }
 {
-    if reaches(command, key, port) && !is_for_sa(command, port) {
+    if reaches(command, key, port) {
         events.push(arrival(port, sender, key, command))?;
     }
     Ok(())
@@ -148,10 +151,10 @@ fn push_if_reached(
 
 fn arrival(port: &SubnetPort, sender: &SubnetPort, key: PKey, command: &SendCommand) -> Event
     requires { key ≡ command.now.p_key }
-    ensures { result ≡ record { port = port.now.guid; what = Received (packet_of sender.now command.now) } }
+    ensures { result ≡ record { port_guid = port.now.guid; what = Received (packet_of sender.now command.now) } }
 {
     Event {
-        port: port.guid,
+        port_guid: port.guid,
         what: Outcome::Received(Packet {
             slid: sender.lid,
             dlid: command.dlid,
@@ -169,9 +172,9 @@ fn reaches(command: &SendCommand, key: PKey, port: &SubnetPort) -> bool
     port.lid == command.dlid && port.node_type == NodeType::ChannelAdapter && port.keys.accepts(key)
 }
 
-/// Whether the packet is for the subnet administration, where it reaches this port.
-fn is_for_sa(command: &SendCommand, port: &SubnetPort) -> bool
-    ensures { result ≡ is_for_sa command.now port.now }
+/// Whether the packet is for the subnet administration.
+fn is_for_sa(command: &SendCommand) -> bool
+    ensures { result ≡ is_for_sa command.now }
 {
-    port.lid == 1 && command.destination_qp.number() == 1
+    command.dlid == 1 && command.destination_qp.number() == 1
 }

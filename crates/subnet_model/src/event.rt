@@ -4,7 +4,7 @@ use data_packet::{Packet, Refusal};
 #[derive(Debug, Drop, PartialEq, Eq)]
 pub struct Event {
     /// The GUID of the port.
-    pub port: u64,
+    pub port_guid: u64,
     /// What happens there.
     pub what: Outcome,
 }

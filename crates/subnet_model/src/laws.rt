@@ -3,16 +3,16 @@
 
 ghost use Rattle.std.specs.Prelude.{◌≡◌};
 ghost use Rattle.subnet_model.specs.declared.node_name.TheConstants.{NODE_NAME_BYTES};
-ghost use Rattle.subnet_model.specs.Laws.{EveryRunIsIsolated, StepsKeepToThoseNear, ThePortOfALidIsNear};
+ghost use Rattle.subnet_model.specs.Laws.{EveryRunIsIsolated, SlidsNameTheirPorts, StepsKeepToThoseNear, ThePortOfALidIsNear};
 
-/// A command of a port that is far from another brings that one no event and leaves its view of the state;
-/// one of a port near it does the same to it in every state of that view.
+/// A command of a port that is far from another brings that one no event, and leaves a state that is alike
+/// to it; one of a port near it brings it the same events in states that are alike, and leaves them alike.
 pub fn steps_keep_to_those_near()
     ensures { StepsKeepToThoseNear }
 {}
 
-/// Whatever the ports, their keys and the commands, what a port receives depends only on the ports near it
-/// and comes from them.
+/// Whatever the ports, their keys and the commands, what a port receives depends only on the ports near it,
+/// and has the SLID of one of them.
 pub fn every_run_is_isolated()
     ensures { EveryRunIsIsolated }
 {}
@@ -21,6 +21,11 @@ pub fn every_run_is_isolated()
 /// near it.
 pub fn the_port_of_a_lid_is_near()
     ensures { ThePortOfALidIsNear }
+{}
+
+/// Where no two ports have one LID, what a port receives comes from the ports near it.
+pub fn slids_name_their_ports()
+    ensures { SlidsNameTheirPorts }
 {}
 
 /// How long a node's name may be, written out: the number is ours.

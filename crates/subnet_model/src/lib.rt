@@ -10,6 +10,7 @@
 #![tactic(auto)]
 
 mod command;
+mod configuration;
 mod evaluation;
 mod event;
 mod laws;
@@ -20,10 +21,12 @@ mod state;
 mod subnet_port;
 
 pub use crate::command::{Command, SendCommand};
-pub use crate::evaluation::{carry_out, port_of, report, step};
+pub use crate::configuration::Configuration;
+pub use crate::evaluation::{carry_out, port_with_guid, report, step};
 pub use crate::event::{Event, Outcome};
 pub use crate::laws::{
-    every_run_is_isolated, steps_keep_to_those_near, the_numbers, the_port_of_a_lid_is_near,
+    every_run_is_isolated, slids_name_their_ports, steps_keep_to_those_near, the_numbers,
+    the_port_of_a_lid_is_near,
 };
 pub use crate::lids::{lid_of, lids_of};
 pub use crate::nearness::{is_near, near};

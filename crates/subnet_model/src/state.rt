@@ -1,5 +1,7 @@
 ghost use Rattle.std.specs.Prelude.{◌≡◌};
 
+use crate::configuration::Configuration;
+
 /// What a subnet remembers between two commands. It is empty for now: a packet leaves no trace, and
 /// no port can ask the subnet administration for anything yet.
 #[derive(Debug, Drop, PartialEq, Eq)]
@@ -9,8 +11,8 @@ impl State {
     ghost use Rattle.subnet_model.specs.State.{start};
 
     /// The state before the first command.
-    pub fn new() -> State
-        ensures { result ≡ start }
+    pub fn new(_configuration: &Configuration) -> State
+        ensures { result ≡ start _configuration.now }
     {
         State {}
     }

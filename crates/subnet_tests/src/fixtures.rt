@@ -4,7 +4,7 @@ use fabric_parts::NodeType;
 use pkey_rules::{KeyTable, PKey};
 use std::alloc::Global;
 use std::test::Fail;
-use subnet_model::{NodeName, SubnetPort};
+use subnet_model::{Configuration, NodeName, SubnetPort};
 
 /// The GUIDs of its end ports, in order of their LIDs: h0/1, A/0, B/0, h1/1, h2/1, h3/1.
 pub const GUIDS: [u64; 6] = [0x101, 0x10, 0x20, 0x111, 0x121, 0x131];
@@ -23,8 +23,8 @@ pub const ONE_PARTITION: [[u16; 2]; 6] = [
     [0x7fff, 0x0001],
 ];
 
-/// The end ports with these keys, of which 0 is none.
-pub fn two_switches(alloc: Global, keys: &[[u16; 2]; 6]) -> Result<Vec<SubnetPort>, Fail> {
+/// The end ports with these keys, of which 0 is none; partitions have no groups, and none is named.
+pub fn two_switches(alloc: Global, keys: &[[u16; 2]; 6]) -> Result<Configuration, Fail> {
     let mut ports = Vec::new(alloc);
     let mut lid = 1;
     for (guid, held) in GUIDS.iter().zip(keys) {
@@ -38,7 +38,9 @@ pub fn two_switches(alloc: Global, keys: &[[u16; 2]; 6]) -> Result<Vec<SubnetPor
         ports.push(SubnetPort {
             lid,
             guid: *guid,
-            node: NodeName::new(b"node"),
+            node_name: NodeName::new(b"node"),
+            node_guid: *guid & 0xfff0,
+            num_ports: if is_switch { 4 } else { 1 },
             number: if is_switch { 0 } else { 1 },
             node_type: if is_switch {
                 NodeType::Switch
@@ -49,5 +51,5 @@ pub fn two_switches(alloc: Global, keys: &[[u16; 2]; 6]) -> Result<Vec<SubnetPor
         })?;
         lid = lid.wrapping_add(1);
     }
-    Ok(ports)
+    Ok(Configuration::new(ports, Vec::new(alloc)))
 }

@@ -30,19 +30,22 @@ fn the_managers_port_is_named_first_and_the_others_by_guid(rt: HostRuntime) -> R
 
 #[test]
 fn limited_members_are_near_the_full_ones_alone(rt: HostRuntime) -> Result<(), Fail> {
-    let ports = two_switches(rt.alloc(), &ONE_PARTITION)?;
+    let configuration = two_switches(rt.alloc(), &ONE_PARTITION)?;
     assert_eq!(rt;
-        near(rt.alloc(), &ports, H3)?.as_slice(),
+        near(rt.alloc(), configuration.ports(), H3)?.as_slice(),
         [0x101, H1, H3].as_slice()
     );
-    let ports = two_switches(rt.alloc(), &ALL_FULL)?;
-    assert_eq!(rt; near(rt.alloc(), &ports, H3)?.as_slice(), GUIDS.as_slice());
+    let configuration = two_switches(rt.alloc(), &ALL_FULL)?;
+    assert_eq!(rt;
+        near(rt.alloc(), configuration.ports(), H3)?.as_slice(),
+        GUIDS.as_slice()
+    );
     Ok(())
 }
 
 #[test]
 fn a_limited_member_reaches_the_full_one_alone(rt: HostRuntime) -> Result<(), Fail> {
-    let ports = two_switches(rt.alloc(), &ONE_PARTITION)?;
+    let configuration = two_switches(rt.alloc(), &ONE_PARTITION)?;
     for (dlid, receiver) in [
         (4, Some(H1)),
         (5, None),
@@ -51,7 +54,7 @@ fn a_limited_member_reaches_the_full_one_alone(rt: HostRuntime) -> Result<(), Fa
         (0xc000, None),
     ] {
         let send = SendCommand {
-            port: H2,
+            port_guid: H2,
             dlid,
             p_key: 0x0001,
             destination_qp: QueuePair::new(7).ok_or("24 bits")?,
@@ -59,11 +62,11 @@ fn a_limited_member_reaches_the_full_one_alone(rt: HostRuntime) -> Result<(), Fa
         };
         let mut commands = Vec::new(rt.alloc());
         commands.push(Command::Send(send))?;
-        let events = report(rt.alloc(), &ports, &commands)?;
+        let events = report(rt.alloc(), &configuration, &commands)?;
         let heard = events
             .iter()
             .find(|event| matches!(event.what, Outcome::Received(_)));
-        assert_eq!(rt; heard.map(|event| event.port), receiver, "{dlid}");
+        assert_eq!(rt; heard.map(|event| event.port_guid), receiver, "{dlid}");
     }
     Ok(())
 }

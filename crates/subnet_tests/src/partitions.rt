@@ -1,7 +1,7 @@
 use crate::fixtures::{GUIDS, ONE_PARTITION};
 use example_texts::{ONE_PARTITION_FILE, TWO_SWITCHES};
 use std::test::Fail;
-use subnet_core::{RunFault, bring_up, ports_of};
+use subnet_core::{RunFault, bring_up, configuration_of};
 
 const PORTS: &str = "\
 port 0x0001 0x0000000000000101 h0/1
@@ -16,10 +16,13 @@ port 0x0006 0x0000000000000131 h3/1
 fn end_ports_hold_the_keys_that_a_file_gives_them(rt: HostRuntime) -> Result<(), Fail> {
     let topology = topo_file::read(rt.alloc(), TWO_SWITCHES.as_bytes())?;
     let partitions = partition_file::read(rt.alloc(), ONE_PARTITION_FILE.as_bytes())?;
-    let ports = ports_of(rt.alloc(), &topology, &partitions)?;
+    let configuration = configuration_of(rt.alloc(), &topology, &partitions)?;
+    let ports = configuration.ports();
     assert_eq!(rt; ports.len(), GUIDS.len());
     for (port, (guid, held)) in ports.iter().zip(GUIDS.iter().zip(ONE_PARTITION)) {
         assert_eq!(rt; port.guid, *guid);
+        assert_eq!(rt; port.node_guid, guid & 0xfff0);
+        assert_eq!(rt; port.num_ports, if port.number == 0 { 4 } else { 1 });
         for bits in held {
             assert_eq!(rt;
                 port.keys.find(bits).is_some(),

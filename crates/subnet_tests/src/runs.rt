@@ -13,7 +13,7 @@ fn a_step_tells_its_events(rt: HostRuntime) -> Result<(), Fail> {
         let command = subnet.parse(1, line)?.ok_or("a command")?;
         let events = subnet.step(&command)?;
         assert_eq!(rt; events.len(), 1);
-        assert_eq!(rt; events[0].port, port);
+        assert_eq!(rt; events[0].port_guid, port);
     }
     Ok(())
 }

@@ -1,0 +1,15 @@
+use Rattle.std.proofs.Common.{◌≡◌, List, map, refl, ap, ◌∙◌}
+use Rattle.partition_file.specs.Members.{heading_of}
+use Rattle.subnet_core.specs.Ports.{configuration_of, end_ports, in_order, ports_of, seats}
+use Rattle.subnet_core.proofs.PortLemmas.{zip_is_keyed}
+use Rattle.subnet_core.proofs.end_ports.configuration_of.Goals as goal
+
+pub returns : goal.returns
+returns c =
+    let plan = c.args.topology.now in
+    let ports : c.in_ok-ports.ports.items ≡ ports_of c.args.partitions.now plan =
+    rw (c.in_ok-ports.ensures, c.nodes.ensures.value, c.deref-3.ensures.value, c.deref-4.ensures.value, c.into_parts-headings.ensures.keys, c.in_ok-members.ensures, c.deref-2.ensures.value, c.in_ok-all.ensures, c.deref.ensures.value, c.in_ok-seats.ensures.value)
+    (ap (in_order plan.nodes (end_ports (seats plan))) (zip_is_keyed c.args.partitions.now (seats plan))) in
+    let headings : c.into_parts-headings.result.0.items ≡ map heading_of c.args.partitions.now =
+    c.into_parts-headings.ensures.headings ∙ rw c.in_ok-members.ensures refl in
+    rw (c.new.ensures, ports, headings) refl
