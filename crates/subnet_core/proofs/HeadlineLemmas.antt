@@ -1,11 +1,17 @@
 -- A run that is answered keeps partitions apart.
-use Rattle.std.proofs.Common.{◌≡◌, ℕ, List, Option, Result, Ok, Err, IfOk, refl, sym, ap}
+use Rattle.std.proofs.Common.{◌≡◌, ℕ, ◌+◌, ◌≤◌, false, ◌==◌, List, [], ◌∷◌, length, map, Option, Result, Ok, Err, IfOk, refl, sym, ap, subst, arith}
+use Rattle.std.specs.List.{IsDistinct, AllByRecursion, range_with_len}
+use Rattle.std.proofs.lemmas.Bool.Decides.{nat_tests}
 use Rattle.topo_file.specs.Topology.{Plan, topology_of}
 use Rattle.partition_file.specs.declared.partition.Partition.{Partition}
-use Rattle.subnet_model.proofs.IsolationLemmas.{report_is_isolated}
+use Rattle.subnet_model.proofs.IsolationLemmas.{report_is_isolated, slids_name_their_ports}
+use Rattle.subnet_model.specs.declared.subnet_port.SubnetPort.{SubnetPort}
+use Rattle.subnet_model.specs.Source.{same_lid}
 use Rattle.subnet_core.specs.declared.fault.RunFault.{RunFault}
 use Rattle.subnet_core.specs.Headline.{KeepsPartitionsApart}
-use Rattle.subnet_core.specs.Ports.{configuration_of}
+use Rattle.subnet_core.specs.Ports.{configuration_of, ports_of}
+use Rattle.subnet_core.specs.EndPorts.{HaveLidsInOrder}
+use Rattle.subnet_core.proofs.SeatLemmas.{each_weaker}
 use Rattle.subnet_core.specs.Run.{Told, RunGives, of_text, partitions_for, report_of, started, subnet_of, told}
 use Rattle.subnet_core.specs.Script.{commands_in}
 use Rattle.result_words.specs.Steps.{◌>>=◌}
@@ -17,21 +23,42 @@ brought_up : (topology : List ℕ) (partitions : Option (List ℕ)) (plan : Plan
 unfolding subnet_of
 brought_up topology partitions plan all e p = rw (e, p) refl
 
+-- LIDs that count up are each port's own
+lids_from : (first : ℕ) (ports : List SubnetPort) → map (λ port. port.lid) ports ≡ range_with_len first (length ports) → AllByRecursion (λ b. first ≤ b.lid) ports
+lids_from first [] h = tt
+lids_from first (port ∷ ports) h =
+    let head : port.lid ≡ first = cc in
+    let tail : map (λ q. q.lid) ports ≡ range_with_len (first + 1) (length ports) = cc in
+    (omega arith, each_weaker (λ b. first + 1 ≤ b.lid) (λ b. first ≤ b.lid) (λ b k. omega arith) ports (lids_from (first + 1) ports tail))
+
+differ : (m n : ℕ) → m + 1 ≤ n → (m == n) ≡ false
+differ m n h = grind (arith, nat_tests)
+
+own_lids : (first : ℕ) (ports : List SubnetPort) → map (λ port. port.lid) ports ≡ range_with_len first (length ports) → IsDistinct same_lid ports
+unfolding IsDistinct
+own_lids first [] h = tt
+own_lids first (port ∷ ports) h =
+    let head : port.lid ≡ first = cc in
+    let tail : map (λ q. q.lid) ports ≡ range_with_len (first + 1) (length ports) = cc in
+    (each_weaker (λ b. first + 1 ≤ b.lid) (λ b. same_lid port b ≡ false) (λ b k. differ port.lid b.lid (omega arith)) ports (lids_from (first + 1) ports tail), own_lids (first + 1) ports tail)
+
 -- a run that is answered tells what the definitions of its texts give, and that is isolated
-pub told_apart : (topology script : List ℕ) (partitions : Option (List ℕ)) (r : Told) → report_of topology partitions script ≡ Ok r
+pub told_apart : (topology script : List ℕ) (partitions : Option (List ℕ)) (r : Told) → report_of topology partitions script ≡ Ok r → HaveLidsInOrder r.ports
     → KeepsPartitionsApart topology partitions script r.events
 unfolding report_of
-told_apart topology script partitions r h = λ plan all commands e p f.
+told_apart topology script partitions r h lids = λ plan all commands e p f q.
     let subnet = started plan all in
     let read : (of_text Script (commands_in plan script) >>= λ cs. Ok (told subnet cs)) ≡ Ok r = rw (brought_up topology partitions plan all e p) at h in
     let here : Result Told RunFault = Ok (told subnet commands) in
     let there : Result Told RunFault = Ok r in
     let done : here ≡ there = rw f at read in
     let same : told subnet commands ≡ r = cc in
-    report_is_isolated (configuration_of all plan) commands r.events (ap (λ (t : Told). t.events) (sym same))
+    let apart = report_is_isolated (configuration_of all plan) commands r.events (ap (λ (t : Told). t.events) (sym same)) q in
+    let own = own_lids 1 (ports_of all plan) (subst (λ (t : Told). HaveLidsInOrder t.ports) (sym same) lids) in
+    (apart.0, slids_name_their_ports (ports_of all plan) q r.events own apart.1)
 
 pub answered_apart : (topology script : List ℕ) (partitions : Option (List ℕ)) (result : Result Told RunFault)
-    → RunGives (λ (r : Told). r) result (report_of topology partitions script)
+    → RunGives (λ (r : Told). r) result (report_of topology partitions script) → IfOk result (λ r. HaveLidsInOrder r.ports)
     → IfOk result (λ r. KeepsPartitionsApart topology partitions script r.events)
-answered_apart topology script partitions (Ok r) h = told_apart topology script partitions r h
-answered_apart topology script partitions (Err fault) h = tt
+answered_apart topology script partitions (Ok r) h lids = told_apart topology script partitions r h lids
+answered_apart topology script partitions (Err fault) h lids = tt

@@ -1,8 +1,10 @@
 pub mod Fault
 pub mod Ports
+pub mod EndPorts
 pub mod Script
 pub mod Seen
 pub mod Run
 pub mod EventLines
 pub mod Listing
 pub mod Headline
+pub mod Laws

@@ -2,6 +2,7 @@ ghost use Rattle.std.specs.Prelude.{◌≡◌, ◌+◌, ◌^◌, ◌<◌, ◌≤
 ghost use Rattle.std.specs.List.{prefix_len, zip};
 ghost use Rattle.topo_file.specs.Node.{HasGuids, port_guid, ports_at};
 ghost use Rattle.topo_file.specs.declared.node.TheConstants.{SWITCHES, ADAPTER_PORTS};
+ghost use Rattle.subnet_core.specs.EndPorts.{AreEndPorts};
 ghost use Rattle.subnet_core.specs.Ports.{switch_seat, adapter_seat, seat_if_cabled, adapter_seats, seats_of_type, seats, end_ports, type_of, guid_at, name_at, seated, with_port, with_seat, in_order, configuration_of};
 ghost use Rattle.subnet_model.specs.EndPorts.{lid_of};
 
@@ -27,8 +28,11 @@ pub fn configuration_of(
     topology: &Topology,
     partitions: &Partitions,
 ) -> Result<Configuration, AllocError>
-    ensures { IfOk result (λ configuration. configuration ≡ configuration_of partitions.now topology.now) }
+    ensures value { IfOk result (λ configuration. configuration ≡ configuration_of partitions.now topology.now) }
+    ensures end_ports { IfOk result (λ configuration.
+        AreEndPorts partitions.now topology.now configuration.ports) }
 {
+    topology.known_sound();
     let seats = seats(alloc, topology)?;
     let all = end_ports(alloc, &seats)?;
     let (headings, keys) = members(alloc, partitions, &all)?.into_parts();

@@ -1,6 +1,7 @@
 ghost use Rattle.std.specs.Prelude.{IfOk};
 ghost use Rattle.std.specs.Option.{option_copied};
 ghost use Rattle.result_words.specs.AtLine.{on_line};
+ghost use Rattle.subnet_core.specs.EndPorts.{HaveLidsInOrder};
 ghost use Rattle.subnet_core.specs.Headline.{KeepsPartitionsApart};
 ghost use Rattle.subnet_core.specs.Run.{RunGives, of_text, report_of};
 ghost use Rattle.subnet_core.specs.Script.{commands_in, with_line};
@@ -38,8 +39,9 @@ fn in_turn(
     partitions: Option<&[u8]>,
     script: &[u8],
 ) -> Result<Report, RunFault>
-    ensures { RunGives (λ report. report) result
+    ensures exact { RunGives (λ report. report) result
         (report_of topology.now (option_copied partitions.entry) script.now) }
+    ensures lids { IfOk result (λ report. HaveLidsInOrder report.ports) }
 {
     let subnet = bring_up(alloc, topology, partitions)?;
     let commands = commands_in(alloc, &subnet, script)?;

@@ -2,6 +2,7 @@ ghost use Rattle.std.specs.Prelude.{◌≡◌, true, ◌↔◌, IsErrOf, IfOk, O
 ghost use Rattle.std.specs.Option.{option_copied};
 ghost use Rattle.topo_file.specs.Topology.{topology_of};
 ghost use Rattle.subnet_model.specs.Report.{step};
+ghost use Rattle.subnet_core.specs.EndPorts.{HaveLidsInOrder};
 ghost use Rattle.subnet_core.specs.Listing.{listing_text};
 ghost use Rattle.subnet_core.specs.Run.{RunGives, of_text, parsed, partitions_for, subnet_of, told};
 ghost use Rattle.subnet_core.specs.declared.fault.RunFault.TheVariants as run;
@@ -47,7 +48,8 @@ pub fn bring_up(
     topology: &[u8],
     partitions: Option<&[u8]>,
 ) -> Result<Subnet, RunFault>
-    ensures { RunGives (λ subnet. subnet) result (subnet_of topology.now (option_copied partitions.entry)) }
+    ensures exact { RunGives (λ subnet. subnet) result (subnet_of topology.now (option_copied partitions.entry)) }
+    ensures lids { IfOk result (λ subnet. HaveLidsInOrder subnet.configuration.ports) }
 {
     let topology = topology_of(alloc, topology)?;
     let partitions = partitions_for(alloc, partitions)?;
@@ -140,7 +142,12 @@ impl Subnet {
     {
         let mut subnet = self;
         let mut events = Vec::new(subnet.alloc);
-        carry_out(&mut events, &subnet.configuration, &mut subnet.state, commands)?;
+        carry_out(
+            &mut events,
+            &subnet.configuration,
+            &mut subnet.state,
+            commands,
+        )?;
         Ok(Report::new(subnet.alloc, subnet.configuration, events))
     }
 }
