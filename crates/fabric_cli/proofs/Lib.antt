@@ -2,3 +2,4 @@ pub mod FilesLemmas
 pub mod KnownBytesLemmas
 pub mod WordsLemmas
 pub mod ServingLemmas
+pub mod EndingLemmas

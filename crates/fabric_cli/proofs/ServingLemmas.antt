@@ -10,7 +10,7 @@ use Rattle.fabric_cli.specs.Serving.{Ending, complete, IsRefused, Stops, TellsSt
 use Rattle.fabric_cli.specs.Writing.{AppendsPart, Tells}
 
 -- a status other than 3 was told where the line can go out
-other_status : (status answer : ℕ) (b : Bool) → answer ≡ 3 → (b ≡ true → answer ≡ status) → status ≢ 3 → b ≢ true
+pub other_status : (status answer : ℕ) (b : Bool) → answer ≡ 3 → (b ≡ true → answer ≡ status) → status ≢ 3 → b ≢ true
 other_status status answer b three told other sure = other (sym (told sure) ∙ three)
 
 pub false_is_not_true : false ≡ true → ⊥
@@ -26,7 +26,7 @@ pub stays_part : (told : Option Contents) (known : Option (List ℕ)) (text : Co
 stays_part None known text = tt
 stays_part (Some file) known text = nothing_appended known (text file)
 
-of_memory : (file : Contents) (reads : Bool) (old new : Option (List (List ℕ))) (names : List (List ℕ)) (ending : Ending) (a b : Bool) (err err' : Option (List ℕ))
+pub of_memory : (file : Contents) (reads : Bool) (old new : Option (List (List ℕ))) (names : List (List ℕ)) (ending : Ending) (a b : Bool) (err err' : Option (List ℕ))
     → Tells b err err' memory_line → IsRefused file reads old new names ending a b err err'
 of_memory file reads old new names ending a b err err' part = record { line = memory_line; is = inl refl; told = part }
 

@@ -1,5 +1,5 @@
 -- What clap's answer says of the words.
-use Rattle.std.proofs.Common.{◌≡◌, ◌≢◌, ◌∙◌, Bool, true, false, not, ◌&&◌, List, [], ◌∷◌, Option, Some, None, option_map, ap, refl, sym, inl, inr, codes}
+use Rattle.std.proofs.Common.{ℕ, ◌≡◌, ◌≢◌, ◌∙◌, Bool, true, false, not, ◌&&◌, List, [], ◌∷◌, Option, Some, None, option_map, ap, refl, sym, inl, inr, codes}
 use Rattle.clap.specs.declared.builder.command.Command.{Command}
 use Rattle.clap.specs.Words.{AddsSubcommand, App, HasKind, HasMatchesOf, IsAmong, Kinds, Row, Text, app_of, fault_of, first_of, first_value, is_simple, is_simple_and_free, kind_of, rows_of, subcommand_name_of, subcommand_of, subcommand_rows_of, with_subcommand}
 use Rattle.clap.specs.declared.error.Error.{Error}
@@ -10,7 +10,7 @@ use Rattle.clap.proofs.OnLiterals.{clap_on_literals}
 use Rattle.clap.proofs.WalkLemmas.{first_value-rows}
 use Rattle.fabric_cli.specs.declared.faults.Stop.{Stop}
 use Rattle.fabric_cli.specs.declared.faults.Stop.TheVariants.{Words, NoMemory, Unread, Unwritten, Run}
-use Rattle.fabric_cli.specs.Faults.{IsOfWords, IsRefusalOf}
+use Rattle.fabric_cli.specs.Faults.{IsOfWords, IsRefusalOf, TellsAll}
 use Rattle.fabric_cli.specs.Words.{Names, asked_by, asked_in, asked_of, fabric_command, work_in}
 
 same_some : {X : Type 0} (x y : X) → Some x ≡ Some y → x ≡ y
@@ -78,6 +78,14 @@ pub refuses : (app : App) (words : List Text) (error : Error) → app ≡ fabric
 refuses app words error is kinds other =
     let has : HasKind (fault_of app words) error = kinds (ap is_simple_and_free is ∙ fabric_is_free) in
     failed words error (rw is at has) other
+
+-- an error that is told by its text is refused words
+pub told_is_refusal : (error : Error) (shown : Option (List ℕ)) (stop : Stop) → (kind_of error ≢ OutOfMemory) → TellsAll shown stop → IsRefusalOf error stop
+told_is_refusal error shown (Words text) other is = other
+told_is_refusal error shown NoMemory other is = tt
+told_is_refusal error shown (Unread name) other is = absurd is
+told_is_refusal error shown Unwritten other is = absurd is
+told_is_refusal error shown (Run fault) other is = absurd is
 
 pub refusal_is : (error : Error) (asked : Option Names) (stop : Stop) → ((kind_of error ≢ OutOfMemory) → asked ≡ None)
     → IsRefusalOf error stop → IsOfWords asked stop

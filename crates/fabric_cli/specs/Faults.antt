@@ -1,5 +1,8 @@
 -- Why a call does not complete: the line that tells it, and the exit status.
-use Rattle.std.specs.Prelude.{ℕ, ◌≡◌, ◌≢◌, Bool, List, ◌++◌, codes, decimal, Option, Some, None, string_bytes}
+use Rattle.std.specs.Prelude.{ℕ, ◌≡◌, ◌≢◌, Bool, List, ◌++◌, codes, decimal, Option, Some, None, Result, Err, string_bytes, IfSome}
+use Rattle.std.specs.IoError.{error_kind}
+use Rattle.std.specs.declared.io.Error.{Error as IoError}
+use Rattle.std.specs.declared.io.ErrorKind.TheVariants.{OutOfMemory as IoOutOfMemory}
 use Rattle.clap.specs.Words.{kind_of}
 use Rattle.clap.specs.declared.error.Error.{Error}
 use Rattle.clap.specs.declared.error.kind.ErrorKind.TheVariants.{OutOfMemory}
@@ -62,11 +65,20 @@ IsRefusalOf error (Words text) = kind_of error ≢ OutOfMemory
 IsRefusalOf error NoMemory = Unit {0}
 IsRefusalOf error _ = ⊥
 
--- where the words of a call are not given, this text is told, or memory was refused
-abbrev pub IsOfGiven : Stop → Type 0
-IsOfGiven (Words text) = string_bytes text ≡ codes "error: a word is not text\n"
-IsOfGiven NoMemory = Unit {0}
-IsOfGiven _ = ⊥
+-- a refusal of words has the text by which an error shows itself, where that is known
+abbrev pub TellsAll : Option (List ℕ) → Stop → Type 0
+TellsAll shown (Words text) = IfSome shown (λ bytes. string_bytes text ≡ bytes)
+TellsAll shown NoMemory = Unit {0}
+TellsAll shown _ = ⊥
+
+abbrev pub not_text_line : List ℕ
+not_text_line = codes "error: a word is not text\n"
+
+-- words that are given are refused only where they are not all text, by one line, unless memory was refused
+abbrev pub IsOfGiven : {X : Type 0} → Result X IoError → Stop → Type 0
+IsOfGiven (Err error) (Words text) = (error_kind error ≢ IoOutOfMemory) × (string_bytes text ≡ not_text_line)
+IsOfGiven given NoMemory = Unit {0}
+IsOfGiven given _ = ⊥
 
 -- words that ask for nothing are refused, and no others
 abbrev pub IsOfWords : {X : Type 0} → Option X → Stop → Type 0

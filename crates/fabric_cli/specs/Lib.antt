@@ -1,4 +1,5 @@
 pub mod Files
+pub mod Help
 pub mod Words
 pub mod Faults
 pub mod Writing

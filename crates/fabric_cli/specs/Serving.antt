@@ -1,5 +1,5 @@
 -- What a call answers, from its words and the bytes of its files alone.
-use Rattle.std.specs.Prelude.{ℕ, ◌≡◌, ◌≢◌, ◌⊎◌, Bool, true, List, [], Option, Some, None, option_map, Result, Ok, Err, Vec}
+use Rattle.std.specs.Prelude.{ℕ, ◌≡◌, ◌≢◌, ◌⊎◌, Bool, true, false, List, [], Option, Some, None, is_some, option_map, Result, Ok, Err, Vec}
 use Rattle.std.specs.Global.{Global}
 use Rattle.std.specs.Io.KnownBytes.{Appends, Keeps}
 use Rattle.subnet_core.specs.declared.fault.RunFault.{RunFault}
@@ -13,12 +13,12 @@ use Rattle.fabric_cli.specs.declared.serving.Texts.{Texts}
 use Rattle.fabric_cli.specs.declared.words.Work.{Work}
 use Rattle.fabric_cli.specs.declared.words.Work.TheVariants as work
 use Rattle.fabric_cli.specs.declared.faults.Stop.TheVariants.{Words, NoMemory, Unread, Unwritten, Run}
-use Rattle.fabric_cli.specs.Faults.{line_of, status_of, memory_line, run_line, run_status, unread_line, unwritten_line}
+use Rattle.fabric_cli.specs.Faults.{line_of, status_of, memory_line, not_text_line, run_line, run_status, unread_line, unwritten_line}
 use Rattle.fabric_cli.specs.Files.{Contents, StopsAt}
 use Rattle.fabric_cli.specs.Words.{Names, asked_of}
 use Rattle.fabric_cli.specs.Writing.{Tells}
 
--- how a call ends: the words are refused, or a fault's status and line, or a whole output
+-- how a call ends: clap refuses the words, or a fault's status and line, or a whole output
 pub data Ending : Type 0 where
   refused : Ending
   faulted : ℕ → List ℕ → Ending
@@ -91,13 +91,36 @@ abbrev pub ending_for : Contents → Option Names → Ending
 ending_for file None = refused
 ending_for file (Some names) = ending_with (texts_of file names)
 
--- what a call with these words ends in, where each name opens to the bytes that `file` says
-abbrev pub ending_of : Contents → List (List ℕ) → Ending
-ending_of file words = ending_for file (asked_of words)
+-- words that are not text are refused by a line of ours
+abbrev pub not_text : Ending
+not_text = faulted 2 not_text_line
 
--- the exit status, and how the two outputs grow; of the text by which words are refused nothing is said
+-- what a call with these words ends in, where each name opens to the bytes that `file` says
+abbrev pub ending_of : Contents → Option (List (List ℕ)) → Ending
+ending_of file None = not_text
+ending_of file (Some words) = ending_for file (asked_of words)
+
+abbrev pub is_run : {X : Type 0} → Work X → Bool
+is_run work.Check = false
+is_run (work.Run script) = true
+
+-- bytes for each of the files that are asked for, and for no other
+abbrev pub AreFor : Names → Bytes → Type 0
+AreFor names texts = (is_some texts.partitions ≡ is_some names.partitions) × (is_run texts.work ≡ is_run names.work)
+
+-- it ends so where each file that is asked for had some bytes; one name that is asked for twice may have had two
+abbrev pub ForSomeBytes : Option Names → (Ending → Type 0) → Type 0
+ForSomeBytes None ends = ends refused
+ForSomeBytes (Some names) ends = (texts : Bytes) × AreFor names texts × ends (ending_with (Ok texts))
+
+abbrev pub EndsForSomeBytes : Option (List (List ℕ)) → (Ending → Type 0) → Type 0
+EndsForSomeBytes None ends = ends not_text
+EndsForSomeBytes (Some words) ends = ForSomeBytes (asked_of words) ends
+
+-- the exit status, and how the two outputs grow. Where clap refuses the words, standard error gains a text,
+-- which is clap's: its contracts don't say which
 abbrev pub Ends : Ending → ℕ → Option (List ℕ) → Option (List ℕ) → Option (List ℕ) → Option (List ℕ) → Type 0
-Ends refused status out out' err err' = (status ≡ 2) × Keeps out out'
+Ends refused status out out' err err' = (status ≡ 2) × Keeps out out' × ((text : List ℕ) × Appends err err' text)
 Ends (faulted fault line) status out out' err err' = (status ≡ fault) × Keeps out out' × Appends err err' line
 Ends (complete output) status out out' err err' = (status ≡ 0) × Appends out out' output × Keeps err err'
 

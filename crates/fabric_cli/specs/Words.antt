@@ -1,9 +1,12 @@
 -- What the words of a call ask for, as clap reads them.
-use Rattle.std.specs.Prelude.{List, [], ◌∷◌, ◌++◌, codes, Option, Some, None, option_map, if◌then◌else◌, true}
+use Rattle.std.specs.Prelude.{List, [], ◌∷◌, ◌++◌, codes, map, string_bytes, Option, Some, None, option_map, Result, Ok, Err, String, if◌then◌else◌, true}
+use Rattle.std.specs.Global.{Global}
 use Rattle.std.specs.Option.{option_to_list}
 use Rattle.std.specs.Str.{bytes_eq}
 use Rattle.clap.specs.Words.{App, Row, Rule, Text, Kinds, fault_of, first_of, new_app, new_rule, subcommand_of, with_rule, with_subcommand}
 use Rattle.std.specs.Borrow.{Bor}
+use Rattle.std.specs.Vec.Iter.{into_iter_items}
+use Rattle.std.specs.declared.vec.IntoIter.{IntoIter}
 use Rattle.fabric_cli.specs.declared.words.Asked.{Asked}
 use Rattle.fabric_cli.specs.declared.words.Work.{Work}
 use Rattle.fabric_cli.specs.declared.words.Work.TheVariants.{Check, Run}
@@ -29,6 +32,14 @@ fabric_top = let app = new_app (codes "fabric") in record app { top = record app
 
 abbrev pub fabric_command : App
 fabric_command = with_subcommand (with_subcommand fabric_top check_command.top) run_command.top
+
+-- the words that a program is given, where all of them are text
+abbrev pub given_items : {E : Type 0} → Result (IntoIter (String Global) Global) E → Option (List (String Global))
+given_items (Ok words) = Some (into_iter_items words)
+given_items (Err error) = None
+
+abbrev pub given_texts : {E : Type 0} → Result (IntoIter (String Global) Global) E → Option (List Text)
+given_texts given = option_map (λ words. map string_bytes words) (given_items given)
 
 -- what is asked for, with the names of the files as texts
 pub record Names : Type 0 where
@@ -75,6 +86,11 @@ unless_refused (kind ∷ kinds) asked = None
 -- them, or where help or the version is asked for
 unfoldable pub asked_of : List Text → Option Names
 asked_of words = unless_refused (fault_of fabric_command words) (asked_in (subcommand_of fabric_command words))
+
+-- words that are not text ask for nothing
+abbrev pub asked_by_given : Option (List Text) → Option Names
+asked_by_given None = None
+asked_by_given (Some words) = asked_of words
 
 abbrev pub script_names : Work Text → List Text
 script_names Check = []

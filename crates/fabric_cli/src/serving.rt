@@ -1,20 +1,24 @@
 //! The program's work, over any files and any two writers.
 
-ghost use Rattle.std.specs.Prelude.{ℕ, ◌≡◌, ◌≢◌, ◌⊎◌, Result, Some, Ok, map, option_copied, option_map, vec_items, string_bytes, IfOk, IfErr, OnOk, IfSome};
+ghost use Rattle.std.specs.Prelude.{ℕ, ◌≡◌, ◌≢◌, ◌⊎◌, Result, Some, Ok, map, option_copied, option_map, is_some, vec_items, string_bytes, IfOk, IfErr, OnOk, IfSome};
 ghost use Rattle.std.specs.Io.KnownBytes.{Appends};
 ghost use Rattle.fabric_cli.specs.Faults.{line_of, memory_line, status_of, IsOfFiles, IsOfRun, NamesUnread};
 ghost use Rattle.fabric_cli.specs.Files.{OpensAll, OpensInOrder};
-ghost use Rattle.fabric_cli.specs.Serving.{bytes_if_named, ending_by, ending_of, ending_with, listed, output_in, reported, texts_in, texts_of, work_bytes, work_of, Ends, ComesTo, IsRefused, IsTold, TellsStop};
+ghost use Rattle.fabric_cli.specs.Serving.{bytes_if_named, ending_by, ending_for, ending_of, ending_with, is_run, listed, output_in, reported, texts_in, texts_of, work_bytes, work_of, AreFor, Ends, EndsForSomeBytes, ForSomeBytes, ComesTo, IsRefused, IsTold, TellsStop};
 ghost use Rattle.std.specs.Option.{option_to_list};
-ghost use Rattle.fabric_cli.specs.Words.{asked_of, named_work, names, opened_for, script_names};
+ghost use Rattle.std.specs.Process.{exit_status};
+ghost use Rattle.fabric_cli.specs.Words.{asked_by_given, asked_of, given_texts, named_work, names, opened_for, script_names};
 ghost use Rattle.fabric_cli.specs.Writing.{AppendsPart, Tells};
 
 use crate::faults::{COMPLETE, MEMORY_LINE, REFUSED, Stop};
 use crate::files::Files;
 use crate::reading::read_file;
-use crate::words::{Asked, Work, read_words};
+use crate::words::{Asked, Work, given_words, read_words};
 use crate::writing::{Output, write_whole};
 use std::alloc::Global;
+use std::env::Args;
+use std::io;
+use std::process::ExitCode;
 use subnet_core::{bring_up, run};
 
 /// The bytes of the files, and what to do with them.
@@ -32,6 +36,33 @@ struct Texts {
 /// The files are opened and read in the order of the words, each to its end, before any is judged.
 pub fn serve<F: Files, O: Output, E: Output>(
     alloc: Global,
+    given: io::Result<Args>,
+    files: &mut F,
+    out: &mut O,
+    err: &mut E,
+) -> ExitCode
+    ensures order { OpensInOrder (F.opened files.old) (F.opened files.new) (opened_for (asked_by_given (given_texts given))) }
+    ensures all { exit_status result ≢ 3 → OpensAll (F.opened files.old) (F.opened files.new) (opened_for (asked_by_given (given_texts given))) }
+    ensures exact { exit_status result ≢ 3 → IfSome (F.told files.old) (λ file.
+        Ends (ending_of file (given_texts given)) (exit_status result)
+        (O.contents out.old) (O.contents out.new) (E.contents err.old) (E.contents err.new)) }
+    ensures any_files { exit_status result ≢ 3 → EndsForSomeBytes (given_texts given) (λ ending.
+        Ends ending (exit_status result) (O.contents out.old) (O.contents out.new) (E.contents err.old) (E.contents err.new)) }
+    ensures refused { exit_status result ≡ 3 → IfSome (F.told files.old) (λ file.
+        IsRefused file (F.reads files.old) (F.opened files.old) (F.opened files.new) (opened_for (asked_by_given (given_texts given)))
+        (ending_of file (given_texts given)) (O.is_sure out.old) (E.is_sure err.old) (E.contents err.old) (E.contents err.new)) }
+    ensures short { IfSome (F.told files.old) (λ file.
+        AppendsPart (O.contents out.old) (O.contents out.new) (output_in (ending_of file (given_texts given)))) }
+{
+    match given_words(alloc, given) {
+        Ok(words) => ExitCode::from(serve_words(alloc, words.as_slice(), files, out, err)),
+        Err(stop) => ExitCode::from(told_stop(alloc, &stop, err)),
+    }
+}
+
+/// The same for words that are text, with the status as a number.
+fn serve_words<F: Files, O: Output, E: Output>(
+    alloc: Global,
     words: &[String],
     files: &mut F,
     out: &mut O,
@@ -40,14 +71,16 @@ pub fn serve<F: Files, O: Output, E: Output>(
     ensures order { OpensInOrder (F.opened files.old) (F.opened files.new) (opened_for (asked_of (map string_bytes words.now))) }
     ensures all { result ≢ 3 → OpensAll (F.opened files.old) (F.opened files.new) (opened_for (asked_of (map string_bytes words.now))) }
     ensures exact { result ≢ 3 → IfSome (F.told files.old) (λ file.
-        Ends (ending_of file (map string_bytes words.now)) result
+        Ends (ending_for file (asked_of (map string_bytes words.now))) result
         (O.contents out.old) (O.contents out.new) (E.contents err.old) (E.contents err.new)) }
+    ensures any_files { result ≢ 3 → ForSomeBytes (asked_of (map string_bytes words.now)) (λ ending.
+        Ends ending result (O.contents out.old) (O.contents out.new) (E.contents err.old) (E.contents err.new)) }
     ensures refused { result ≡ 3 → IfSome (F.told files.old) (λ file.
         IsRefused file (F.reads files.old) (F.opened files.old) (F.opened files.new) (opened_for (asked_of (map string_bytes words.now)))
-        (ending_of file (map string_bytes words.now)) (O.is_sure out.old) (E.is_sure err.old) (E.contents err.old) (E.contents err.new)) }
+        (ending_for file (asked_of (map string_bytes words.now))) (O.is_sure out.old) (E.is_sure err.old) (E.contents err.old) (E.contents err.new)) }
     ensures short { IfSome (F.told files.old) (λ file.
         AppendsPart (O.contents out.old) (O.contents out.new)
-        (output_in (ending_of file (map string_bytes words.now)))) }
+        (output_in (ending_for file (asked_of (map string_bytes words.now))))) }
 {
     match output(alloc, words, files) {
         Ok(text) => {
@@ -63,7 +96,7 @@ pub fn serve<F: Files, O: Output, E: Output>(
 
 /// Tells why a call does not complete, and answers the exit status. Where memory is refused, that is
 /// told, and where the whole line does not go out, the status is that of output not written.
-pub fn told_stop<E: Output>(alloc: Global, stop: &Stop<'_>, err: &mut E) -> u8
+fn told_stop<E: Output>(alloc: Global, stop: &Stop<'_>, err: &mut E) -> u8
     ensures whole { result ≢ 3 → (result ≡ status_of stop.now) × Appends (E.contents err.old) (E.contents err.new) (line_of stop.now) }
     ensures part { TellsStop stop.now result (E.is_sure err.old) (E.contents err.old) (E.contents err.new) ⊎ Tells (E.is_sure err.old) (E.contents err.old) (E.contents err.new) memory_line }
 {
@@ -93,7 +126,9 @@ fn output<'a, F: Files>(
     ensures all { IsTold result → OpensAll (F.opened files.old) (F.opened files.new)
         (opened_for (asked_of (map string_bytes words.entry.now))) }
     ensures exact { IfSome (F.told files.old) (λ file. ComesTo (λ text. text.items)
-        (ending_of file (map string_bytes words.entry.now)) result) }
+        (ending_for file (asked_of (map string_bytes words.entry.now))) result) }
+    ensures any_files { IsTold result → ForSomeBytes (asked_of (map string_bytes words.entry.now))
+        (λ ending. ComesTo (λ text. text.items) ending result) }
     ensures unread { IfErr result (NamesUnread (F.told files.old) (F.reads files.old) (F.opened files.old) (F.opened files.new)
         (opened_for (asked_of (map string_bytes words.entry.now)))) }
 {
@@ -113,6 +148,8 @@ fn output_of_files<'a, F: Files>(
     ensures all { IsTold result → OpensAll (F.opened files.old) (F.opened files.new) (opened_for (Some (names asked.now))) }
     ensures exact { IfSome (F.told files.old) (λ file. ComesTo (λ text. text.items)
         (ending_with (texts_of file (names asked.now))) result) }
+    ensures any_files { IsTold result → ForSomeBytes (Some (names asked.now))
+        (λ ending. ComesTo (λ text. text.items) ending result) }
     ensures unread { IfErr result (NamesUnread (F.told files.old) (F.reads files.old) (F.opened files.old) (F.opened files.new) (opened_for (Some (names asked.now)))) }
 {
     match read_texts(alloc, asked, files) {
@@ -193,6 +230,7 @@ fn read_texts<'a, F: Files>(
     ensures all { OnOk result (OpensAll (F.opened files.old) (F.opened files.new) (opened_for (Some (names asked.now)))) }
     ensures texts { IfOk result (λ texts. IfSome (F.told files.old) (λ file.
         texts_of file (names asked.now) ≡ Ok (texts_in texts))) }
+    ensures shape { IfOk result (λ texts. AreFor (names asked.now) (texts_in texts)) }
     ensures fault { IfErr result IsOfFiles }
     ensures unread { IfErr result (NamesUnread (F.told files.old) (F.reads files.old) (F.opened files.old) (F.opened files.new) (opened_for (Some (names asked.now)))) }
 {
@@ -217,6 +255,8 @@ fn read_if_named<'a, F: Files>(
     ensures stays { F.reads files.new ≡ F.reads files.old }
     ensures bytes { IfOk result (λ bytes. IfSome (F.told files.old) (λ file.
         bytes_if_named file (option_map (λ word. word.now) name.entry) ≡ Ok (option_map (λ items. items.items) bytes))) }
+    ensures shape { IfOk result (λ bytes. is_some (option_map (λ items. items.items) bytes)
+        ≡ is_some (option_map (λ word. word.now) name.entry)) }
     ensures fault { IfErr result IsOfFiles }
     ensures unread { IfErr result (NamesUnread (F.told files.old) (F.reads files.old) (F.opened files.old) (F.opened files.new) (option_to_list (option_map (λ word. word.now) name.entry))) }
 {
@@ -237,6 +277,7 @@ fn read_work<'a, F: Files>(
     ensures stays { F.reads files.new ≡ F.reads files.old }
     ensures bytes { IfOk result (λ bytes. IfSome (F.told files.old) (λ file.
         work_of file (named_work work.now) ≡ Ok (work_bytes bytes))) }
+    ensures shape { IfOk result (λ bytes. is_run (work_bytes bytes) ≡ is_run (named_work work.now)) }
     ensures fault { IfErr result IsOfFiles }
     ensures unread { IfErr result (NamesUnread (F.told files.old) (F.reads files.old) (F.opened files.old) (F.opened files.new) (script_names (named_work work.now))) }
 {

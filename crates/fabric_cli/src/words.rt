@@ -1,16 +1,20 @@
 //! The words of a call, read by `clap`.
 
-ghost use Rattle.std.specs.Prelude.{◌≡◌, false, Some, map, string_bytes, option_map, IfOk, IfErr};
+ghost use Rattle.std.specs.Prelude.{◌≡◌, false, Some, codes, map, string_bytes, option_map, IfOk, IfErr, IsSomeAnd};
 ghost use Rattle.clap.specs.Words.{app_of, rule_of, subcommand_rows_of};
 ghost use Rattle.clap.specs.declared.builder.command.Command.TheViews.{out-Command as fields_of};
-ghost use Rattle.fabric_cli.specs.Faults.{IsOfGiven, IsOfWords, IsRefusalOf};
-ghost use Rattle.fabric_cli.specs.Words.{asked_by, asked_in, asked_of, fabric_command, file_in, named_work, names, subnet_command, wanted, work_in};
+ghost use Rattle.fabric_cli.specs.Faults.{IsOfGiven, IsOfWords, IsRefusalOf, TellsAll};
+ghost use Rattle.fabric_cli.specs.Help.{about_check, about_program, about_run, help_of_partitions, help_of_script, help_of_topology, program_name, program_version, text_in};
+ghost use Rattle.fabric_cli.specs.Words.{asked_by, asked_in, asked_of, check_command, fabric_command, file_in, given_items, named_work, names, run_command, subnet_command, wanted, work_in};
+ghost use Rattle.fabric_cli.specs.declared.words.TheConstants.{LISTING, REPORT, STATUSES};
 
 use crate::faults::Stop;
 use clap::error::ErrorKind;
 use clap::{Arg, ArgAction, ArgMatches, Command, Error};
 use std::alloc::{AllocError, Global};
-use std::{env, io};
+use std::env::Args;
+use std::fmt::Display;
+use std::io;
 
 /// What to do in a subnet.
 #[derive(Drop)]
@@ -103,6 +107,7 @@ HEX leaves out the zero bytes at the end of the N bytes.
     ""
 );
 
+/// An argument that has to be given.
 fn wanted<'a>(alloc: Global, name: &'a str, help: &'a str) -> Arg<'a>
     ensures global { result.global ≡ false }
     ensures rule { rule_of result ≡ wanted name.entry.now }
@@ -114,56 +119,90 @@ fn wanted<'a>(alloc: Global, name: &'a str, help: &'a str) -> Arg<'a>
         .help(help)
 }
 
-/// A command that names a subnet by its topology and its partitions, with the texts of its help.
-fn subnet_command<'a>(
-    alloc: Global,
-    name: &'a str,
-    about: &'a str,
-    help: &'a str,
-) -> Result<Command<'a>, AllocError>
-    ensures words { IfOk result (λ command. app_of command ≡ subnet_command name.entry.now) }
-    ensures about { IfOk result (λ command. (fields_of command).about ≡ Some about.entry) }
-    ensures help { IfOk result (λ command. (fields_of command).after_help ≡ Some help.entry) }
+fn wanted_topology<'a>(alloc: Global) -> Arg<'a>
+    ensures global { result.global ≡ false }
+    ensures rule { rule_of result ≡ wanted (codes "TOPO") }
+    ensures help { text_in result.help ≡ Some help_of_topology }
 {
-    let topology = wanted(
+    wanted(
         alloc,
         "TOPO",
         "The topology: switches, adapters, cables and the subnet manager",
-    );
-    let partitions = wanted(
+    )
+}
+
+fn wanted_partitions<'a>(alloc: Global) -> Arg<'a>
+    ensures global { result.global ≡ false }
+    ensures rule { rule_of result ≡ wanted (codes "PARTS") }
+    ensures help { text_in result.help ≡ Some help_of_partitions }
+{
+    wanted(
         alloc,
         "PARTS",
         "The partitions and their members, or `-` for the default one alone",
-    );
-    let command = Command::new(alloc, name).arg(topology)?.arg(partitions)?;
-    Ok(command.about(about).after_help(help))
+    )
 }
 
-/// The program's command line.
-fn fabric_command<'a>(alloc: Global) -> Result<Command<'a>, AllocError>
-    ensures { IfOk result (λ command. app_of command ≡ fabric_command) }
+fn wanted_script<'a>(alloc: Global) -> Arg<'a>
+    ensures global { result.global ≡ false }
+    ensures rule { rule_of result ≡ wanted (codes "SCRIPT") }
+    ensures help { text_in result.help ≡ Some help_of_script }
 {
-    let check = subnet_command(alloc, "check", ABOUT_CHECK, LISTING)?;
-    let script = wanted(alloc, "SCRIPT", "The script: what ports send");
-    let run = subnet_command(alloc, "run", ABOUT_RUN, REPORT)?.arg(script)?;
-    // Help and usage say `fabric`, whatever name the program's file has.
-    let command = Command::new(alloc, "fabric")
-        .bin_name("fabric")?
-        .version("0.1.0")
-        .about(ABOUT)
-        .after_help(STATUSES)
-        .subcommand_required(true)
-        .subcommand(check)?
-        .subcommand(run)?;
+    wanted(alloc, "SCRIPT", "The script: what ports send")
+}
+
+/// A command that names a subnet by its topology and its partitions.
+fn subnet_command<'a>(alloc: Global, name: &'a str) -> Result<Command<'a>, AllocError>
+    ensures { IfOk result (λ command. app_of command ≡ subnet_command name.entry.now) }
+{
+    let command = Command::new(alloc, name)
+        .arg(wanted_topology(alloc))?
+        .arg(wanted_partitions(alloc))?;
     Ok(command)
 }
 
-/// The words of a program, its own name first. Words that are not text are refused.
-pub fn given_words(rt: &HostRuntime) -> Result<Vec<String>, Stop<'static>>
-    ensures { IfErr result IsOfGiven }
+/// The command that lists a subnet.
+fn check_command<'a>(alloc: Global) -> Result<Command<'a>, AllocError>
+    ensures words { IfOk result (λ command. app_of command ≡ check_command) }
+    ensures about { IfOk result (λ command. text_in (fields_of command).about ≡ Some about_check) }
+    ensures help { IfOk result (λ command. text_in (fields_of command).after_help ≡ Some LISTING.now) }
 {
-    let alloc = rt.alloc();
-    match env::args(rt) {
+    let command = subnet_command(alloc, "check")?;
+    Ok(command.about(ABOUT_CHECK).after_help(LISTING))
+}
+
+/// The command that runs a script in a subnet.
+fn run_command<'a>(alloc: Global) -> Result<Command<'a>, AllocError>
+    ensures words { IfOk result (λ command. app_of command ≡ run_command) }
+    ensures about { IfOk result (λ command. text_in (fields_of command).about ≡ Some about_run) }
+    ensures help { IfOk result (λ command. text_in (fields_of command).after_help ≡ Some REPORT.now) }
+{
+    let command = subnet_command(alloc, "run")?.arg(wanted_script(alloc))?;
+    Ok(command.about(ABOUT_RUN).after_help(REPORT))
+}
+
+/// The program's command line. Help and usage say `fabric`, whatever name the program's file has.
+fn fabric_command<'a>(alloc: Global) -> Result<Command<'a>, AllocError>
+    ensures words { IfOk result (λ command. app_of command ≡ fabric_command) }
+    ensures name { IfOk result (λ command. IsSomeAnd (fields_of command).bin_name (λ name. string_bytes name ≡ program_name)) }
+    ensures version { IfOk result (λ command. text_in (fields_of command).version ≡ Some program_version) }
+    ensures about { IfOk result (λ command. text_in (fields_of command).about ≡ Some about_program) }
+    ensures help { IfOk result (λ command. text_in (fields_of command).after_help ≡ Some STATUSES.now) }
+{
+    let command = Command::new(alloc, "fabric")
+        .subcommand_required(true)
+        .subcommand(check_command(alloc)?)?
+        .subcommand(run_command(alloc)?)?
+        .bin_name("fabric")?;
+    Ok(command.version("0.1.0").about(ABOUT).after_help(STATUSES))
+}
+
+/// The words that the program is given, its own name first: all of them. Words that are not text are refused.
+pub fn given_words(alloc: Global, given: io::Result<Args>) -> Result<Vec<String>, Stop<'static>>
+    ensures all { IfOk result (λ words. given_items given ≡ Some words.items) }
+    ensures refused { IfErr result (IsOfGiven given) }
+{
+    match given {
         Ok(words) => Ok(words.collect(alloc)?),
         Err(error) if error.kind() == io::ErrorKind::OutOfMemory => Err(Stop::NoMemory),
         Err(_) => Err(Stop::Words(String::from_str(alloc, NOT_TEXT)?)),
@@ -243,6 +282,13 @@ fn refusal<'a>(alloc: Global, error: &Error) -> Stop<'a>
     if error.kind() == ErrorKind::OutOfMemory {
         return Stop::NoMemory;
     }
+    words_refused(alloc, error)
+}
+
+/// The refusal that tells what the error says of itself, whatever that is.
+fn words_refused<'a, E: Display>(alloc: Global, error: &E) -> Stop<'a>
+    ensures { TellsAll (E.output error.now) result }
+{
     match error.to_string(alloc) {
         Ok(text) => Stop::Words(text),
         Err(_) => Stop::NoMemory,

@@ -1,0 +1,109 @@
+-- How a call ends, from what was written and told.
+use Rattle.std.proofs.Common.{ℕ, ◌≡◌, ◌≢◌, ◌∙◌, ◌⊎◌, inl, inr, refl, sym, append-nil, arith, ap, Bool, true, List, [], Option, Some, None, IfSome, Result, Ok, Err, option_map, map, string_bytes, String, Global}
+use Rattle.std.specs.Io.KnownBytes.{Appends, Keeps}
+use Rattle.std.specs.declared.io.Error.{Error}
+use Rattle.std.specs.declared.vec.IntoIter.{IntoIter}
+use Rattle.subnet_core.specs.declared.fault.RunFault.TheVariants as run
+use Rattle.fabric_cli.specs.declared.faults.Stop.{Stop}
+use Rattle.fabric_cli.specs.declared.faults.Stop.TheVariants.{Words, NoMemory, Unread, Unwritten, Run}
+use Rattle.fabric_cli.specs.Faults.{line_of, memory_line, not_text_line, status_of, IsOfGiven}
+use Rattle.fabric_cli.specs.Files.{Contents, OpensAll, OpensInOrder}
+use Rattle.fabric_cli.specs.Serving.{Ending, complete, ending_of, not_text, ending_with, refused, EndsForSomeBytes, Ends, ForSomeBytes, IsRefused, IsTold, Stops, TellsStop}
+use Rattle.fabric_cli.specs.Words.{Names, asked_by_given, given_items, given_texts, opened_for}
+use Rattle.fabric_cli.specs.Writing.{Tells}
+use Rattle.fabric_cli.proofs.ServingLemmas.{of_memory, other_status}
+
+kept : (known : Option (List ℕ)) → Keeps known known
+kept None = tt
+kept (Some xs) = refl
+
+-- a whole output
+pub written_ends : (ending : Ending) (output : List ℕ) (out out' err : Option (List ℕ)) → ending ≡ complete output → Appends out out' output
+    → Ends ending 0 out out' err err
+written_ends ending output out out' err is wrote = rw is (refl, wrote, kept err)
+
+-- a stop that is told, and is no refusal of the machine
+pub stop_ends : (ending : Ending) (stop : Stop) (answer : ℕ) (out err err' : Option (List ℕ)) → Stops ending stop → answer ≢ 3
+    → (answer ≡ status_of stop) × Appends err err' (line_of stop) → Ends ending answer out out err err'
+stop_ends ending (Words text) answer out err err' is other told = rw is (told.0, kept out, (string_bytes text, told.1))
+stop_ends ending NoMemory answer out err err' is other told = absurd (other told.0)
+stop_ends ending (Unread name) answer out err err' is other told = absurd (other told.0)
+stop_ends ending Unwritten answer out err err' is other told = absurd is
+stop_ends ending (Run run.NoMemory) answer out err err' is other told = absurd (other told.0)
+stop_ends ending (Run (run.Topology line cause)) answer out err err' is other told = rw is (told.0, kept out, told.1)
+stop_ends ending (Run (run.Partitions line cause)) answer out err err' is other told = rw is (told.0, kept out, told.1)
+stop_ends ending (Run (run.Script line cause)) answer out err err' is other told = rw is (told.0, kept out, told.1)
+
+-- it is told of files that were read
+pub is_told : (X : Type 0) (stop : Stop) (answer : ℕ) → answer ≢ 3 → answer ≡ status_of stop → let result : Result X Stop = Err stop in IsTold result
+is_told X (Words text) answer other is = tt
+is_told X NoMemory answer other is = absurd (other is)
+is_told X (Unread name) answer other is = absurd (other is)
+is_told X Unwritten answer other is = absurd (other is)
+is_told X (Run fault) answer other is = tt
+
+pub for_some_told : {A B : Contents → Type 0} (told : Option Contents) → ((file : Contents) → A file → B file) → IfSome told A → IfSome told B
+for_some_told None f a = tt
+for_some_told (Some file) f a = f file a
+
+pub for_some_bytes : (asked : Option Names) (P Q : Ending → Type 0) → ((ending : Ending) → P ending → Q ending) → ForSomeBytes asked P → ForSomeBytes asked Q
+for_some_bytes None P Q f some = f refused some
+for_some_bytes (Some names) P Q f some = (some.0, some.1, f (ending_with (Ok some.0)) some.2)
+
+nothing_opened : (opened : Option (List (List ℕ))) → OpensAll opened opened []
+nothing_opened None = inr refl
+nothing_opened (Some names) = inr (ap (λ (all : List (List ℕ)). Some all) (sym (append-nil names)))
+
+-- nothing is opened before the words are known
+pub opens_none : (opened : Option (List (List ℕ))) (names : List (List ℕ)) → OpensInOrder opened opened names
+opens_none opened names = (0, nothing_opened opened)
+
+pub given_are : (given : Result (IntoIter (String Global) Global) Error) (words : List (String Global)) → given_items given ≡ Some words
+    → given_texts given ≡ Some (map string_bytes words)
+given_are given words is = ap (option_map (λ all. map string_bytes all)) is
+
+-- words that are not given are not text, unless memory was refused
+not_text_ends : (given : Result (IntoIter (String Global) Global) Error) (stop : Stop) (answer : ℕ) (out err err' : Option (List ℕ))
+    → IsOfGiven given stop → answer ≢ 3 → (answer ≡ status_of stop) × Appends err err' (line_of stop)
+    → (given_texts given ≡ None) × Ends not_text answer out out err err'
+not_text_ends (Ok words) (Words text) answer out err err' is other told = absurd is
+not_text_ends (Err error) (Words text) answer out err err' is other told = (refl, (told.0, kept out, rw is.1 at told.1))
+not_text_ends given NoMemory answer out err err' is other told = absurd (other told.0)
+not_text_ends given (Unread name) answer out err err' is other told = absurd (other told.0)
+not_text_ends given Unwritten answer out err err' is other told = absurd (other told.0)
+not_text_ends (Ok words) (Run fault) answer out err err' is other told = absurd is
+not_text_ends (Err error) (Run fault) answer out err err' is other told = absurd is
+
+pub not_given_ends : (told : Option Contents) (given : Result (IntoIter (String Global) Global) Error) (stop : Stop) (answer : ℕ) (out err err' : Option (List ℕ))
+    → IsOfGiven given stop → answer ≢ 3 → (answer ≡ status_of stop) × Appends err err' (line_of stop)
+    → IfSome told (λ file. Ends (ending_of file (given_texts given)) answer out out err err')
+not_given_ends None given stop answer out err err' is other told = tt
+not_given_ends (Some file) given stop answer out err err' is other told =
+    let ends = not_text_ends given stop answer out err err' is other told in rw ends.0 ends.1
+
+pub not_given_any : (given : Result (IntoIter (String Global) Global) Error) (stop : Stop) (answer : ℕ) (out err err' : Option (List ℕ))
+    → IsOfGiven given stop → answer ≢ 3 → (answer ≡ status_of stop) × Appends err err' (line_of stop)
+    → EndsForSomeBytes (given_texts given) (λ ending. Ends ending answer out out err err')
+not_given_any given stop answer out err err' is other told =
+    let ends = not_text_ends given stop answer out err err' is other told in rw ends.0 ends.1
+
+not_text_refused : (file : Contents) (reads : Bool) (opened : Option (List (List ℕ))) (given : Result (IntoIter (String Global) Global) Error) (stop : Stop) (answer : ℕ) (a b : Bool) (err err' : Option (List ℕ))
+    → answer ≡ 3 → IsOfGiven given stop → TellsStop stop answer b err err' ⊎ Tells b err err' memory_line
+    → IsRefused file reads opened opened (opened_for (asked_by_given (given_texts given))) (ending_of file (given_texts given)) a b err err'
+not_text_refused file reads opened given stop answer a b err err' three is (inr told) = of_memory file reads opened opened _ _ a b err err' told
+not_text_refused file reads opened (Ok words) (Words text) answer a b err err' three is (inl told) = absurd is
+not_text_refused file reads opened (Err error) (Words text) answer a b err err' three is (inl told) =
+    record { line = not_text_line; is = inr (inr (refl, other_status 2 answer b three told.status (λ e. omega (arith, e)))); told = rw is.1 at told.told }
+not_text_refused file reads opened given NoMemory answer a b err err' three is (inl told) = of_memory file reads opened opened _ _ a b err err' told.told
+not_text_refused file reads opened (Ok words) (Unread name) answer a b err err' three is (inl told) = absurd is
+not_text_refused file reads opened (Err error) (Unread name) answer a b err err' three is (inl told) = absurd is
+not_text_refused file reads opened (Ok words) Unwritten answer a b err err' three is (inl told) = absurd is
+not_text_refused file reads opened (Err error) Unwritten answer a b err err' three is (inl told) = absurd is
+not_text_refused file reads opened (Ok words) (Run fault) answer a b err err' three is (inl told) = absurd is
+not_text_refused file reads opened (Err error) (Run fault) answer a b err err' three is (inl told) = absurd is
+
+pub not_given_refused : (told : Option Contents) (reads : Bool) (opened : Option (List (List ℕ))) (given : Result (IntoIter (String Global) Global) Error) (stop : Stop) (answer : ℕ) (a b : Bool) (err err' : Option (List ℕ))
+    → answer ≡ 3 → IsOfGiven given stop → TellsStop stop answer b err err' ⊎ Tells b err err' memory_line
+    → IfSome told (λ file. IsRefused file reads opened opened (opened_for (asked_by_given (given_texts given))) (ending_of file (given_texts given)) a b err err')
+not_given_refused None reads opened given stop answer a b err err' three is told = tt
+not_given_refused (Some file) reads opened given stop answer a b err err' three is told = not_text_refused file reads opened given stop answer a b err err' three is told

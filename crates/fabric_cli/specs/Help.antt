@@ -1,0 +1,32 @@
+-- The program's own texts in help, where a contract can see them: what clap makes of them is clap's.
+use Rattle.std.specs.Prelude.{List, ℕ, codes, Option, option_map}
+use Rattle.std.specs.Borrow.{Bor}
+
+-- a text that was set, if it was
+abbrev pub text_in : Option (Bor (List ℕ)) → Option (List ℕ)
+text_in given = option_map (λ text. text.now) given
+
+-- what usage and help call the program, whatever name its file has
+abbrev pub program_name : List ℕ
+program_name = codes "fabric"
+
+abbrev pub program_version : List ℕ
+program_version = codes "0.1.0"
+
+abbrev pub about_program : List ℕ
+about_program = codes "An InfiniBand subnet manager over a simulated fabric"
+
+abbrev pub about_check : List ℕ
+about_check = codes "Lists the ports of a subnet by LID, and the members of each partition with their keys"
+
+abbrev pub about_run : List ℕ
+about_run = codes "Runs a script in a subnet, and prints what its ports receive"
+
+abbrev pub help_of_topology : List ℕ
+help_of_topology = codes "The topology: switches, adapters, cables and the subnet manager"
+
+abbrev pub help_of_partitions : List ℕ
+help_of_partitions = codes "The partitions and their members, or `-` for the default one alone"
+
+abbrev pub help_of_script : List ℕ
+help_of_script = codes "The script: what ports send"
