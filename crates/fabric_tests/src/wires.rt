@@ -1,13 +1,15 @@
 //! Worked paths over the wires of the two-switch fabric.
 
+ghost use Rattle.std.specs.Prelude.{None};
+
 use crate::fixtures::{two_switch_fabric, two_switch_wire};
 use attr_tables::{NodeInfo, SmpAttribute};
 use example_texts::TWO_SWITCHES;
 use fabric_wire::{
-    CountingWire, Fabric, ReplyFault, SilencedWire, SmpWire, get_attribute, get_request,
+    CountingWire, Fabric, PlainWire, ReplyFault, SilencedWire, SmpWire, get_attribute, get_request,
     set_attribute,
 };
-use mad_layout::{DrSmp, Header};
+use mad_layout::{DrSmp, Header, Mad};
 use std::alloc::AllocError;
 use std::process::Abort;
 use std::test::Fail;
@@ -140,6 +142,48 @@ fn a_get_and_a_set_are_one_smp_each(rt: HostRuntime) -> Result<(), Fail> {
             &[0; 64],
         );
         assert_eq!(rt; counting.count, after_set);
+    }
+    Ok(())
+}
+
+/// Answers every request under one TransactionID, whatever the request's was. It stands for no fabric.
+#[derive(Drop)]
+struct LateWire {
+    wire: PlainWire,
+    transaction_id: u64,
+}
+
+impl SmpWire for LateWire {
+    ghost fabric = { λ _. None };
+
+    fn exchange(&mut self, smp: &Mad) -> Option<Mad> {
+        let mut reply = self.wire.exchange(smp)?;
+        let mut header = Header::read(&reply);
+        header.transaction_id = self.transaction_id;
+        header.write(&mut reply);
+        Some(reply)
+    }
+}
+
+/// No clause of a Get or a Set says which TransactionID went out: over a fabric the answer has the same.
+#[test]
+fn a_get_and_a_set_go_out_under_their_transaction_id(rt: HostRuntime) -> Result<(), Fail> {
+    let mut late = LateWire {
+        wire: two_switch_wire(rt.alloc())?,
+        transaction_id: 0x0102_0304_0506_0708,
+    };
+    let table = SmpAttribute::LinearForwardingTable;
+    let wrong = Err(ReplyFault::WrongReply);
+    for (sent, set, got) in [
+        (0x0102_0304_0506_0708, Ok([3; 64]), Ok([3; 64])),
+        (0x0102_0304_0506_0709, wrong, wrong),
+        (0, wrong, wrong),
+    ] {
+        assert_eq!(rt;
+            set_attribute(&mut late, sent, table, 7, &[1, 3], &[3; 64]),
+            set
+        );
+        assert_eq!(rt; get_attribute(&mut late, sent, table, 7, &[1, 3]), got);
     }
     Ok(())
 }

@@ -1,0 +1,182 @@
+//! What faults say in words: the program prints their codes, so no clause speaks of these texts.
+
+use data_packet::Refusal;
+use partition_file::{PartFault, PartitionCause};
+use pkey_rules::{InvalidBase, PushRefusal};
+use std::test::Fail;
+use subnet_core::{RunFault, ScriptCause, StepFault};
+use topo_file::{TopoFault, TopologyCause};
+
+const TOPOLOGIES: [(TopologyCause, &str); 12] = [
+    (TopologyCause::Malformed, "the line is malformed"),
+    (
+        TopologyCause::DuplicateName,
+        "a node of this name is declared already, or is a root already",
+    ),
+    (
+        TopologyCause::DuplicateGuid,
+        "a GUID of the node is used already, or does not fit in 64 bits",
+    ),
+    (
+        TopologyCause::UnknownNode,
+        "no earlier line declares a node of this name",
+    ),
+    (
+        TopologyCause::NoSuchPort,
+        "the node has no port of this number",
+    ),
+    (TopologyCause::PortTaken, "the port has a cable already"),
+    (
+        TopologyCause::WrongCableEnds,
+        "a cable joins two different switches, or a switch and an adapter",
+    ),
+    (
+        TopologyCause::WrongManager,
+        "one line places the subnet manager, on a port of an adapter",
+    ),
+    (
+        TopologyCause::Disconnected,
+        "cables do not join all switches",
+    ),
+    (
+        TopologyCause::OverLimit,
+        "the node is past the limit on switches or adapter ports",
+    ),
+    (
+        TopologyCause::ManagerUncabled,
+        "the subnet manager's port has no cable",
+    ),
+    (TopologyCause::RootNotSwitch, "the root is no switch"),
+];
+
+const PARTITIONS: [(PartitionCause, &str); 9] = [
+    (
+        PartitionCause::BadCharacter,
+        "a character may not stand here",
+    ),
+    (
+        PartitionCause::BadNumber,
+        "the word is no number of its kind, nor a word of a list",
+    ),
+    (
+        PartitionCause::ReservedKey,
+        "base 0 and the name Default are reserved",
+    ),
+    (PartitionCause::UnknownFlag, "there is no such flag"),
+    (
+        PartitionCause::BothMembership,
+        "no port is both a full and a limited member",
+    ),
+    (PartitionCause::MgidItem, "a list has no multicast groups"),
+    (
+        PartitionCause::TooManyPartitions,
+        "the definition makes one partition too many",
+    ),
+    (PartitionCause::Unfinished, "the definition is unfinished"),
+    (
+        PartitionCause::BadFlagValue,
+        "the flag does not take this value, or is given twice",
+    ),
+];
+
+const SCRIPTS: [(ScriptCause, &str); 6] = [
+    (ScriptCause::Malformed, "the line is malformed"),
+    (ScriptCause::UnknownPort, "there is no such adapter port"),
+    (ScriptCause::ManagerPort, "the port is the subnet manager's"),
+    (ScriptCause::UncabledPort, "the port has no cable"),
+    (
+        ScriptCause::PayloadTooLong,
+        "the payload is longer than a packet carries",
+    ),
+    (
+        ScriptCause::BadField,
+        "a field is misspelt or out of its range",
+    ),
+];
+
+const REFUSALS: [(Refusal, &str); 4] = [
+    (Refusal::PortNotActive, "the port is not active"),
+    (
+        Refusal::KeyNotHeld,
+        "the port does not hold this partition key",
+    ),
+    (Refusal::QpZero, "data cannot go to queue pair 0"),
+    (
+        Refusal::ReservedDlid,
+        "data cannot go to LID 0 or to the permissive LID",
+    ),
+];
+
+#[test]
+fn a_fault_of_a_topology_tells_its_line_and_cause(rt: HostRuntime) -> Result<(), Fail> {
+    let alloc = rt.alloc();
+    for (cause, text) in TOPOLOGIES {
+        let told = format!(in alloc; "{}", TopoFault::At { line: 7, cause })?;
+        assert_eq!(rt; told, format!(in alloc; "line 7: {text}")?);
+        let told = format!(in alloc; "{}", RunFault::Topology { line: 7, cause })?;
+        assert_eq!(rt; told, format!(in alloc; "topology line 7: {text}")?);
+    }
+    Ok(())
+}
+
+#[test]
+fn a_fault_of_partitions_tells_its_line_and_cause(rt: HostRuntime) -> Result<(), Fail> {
+    let alloc = rt.alloc();
+    for (cause, text) in PARTITIONS {
+        let told = format!(in alloc; "{}", PartFault::At { line: 7, cause })?;
+        assert_eq!(rt; told, format!(in alloc; "line 7: {text}")?);
+        let told = format!(in alloc; "{}", RunFault::Partitions { line: 7, cause })?;
+        assert_eq!(rt; told, format!(in alloc; "partitions line 7: {text}")?);
+    }
+    Ok(())
+}
+
+#[test]
+fn a_fault_of_a_script_tells_its_line_and_cause(rt: HostRuntime) -> Result<(), Fail> {
+    let alloc = rt.alloc();
+    for (cause, text) in SCRIPTS {
+        let told = format!(in alloc; "{}", RunFault::Script { line: 7, cause })?;
+        assert_eq!(rt; told, format!(in alloc; "script line 7: {text}")?);
+    }
+    Ok(())
+}
+
+#[test]
+fn a_refusal_tells_its_cause(rt: HostRuntime) -> Result<(), Fail> {
+    let alloc = rt.alloc();
+    for (refusal, text) in REFUSALS {
+        assert_eq!(rt; format!(in alloc; "{refusal}")?.as_str(), text);
+    }
+    let base = format!(in alloc; "{}", InvalidBase)?;
+    assert_eq!(rt; base.as_str(), "a partition key has a base other than 0");
+    let full = format!(in alloc; "{}", PushRefusal::Full)?;
+    assert_eq!(rt; full.as_str(), "the table has no free place");
+    let twice = format!(in alloc; "{}", PushRefusal::DuplicateBase)?;
+    assert_eq!(rt;
+        twice.as_str(),
+        "the table holds a key of this partition already"
+    );
+    Ok(())
+}
+
+#[test]
+fn want_of_memory_is_told_as_such(rt: HostRuntime) -> Result<(), Fail> {
+    let alloc = rt.alloc();
+    let text = "out of memory";
+    assert_eq!(rt;
+        format!(in alloc; "{}", TopoFault::NoMemory)?.as_str(),
+        text
+    );
+    assert_eq!(rt;
+        format!(in alloc; "{}", PartFault::NoMemory)?.as_str(),
+        text
+    );
+    assert_eq!(rt; format!(in alloc; "{}", RunFault::NoMemory)?.as_str(), text);
+    assert_eq!(rt;
+        format!(in alloc; "{}", StepFault::NoMemory)?.as_str(),
+        text
+    );
+    let broken = format!(in alloc; "{}", StepFault::Broken)?;
+    assert_eq!(rt; broken.as_str(), "memory was refused in an earlier step");
+    Ok(())
+}
