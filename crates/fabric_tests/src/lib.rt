@@ -15,4 +15,6 @@ mod hops;
 #[cfg(test)]
 mod random_fabrics;
 #[cfg(test)]
+mod sweeps;
+#[cfg(test)]
 mod wires;

@@ -16,7 +16,8 @@ use Rattle.smp_wire.specs.FabricState.{is_port, is_switch_at}
 use Rattle.smp_wire.specs.Good.{is_right}
 use Rattle.fabric_wire.specs.Hopping.{node_type_at}
 use Rattle.smp_wire.specs.Walk.{hands_on, hop}
-use Rattle.fabric_wire.proofs.HomeLemmas.{cabled_is_port, numbered}
+use Rattle.smp_wire.proofs.CableLemmas.{cabled_is_port}
+use Rattle.fabric_wire.proofs.HomeLemmas.{numbered}
 use Rattle.smp_wire.proofs.WalkLemmas.{IsUnderWay}
 
 -- ---- the bytes that hops change

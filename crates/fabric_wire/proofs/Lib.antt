@@ -1,5 +1,4 @@
 pub mod CablingLemmas
-pub mod DistinctLemmas
 pub mod HomeLemmas
 pub mod HopLemmas
 pub mod OutwardLemmas

@@ -17,7 +17,7 @@ use Rattle.smp_wire.specs.Good.{is_right, leads}
 use Rattle.fabric_wire.specs.Laws.{TopologiesAreJoined}
 use Rattle.fabric_wire.specs.OfTopology.{fabric_of}
 use Rattle.smp_wire.specs.Walk.{last_of, walk}
-use Rattle.fabric_wire.proofs.HomeLemmas.{itself, same_port}
+use Rattle.smp_wire.proofs.CableLemmas.{itself, same_port}
 use Rattle.fabric_wire.proofs.HopLemmas.{hop_is_far_end}
 use Rattle.fabric_wire.proofs.OfTopologyGoodLemmas.{all_right}
 use Rattle.fabric_wire.proofs.OfTopologyLemmas.{free_ends, nodes_from, switch_there}

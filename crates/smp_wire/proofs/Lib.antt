@@ -1,4 +1,6 @@
 pub mod ListLemmas
+pub mod DistinctLemmas
+pub mod CableLemmas
 pub mod RequestLemmas
 pub mod WalkLemmas
 pub mod GivenLemmas

@@ -2,7 +2,6 @@
 use Rattle.std.proofs.Common.{ℕ, ◌≡◌, ◌-◌, ◌==◌, ◌∙◌, ap, refl, sym, Bool, true, false, List, slice_get, slice_set, Option, Some, None, option_map, Result, Ok, Err}
 use Rattle.std.specs.Option.{option_and_then, option_map_or}
 use Rattle.std.specs.Result.{result_unwrap_or}
-use Rattle.std.proofs.lemmas.Option.{same_Some}
 use Rattle.mad_layout.specs.declared.method.Method.TheVariants as method
 use Rattle.mad_layout.specs.declared.status.MadStatus.{MadStatus}
 use Rattle.attr_tables.specs.declared.smp_attribute.SmpAttribute.{SmpAttribute}
@@ -66,9 +65,6 @@ pub record NodeSet (node : Node) (n : ℕ) (attribute : SmpAttribute) (modifier 
   -- what is taken is shown
   pub shown : (next : Node) → node_takes node n attribute modifier wanted ≡ Some (Ok next)
       → (bytes : List ℕ) × (node_gives next n attribute modifier ≡ Some (Ok bytes))
-
-same_taken : {X : Type 0} (one other : Result X MadStatus) → Some one ≡ Some other → one ≡ other
-same_taken one other h = same_Some one other h
 
 switch_set_by : (held : SwitchState) (n : ℕ) (attribute : SmpAttribute) (modifier : ℕ) (wanted smp : List ℕ) (x : Result SwitchState MadStatus)
     → IsSetOf attribute modifier wanted smp → switch_set held attribute modifier wanted ≡ x

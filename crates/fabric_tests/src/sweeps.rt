@@ -1,0 +1,71 @@
+//! Sweeps of the two-switch fabric.
+
+use crate::fixtures::{two_switch_fabric, two_switch_wire};
+use fabric_wire::{CountingWire, SilencedWire};
+use std::process::Abort;
+use std::test::Fail;
+use sweep::{Graph, SweepFault, sweep};
+
+/// The switches of the two-switch fabric as they are found from h0: GUID, ports, and the path.
+const SWITCHES: [(u64, u8, &[u8]); 2] = [(0x10, 4, &[1]), (0x20, 4, &[1, 3])];
+
+/// The ports that hang on them: GUID, and the switch, by its place, and its port.
+const PORTS: [(u64, usize, u8); 4] = [(0x101, 0, 1), (0x111, 0, 2), (0x121, 1, 1), (0x131, 1, 2)];
+
+/// One cable joins the switches, port 3 to port 3; each has it in its row.
+fn is_the_graph(rt: &impl Abort, graph: &Graph) {
+    assert_eq!(rt; graph.manager(), 0x101);
+    assert_eq!(rt; graph.switches().len(), 2);
+    for (switch, expected) in graph.switches().iter().zip(SWITCHES.iter()) {
+        assert_eq!(rt; switch.guid, expected.0);
+        assert_eq!(rt; switch.num_ports, expected.1);
+        assert_eq!(rt; switch.path.as_slice(), expected.2);
+    }
+    for (row, other) in graph.rows().iter().zip([1usize, 0].iter()) {
+        let links = row.as_slice();
+        assert_eq!(rt; links.len(), 1);
+        assert_eq!(rt; links[0].port, 3);
+        assert_eq!(rt; (links[0].to.node, links[0].to.port), (*other, 3));
+    }
+    assert_eq!(rt; graph.ports().len(), 4);
+    for (port, expected) in graph.ports().iter().zip(PORTS.iter()) {
+        assert_eq!(rt; (port.port_guid, port.at.node, port.at.port), *expected);
+    }
+}
+
+#[test]
+fn a_sweep_finds_switches_links_and_ports(rt: HostRuntime) -> Result<(), Fail> {
+    let mut wire = two_switch_wire(rt.alloc())?;
+    is_the_graph(&rt, &sweep(rt.alloc(), &mut wire).or(Err("a graph"))?);
+    let mut fabric = two_switch_fabric(rt.alloc())?;
+    is_the_graph(&rt, &sweep(rt.alloc(), &mut fabric).or(Err("a graph"))?);
+    Ok(())
+}
+
+/// SMPs of a sweep: from each switch's ports PortInfo, from what is behind those with a cable NodeInfo, from
+/// each node NodeDescription, and the subnet manager's port before all.
+const SMPS: u64 = 22;
+
+#[test]
+fn a_sweep_asks_each_thing_once(rt: HostRuntime) -> Result<(), Fail> {
+    let mut counting = CountingWire {
+        wire: two_switch_wire(rt.alloc())?,
+        count: 0,
+    };
+    assert!(rt; sweep(rt.alloc(), &mut counting).is_ok());
+    assert_eq!(rt; counting.count, SMPS);
+    Ok(())
+}
+
+#[test]
+fn a_sweep_stops_where_no_reply_comes(rt: HostRuntime) -> Result<(), Fail> {
+    for left in 0..SMPS {
+        let mut silenced = SilencedWire {
+            wire: two_switch_wire(rt.alloc())?,
+            left,
+        };
+        let swept = sweep(rt.alloc(), &mut silenced);
+        assert_eq!(rt; swept.err(), Some(SweepFault::NoReply));
+    }
+    Ok(())
+}

@@ -1,0 +1,17 @@
+pub mod SeenLemmas
+pub mod AskLemmas
+pub mod ShownLemmas
+pub mod LinkLemmas
+pub mod StartLemmas
+pub mod EndLemmas
+pub mod RangeLemmas
+pub mod FoundLemmas
+pub mod ProgressLemmas
+pub mod SurveyLemmas
+pub mod MetLemmas
+pub mod PlaceLemmas
+pub mod LeastLemmas
+pub mod CabledLemmas
+pub mod VisitLemmas
+pub mod TurnLemmas
+pub mod EndedLemmas

@@ -1,0 +1,25 @@
+use Rattle.std.proofs.Common.{◌∙◌, ◌++◌, ◌∷◌, [], ap, subst}
+use Rattle.sweep.specs.Start.{Starts}
+use Rattle.sweep.specs.Survey.{SurveyState}
+use Rattle.sweep.specs.Sweeps.{Comes, IsAllAsked}
+use Rattle.sweep.proofs.EndedLemmas.{begun_at, finds, found_first, stops}
+use Rattle.sweep.proofs.discovery.sweep.Goals as goal
+
+pub returns-in-Err-visit_all-clause-found : goal.returns-in-Err-visit_all-clause-found
+returns-in-Err-visit_all-clause-found g c x stands sweepable =
+    let start = subst (Starts x) c.in-Ok.is (c.start.ensures.told x stands sweepable.good) in
+    let begun = begun_at x c.in-Ok.origin c.add_switch.new.self sweepable.good start
+    (c.in-Ok-add_switch.ensures.ok ∙ ap (λ (s : SurveyState). record s { switches = s.switches ++ c.in-Ok.origin.switch ∷ [] }) c.new-survey.ensures) in
+    stops x c.in-Err-visit_all.fault
+    (subst (Comes x (λ _. IsAllAsked x (found_first x start.there) c.visit_all.new.survey)) c.in-Err-visit_all.is
+    (c.visit_all.ensures.went x (c.start.ensures.left x stands sweepable.good) sweepable (found_first x start.there) begun))
+
+pub returns-clause-found : goal.returns-clause-found
+returns-clause-found g c x stands sweepable =
+    let start = subst (Starts x) c.in-Ok.is (c.start.ensures.told x stands sweepable.good) in
+    let begun = begun_at x c.in-Ok.origin c.add_switch.new.self sweepable.good start
+    (c.in-Ok-add_switch.ensures.ok ∙ ap (λ (s : SurveyState). record s { switches = s.switches ++ c.in-Ok.origin.switch ∷ [] }) c.new-survey.ensures) in
+    finds x (found_first x start.there) c.visit_all.new.survey c.in-Ok.origin.manager _ sweepable start.manager
+    (subst (Comes x (λ _. IsAllAsked x (found_first x start.there) c.visit_all.new.survey)) c.in-Ok-visit_all.is
+    (c.visit_all.ensures.went x (c.start.ensures.left x stands sweepable.good) sweepable (found_first x start.there) begun))
+    c.in-Ok-into_graph.ensures.ok

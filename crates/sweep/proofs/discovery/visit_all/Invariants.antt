@@ -1,0 +1,15 @@
+use Rattle.std.proofs.Common.{List, [], ◌≡◌, Some}
+use Rattle.smp_wire.specs.FabricState.{FabricState}
+use Rattle.smp_wire.specs.Good.{IsGood}
+use Rattle.sweep.specs.OfFabric.{Found}
+use Rattle.sweep.specs.Progress.{IsProgress}
+use Rattle.sweep.specs.Sweeps.{GoesOn, IsSweepable}
+use Rattle.sweep.proofs.discovery.visit_all.Given as goal
+
+-- the fabric stands as it did, and the first switches were asked
+abbrev pub invariant-loop-place : goal.invariant-loop-place
+invariant-loop-place g l = record {
+  left : (fabric : FabricState) → g.W.SmpWire.fabric l.fn.wire ≡ Some fabric → IsGood fabric → g.W.SmpWire.fabric l.wire ≡ Some fabric;
+  went : (fabric : FabricState) → g.W.SmpWire.fabric l.fn.wire ≡ Some fabric → IsSweepable fabric → (found : List Found)
+      → IsProgress fabric found 0 0 l.fn.survey [] → GoesOn fabric found l.place 0 l.survey [];
+}

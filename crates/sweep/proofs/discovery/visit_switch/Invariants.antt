@@ -1,0 +1,16 @@
+use Rattle.std.proofs.Common.{List, [], ◌≡◌, Some}
+use Rattle.smp_wire.specs.FabricState.{FabricState}
+use Rattle.smp_wire.specs.Good.{IsGood}
+use Rattle.sweep.specs.OfFabric.{Found, ports_at}
+use Rattle.sweep.specs.Progress.{IsProgress, StandsAt}
+use Rattle.sweep.specs.Sweeps.{GoesOn, IsSweepable}
+use Rattle.sweep.proofs.discovery.visit_switch.Given as goal
+
+-- the fabric stands as it did, and the first ports were asked
+abbrev pub invariant-loop-before : goal.invariant-loop-before
+invariant-loop-before g l = record {
+  left : (fabric : FabricState) → g.W.SmpWire.fabric l.fn.wire ≡ Some fabric → IsGood fabric → g.W.SmpWire.fabric l.wire ≡ Some fabric;
+  went : (fabric : FabricState) → g.W.SmpWire.fabric l.fn.wire ≡ Some fabric → IsSweepable fabric → (found : List Found) (one : Found)
+      → l.fn.path ≡ one.path → l.fn.num_ports ≡ ports_at fabric one.node → StandsAt found l.fn.place one
+      → IsProgress fabric found l.fn.place 0 l.fn.survey [] → GoesOn fabric found l.fn.place l.before l.survey l.row;
+}

@@ -1,0 +1,10 @@
+pub mod Fault
+pub mod Seen
+pub mod Graph
+pub mod OfFabric
+pub mod Hops
+pub mod Limits
+pub mod Start
+pub mod Survey
+pub mod Progress
+pub mod Sweeps

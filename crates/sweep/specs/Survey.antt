@@ -1,0 +1,11 @@
+-- How far a sweep has come: the switches that were found, the links of those that were asked, and the ports of channel
+-- adapters that were met.
+use Rattle.std.specs.Prelude.{List}
+use Rattle.sweep.specs.declared.graph.GraphPort.{GraphPort}
+use Rattle.sweep.specs.declared.graph.GraphSwitch.{GraphSwitch}
+use Rattle.sweep.specs.declared.graph.Link.{Link}
+
+pub record SurveyState : Type 0 where
+  pub switches : List GraphSwitch
+  pub rows : List (List Link)
+  pub ports : List GraphPort

@@ -1,0 +1,264 @@
+//! Whether what was told of a fabric agrees with itself.
+
+ghost use Rattle.std.specs.Prelude.{◌≡◌, ◌==◌, ◌&&◌, nat_le, [], length, get_or, IfOk};
+ghost use Rattle.std.specs.Bool.{Decides};
+ghost use Rattle.std.specs.List.{IsDistinct, list_all, list_any, range_with_len};
+ghost use Rattle.sweep.specs.Graph.{IsGraph, agree, all_agree, count_at, end_guids, graph_with, is_joined, is_linked, is_near, is_right_link, is_right_port, is_right_row, is_right_switch, is_switch_port, rise_above};
+
+use crate::graph::{GraphPort, GraphSwitch, Link, MAX_ADAPTER_PORTS, MAX_SWITCHES, Row};
+use crate::path::PATH_HOPS;
+use fabric_parts::{NodeType, PortRef};
+use std::alloc::{AllocError, Global};
+use std::collections::HashSet;
+
+/// Whether these are a graph. Memory alone can be refused.
+pub(crate) fn are_a_graph(
+    alloc: Global,
+    manager: u64,
+    switches: &[GraphSwitch],
+    rows: &[Row],
+    ports: &[GraphPort],
+) -> Result<bool, AllocError>
+    ensures { IfOk result (λ b. Decides b (IsGraph (graph_with manager switches.now rows.now ports.now))) }
+{
+    if !are_few(switches, rows, ports) || !are_right(switches, rows, ports) {
+        return Ok(false);
+    }
+    if !has_guid(ports, manager) {
+        return Ok(false);
+    }
+    have_own_guids(alloc, switches, ports)
+}
+
+/// Whether there are as many rows as switches, and no more switches and ports than a graph holds.
+fn are_few(switches: &[GraphSwitch], rows: &[Row], ports: &[GraphPort]) -> bool
+    ensures { result ≡ (nat_le (length switches.now) 64 && (nat_le (length ports.now) 256 && (length rows.now == length switches.now))) }
+{
+    switches.len() <= MAX_SWITCHES
+        && ports.len() <= MAX_ADAPTER_PORTS
+        && rows.len() == switches.len()
+}
+
+/// Whether each switch, link and port is one that a fabric of ours may have, and agrees with the others.
+fn are_right(switches: &[GraphSwitch], rows: &[Row], ports: &[GraphPort]) -> bool
+    ensures { result ≡ (list_all is_right_switch switches.now && (list_all (is_right_row switches.now rows.now) (range_with_len 0 (length rows.now)) && (list_all (is_right_port switches.now) ports.now && all_agree ports.now))) }
+{
+    are_right_switches(switches)
+        && are_right_rows(switches, rows)
+        && are_right_ports(switches, ports)
+        && all_agree(ports)
+}
+
+/// Whether each switch is right.
+fn are_right_switches(switches: &[GraphSwitch]) -> bool
+    ensures { result ≡ list_all is_right_switch switches.now }
+{
+    switches.iter().all(|switch| is_right_switch(switch))
+}
+
+/// Whether the links of each switch are right.
+fn are_right_rows(switches: &[GraphSwitch], rows: &[Row]) -> bool
+    ensures { result ≡ list_all (is_right_row switches.now rows.now) (range_with_len 0 (length rows.now)) }
+{
+    (0..rows.len()).all(|place| is_right_row(switches, rows, place))
+}
+
+/// Whether each port is right.
+fn are_right_ports(switches: &[GraphSwitch], ports: &[GraphPort]) -> bool
+    ensures { result ≡ list_all (is_right_port switches.now) ports.now }
+{
+    ports.iter().all(|port| is_right_port(switches, port))
+}
+
+/// Whether it has 1 to 36 ports, and was found by a path of 1 to 63 hops.
+fn is_right_switch(switch: &GraphSwitch) -> bool
+    ensures { result ≡ is_right_switch switch.now }
+{
+    1 <= switch.num_ports
+        && switch.num_ports <= NodeType::Switch.most_ports()
+        && 1 <= switch.path.len()
+        && switch.path.len() <= PATH_HOPS
+}
+
+/// How many ports the switch at that place has; none, where there is no switch.
+pub(crate) fn count_at(switches: &[GraphSwitch], place: usize) -> u8
+    ensures { result ≡ count_at switches.now place }
+{
+    match switches.get(place) {
+        Some(switch) => switch.num_ports,
+        None => 0,
+    }
+}
+
+/// The links of the switch at that place; none, where there is no switch.
+pub(crate) fn links_at(rows: &[Row], place: usize) -> &[Link]
+    ensures { result.now ≡ get_or rows.now place [] }
+{
+    match rows.get(place) {
+        Some(row) => row.as_slice(),
+        None => &[],
+    }
+}
+
+/// Whether a link out of that port leads there.
+fn is_linked(rows: &[Row], here: PortRef, there: PortRef) -> bool
+    ensures { result ≡ is_linked rows.now here there }
+{
+    links_at(rows, here.node)
+        .iter()
+        .any(|link| link.port == here.port && link.to == there)
+}
+
+/// Whether the ports of links rise, from above that number.
+fn rise_above(last: u8, links: &[Link]) -> bool
+    ensures { result ≡ rise_above last links.now }
+{
+    let mut last = last;
+    for link in links {
+        if link.port <= last {
+            return false;
+        }
+        last = link.port;
+    }
+    true
+}
+
+/// Whether a link is out of a port of the switch at that place, to a port of another, which leads back.
+fn is_right_link(switches: &[GraphSwitch], rows: &[Row], place: usize, link: &Link) -> bool
+    ensures { result ≡ is_right_link switches.now rows.now place link.now }
+{
+    let here = PortRef {
+        node: place,
+        port: link.port,
+    };
+    link.port <= count_at(switches, place)
+        && link.to.node != place
+        && is_linked(rows, link.to, here)
+}
+
+/// Whether the links of the switch at that place are right, and in the order of their ports.
+fn is_right_row(switches: &[GraphSwitch], rows: &[Row], place: usize) -> bool
+    ensures { result ≡ is_right_row switches.now rows.now place }
+{
+    let links = links_at(rows, place);
+    rise_above(0, links) && are_right_links(switches, rows, place, links)
+}
+
+/// Whether each of these links of the switch at that place is right.
+fn are_right_links(switches: &[GraphSwitch], rows: &[Row], place: usize, links: &[Link]) -> bool
+    ensures { result ≡ list_all (is_right_link switches.now rows.now place) links.now }
+{
+    links
+        .iter()
+        .all(|link| is_right_link(switches, rows, place, link))
+}
+
+/// Whether some link of the switch at that place leads to one that was found earlier.
+fn is_near(rows: &[Row], place: usize) -> bool
+    ensures { result ≡ is_near rows.now place }
+{
+    links_at(rows, place)
+        .iter()
+        .any(|link| link.to.node < place)
+}
+
+/// Whether some link of each switch but the first leads to one that was found earlier.
+pub(crate) fn has_a_nearer_switch(rows: &[Row]) -> bool
+    ensures { result ≡ is_joined rows.now }
+{
+    (0..rows.len()).all(|place| place == 0 || is_near(rows, place))
+}
+
+/// Whether some switch has this GUID.
+fn is_switch(switches: &[GraphSwitch], guid: u64) -> bool
+    ensures { result ≡ list_any (λ switch. switch.guid == guid) switches.now }
+{
+    switches.iter().any(|switch| switch.guid == guid)
+}
+
+/// Whether that is a port of a switch.
+fn is_switch_port(switches: &[GraphSwitch], at: PortRef) -> bool
+    ensures { result ≡ is_switch_port switches.now at }
+{
+    1 <= at.port && at.port <= count_at(switches, at.node)
+}
+
+/// Whether it hangs on a port of a switch, and is one of an adapter of 1 to 8 ports.
+fn is_right_port(switches: &[GraphSwitch], port: &GraphPort) -> bool
+    ensures { result ≡ is_right_port switches.now port.now }
+{
+    is_switch_port(switches, port.at)
+        && 1 <= port.number
+        && port.number <= port.num_ports
+        && port.num_ports <= NodeType::ChannelAdapter.most_ports()
+        && !is_switch(switches, port.node_guid)
+}
+
+/// Whether two ports, if they are of one adapter, have two numbers and tell one number of ports.
+fn agree(one: &GraphPort, other: &GraphPort) -> bool
+    ensures { result ≡ agree one.now other.now }
+{
+    one.node_guid != other.node_guid
+        || (one.num_ports == other.num_ports && one.number != other.number)
+}
+
+/// Whether a port agrees with each of the others.
+fn agrees_with(port: &GraphPort, others: &[GraphPort]) -> bool
+    ensures { result ≡ list_all (agree port.now) others.now }
+{
+    others.iter().all(|other| agree(port, other))
+}
+
+/// Whether each two ports agree.
+fn all_agree(ports: &[GraphPort]) -> bool
+    ensures { result ≡ all_agree ports.now }
+{
+    let mut rest = ports;
+    while let [port, others @ ..] = rest {
+        if !agrees_with(port, others) {
+            return false;
+        }
+        rest = others;
+    }
+    true
+}
+
+/// Whether one of these ports has the GUID.
+fn has_guid(ports: &[GraphPort], guid: u64) -> bool
+    ensures { result ≡ list_any (λ port. port.port_guid == guid) ports.now }
+{
+    ports.iter().any(|port| port.port_guid == guid)
+}
+
+/// Whether no two of switches and ports have one GUID. Memory alone can be refused.
+fn have_own_guids(
+    alloc: Global,
+    switches: &[GraphSwitch],
+    ports: &[GraphPort],
+) -> Result<bool, AllocError>
+    ensures { IfOk result (λ b. Decides b (IsDistinct (λ a b. a == b) (end_guids switches.now ports.now))) }
+{
+    let guids = end_guids(alloc, switches, ports)?;
+    are_distinct(alloc, &guids)
+}
+
+/// The GUIDs of switches and ports. Memory alone can be refused.
+fn end_guids(
+    alloc: Global,
+    switches: &[GraphSwitch],
+    ports: &[GraphPort],
+) -> Result<Vec<u64>, AllocError>
+    ensures { IfOk result (λ guids. guids.items ≡ end_guids switches.now ports.now) }
+{
+    let of_switches = switches.iter().map(|switch| switch.guid);
+    let of_ports = ports.iter().map(|port| port.port_guid);
+    of_switches.chain(of_ports).collect(alloc)
+}
+
+/// Whether no two are the same. Memory alone can be refused.
+fn are_distinct(alloc: Global, guids: &[u64]) -> Result<bool, AllocError>
+    ensures { IfOk result (λ b. Decides b (IsDistinct (λ a b. a == b) guids.now)) }
+{
+    let set: HashSet<u64> = guids.iter().copied().collect(alloc)?;
+    Ok(set.len() == guids.len())
+}

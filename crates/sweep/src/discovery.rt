@@ -1,0 +1,309 @@
+//! How a fabric is found, node by node.
+
+ghost use Rattle.std.specs.Prelude.{ℕ, suc, ◌≡◌, ◌≤◌, ◌<◌, List, ◌∷◌, ◌++◌, true, false, [], length, Some, IfErr, IfOk, OnOk};
+ghost use Rattle.std.specs.Option.{ForSome};
+ghost use Rattle.fabric_parts.specs.Cable.{far_end};
+ghost use Rattle.fabric_parts.specs.declared.cable.PortRef.{PortRef};
+ghost use Rattle.smp_wire.specs.FabricState.{FabricState, is_switch_at};
+ghost use Rattle.smp_wire.specs.Good.{IsGood};
+ghost use Rattle.smp_wire.specs.Walk.{end_of};
+ghost use Rattle.sweep.specs.Graph.{is_joined, port};
+ghost use Rattle.sweep.specs.OfFabric.{Found, port_to, ports_at, switch_of};
+ghost use Rattle.sweep.specs.Progress.{IsProgress, StandsAt};
+ghost use Rattle.sweep.specs.Seen.{seen_at};
+ghost use Rattle.sweep.specs.Sweeps.{Adds, Comes, Finds, GoesOn, IsAllAsked, IsAtPort, IsBehind, IsPlacedAt, IsSweepable, Noted};
+ghost use Rattle.sweep.specs.declared.graph.Link.{Link};
+ghost use Rattle.sweep.specs.Start.{Starts};
+ghost use Rattle.sweep.specs.declared.fault.SweepFault.TheVariants.{NoMemory};
+
+use crate::asking::{has_link, look, name_of};
+use crate::fault::SweepFault;
+use crate::graph::{Graph, GraphPort, GraphSwitch, Link, MAX_SWITCHES, Row};
+use crate::path::{PATH_HOPS, Path};
+use crate::seen::Seen;
+use crate::survey::Survey;
+use fabric_parts::{NodeType, PortRef};
+use smp_wire::SmpWire;
+use std::alloc::Global;
+
+/// Where a sweep begins.
+#[derive(Debug, Drop)]
+pub(crate) struct Origin {
+    /// The GUID of the subnet manager's port.
+    pub manager: u64,
+    /// The switch that its cable leads to.
+    pub switch: GraphSwitch,
+}
+
+/// The subnet manager's port, learned by an SMP of no hop, and the switch that its cable leads to.
+///
+/// `WrongReply` where the first is no port of a channel adapter, or the second no switch.
+pub(crate) fn start<W: SmpWire>(
+    wire: &mut W,
+    transaction_id: &mut u64,
+) -> Result<Origin, SweepFault>
+    ensures told { ForSome (W.fabric wire.old) (λ fabric. IsGood fabric → Starts fabric result) }
+    ensures left { ForSome (W.fabric wire.old) (λ fabric. IsGood fabric → W.fabric wire.new ≡ Some fabric) }
+{
+    let here = match look(wire, transaction_id, &Path::new()) {
+        Ok(seen) => seen,
+        Err(fault) => return Err(fault),
+    };
+    if here.node_type.is_switch() {
+        return Err(SweepFault::WrongReply);
+    }
+    let path = Path::new().then(here.local_port_num);
+    let there = match look(wire, transaction_id, &path) {
+        Ok(seen) => seen,
+        Err(fault) => return Err(fault),
+    };
+    if !there.node_type.is_switch() {
+        return Err(SweepFault::WrongReply);
+    }
+    let name = match name_of(wire, transaction_id, &path) {
+        Ok(name) => name,
+        Err(fault) => return Err(fault),
+    };
+    Ok(Origin {
+        manager: here.port_guid,
+        switch: GraphSwitch {
+            guid: there.node_guid,
+            num_ports: there.num_ports,
+            name,
+            path,
+        },
+    })
+}
+
+/// Finds a fabric over a wire: learns the subnet manager's port, leaves by that port, and goes from switch to
+/// switch in the order of their discovery, and on each from port to port.
+///
+/// It returns over every wire, and what it gives is a graph whose switches are joined. `WrongReply` where replies
+/// are none of such a graph.
+pub fn sweep<W: SmpWire>(alloc: Global, wire: &mut W) -> Result<Graph, SweepFault>
+    ensures joined { IfOk result (λ graph. is_joined graph.rows ≡ true) }
+    ensures found { ForSome (W.fabric wire.old) (λ fabric. IsSweepable fabric → Finds fabric result) }
+    ensures left { ForSome (W.fabric wire.old) (λ fabric. IsGood fabric → W.fabric wire.new ≡ Some fabric) }
+{
+    let mut transaction_id = 0;
+    let origin = match start(wire, &mut transaction_id) {
+        Ok(origin) => origin,
+        Err(fault) => return Err(fault),
+    };
+    let mut survey = Survey::new(alloc);
+    match survey.add_switch(origin.switch) {
+        Ok(_) => {}
+        Err(fault) => return Err(fault),
+    }
+    match visit_all(alloc, wire, &mut transaction_id, &mut survey) {
+        Ok(()) => {}
+        Err(fault) => return Err(fault),
+    }
+    let graph = match survey.into_graph(alloc, origin.manager) {
+        Ok(graph) => graph,
+        Err(fault) => return Err(fault),
+    };
+    if !graph.is_joined() {
+        return Err(SweepFault::WrongReply);
+    }
+    Ok(graph)
+}
+
+/// Visits the switches one after the other, those too that are found on the way.
+fn visit_all<W: SmpWire>(
+    alloc: Global,
+    wire: &mut W,
+    transaction_id: &mut u64,
+    survey: &mut Survey,
+) -> Result<(), SweepFault>
+    ensures went { ForSome (W.fabric wire.old) (λ fabric. IsSweepable fabric → (found : List Found) → IsProgress fabric found 0 0 survey.old [] → Comes fabric (λ _. IsAllAsked fabric found survey.new) result) }
+    ensures left { ForSome (W.fabric wire.old) (λ fabric. IsGood fabric → W.fabric wire.new ≡ Some fabric) }
+{
+    for place in 0..MAX_SWITCHES {
+        let Some((num_ports, path)) = survey.way_to(place) else {
+            return Ok(());
+        };
+        match visit_switch(alloc, wire, transaction_id, survey, place, num_ports, &path) {
+            Ok(()) => {}
+            Err(fault) => return Err(fault),
+        }
+    }
+    Ok(())
+}
+
+/// Asks a switch port by port, and notes its links.
+fn visit_switch<W: SmpWire>(
+    alloc: Global,
+    wire: &mut W,
+    transaction_id: &mut u64,
+    survey: &mut Survey,
+    place: usize,
+    num_ports: u8,
+    path: &Path,
+) -> Result<(), SweepFault>
+    ensures went { ForSome (W.fabric wire.old) (λ fabric. IsSweepable fabric → (found : List Found) (one : Found) → path.now ≡ one.path → num_ports ≡ ports_at fabric one.node → StandsAt found place one → IsProgress fabric found place 0 survey.old [] → Comes fabric (λ _. GoesOn fabric found (suc place) 0 survey.new []) result) }
+    ensures left { ForSome (W.fabric wire.old) (λ fabric. IsGood fabric → W.fabric wire.new ≡ Some fabric) }
+{
+    let mut row = Row::new(alloc);
+    for before in 0..num_ports {
+        let here = PortRef {
+            node: place,
+            port: before + 1,
+        };
+        match visit_port(wire, transaction_id, survey, &mut row, here, path) {
+            Ok(()) => {}
+            Err(fault) => return Err(fault),
+        }
+    }
+    match survey.add_row(row) {
+        Ok(()) => Ok(()),
+        Err(_) => Err(SweepFault::NoMemory),
+    }
+}
+
+/// Asks one port, and notes what is behind it.
+fn visit_port<W: SmpWire>(
+    wire: &mut W,
+    transaction_id: &mut u64,
+    survey: &mut Survey,
+    row: &mut Row,
+    here: PortRef,
+    path: &Path,
+) -> Result<(), SweepFault>
+    ensures went { ForSome (W.fabric wire.old) (λ fabric. IsSweepable fabric → (found : List Found) (one : Found) (count : ℕ) → path.now ≡ one.path → IsAtPort fabric found one count survey.old row.old here → Comes fabric (λ _. GoesOn fabric found here.node here.port survey.new row.new) result) }
+    ensures left { ForSome (W.fabric wire.old) (λ fabric. IsGood fabric → W.fabric wire.new ≡ Some fabric) }
+{
+    match has_link(wire, transaction_id, path, here.port) {
+        Ok(true) => {}
+        Ok(false) => return Ok(()),
+        Err(fault) => return Err(fault),
+    }
+    if path.len() == PATH_HOPS {
+        return turn_round(survey, row, here);
+    }
+    let path = path.then(here.port);
+    let seen = match look(wire, transaction_id, &path) {
+        Ok(seen) => seen,
+        Err(fault) => return Err(fault),
+    };
+    match seen.node_type {
+        NodeType::Switch => meet_switch(wire, transaction_id, survey, row, here, &seen, path),
+        NodeType::ChannelAdapter => meet_port(wire, transaction_id, survey, here, &seen, &path),
+    }
+}
+
+/// Notes a link that no SMP can follow, if it was seen from its other end.
+fn turn_round(survey: &Survey, row: &mut Row, here: PortRef) -> Result<(), SweepFault>
+    ensures went { (fabric : FabricState) → IsSweepable fabric → (found : List Found) (one : Found) (count : ℕ) (there : PortRef) → IsAtPort fabric found one count survey.now row.old here → far_end fabric.cables (port one.node here.port) ≡ Some there → length one.path ≡ 63 → Comes fabric (λ _. GoesOn fabric found here.node here.port survey.now row.new) result }
+{
+    match survey.seen_from(here) {
+        Some(to) => note(row, here, to),
+        None => Err(SweepFault::TooManyHops),
+    }
+}
+
+/// Notes a link.
+fn note(row: &mut Row, here: PortRef, to: PortRef) -> Result<(), SweepFault>
+    ensures { Noted row.old row.new here to result }
+{
+    match row.push(Link {
+        port: here.port,
+        to,
+    }) {
+        Ok(()) => Ok(()),
+        Err(_) => Err(SweepFault::NoMemory),
+    }
+}
+
+/// Notes the link to a switch, and the switch too if it is new.
+fn meet_switch<W: SmpWire>(
+    wire: &mut W,
+    transaction_id: &mut u64,
+    survey: &mut Survey,
+    row: &mut Row,
+    here: PortRef,
+    seen: &Seen,
+    path: Path,
+) -> Result<(), SweepFault>
+    ensures went { ForSome (W.fabric wire.old) (λ fabric. IsSweepable fabric → (found : List Found) (one : Found) (count : ℕ) (there : PortRef) → IsAtPort fabric found one count survey.old row.old here → IsBehind fabric one here there path seen.now → is_switch_at fabric.nodes there.node ≡ true → Comes fabric (λ _. GoesOn fabric found here.node here.port survey.new row.new) result) }
+    ensures left { ForSome (W.fabric wire.old) (λ fabric. IsGood fabric → W.fabric wire.new ≡ Some fabric) }
+{
+    let node = match place_behind(wire, transaction_id, survey, seen, path) {
+        Ok(place) => place,
+        Err(fault) => return Err(fault),
+    };
+    if survey.count_at(node) != seen.num_ports {
+        return Err(SweepFault::WrongReply);
+    }
+    let to = PortRef {
+        node,
+        port: seen.local_port_num,
+    };
+    note(row, here, to)
+}
+
+/// The place of the switch that was seen at the end of a path; it is added if it is new.
+fn place_behind<W: SmpWire>(
+    wire: &mut W,
+    transaction_id: &mut u64,
+    survey: &mut Survey,
+    seen: &Seen,
+    path: Path,
+) -> Result<usize, SweepFault>
+    ensures went { ForSome (W.fabric wire.old) (λ fabric. IsSweepable fabric → (found : List Found) (one : Found) (count : ℕ) (row : List Link) (here there : PortRef) → IsAtPort fabric found one count survey.old row here → IsBehind fabric one here there path seen.now → is_switch_at fabric.nodes there.node ≡ true → Comes fabric (IsPlacedAt fabric found one here.node count survey.new row there.node) result) }
+    ensures left { ForSome (W.fabric wire.old) (λ fabric. IsGood fabric → W.fabric wire.new ≡ Some fabric) }
+{
+    match survey.place_of(seen.node_guid) {
+        Some(place) => Ok(place),
+        None => find_switch(wire, transaction_id, survey, seen, path),
+    }
+}
+
+/// Adds a switch that is new, and gives its place.
+fn find_switch<W: SmpWire>(
+    wire: &mut W,
+    transaction_id: &mut u64,
+    survey: &mut Survey,
+    seen: &Seen,
+    path: Path,
+) -> Result<usize, SweepFault>
+    ensures added { ForSome (W.fabric wire.old) (λ fabric. IsGood fabric → (there : PortRef) → end_of fabric path ≡ Some there → is_switch_at fabric.nodes there.node ≡ true → seen_at fabric there ≡ Some seen.now → Adds (64 ≤ length survey.old.switches) (λ place. (place ≡ length survey.old.switches) × (length survey.old.switches < 64) × (survey.new ≡ record survey.old { switches = survey.old.switches ++ switch_of fabric (record { node = there.node; path = path }) ∷ [] })) result) }
+    ensures left { ForSome (W.fabric wire.old) (λ fabric. IsGood fabric → W.fabric wire.new ≡ Some fabric) }
+{
+    let name = match name_of(wire, transaction_id, &path) {
+        Ok(name) => name,
+        Err(fault) => return Err(fault),
+    };
+    survey.add_switch(GraphSwitch {
+        guid: seen.node_guid,
+        num_ports: seen.num_ports,
+        name,
+        path,
+    })
+}
+
+/// Adds a port of a channel adapter.
+fn meet_port<W: SmpWire>(
+    wire: &mut W,
+    transaction_id: &mut u64,
+    survey: &mut Survey,
+    here: PortRef,
+    seen: &Seen,
+    path: &Path,
+) -> Result<(), SweepFault>
+    ensures added { ForSome (W.fabric wire.old) (λ fabric. IsGood fabric → (there : PortRef) → end_of fabric path.now ≡ Some there → is_switch_at fabric.nodes there.node ≡ false → seen_at fabric there ≡ Some seen.now → Adds (256 ≤ length survey.old.ports) (λ _. (length survey.old.ports < 256) × (survey.new ≡ record survey.old { ports = survey.old.ports ++ port_to fabric here there })) result) }
+    ensures left { ForSome (W.fabric wire.old) (λ fabric. IsGood fabric → W.fabric wire.new ≡ Some fabric) }
+{
+    let name = match name_of(wire, transaction_id, path) {
+        Ok(name) => name,
+        Err(fault) => return Err(fault),
+    };
+    survey.add_port(GraphPort {
+        node_guid: seen.node_guid,
+        port_guid: seen.port_guid,
+        number: seen.local_port_num,
+        num_ports: seen.num_ports,
+        name,
+        at: here,
+    })
+}

@@ -1,0 +1,162 @@
+//! What a graph holds.
+
+ghost use Rattle.std.specs.Prelude.{◌≡◌, [], ◌∷◌, ◌++◌, length, OnOk};
+ghost use Rattle.sweep.specs.Graph.{IsGraph, is_joined};
+
+use crate::agreement::has_a_nearer_switch;
+use crate::path::Path;
+use fabric_parts::PortRef;
+use std::alloc::{AllocError, Global};
+use std::marker::Model;
+
+/// How many switches a graph holds at most.
+pub const MAX_SWITCHES: usize = 64;
+
+/// How many ports of channel adapters a graph holds at most.
+pub const MAX_ADAPTER_PORTS: usize = 256;
+
+/// A switch of a graph.
+#[derive(Debug, Drop)]
+pub struct GraphSwitch {
+    /// Its GUID.
+    pub guid: u64,
+    /// How many ports it has, port 0 not counted.
+    pub num_ports: u8,
+    /// Its NodeDescription.
+    pub name: [u8; 64],
+    /// The path by which it was found.
+    pub path: Path,
+}
+
+/// A port of a channel adapter, with a cable.
+#[derive(Debug, Drop)]
+pub struct GraphPort {
+    /// The GUID of the adapter.
+    pub node_guid: u64,
+    /// Its own GUID.
+    pub port_guid: u64,
+    /// Its number.
+    pub number: u8,
+    /// How many ports the adapter has.
+    pub num_ports: u8,
+    /// Its NodeDescription.
+    pub name: [u8; 64],
+    /// The port of a switch at the other end of its cable, the switch by its place in the graph.
+    pub at: PortRef,
+}
+
+/// A port of a switch with a cable to another switch.
+#[derive(Clone, Copy, Debug, PartialEq, Eq)]
+pub struct Link {
+    /// Its number.
+    pub port: u8,
+    /// The port at the other end, of a switch by its place in the graph.
+    pub to: PortRef,
+}
+
+/// The links of a switch, in the order of its ports.
+#[derive(Debug, Drop)]
+pub struct Row {
+    links: Vec<Link>,
+}
+
+impl Model for Row {
+    ghost use Rattle.std.specs.Prelude.{List};
+    ghost use Rattle.sweep.specs.declared.graph.Link.{Link};
+
+    ghost Value = { List Link };
+
+    ghost view = { λ row. row.links.items };
+}
+
+impl Row {
+    /// No link.
+    pub(crate) fn new(alloc: Global) -> Row
+        ensures { result ≡ [] }
+    {
+        Row {
+            links: Vec::new(alloc),
+        }
+    }
+
+    /// The links.
+    pub fn as_slice(&self) -> &[Link]
+        ensures { result.now ≡ self.now }
+    {
+        &self.links
+    }
+
+    /// Adds a link. Memory alone can be refused.
+    pub(crate) fn push(&mut self, link: Link) -> Result<(), AllocError>
+        ensures ok { OnOk result (self.new ≡ self.old ++ link ∷ []) }
+    {
+        self.links.push(link)?;
+        Ok(())
+    }
+}
+
+/// What a subnet manager knows of a fabric: its switches in the order of their discovery, the links between
+/// them, and the ports of channel adapters that hang on them.
+///
+/// `specs/Graph.antt` says what holds of every graph, whatever wire it came over.
+#[derive(Debug, Drop)]
+pub struct Graph {
+    pub(crate) manager: u64,
+    pub(crate) switches: Vec<GraphSwitch>,
+    pub(crate) rows: Vec<Row>,
+    pub(crate) ports: Vec<GraphPort>,
+}
+
+impl Model for Graph {
+    ghost use Rattle.sweep.specs.Graph.{GraphState, IsGraph, graph_with};
+
+    ghost Value = { GraphState };
+
+    ghost view = { λ graph. graph_with graph.manager graph.switches.items graph.rows.items graph.ports.items };
+
+    ghost invariant = { λ graph. IsGraph (graph_with graph.manager graph.switches.items graph.rows.items graph.ports.items) };
+}
+
+impl Graph {
+    /// The GUID of the subnet manager's port.
+    pub fn manager(&self) -> u64
+        ensures { result ≡ self.now.manager }
+    {
+        self.manager
+    }
+
+    /// The switches, in the order of their discovery.
+    pub fn switches(&self) -> &[GraphSwitch]
+        ensures { result.now ≡ self.now.switches }
+    {
+        &self.switches
+    }
+
+    /// For each switch its links, in the same order; so each cable between two switches is in two rows.
+    pub fn rows(&self) -> &[Row]
+        ensures { result.now ≡ self.now.rows }
+    {
+        &self.rows
+    }
+
+    /// The ports of channel adapters that have a cable, in the order in which they were met.
+    pub fn ports(&self) -> &[GraphPort]
+        ensures { result.now ≡ self.now.ports }
+    {
+        &self.ports
+    }
+
+    /// Whether links join all switches: whether each but the first has a link to one that was found earlier.
+    pub fn is_joined(&self) -> bool
+        ensures { result ≡ is_joined self.now.rows }
+    {
+        has_a_nearer_switch(&self.rows)
+    }
+
+    /// What holds of every graph, whatever wire it came over.
+    pub fn is_whole(&self)
+        ensures { IsGraph self.now }
+    {
+        let _ = &self.manager;
+    }
+}

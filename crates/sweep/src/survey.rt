@@ -1,0 +1,176 @@
+//! How far a sweep has come.
+
+ghost use Rattle.std.specs.Prelude.{◌≡◌, ◌<◌, ◌≤◌, ◌==◌, ◌⊎◌, true, false, [], ◌∷◌, ◌++◌, length, find, position, slice_get, None, option_map, IfOk, IfErr, OnOk, IfSome};
+ghost use Rattle.std.specs.Result.{IsErrOf};
+ghost use Rattle.fabric_parts.specs.Cable.{is_same_port};
+ghost use Rattle.fabric_parts.specs.declared.cable.PortRef.{PortRef};
+ghost use Rattle.sweep.specs.Graph.{IsGraph, count_at, graph_with, is_linked};
+ghost use Rattle.sweep.specs.Survey.{SurveyState};
+ghost use Rattle.sweep.specs.declared.fault.SweepFault.TheVariants.{NoMemory, TooManyNodes, WrongReply};
+
+use crate::agreement::{are_a_graph, count_at, links_at};
+use crate::fault::SweepFault;
+use crate::graph::{Graph, GraphPort, GraphSwitch, Link, MAX_ADAPTER_PORTS, MAX_SWITCHES, Row};
+use crate::path::Path;
+use fabric_parts::PortRef;
+use std::alloc::{AllocError, Global};
+use std::marker::Model;
+
+/// The switches that were found, the links of those that were asked, and the ports of channel adapters that
+/// were met.
+#[derive(Debug, Drop)]
+pub(crate) struct Survey {
+    switches: Vec<GraphSwitch>,
+    rows: Vec<Row>,
+    ports: Vec<GraphPort>,
+}
+
+impl Model for Survey {
+    ghost use Rattle.sweep.specs.Survey.{SurveyState};
+
+    ghost Value = { SurveyState };
+
+    ghost view = { λ survey. record { switches = survey.switches.items; rows = survey.rows.items; ports = survey.ports.items } };
+}
+
+impl Survey {
+    /// Nothing was found.
+    pub(crate) fn new(alloc: Global) -> Survey
+        ensures { result ≡ record { switches = []; rows = []; ports = [] } }
+    {
+        Survey {
+            switches: Vec::new(alloc),
+            rows: Vec::new(alloc),
+            ports: Vec::new(alloc),
+        }
+    }
+
+    /// How many ports the switch at that place has, and the path to it.
+    pub(crate) fn way_to(&self, place: usize) -> Option<(u8, Path)>
+        ensures { result ≡ option_map (λ switch. (switch.num_ports, switch.path)) (slice_get self.now.switches place) }
+    {
+        way_to(&self.switches, place)
+    }
+
+    /// How many ports the switch at that place has; none, where there is no switch.
+    pub(crate) fn count_at(&self, place: usize) -> u8
+        ensures { result ≡ count_at self.now.switches place }
+    {
+        count_at(&self.switches, place)
+    }
+
+    /// The place of the switch with this GUID.
+    pub(crate) fn place_of(&self, guid: u64) -> Option<usize>
+        ensures { result ≡ position (λ switch. switch.guid == guid) self.now.switches }
+    {
+        place_of(&self.switches, guid)
+    }
+
+    /// Adds a switch, and gives its place. `TooManyNodes` where there is no room.
+    pub(crate) fn add_switch(&mut self, switch: GraphSwitch) -> Result<usize, SweepFault>
+        ensures place { IfOk result (λ place. place ≡ length self.old.switches) }
+        ensures ok { OnOk result (self.new ≡ record self.old { switches = self.old.switches ++ switch ∷ [] }) }
+        ensures room { OnOk result (length self.old.switches < 64) }
+        ensures full { IsErrOf result TooManyNodes → 64 ≤ length self.old.switches }
+        ensures err { IfErr result (λ fault. (fault ≡ NoMemory) ⊎ (fault ≡ TooManyNodes)) }
+    {
+        let place = self.switches.len();
+        if place >= MAX_SWITCHES {
+            return Err(SweepFault::TooManyNodes);
+        }
+        self.switches.push(switch)?;
+        Ok(place)
+    }
+
+    /// Adds a port. `TooManyNodes` where there is no room.
+    pub(crate) fn add_port(&mut self, port: GraphPort) -> Result<(), SweepFault>
+        ensures ok { OnOk result (self.new ≡ record self.old { ports = self.old.ports ++ port ∷ [] }) }
+        ensures room { OnOk result (length self.old.ports < 256) }
+        ensures full { IsErrOf result TooManyNodes → 256 ≤ length self.old.ports }
+        ensures err { IfErr result (λ fault. (fault ≡ NoMemory) ⊎ (fault ≡ TooManyNodes)) }
+    {
+        if self.ports.len() >= MAX_ADAPTER_PORTS {
+            return Err(SweepFault::TooManyNodes);
+        }
+        self.ports.push(port)?;
+        Ok(())
+    }
+
+    /// Adds the links of a switch. Memory alone can be refused.
+    pub(crate) fn add_row(&mut self, row: Row) -> Result<(), AllocError>
+        ensures ok { OnOk result (self.new ≡ record self.old { rows = self.old.rows ++ row ∷ [] }) }
+    {
+        self.rows.push(row)?;
+        Ok(())
+    }
+
+    /// A port that a link to this one was seen from.
+    pub(crate) fn seen_from(&self, there: PortRef) -> Option<PortRef>
+        ensures some { IfSome result (λ here. is_linked self.now.rows here there ≡ true) }
+        ensures none { result ≡ None → (here : PortRef) → is_linked self.now.rows here there ≡ false }
+    {
+        seen_from(&self.rows, there)
+    }
+
+    /// The graph of what was found. `WrongReply` where that is none, since replies contradict one another.
+    pub(crate) fn into_graph(self, alloc: Global, manager: u64) -> Result<Graph, SweepFault>
+        ensures ok { IfOk result (λ graph. graph ≡ graph_with manager self.switches self.rows self.ports) }
+        ensures wrong { IsErrOf result WrongReply → IsGraph (graph_with manager self.switches self.rows self.ports) → ⊥ }
+        ensures err { IfErr result (λ fault. (fault ≡ NoMemory) ⊎ (fault ≡ WrongReply)) }
+    {
+        let Survey {
+            switches,
+            rows,
+            ports,
+        } = self;
+        if !are_a_graph(alloc, manager, &switches, &rows, &ports)? {
+            return Err(SweepFault::WrongReply);
+        }
+        Ok(Graph {
+            manager,
+            switches,
+            rows,
+            ports,
+        })
+    }
+}
+
+/// How many ports the switch at that place has, and the path to it.
+fn way_to(switches: &[GraphSwitch], place: usize) -> Option<(u8, Path)>
+    ensures { result ≡ option_map (λ switch. (switch.num_ports, switch.path)) (slice_get switches.now place) }
+{
+    match switches.get(place) {
+        Some(switch) => Some((switch.num_ports, switch.path.copied())),
+        None => None,
+    }
+}
+
+/// The place of the switch with this GUID.
+fn place_of(switches: &[GraphSwitch], guid: u64) -> Option<usize>
+    ensures { result ≡ position (λ switch. switch.guid == guid) switches.now }
+{
+    switches.iter().position(|switch| switch.guid == guid)
+}
+
+/// The port of that switch whose link leads there.
+fn port_to(links: &[Link], there: PortRef) -> Option<u8>
+    ensures { result ≡ option_map (λ link. link.port) (find (λ link. is_same_port link.to there) links.now) }
+{
+    links
+        .iter()
+        .find(|link| link.to == there)
+        .map(|link| link.port)
+}
+
+/// A port whose link leads there.
+fn seen_from(rows: &[Row], there: PortRef) -> Option<PortRef>
+    ensures some { IfSome result (λ here. is_linked rows.now here there ≡ true) }
+    ensures none { result ≡ None → (here : PortRef) → is_linked rows.now here there ≡ false }
+{
+    for node in 0..rows.len() {
+        if let Some(port) = port_to(links_at(rows, node), there) {
+            return Some(PortRef { node, port });
+        }
+    }
+    None
+}
