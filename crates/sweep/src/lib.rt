@@ -1,9 +1,10 @@
 //! The sweep: a fabric found over a wire.
 //!
-//! [`SweepFault`] says why a sweep stops. What it asks of one port stands in `asking`: NodeInfo, read as what
-//! is seen of a node, its name, and whether a port has a cable; each is known exactly over a wire that stands
-//! for a good fabric. `specs/OfFabric.antt` says what the graph of a fabric is, `specs/Hops.antt` and
-//! `specs/Limits.antt` when there can be none, `specs/Graph.antt` what holds of a graph over any wire.
+//! [`sweep`] is the one call: it learns the subnet manager's port, leaves by that port, and goes from switch to
+//! switch in the order of their discovery. PortInfo tells whether a port has a cable, NodeInfo and
+//! NodeDescription what is behind it (InfiniBand Architecture Specification, volume 1, 14.2.5.3 and chapter 14).
+//! Over a wire that stands for a good fabric the [`Graph`] is that fabric's, as `specs/OfFabric.antt` says;
+//! over any wire it is one that agrees with itself (`specs/Graph.antt`). [`SweepFault`] says why a sweep stops.
 #![tactic(auto)]
 
 mod agreement;
