@@ -1,5 +1,5 @@
 -- Where a sweep begins, and what it comes to when each switch was asked.
-use Rattle.std.proofs.Common.{ℕ, zero, suc, ◌+◌, ◌≤◌, ◌≡◌, ◌∙◌, ◌==◌, ap, refl, sym, subst, Bool, true, false, List, [], ◌∷◌, ◌++◌, map, take, length, Option, Some, None, option_map, Err, arith}
+use Rattle.std.proofs.Common.{ℕ, zero, suc, ◌+◌, ◌≤◌, ◌≡◌, ◌∙◌, ◌==◌, ap, refl, sym, subst, Bool, true, false, List, [], ◌∷◌, ◌++◌, map, take, length, Option, Some, None, option_map, arith}
 use Rattle.std.specs.Option.{option_map_or}
 use Rattle.std.proofs.lemmas.Bool.{false≢true}
 use Rattle.std.proofs.lemmas.Bool.Decides.{Decides-eqb}
@@ -13,16 +13,14 @@ use Rattle.fabric_parts.specs.declared.cable.PortRef.{PortRef}
 use Rattle.smp_wire.specs.FabricState.{FabricState, is_switch_at}
 use Rattle.smp_wire.specs.Good.{IsGood, SwitchesJoined}
 use Rattle.smp_wire.specs.Walk.{last_of, walk}
-use Rattle.sweep.specs.Graph.{GraphState, graph_with, port}
+use Rattle.sweep.specs.Graph.{graph_with, port}
 use Rattle.sweep.specs.OfFabric.{Found, IsGraphOf, Leads, is_among, nodes_of, ports_before, row_of}
 use Rattle.sweep.specs.Progress.{AreMet, IsAsked, IsDiscovery, IsProgress, IsShownAt, Met, StandsAt, WasMet, is_found}
 use Rattle.sweep.specs.Seen.{seen_at}
 use Rattle.sweep.specs.Start.{IsStartOf}
 use Rattle.sweep.specs.Survey.{SurveyState}
-use Rattle.sweep.specs.Sweeps.{Fails, Finds, IsAllAsked, IsSweepable}
+use Rattle.sweep.specs.Sweeps.{IsAllAsked, IsSweepable}
 use Rattle.sweep.specs.declared.discovery.Origin.{Origin}
-use Rattle.sweep.specs.declared.fault.SweepFault.{SweepFault}
-use Rattle.sweep.specs.declared.fault.SweepFault.TheVariants.{NoMemory, NoReply, WrongReply, TooManyHops, TooManyNodes}
 use Rattle.sweep.specs.declared.graph.GraphSwitch.{GraphSwitch}
 use Rattle.sweep.proofs.FoundLemmas.{among_place, found_among}
 use Rattle.sweep.proofs.LeastLemmas.{IsAskedTo, reached}
@@ -163,17 +161,3 @@ graph_is fabric found survey manager sweepable is all =
       rows = all.progress.noted.rows ∙ ap (map (λ one. row_of fabric (nodes_of some) one.node)) (take_all (length some) some (omega arith));
       ports = all.progress.noted.ports ∙ append-nil (ports_before fabric some (length some));
     }
-
--- a sweep that stops, stops for one of these
-pub stops : (fabric : FabricState) (fault : SweepFault) → Fails fabric fault → Finds fabric (Err fault)
-stops fabric NoMemory is = is
-stops fabric NoReply is = is
-stops fabric WrongReply is = tt
-stops fabric TooManyHops is = is
-stops fabric TooManyNodes is = is
-
--- and one that goes on to the end finds the graph
-pub finds : (fabric : FabricState) (found : List Found) (survey : SurveyState) (manager : ℕ) (graph : GraphState) → IsSweepable fabric
-    → option_map (λ seen. seen.port_guid) (seen_at fabric fabric.manager) ≡ Some manager → IsAllAsked fabric found survey
-    → graph ≡ graph_with manager survey.switches survey.rows survey.ports → IsGraphOf graph fabric
-finds fabric found survey manager graph sweepable is all same = rw same (graph_is fabric found survey manager sweepable is all)

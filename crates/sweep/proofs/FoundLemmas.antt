@@ -41,7 +41,7 @@ distinct_push same (y ∷ xs) x once none =
     IsDistinct-cons same y (xs ++ x ∷ []) (rec_push (λ z. same y z ≡ false) xs x (IsDistinct-head same y xs once) apart.0)
     (distinct_push same xs x (IsDistinct-tail same y xs once) apart.1)
 
-or_true : (b : Bool) → b || true ≡ true
+pub or_true : (b : Bool) → b || true ≡ true
 or_true true = refl
 or_true false = refl
 
@@ -72,7 +72,7 @@ any_at p (x ∷ xs) any = by (p x) refl (λ later. any_at p xs later)
         record { place = suc later.place; one = later.one; there = later.there; passes = later.passes }
 
 -- ---- places
-place_by : (y x : ℕ) (xs : List ℕ) (b : Bool) → (y == x) ≡ b → place_of (y ∷ xs) x ≡ cond b 0 (suc (place_of xs x))
+pub place_by : (y x : ℕ) (xs : List ℕ) (b : Bool) → (y == x) ≡ b → place_of (y ∷ xs) x ≡ cond b 0 (suc (place_of xs x))
 place_by y x xs true is = rw is refl
 place_by y x xs false is = rw is (omega arith)
 

@@ -15,3 +15,7 @@ pub mod CabledLemmas
 pub mod VisitLemmas
 pub mod TurnLemmas
 pub mod EndedLemmas
+pub mod OwnLemmas
+pub mod PortsLemmas
+pub mod WholeLemmas
+pub mod NearLemmas

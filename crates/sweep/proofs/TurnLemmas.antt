@@ -30,7 +30,7 @@ use Rattle.sweep.proofs.SurveyLemmas.{leads}
 use Rattle.sweep.proofs.VisitLemmas.{link_is, link_on, stands_switch}
 
 -- ---- rows of switches that were asked
-row_at : (fabric : FabricState) (nodes : List ℕ) (found : List Found) (i k : ℕ) (one : Found) → k < i → StandsAt found k one
+pub row_at : (fabric : FabricState) (nodes : List ℕ) (found : List Found) (i k : ℕ) (one : Found) → k < i → StandsAt found k one
     → get_or (map (λ one. row_of fabric nodes one.node) (take i found)) k [] ≡ row_of fabric nodes one.node
 row_at fabric nodes [] i k one before there = cc
 row_at fabric nodes (first ∷ found) zero k one before there = absurd (omega (arith, before))
@@ -45,7 +45,7 @@ no_row fabric nodes (first ∷ found) (suc i) zero past = absurd (omega (arith, 
 no_row fabric nodes (first ∷ found) (suc i) (suc k) past = no_row fabric nodes found i k (omega (arith, past))
 
 -- ---- a link of a row
-any_in : {X : Type 0} (p : X → Bool) (f : ℕ → List X) (a n k : ℕ) → a ≤ k → k < a + n → list_any p (f k) ≡ true
+pub any_in : {X : Type 0} (p : X → Bool) (f : ℕ → List X) (a n k : ℕ) → a ≤ k → k < a + n → list_any p (f k) ≡ true
     → list_any p (flat_map f (range_with_len a n)) ≡ true
 any_in p f a zero k from to passes = absurd (omega (arith, from, to))
 any_in p f a (suc n) k from to passes = list_any-append p (f a) (flat_map f (range_with_len (a + 1) n)) ∙ by (nat_le k a) refl (λ later. any_in p f (a + 1) n k later (omega (arith, to)) passes)
@@ -127,7 +127,7 @@ single number some to is =
     and_or : (a b : Bool) → a ≡ true → b ≡ true → (a && b) || false ≡ true
     and_or a b x y = rw (x, y) refl
 
-row_has : (fabric : FabricState) (nodes : List ℕ) (node number : ℕ) (end to : PortRef) → far_end fabric.cables (port node number) ≡ Some end
+pub row_has : (fabric : FabricState) (nodes : List ℕ) (node number : ℕ) (end to : PortRef) → far_end fabric.cables (port node number) ≡ Some end
     → is_switch_at fabric.nodes end.node ≡ true → placed nodes end ≡ to → 1 ≤ number → number ≤ ports_at fabric node
     → list_any (leads to number) (row_of fabric nodes node) ≡ true
 row_has fabric nodes node number end to cable switch is from within =

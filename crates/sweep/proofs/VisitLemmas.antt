@@ -275,7 +275,7 @@ switch_on fabric found one count place old survey row next here there path seen 
 switch_on fabric found one count place old survey row next here there path seen (Err fault) at behind switch placed_at noted = rw noted tt
 
 -- ---- a port of an adapter
-port_is : (fabric : FabricState) (at there : PortRef) (seen : Seen) → is_switch_at fabric.nodes there.node ≡ false → seen_at fabric there ≡ Some seen
+pub port_is : (fabric : FabricState) (at there : PortRef) (seen : Seen) → is_switch_at fabric.nodes there.node ≡ false → seen_at fabric there ≡ Some seen
     → port_to fabric at there ≡ port_seen at (unwrap_or (name_at fabric there) []) seen ∷ []
 port_is fabric at there seen adapter is = rw (adapter, is) refl
 
