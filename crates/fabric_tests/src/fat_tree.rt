@@ -10,7 +10,7 @@ use std::alloc::Global;
 use std::process::Abort;
 use std::test::Fail;
 
-fn put(text: &mut Vec<u8>, part: &[u8]) -> Result<(), Fail> {
+pub fn put(text: &mut Vec<u8>, part: &[u8]) -> Result<(), Fail> {
     text.extend_from_slice(part).ok().ok_or("memory")?;
     Ok(())
 }
@@ -25,7 +25,7 @@ fn put_number(text: &mut Vec<u8>, number: u16) -> Result<(), Fail> {
 }
 
 /// Adds a line of such parts, each with a number.
-fn put_line(text: &mut Vec<u8>, parts: &[(&[u8], u16)], end: &[u8]) -> Result<(), Fail> {
+pub fn put_line(text: &mut Vec<u8>, parts: &[(&[u8], u16)], end: &[u8]) -> Result<(), Fail> {
     for (part, number) in parts {
         put(text, *part)?;
         put_number(text, *number)?;
@@ -60,7 +60,8 @@ fn text_of_the_fat_tree(alloc: Global) -> Result<Vec<u8>, Fail> {
     Ok(text)
 }
 
-fn fat_tree(alloc: Global) -> Result<Fabric, Fail> {
+/// The greatest fabric.
+pub fn fat_tree(alloc: Global) -> Result<Fabric, Fail> {
     let text = text_of_the_fat_tree(alloc)?;
     fabric_of(alloc, &text)
 }

@@ -1,7 +1,9 @@
 //! Sweeps of the two-switch fabric.
 
-use crate::fixtures::{two_switch_fabric, two_switch_wire};
+use crate::fat_tree::{fat_tree, put, put_line};
+use crate::fixtures::{fabric_of, two_switch_fabric, two_switch_wire};
 use fabric_wire::{CountingWire, SilencedWire};
+use std::alloc::Global;
 use std::process::Abort;
 use std::test::Fail;
 use sweep::{Graph, SweepFault, sweep};
@@ -67,5 +69,48 @@ fn a_sweep_stops_where_no_reply_comes(rt: HostRuntime) -> Result<(), Fail> {
         let swept = sweep(rt.alloc(), &mut silenced);
         assert_eq!(rt; swept.err(), Some(SweepFault::NoReply));
     }
+    Ok(())
+}
+
+#[test]
+fn a_sweep_of_the_greatest_fabric_sends_4_900_smps_at_most(rt: HostRuntime) -> Result<(), Fail> {
+    let mut counting = CountingWire {
+        wire: fat_tree(rt.alloc())?,
+        count: 0,
+    };
+    let graph = sweep(rt.alloc(), &mut counting).or(Err("a graph"))?;
+    assert_eq!(rt; graph.switches().len(), 64);
+    assert_eq!(rt; graph.ports().len(), 256);
+    assert!(rt; counting.count <= 4_900);
+    Ok(())
+}
+
+/// So many switches in a row, the subnet manager on the first.
+fn chain(alloc: Global, count: u16) -> Result<Vec<u8>, Fail> {
+    let mut text = Vec::new(alloc);
+    put(&mut text, b"adapter h0 0x100000 1\nsm h0/1\n")?;
+    for i in 0..count {
+        put_line(&mut text, &[(b"switch s", i), (b" 1", i)], b" 3\n")?;
+        if i == 0 {
+            put(&mut text, b"cable s000/3 h0/1\n")?;
+        } else {
+            put_line(&mut text, &[(b"cable s", i - 1)], b"/2")?;
+            put_line(&mut text, &[(b" s", i)], b"/1\n")?;
+        }
+    }
+    Ok(text)
+}
+
+/// The cable to the 64th switch begins 63 hops away, so that no SMP goes over it.
+#[test]
+fn a_sweep_goes_63_hops_and_no_further(rt: HostRuntime) -> Result<(), Fail> {
+    let mut near = fabric_of(rt.alloc(), &chain(rt.alloc(), 63)?)?;
+    let graph = sweep(rt.alloc(), &mut near).or(Err("a graph"))?;
+    assert_eq!(rt; graph.switches().len(), 63);
+    let mut far = fabric_of(rt.alloc(), &chain(rt.alloc(), 64)?)?;
+    assert_eq!(rt;
+        sweep(rt.alloc(), &mut far).err(),
+        Some(SweepFault::TooManyHops)
+    );
     Ok(())
 }
