@@ -1,9 +1,9 @@
 -- NodeInfo (InfiniBand volume 1, 14.2.5.3): the places of its fields in the 64 bytes of the attribute.
 use Rattle.std.specs.Prelude.{ℕ, List, [], ◌∷◌, replicate}
-use Rattle.mad_layout.specs.Layout.{Place, at, put_all}
+use Rattle.mad_layout.specs.Layout.{Field, at, put_all}
 use Rattle.attr_tables.specs.declared.node_info.NodeInfo.{NodeInfo}
 
-abbrev pub node_info : NodeInfo → List Place
+abbrev pub node_info : NodeInfo → List Field
 node_info info =
     at 0 8 info.base_version
     ∷ at 8 8 info.class_version

@@ -1,10 +1,10 @@
 -- PortInfo (InfiniBand volume 1, 14.2.5.6): the places of its fields in the 64 bytes of the attribute.
 use Rattle.std.specs.Prelude.{ℕ, List, [], ◌∷◌, replicate}
 use Rattle.mad_layout.specs.Bits.{bit_of}
-use Rattle.mad_layout.specs.Layout.{Place, at, put_all}
+use Rattle.mad_layout.specs.Layout.{Field, at, put_all}
 use Rattle.attr_tables.specs.declared.port_info.PortInfo.{PortInfo}
 
-abbrev pub port_info : PortInfo → List Place
+abbrev pub port_info : PortInfo → List Field
 port_info info =
     at 0 64 info.m_key
     ∷ at 64 64 info.gid_prefix

@@ -1,10 +1,10 @@
 -- SwitchInfo (InfiniBand volume 1, chapter 14): the places of its fields in the 64 bytes of the attribute.
 use Rattle.std.specs.Prelude.{ℕ, List, [], ◌∷◌, replicate}
 use Rattle.mad_layout.specs.Bits.{bit_of}
-use Rattle.mad_layout.specs.Layout.{Place, at, put_all}
+use Rattle.mad_layout.specs.Layout.{Field, at, put_all}
 use Rattle.attr_tables.specs.declared.switch_info.SwitchInfo.{SwitchInfo}
 
-abbrev pub switch_info : SwitchInfo → List Place
+abbrev pub switch_info : SwitchInfo → List Field
 switch_info info =
     at 0 16 info.linear_fdb_cap
     ∷ at 16 16 info.random_fdb_cap

@@ -10,7 +10,7 @@ use Rattle.fabric_cli.specs.Faults.{line_of, memory_line, not_text_line, status_
 use Rattle.fabric_cli.specs.Files.{Contents, OpensAll, OpensInOrder}
 use Rattle.fabric_cli.specs.Serving.{Ending, complete, ending_of, not_text, ending_with, refused, EndsForSomeBytes, Ends, ForSomeBytes, IsRefused, IsTold, Stops, TellsStop}
 use Rattle.fabric_cli.specs.Words.{Names, asked_by_given, given_items, given_texts, opened_for}
-use Rattle.fabric_cli.specs.Writing.{Tells}
+use Rattle.fabric_cli.specs.Writing.{Writes}
 use Rattle.fabric_cli.proofs.ServingLemmas.{of_memory, other_status}
 
 kept : (known : Option (List ℕ)) → Keeps known known
@@ -88,7 +88,7 @@ not_given_any given stop answer out err err' is other told =
     let ends = not_text_ends given stop answer out err err' is other told in rw ends.0 ends.1
 
 not_text_refused : (file : Contents) (reads : Bool) (opened : Option (List (List ℕ))) (given : Result (IntoIter (String Global) Global) Error) (stop : Stop) (answer : ℕ) (a b : Bool) (err err' : Option (List ℕ))
-    → answer ≡ 3 → IsOfGiven given stop → TellsStop stop answer b err err' ⊎ Tells b err err' memory_line
+    → answer ≡ 3 → IsOfGiven given stop → TellsStop stop answer b err err' ⊎ Writes b err err' memory_line
     → IsRefused file reads opened opened (opened_for (asked_by_given (given_texts given))) (ending_of file (given_texts given)) a b err err'
 not_text_refused file reads opened given stop answer a b err err' three is (inr told) = of_memory file reads opened opened _ _ a b err err' told
 not_text_refused file reads opened (Ok words) (Words text) answer a b err err' three is (inl told) = absurd is
@@ -103,7 +103,7 @@ not_text_refused file reads opened (Ok words) (Run fault) answer a b err err' th
 not_text_refused file reads opened (Err error) (Run fault) answer a b err err' three is (inl told) = absurd is
 
 pub not_given_refused : (told : Option Contents) (reads : Bool) (opened : Option (List (List ℕ))) (given : Result (IntoIter (String Global) Global) Error) (stop : Stop) (answer : ℕ) (a b : Bool) (err err' : Option (List ℕ))
-    → answer ≡ 3 → IsOfGiven given stop → TellsStop stop answer b err err' ⊎ Tells b err err' memory_line
+    → answer ≡ 3 → IsOfGiven given stop → TellsStop stop answer b err err' ⊎ Writes b err err' memory_line
     → IfSome told (λ file. IsRefused file reads opened opened (opened_for (asked_by_given (given_texts given))) (ending_of file (given_texts given)) a b err err')
 not_given_refused None reads opened given stop answer a b err err' three is told = tt
 not_given_refused (Some file) reads opened given stop answer a b err err' three is told = not_text_refused file reads opened given stop answer a b err err' three is told

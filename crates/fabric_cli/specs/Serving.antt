@@ -16,7 +16,7 @@ use Rattle.fabric_cli.specs.declared.faults.Stop.TheVariants.{Words, NoMemory, U
 use Rattle.fabric_cli.specs.Faults.{line_of, status_of, memory_line, not_text_line, run_line, run_status, unread_line, unwritten_line}
 use Rattle.fabric_cli.specs.Files.{Contents, StopsAt}
 use Rattle.fabric_cli.specs.Words.{Names, asked_of}
-use Rattle.fabric_cli.specs.Writing.{Tells}
+use Rattle.fabric_cli.specs.Writing.{Writes}
 
 -- how a call ends: clap refuses the words, or a fault's status and line, or a whole output
 pub data Ending : Type 0 where
@@ -147,7 +147,7 @@ IsUnreadLine file reads old new names line = (name : List ℕ) × StopsAt file r
 pub record IsRefused (file : Contents) (reads : Bool) (old new : Option (List (List ℕ))) (names : List (List ℕ)) (ending : Ending) (out_is_sure err_is_sure : Bool) (err err' : Option (List ℕ)) : Type 0 where
   pub line : List ℕ
   pub is : (line ≡ memory_line) ⊎ (IsUnreadLine file reads old new names line ⊎ IsLineOf out_is_sure err_is_sure ending line)
-  pub told : Tells err_is_sure err err' line
+  pub told : Writes err_is_sure err err' line
 
 -- why the output is not made, unless the machine refuses
 abbrev pub RunStops : Ending → RunFault → Type 0
@@ -163,7 +163,7 @@ Stops ending (Run fault) = RunStops ending fault
 
 -- a stop is told by its line, and with its status where the line can go out
 pub record TellsStop (stop : Stop) (answer : ℕ) (is_sure : Bool) (err err' : Option (List ℕ)) : Type 0 where
-  pub told : Tells is_sure err err' (line_of stop)
+  pub told : Writes is_sure err err' (line_of stop)
   pub status : is_sure ≡ true → answer ≡ status_of stop
 
 -- files are read to their end before anything is told of them

@@ -8,7 +8,7 @@ ghost use Rattle.fabric_cli.specs.Serving.{bytes_if_named, ending_by, ending_for
 ghost use Rattle.std.specs.Option.{option_to_list};
 ghost use Rattle.std.specs.Process.{exit_status};
 ghost use Rattle.fabric_cli.specs.Words.{asked_by_given, asked_of, given_texts, named_work, names, opened_for, script_names};
-ghost use Rattle.fabric_cli.specs.Writing.{AppendsPart, Tells};
+ghost use Rattle.fabric_cli.specs.Writing.{AppendsPart, Writes};
 
 use crate::faults::{COMPLETE, MEMORY_LINE, REFUSED, Stop};
 use crate::files::Files;
@@ -98,7 +98,7 @@ fn serve_words<F: Files, O: Output, E: Output>(
 /// told, and where the whole line does not go out, the status is that of output not written.
 fn told_stop<E: Output>(alloc: Global, stop: &Stop<'_>, err: &mut E) -> u8
     ensures whole { result ≢ 3 → (result ≡ status_of stop.now) × Appends (E.contents err.old) (E.contents err.new) (line_of stop.now) }
-    ensures part { TellsStop stop.now result (E.is_sure err.old) (E.contents err.old) (E.contents err.new) ⊎ Tells (E.is_sure err.old) (E.contents err.old) (E.contents err.new) memory_line }
+    ensures part { TellsStop stop.now result (E.is_sure err.old) (E.contents err.old) (E.contents err.new) ⊎ Writes (E.is_sure err.old) (E.contents err.old) (E.contents err.new) memory_line }
 {
     match stop.line(alloc) {
         Ok(line) => {

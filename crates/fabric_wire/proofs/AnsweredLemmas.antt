@@ -7,14 +7,14 @@ use Rattle.std.proofs.lemmas.Option.{same_Some}
 use Rattle.mad_layout.proofs.LayoutLemmas.{field-put_same, length-put_field}
 use Rattle.smp_route.specs.declared.hop.Hop.{Hop}
 use Rattle.smp_route.specs.declared.hop.Hop.TheVariants.{Forward, ToAgent, ToManager, Discard}
-use Rattle.smp_route.specs.Places.{count, is_outgoing, turned_round, with_pointer}
+use Rattle.smp_route.specs.HopFields.{count, is_outgoing, turned_round, with_pointer}
 use Rattle.fabric_parts.specs.declared.cable.PortRef.{PortRef}
 use Rattle.smp_wire.specs.declared.walking.Arrival.{Arrival}
 use Rattle.fabric_parts.specs.Cable.{far_end}
 use Rattle.smp_wire.specs.FabricState.{FabricState, after_at, reply_at}
 use Rattle.smp_wire.specs.Good.{IsGood, is_right}
 use Rattle.fabric_wire.specs.Laws.{ExchangesGoByHops}
-use Rattle.fabric_wire.specs.HopByHop.{ComesHome, Goes, IsAnswered, Passes, Reaches, Visit, hop_rules}
+use Rattle.fabric_wire.specs.HopByHop.{ComesHome, Goes, IsAnswered, Passes, ComesTo, Visit, hop_rules}
 use Rattle.fabric_wire.specs.Hopping.{node_type_at}
 use Rattle.smp_wire.specs.Walk.{arrival_of, arrived, exchange_after, exchange_reply, last_of, path_of, returned, walk, walk_of}
 use Rattle.fabric_wire.proofs.ExchangeLemmas.{IsReady, ready_before}
@@ -180,18 +180,18 @@ walks_to fabric smp at request (Some ends) is arrives =
     record { ends = ends; is = is; at_is = ap (λ (a : Arrival). a.at) same; request_is = ap (λ (a : Arrival). a.smp) same }
 
 as_walk : (fabric : FabricState) (smp : List ℕ) (at : PortRef) (request : List ℕ) → IsGood fabric → length smp ≡ 256
-    → AllBelowBase 256 smp → Reaches fabric smp at request → WalksTo fabric smp at request
-as_walk fabric smp at request good long below reaches =
+    → AllBelowBase 256 smp → ComesTo fabric smp at request → WalksTo fabric smp at request
+as_walk fabric smp at request good long below comes =
     let start = visit fabric.manager 0 smp in
-    let rules = rules_out fabric.nodes start reaches.outgoing in
-    let kept = not_dropped fabric start reaches.last reaches.way reaches.goes reaches.to_agent in
-    let sent = is_sent_by (node_type_at fabric.nodes fabric.manager.node) smp reaches.outgoing (λ dropped. kept (ap (λ (s : Step). s.hop) rules ∙ dropped)) in
-    let ends = follows fabric smp reaches.way 0 fabric.manager 0 smp reaches.last good (set_out_by fabric smp good long below sent) reaches.goes reaches.to_agent in
-    walks_to fabric smp at request (walk fabric.nodes fabric.cables true fabric.manager (path_of smp)) (rw sent refl) (sym ends ∙ rw (reaches.at_is, reaches.request_is) refl)
+    let rules = rules_out fabric.nodes start comes.outgoing in
+    let kept = not_dropped fabric start comes.last comes.way comes.goes comes.to_agent in
+    let sent = is_sent_by (node_type_at fabric.nodes fabric.manager.node) smp comes.outgoing (λ dropped. kept (ap (λ (s : Step). s.hop) rules ∙ dropped)) in
+    let ends = follows fabric smp comes.way 0 fabric.manager 0 smp comes.last good (set_out_by fabric smp good long below sent) comes.goes comes.to_agent in
+    walks_to fabric smp at request (walk fabric.nodes fabric.cables true fabric.manager (path_of smp)) (rw sent refl) (sym ends ∙ rw (comes.at_is, comes.request_is) refl)
 
 as_hops : (fabric : FabricState) (smp : List ℕ) (ends : List PortRef) → IsGood fabric → length smp ≡ 256
     → AllBelowBase 256 smp → walk_of fabric smp ≡ Some ends
-    → Reaches fabric smp (last_of fabric.manager ends) (arrived ends smp)
+    → ComesTo fabric smp (last_of fabric.manager ends) (arrived ends smp)
 as_hops fabric smp ends good long below is =
     let so = walks fabric smp ends is in
     let way = found fabric smp (arrival_of fabric.manager smp ends) good long below so.sent (ap (option_map (arrival_of fabric.manager smp)) so.walked) in
@@ -230,7 +230,7 @@ answered_by fabric smp reply ends (Some answer) good long below is answers repli
       at = at;
       request = arrived ends smp;
       answer = answer;
-      reaches = as_hops fabric smp ends good long below is;
+      comes = as_hops fabric smp ends good long below is;
       answers = answers;
       comes_home = subst (λ (home : List ℕ). ComesHome fabric at.node answer home) (same_Some _ _ replied) (comes fabric at answer one.long one.ready);
     }
@@ -245,7 +245,7 @@ only_by_hops fabric smp reply (Some ends) good long below is replied = answered_
 by_hops : (fabric : FabricState) (smp reply : List ℕ) → IsGood fabric → length smp ≡ 256 → AllBelowBase 256 smp
     → IsAnswered fabric smp reply → exchange_reply fabric smp ≡ Some reply
 by_hops fabric smp reply good long below answered =
-    let way = as_walk fabric smp answered.at answered.request good long below answered.reaches in
+    let way = as_walk fabric smp answered.at answered.request good long below answered.comes in
     let at = last_of fabric.manager way.ends in
     let answers : reply_at fabric at (arrived way.ends smp) ≡ Some answered.answer = rw (way.at_is, way.request_is) answered.answers in
     let one = is_answer fabric smp way.ends answered.answer good long below way.is answers in
@@ -254,14 +254,14 @@ by_hops fabric smp reply good long below answered =
 
 -- ---- what the fabric is then
 changed : (fabric : FabricState) (smp : List ℕ) (at : PortRef) (request : List ℕ) → IsGood fabric → length smp ≡ 256
-    → AllBelowBase 256 smp → Reaches fabric smp at request → exchange_after fabric smp ≡ after_at fabric at request
-changed fabric smp at request good long below reaches =
-    let way = as_walk fabric smp at request good long below reaches in
+    → AllBelowBase 256 smp → ComesTo fabric smp at request → exchange_after fabric smp ≡ after_at fabric at request
+changed fabric smp at request good long below comes =
+    let way = as_walk fabric smp at request good long below comes in
     walk_after fabric smp way.ends way.is ∙ rw (way.at_is, way.request_is) refl
 
 unchanged : (fabric : FabricState) (smp : List ℕ) (walked : Option (List PortRef)) → IsGood fabric → length smp ≡ 256
     → AllBelowBase 256 smp → walk_of fabric smp ≡ walked
-    → ((at : PortRef) (request : List ℕ) → Reaches fabric smp at request → ⊥) → exchange_after fabric smp ≡ fabric
+    → ((at : PortRef) (request : List ℕ) → ComesTo fabric smp at request → ⊥) → exchange_after fabric smp ≡ fabric
 unchanged fabric smp None good long below is none = no_walk_after fabric smp is
 unchanged fabric smp (Some ends) good long below is none = absurd (none (last_of fabric.manager ends) (arrived ends smp) (as_hops fabric smp ends good long below is))
 
@@ -269,6 +269,6 @@ pub exchanges_go_by_hops : ExchangesGoByHops
 exchanges_go_by_hops fabric smp good long below =
     record {
       replies = λ reply. (λ replied. only_by_hops fabric smp reply _ good long below refl replied, λ answered. by_hops fabric smp reply good long below answered);
-      change = λ at request reaches. changed fabric smp at request good long below reaches;
+      change = λ at request comes. changed fabric smp at request good long below comes;
       no_change = λ none. unchanged fabric smp _ good long below refl none;
     }

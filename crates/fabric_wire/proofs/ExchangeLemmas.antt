@@ -11,7 +11,7 @@ use Rattle.mad_layout.specs.Layout.{at, is_free}
 use Rattle.mad_layout.proofs.AlignedLemmas.{byte_is_field}
 use Rattle.mad_layout.proofs.LayoutLemmas.{field-put_apart, length-put_field}
 use Rattle.agent_rules.specs.Request.{KeepsRest}
-use Rattle.smp_route.specs.Places.{count, pointer, return_port, turned_round, with_return_port}
+use Rattle.smp_route.specs.HopFields.{count, pointer, return_port, turned_round, with_return_port}
 use Rattle.fabric_parts.specs.declared.cable.Cable.{Cable}
 use Rattle.fabric_parts.specs.declared.cable.PortRef.{PortRef}
 use Rattle.smp_wire.specs.declared.node.Node.{Node}

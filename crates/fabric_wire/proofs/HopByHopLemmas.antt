@@ -7,7 +7,7 @@ use Rattle.fabric_parts.specs.declared.node_type.NodeType.{NodeType}
 use Rattle.smp_route.specs.declared.hop.Hop.{Hop}
 use Rattle.smp_route.specs.declared.hop.Hop.TheVariants.{Forward, ToAgent, ToManager, Discard}
 use Rattle.smp_route.specs.Hops.{Step, outgoing, returning}
-use Rattle.smp_route.specs.Places.{count, is_outgoing, pointer, with_pointer, with_return_port}
+use Rattle.smp_route.specs.HopFields.{count, is_outgoing, pointer, with_pointer, with_return_port}
 use Rattle.fabric_parts.specs.declared.cable.PortRef.{PortRef}
 use Rattle.smp_wire.specs.declared.walking.Arrival.{Arrival}
 use Rattle.fabric_parts.specs.Cable.{far_end}

@@ -7,7 +7,7 @@ use Rattle.std.proofs.lemmas.List.{get_or-set_other, get_or-set_same, set-set, s
 use Rattle.fabric_parts.specs.declared.node_type.NodeType.{NodeType}
 use Rattle.smp_route.specs.declared.hop.Hop.TheVariants.{Forward, ToAgent}
 use Rattle.smp_route.specs.Hops.{Step, by_port, discarded, handed_on, noted, outgoing}
-use Rattle.smp_route.specs.Places.{count, initial_port, pointer, with_pointer, with_return_port}
+use Rattle.smp_route.specs.HopFields.{count, initial_port, pointer, with_pointer, with_return_port}
 use Rattle.fabric_parts.specs.declared.cable.Cable.{Cable}
 use Rattle.fabric_parts.specs.declared.cable.PortRef.{PortRef}
 use Rattle.smp_wire.specs.declared.node.Node.{Node}

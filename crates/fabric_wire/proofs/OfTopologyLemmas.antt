@@ -65,7 +65,7 @@ switch_there cables nodes k =
 pub links_long : (cables : List Cable) (place count : ℕ) → length (links_of cables place count) ≡ count
 links_long cables place count = length-map-range_with_len (link_of cables place) 1 count
 
-count_of : (of : NodeType) (cables : List Cable) (place : ℕ) (node : PlannedNode) → port_count (node_of_type of cables place node) ≡ node.ports
+pub count_of : (of : NodeType) (cables : List Cable) (place : ℕ) (node : PlannedNode) → port_count (node_of_type of cables place node) ≡ node.ports
 count_of node_type.Switch cables place node =
     let all = length-ports_from 0 (Internal ∷ links_of cables place node.ports) in
     let links = links_long cables place node.ports in

@@ -7,7 +7,7 @@ use Rattle.fabric_parts.specs.declared.node_type.NodeType.{NodeType}
 use Rattle.smp_route.specs.declared.hop.Hop.{Hop}
 use Rattle.smp_route.specs.declared.hop.Hop.TheVariants.{Forward, ToAgent, ToManager, Discard}
 use Rattle.smp_route.specs.Hops.{Step, discarded, may_return, passes_back, returning, sent_back}
-use Rattle.smp_route.specs.Places.{count, pointer, return_port, with_pointer}
+use Rattle.smp_route.specs.HopFields.{count, pointer, return_port, with_pointer}
 use Rattle.fabric_parts.specs.declared.cable.Cable.{Cable}
 use Rattle.fabric_parts.specs.declared.cable.PortRef.{PortRef}
 use Rattle.smp_wire.specs.declared.node.Node.{Node}

@@ -3,7 +3,7 @@
 use Rattle.std.specs.Prelude.{ℕ, ◌≡◌, ◌==◌, ◌↔◌, true, if◌then◌else◌, List, [], ◌∷◌, Some}
 use Rattle.smp_route.specs.declared.hop.Hop.TheVariants.{Forward, ToAgent, ToManager}
 use Rattle.smp_route.specs.Hops.{Step, outgoing, returning}
-use Rattle.smp_route.specs.Places.{is_outgoing, turned_round}
+use Rattle.smp_route.specs.HopFields.{is_outgoing, turned_round}
 use Rattle.fabric_parts.specs.declared.cable.PortRef.{PortRef}
 use Rattle.smp_wire.specs.declared.node.Node.{Node}
 use Rattle.fabric_parts.specs.Cable.{far_end}
@@ -41,7 +41,7 @@ abbrev pub agent_port : PortRef → Visit → PortRef
 agent_port manager here = if here.entered == 0 then manager else record { node = here.node; port = here.entered }
 
 -- an SMP that the subnet manager sends out comes to the agent at that port, as this request
-pub record Reaches (fabric : FabricState) (smp : List ℕ) (at : PortRef) (request : List ℕ) : Type 0 where
+pub record ComesTo (fabric : FabricState) (smp : List ℕ) (at : PortRef) (request : List ℕ) : Type 0 where
   pub outgoing : is_outgoing smp ≡ true
   pub way : List Visit
   pub last : Visit
@@ -63,7 +63,7 @@ pub record IsAnswered (fabric : FabricState) (smp reply : List ℕ) : Type 0 whe
   pub at : PortRef
   pub request : List ℕ
   pub answer : List ℕ
-  pub reaches : Reaches fabric smp at request
+  pub comes : ComesTo fabric smp at request
   pub answers : reply_at fabric at request ≡ Some answer
   pub comes_home : ComesHome fabric at.node answer reply
 
@@ -72,6 +72,6 @@ pub record GoesByHops (fabric : FabricState) (smp : List ℕ) : Type 0 where
   -- these replies come and no other
   pub replies : (reply : List ℕ) → exchange_reply fabric smp ≡ Some reply ↔ IsAnswered fabric smp reply
   -- the agent that it reaches may have changed; where it reaches none, nothing has
-  pub change : (at : PortRef) (request : List ℕ) → Reaches fabric smp at request
+  pub change : (at : PortRef) (request : List ℕ) → ComesTo fabric smp at request
       → exchange_after fabric smp ≡ after_at fabric at request
-  pub no_change : ((at : PortRef) (request : List ℕ) → Reaches fabric smp at request → ⊥) → exchange_after fabric smp ≡ fabric
+  pub no_change : ((at : PortRef) (request : List ℕ) → ComesTo fabric smp at request → ⊥) → exchange_after fabric smp ≡ fabric

@@ -2,7 +2,7 @@
 
 ghost use Rattle.std.specs.Prelude.{◌≡◌, ◌+◌, ◌≤◌, true, option_map};
 ghost use Rattle.std.specs.List.{list_all};
-ghost use Rattle.smp_route.specs.Places.{count, pointer, with_pointer};
+ghost use Rattle.smp_route.specs.HopFields.{count, pointer, with_pointer};
 ghost use Rattle.smp_wire.specs.Good.{is_right};
 ghost use Rattle.fabric_wire.specs.Hopping.{leads_home, node_type_at};
 ghost use Rattle.smp_wire.specs.Walk.{arrival_of, is_sent, path_of, walk};

@@ -9,7 +9,7 @@ use Rattle.std.proofs.Math.Pow.{mod-mod-pow}
 use Rattle.std.proofs.Math.Nat.{div-eq_of_lt, mod-eq_of_lt}
 use Rattle.byteorder.specs.Numbers.{length-bytes_high_first}
 use Rattle.mad_layout.specs.Bits.{number, digits, field, replaced, put_field}
-use Rattle.mad_layout.specs.Layout.{Place, Holds, Fits, put_all, is_apart, is_free, is_layout, Spells, Sets}
+use Rattle.mad_layout.specs.Layout.{Field, Holds, Fits, put_all, is_apart, is_free, is_layout, Spells, Sets}
 use Rattle.mad_layout.proofs.NumberLemmas.{below_bytes, number_bytes, number_cons}
 
 pub length-put_field : (xs : List ℕ) (off len v : ℕ) → length (put_field xs off len v) ≡ length xs
@@ -88,12 +88,12 @@ field-put_apart xs off len v o l h g f apart =
       | inr after ↦ digits_replaced_below (number xs) low len v place l (omega arith)
     ]
 
-pub length-put_all : (xs : List ℕ) (ps : List Place) → length (put_all xs ps) ≡ length xs
+pub length-put_all : (xs : List ℕ) (ps : List Field) → length (put_all xs ps) ≡ length xs
 length-put_all xs [] = refl
 length-put_all xs (p ∷ ps) =
     length-put_all (put_field xs p.off p.len p.value) ps ∙ length-put_field xs p.off p.len p.value
 
-apart_parts : (off len : ℕ) (p : Place) → is_apart off len p ≡ true → (off + len ≤ p.off) ⊎ (p.off + p.len ≤ off)
+apart_parts : (off len : ℕ) (p : Field) → is_apart off len p ≡ true → (off + len ≤ p.off) ⊎ (p.off + p.len ≤ off)
 apart_parts off len p h =
     elim (or_cases (nat_le (off + len) p.off) (nat_le (p.off + p.len) off) h) [
       | inl before ↦ inl (leb-true (off + len) p.off before)
@@ -101,24 +101,24 @@ apart_parts off len p h =
     ]
 
 -- what `is_layout` says of a first place
-record First (size : ℕ) (p : Place) (ps : List Place) : Type 0 where
+record First (size : ℕ) (p : Field) (ps : List Field) : Type 0 where
   within : p.off + p.len ≤ size
   free : is_free p.off p.len ps ≡ true
   rest : is_layout size ps ≡ true
 
-first_of_layout : (size : ℕ) (p : Place) (ps : List Place) → is_layout size (p ∷ ps) ≡ true → First size p ps
+first_of_layout : (size : ℕ) (p : Field) (ps : List Field) → is_layout size (p ∷ ps) ≡ true → First size p ps
 first_of_layout size p ps h =
     let a = and_parts (nat_le (p.off + p.len) size) (is_free p.off p.len ps && is_layout size ps) h in
     let b = and_parts (is_free p.off p.len ps) (is_layout size ps) a.1 in
     record { within = leb-true (p.off + p.len) size a.0; free = b.0; rest = b.1 }
 
 -- the same layout test after a field was put
-moved : (xs : List ℕ) (p : Place) (ps : List Place) → is_layout (8 * length xs) ps ≡ true
+moved : (xs : List ℕ) (p : Field) (ps : List Field) → is_layout (8 * length xs) ps ≡ true
     → is_layout (8 * length (put_field xs p.off p.len p.value)) ps ≡ true
 moved xs p ps h = ap (λ (n : ℕ). is_layout (8 * n) ps) (length-put_field xs p.off p.len p.value) ∙ h
 
 -- a field that is free of the layout stays
-pub stays : (xs : List ℕ) (ps : List Place) (off len : ℕ) → is_layout (8 * length xs) ps ≡ true → Fits ps
+pub stays : (xs : List ℕ) (ps : List Field) (off len : ℕ) → is_layout (8 * length xs) ps ≡ true → Fits ps
     → off + len ≤ 8 * length xs → is_free off len ps ≡ true → field (put_all xs ps) off len ≡ field xs off len
 stays xs [] off len layout fits within free = refl
 stays xs (p ∷ ps) off len layout fits within free =
@@ -128,7 +128,7 @@ stays xs (p ∷ ps) off len layout fits within free =
     stays (put_field xs p.off p.len p.value) ps off len (moved xs p ps first.rest) fits.1 (omega (arith, size)) a.1
     ∙ field-put_apart xs p.off p.len p.value off len first.within within fits.0 (apart_parts off len p a.0)
 
-pub holds_put_all : (xs : List ℕ) (ps : List Place) → is_layout (8 * length xs) ps ≡ true → Fits ps → Holds (put_all xs ps) ps
+pub holds_put_all : (xs : List ℕ) (ps : List Field) → is_layout (8 * length xs) ps ≡ true → Fits ps → Holds (put_all xs ps) ps
 holds_put_all xs [] layout fits = tt
 holds_put_all xs (p ∷ ps) layout fits =
     let first = first_of_layout (8 * length xs) p ps layout in
@@ -138,7 +138,7 @@ holds_put_all xs (p ∷ ps) layout fits =
     let kept = stays ys ps p.off p.len rest fits.1 (omega (arith, size, first.within)) first.free in
     (sym (kept ∙ field-put_same xs p.off p.len p.value first.within fits.0), holds_put_all ys ps rest fits.1)
 
-pub sets_put_all : (ps : List Place) (old : List ℕ) → is_layout (8 * length old) ps ≡ true → Fits ps → Sets old (put_all old ps) ps
+pub sets_put_all : (ps : List Field) (old : List ℕ) → is_layout (8 * length old) ps ≡ true → Fits ps → Sets old (put_all old ps) ps
 sets_put_all ps old layout fits =
     record {
       fields = holds_put_all old ps layout fits;
@@ -147,22 +147,22 @@ sets_put_all ps old layout fits =
     }
 
 -- ---- a layout in two parts
-pub fits_take : (n : ℕ) (ps : List Place) → Fits ps → Fits (take n ps)
+pub fits_take : (n : ℕ) (ps : List Field) → Fits ps → Fits (take n ps)
 fits_take zero ps h = tt
 fits_take (suc n) [] h = tt
 fits_take (suc n) (p ∷ ps) h = (h.0, fits_take n ps h.1)
 
-pub fits_drop : (n : ℕ) (ps : List Place) → Fits ps → Fits (drop n ps)
+pub fits_drop : (n : ℕ) (ps : List Field) → Fits ps → Fits (drop n ps)
 fits_drop zero ps h = h
 fits_drop (suc n) [] h = tt
 fits_drop (suc n) (p ∷ ps) h = fits_drop n ps h.1
 
-pub fits_both : (n : ℕ) (ps : List Place) → Fits (take n ps) → Fits (drop n ps) → Fits ps
+pub fits_both : (n : ℕ) (ps : List Field) → Fits (take n ps) → Fits (drop n ps) → Fits ps
 fits_both zero ps front rest = rest
 fits_both (suc n) [] front rest = tt
 fits_both (suc n) (p ∷ ps) front rest = (front.0, fits_both n ps front.1 rest)
 
-pub holds_both : (bytes : List ℕ) (n : ℕ) (ps : List Place) → Holds bytes (take n ps) → Holds bytes (drop n ps) → Holds bytes ps
+pub holds_both : (bytes : List ℕ) (n : ℕ) (ps : List Field) → Holds bytes (take n ps) → Holds bytes (drop n ps) → Holds bytes ps
 holds_both bytes zero ps front rest = rest
 holds_both bytes (suc n) [] front rest = tt
 holds_both bytes (suc n) (p ∷ ps) front rest = (front.0, holds_both bytes n ps front.1 rest)
@@ -180,7 +180,7 @@ field_zeros n off len =
     ∙ ap (λ (m : ℕ). m % 2 ^ len) (div-eq_of_lt (pow_pos low))
     ∙ mod-eq_of_lt (pow_pos len)
 
-pub spells_put_all : (ps : List Place) (n : ℕ) → is_layout (8 * n) ps ≡ true → Fits ps → Spells (put_all (replicate n 0) ps) ps
+pub spells_put_all : (ps : List Field) (n : ℕ) → is_layout (8 * n) ps ≡ true → Fits ps → Spells (put_all (replicate n 0) ps) ps
 spells_put_all ps n layout fits =
     let zeros = replicate n 0 in
     let test : is_layout (8 * length zeros) ps ≡ true = ap (λ (m : ℕ). is_layout (8 * m) ps) (length-replicate n 0) ∙ layout in
@@ -194,12 +194,12 @@ pub field_narrow : (bytes : List ℕ) (off len : ℕ) → field bytes off len < 
 unfolding field
 field_narrow bytes off len = mod_below (number bytes / 2 ^ (8 * length bytes - (off + len))) (2 ^ len) (pow_pos len)
 
-pub fits_from_holds : (bytes : List ℕ) (ps : List Place) → Holds bytes ps → Fits ps
+pub fits_from_holds : (bytes : List ℕ) (ps : List Field) → Holds bytes ps → Fits ps
 fits_from_holds bytes [] h = tt
 fits_from_holds bytes (p ∷ ps) h = let n = field_narrow bytes p.off p.len in (omega (arith, h.0), fits_from_holds bytes ps h.1)
 
 -- a header put into a MAD is set there
-pub sets_mad : (ps : List Place) (old new : List ℕ) → length old ≡ 256 → is_layout 2048 ps ≡ true → new ≡ put_all old ps → Fits ps → Sets old new ps
+pub sets_mad : (ps : List Field) (old new : List ℕ) → length old ≡ 256 → is_layout 2048 ps ≡ true → new ≡ put_all old ps → Fits ps → Sets old new ps
 sets_mad ps old new long layout e fits =
     let P : List ℕ → Type 0 = λ bytes. Sets old bytes ps in
     subst P (sym e) (sets_put_all ps old (ap (λ (n : ℕ). is_layout (8 * n) ps) long ∙ layout) fits)

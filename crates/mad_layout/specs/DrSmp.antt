@@ -2,9 +2,9 @@
 use Rattle.std.specs.Prelude.{List, [], ◌∷◌}
 use Rattle.mad_layout.specs.declared.dr_smp.DrSmp.{DrSmp}
 use Rattle.mad_layout.specs.Bits.{number, bit_of}
-use Rattle.mad_layout.specs.Layout.{Place, at}
+use Rattle.mad_layout.specs.Layout.{Field, at}
 
-abbrev pub dr_smp : DrSmp → List Place
+abbrev pub dr_smp : DrSmp → List Field
 dr_smp smp =
     at 32 1 (bit_of smp.direction)
     ∷ at 33 15 smp.status

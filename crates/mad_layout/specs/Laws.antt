@@ -2,7 +2,7 @@
 use Rattle.std.specs.Prelude.{ℕ, ◌≡◌, ◌+◌, ◌*◌, ◌^◌, ◌<◌, ◌≤◌, ◌⊎◌, true, List, length, replicate, slice_range, slice_index, slice_set}
 use Rattle.std.specs.Int.Digits.{AllBelowBase}
 use Rattle.mad_layout.specs.Bits.{field, put_field}
-use Rattle.mad_layout.specs.Layout.{Place, Holds, Fits, put_all, is_layout, Spells, Sets}
+use Rattle.mad_layout.specs.Layout.{Field, Holds, Fits, put_all, is_layout, Spells, Sets}
 
 -- a field that is set reads as the value
 abbrev pub PutReadsBack : Type 0
@@ -39,15 +39,15 @@ BytesAreSet =
 -- a layout written over bytes is set there
 abbrev pub LayoutsSet : Type 0
 LayoutsSet =
-    (places : List Place) (old : List ℕ) → is_layout (8 * length old) places ≡ true → Fits places
-    → Sets old (put_all old places) places
+    (layout : List Field) (old : List ℕ) → is_layout (8 * length old) layout ≡ true → Fits layout
+    → Sets old (put_all old layout) layout
 
 -- a layout written over zero bytes is spelled there
 abbrev pub LayoutsSpell : Type 0
 LayoutsSpell =
-    (places : List Place) (size : ℕ) → is_layout (8 * size) places ≡ true → Fits places
-    → Spells (put_all (replicate size 0) places) places
+    (layout : List Field) (size : ℕ) → is_layout (8 * size) layout ≡ true → Fits layout
+    → Spells (put_all (replicate size 0) layout) layout
 
 -- what bytes hold is narrow enough to be written
 abbrev pub WhatIsHeldFits : Type 0
-WhatIsHeldFits = (bytes : List ℕ) (places : List Place) → Holds bytes places → Fits places
+WhatIsHeldFits = (bytes : List ℕ) (layout : List Field) → Holds bytes layout → Fits layout

@@ -1,9 +1,9 @@
 -- The header of a MAD (InfiniBand volume 1, 13.4.2).
 use Rattle.std.specs.Prelude.{List, [], ◌∷◌}
 use Rattle.mad_layout.specs.declared.mad_header.Header.{Header}
-use Rattle.mad_layout.specs.Layout.{Place, at}
+use Rattle.mad_layout.specs.Layout.{Field, at}
 
-abbrev pub mad_header : Header → List Place
+abbrev pub mad_header : Header → List Field
 mad_header header =
     at 0 8 header.base_version
     ∷ at 8 8 header.mgmt_class

@@ -1,9 +1,9 @@
 -- The RMPP header of a MAD (InfiniBand volume 1, chapter 13).
 use Rattle.std.specs.Prelude.{List, [], ◌∷◌}
 use Rattle.mad_layout.specs.declared.rmpp_header.RmppHeader.{RmppHeader}
-use Rattle.mad_layout.specs.Layout.{Place, at}
+use Rattle.mad_layout.specs.Layout.{Field, at}
 
-abbrev pub rmpp_header : RmppHeader → List Place
+abbrev pub rmpp_header : RmppHeader → List Field
 rmpp_header header =
     at 192 8 header.version
     ∷ at 200 8 header.kind

@@ -2,9 +2,9 @@
 use Rattle.std.specs.Prelude.{List, [], ◌∷◌}
 use Rattle.mad_layout.specs.declared.sa_mad.SaMad.{SaMad}
 use Rattle.mad_layout.specs.Bits.{number}
-use Rattle.mad_layout.specs.Layout.{Place, at}
+use Rattle.mad_layout.specs.Layout.{Field, at}
 
-abbrev pub sa_mad : SaMad → List Place
+abbrev pub sa_mad : SaMad → List Field
 sa_mad mad =
     at 288 64 mad.sm_key
     ∷ at 352 16 mad.attribute_offset

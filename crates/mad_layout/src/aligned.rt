@@ -31,6 +31,15 @@ pub fn u64_at<const OFF: usize>(bytes: &[u8]) -> u64
     BigEndian::read_u64(&bytes[OFF / 8..])
 }
 
+/// The field of 128 bits, such as a GID, that begins at bit `OFF`, the first of a byte.
+pub fn u128_at<const OFF: usize>(bytes: &[u8]) -> u128
+    requires aligned { OFF % 8 ≡ 0 }
+    requires within { OFF + 128 ≤ 8 * length bytes.now }
+    ensures { result ≡ field bytes.now OFF 128 }
+{
+    BigEndian::read_u128(&bytes[OFF / 8..])
+}
+
 /// The field of `LEN` bits that begins at bit `OFF`, the first of a byte, as the `SIZE` bytes that it is.
 pub fn bytes_at<const OFF: usize, const LEN: usize, const SIZE: usize>(bytes: &[u8]) -> [u8; SIZE]
     requires aligned { OFF % 8 ≡ 0 }
@@ -83,6 +92,17 @@ pub fn put_u64_at<const OFF: usize>(bytes: &mut [u8], value: u64)
 {
     known_bytes(bytes);
     BigEndian::write_u64(&mut bytes[OFF / 8..], value);
+}
+
+/// Sets the field of 128 bits that begins at bit `OFF`, the first of a byte; every other bit stays.
+pub fn put_u128_at<const OFF: usize>(bytes: &mut [u8], value: u128)
+    requires aligned { OFF % 8 ≡ 0 }
+    requires within { OFF + 128 ≤ 8 * length bytes.old }
+    ensures bytes { bytes.new ≡ put_field bytes.old OFF 128 value }
+    ensures fits { value < 2 ^ 128 }
+{
+    known_bytes(bytes);
+    BigEndian::write_u128(&mut bytes[OFF / 8..], value);
 }
 
 /// Sets the field of `LEN` bits that begins at bit `OFF`, the first of a byte, to the `SIZE` bytes that

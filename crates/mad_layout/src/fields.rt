@@ -25,6 +25,7 @@ macro_rules! read_field {
     ($bytes:ident u16 $off:literal 16) => { $crate::u16_at::<$off>($bytes) };
     ($bytes:ident u32 $off:literal 32) => { $crate::u32_at::<$off>($bytes) };
     ($bytes:ident u64 $off:literal 64) => { $crate::u64_at::<$off>($bytes) };
+    ($bytes:ident u128 $off:literal 128) => { $crate::u128_at::<$off>($bytes) };
     ($bytes:ident bytes_64 $off:literal $len:tt) => { $crate::bytes_at::<$off, $len, 64>($bytes) };
     ($bytes:ident bytes_200 $off:literal $len:tt) => { $crate::bytes_at::<$off, $len, 200>($bytes) };
     ($bytes:ident $kind:ident $off:literal $len:tt) => { $crate::get_bits::<$off, $len>($bytes) as $kind };
@@ -37,6 +38,7 @@ macro_rules! write_field {
     ($bytes:ident $record:ident $field:ident u16 $off:literal 16) => { $crate::put_u16_at::<$off>($bytes, $record.$field) };
     ($bytes:ident $record:ident $field:ident u32 $off:literal 32) => { $crate::put_u32_at::<$off>($bytes, $record.$field) };
     ($bytes:ident $record:ident $field:ident u64 $off:literal 64) => { $crate::put_u64_at::<$off>($bytes, $record.$field) };
+    ($bytes:ident $record:ident $field:ident u128 $off:literal 128) => { $crate::put_u128_at::<$off>($bytes, $record.$field) };
     ($bytes:ident $record:ident $field:ident bytes_64 $off:literal $len:tt) => {
         $crate::put_bytes_at::<$off, $len, 64>($bytes, &$record.$field)
     };

@@ -22,8 +22,8 @@ mod sa_mad;
 mod status;
 
 pub use crate::aligned::{
-    bytes_at, flag_at, put_bytes_at, put_flag_at, put_u16_at, put_u32_at, put_u64_at, u16_at,
-    u32_at, u64_at,
+    bytes_at, flag_at, put_bytes_at, put_flag_at, put_u16_at, put_u32_at, put_u64_at, put_u128_at,
+    u16_at, u32_at, u64_at, u128_at,
 };
 pub use crate::bits::{get_bits, known_bytes, put_bits};
 pub use crate::dr_smp::DrSmp;

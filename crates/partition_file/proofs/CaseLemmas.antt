@@ -1,5 +1,6 @@
 -- What a piece without a fault leaves: the definitions so far stay sound, and there is room for them.
-use Rattle.std.proofs.Common.{◌≡◌, ℕ, ◌≤◌, Bool, true, false, cond, not, ◌&&◌, ◌||◌, ◌==◌, nat_le, nat_lt, List, [], ◌∷◌, ◌++◌, codes, bytes_eq, option_map, Option, Some, None, refl, sym, ap, subst, ◌∙◌, arith}
+use Rattle.std.proofs.Common.{◌≡◌, ℕ, ◌≤◌, Bool, true, false, cond, not, ◌&&◌, ◌||◌, ◌==◌, nat_le, nat_lt, List, [], ◌∷◌, ◌++◌, codes, bytes_eq}
+use Rattle.std.proofs.Common.{option_map, Option, Some, None, refl, sym, ap, subst, ◌∙◌, arith}
 use Rattle.std.specs.List.{find}
 use Rattle.std.specs.Option.{option_and_then}
 use Rattle.std.proofs.lemmas.Bool.{and_from, and_parts, cond_both, lt-ltb, ltb-false, not-false, or_left, or_right}
@@ -12,7 +13,8 @@ use Rattle.partition_file.specs.declared.definition.Definition.{Definition}
 use Rattle.partition_file.specs.declared.definition_part.Part.{Part}
 use Rattle.partition_file.specs.declared.definition_part.Part.TheVariants as part
 use Rattle.partition_file.specs.declared.fault.PartitionCause.{PartitionCause}
-use Rattle.partition_file.specs.declared.fault.PartitionCause.TheVariants.{BadCharacter, BadNumber, ReservedKey, UnknownFlag, BothMembership, MgidItem, TooManyPartitions, Unfinished, BadFlagValue}
+use Rattle.partition_file.specs.declared.fault.PartitionCause.TheVariants.{BadCharacter, BadNumber, ReservedKey, UnknownFlag, BothMembership}
+use Rattle.partition_file.specs.declared.fault.PartitionCause.TheVariants.{MgidItem, TooManyPartitions, Unfinished, BadFlagValue}
 use Rattle.partition_file.specs.declared.flag.Flag.{Flag}
 use Rattle.partition_file.specs.declared.flag.Flag.TheVariants.{Ipoib, Indx0, Rate, Mtu, ServiceLevel, Scope, QKey, DefaultMembership}
 use Rattle.partition_file.specs.declared.flag.Flags.{Flags}
@@ -72,7 +74,8 @@ reserved_there : (s : Scanned) (delimiter : Delimiter) (token : Token) → has_f
 unfolding has_fault
 reserved_there s delimiter token = refl
 
-too_many_there : (s : Scanned) (delimiter : Delimiter) (token : Token) → has_fault s delimiter token TooManyPartitions ≡ is_one_too_many s.at delimiter (keys_of s.done) (key_here token s.current.key)
+too_many_there : (s : Scanned) (delimiter : Delimiter) (token : Token)
+    → has_fault s delimiter token TooManyPartitions ≡ is_one_too_many s.at delimiter (keys_of s.done) (key_here token s.current.key)
 unfolding has_fault
 too_many_there s delimiter token = refl
 
@@ -352,7 +355,8 @@ has_key s delimiter piece sound none =
     sound_key token delimiter s.current.key sound.valid (fits s.at piece) (sym (reserved_there s delimiter token) ∙ none_there s delimiter token none ReservedKey)
 
 -- the definition d is the current one with one more piece
-pub still_sound : (s : Scanned) (delimiter : Delimiter) (token : Token) (piece : List ℕ) (d : Definition) → IsSoundSoFar s → token ≡ token_of s.at piece → fault_of s delimiter token ≡ None
+pub still_sound : (s : Scanned) (delimiter : Delimiter) (token : Token) (piece : List ℕ) (d : Definition) → IsSoundSoFar s
+    → token ≡ token_of s.at piece → fault_of s delimiter token ≡ None
     → d ≡ with_piece s.current token delimiter piece → IsSoundSoFar (record { at = part_after s.at delimiter token; current = d; done = s.done })
 still_sound s delimiter token piece d sound says none h =
     subst (λ (t : Token). IsSoundSoFar (record { at = part_after s.at delimiter t; current = d; done = s.done })) (sym says)
@@ -374,7 +378,8 @@ pub record MayEnd (before : List Definition) (d : Definition) : Type 0 where
   pub flags : are_within d.flags ≡ true
   pub room : partition_count (keys_of before ++ d.key ∷ []) ≤ PARTITIONS
 
-pub may_end : (s : Scanned) (delimiter : Delimiter) (token : Token) (piece : List ℕ) (d : Definition) → IsSoundSoFar s → token ≡ token_of s.at piece → fault_of s delimiter token ≡ None
+pub may_end : (s : Scanned) (delimiter : Delimiter) (token : Token) (piece : List ℕ) (d : Definition) → IsSoundSoFar s → token ≡ token_of s.at piece
+    → fault_of s delimiter token ≡ None
     → d ≡ with_piece s.current token delimiter piece → is_semicolon delimiter ≡ true → MayEnd s.done d
 may_end s delimiter token piece d sound says none h ended =
     by (subst (λ (t : Token). fault_of s delimiter t ≡ None) says none) (subst (λ (t : Token). d ≡ with_piece s.current t delimiter piece) says h)
@@ -389,5 +394,6 @@ may_end s delimiter token piece d sound says none h ended =
         }
 
 -- a piece that was not taken leaves the definition's key
-pub as_before : (s : Scanned) (d : Definition) → IsSoundSoFar s → d.key ≡ s.current.key → d.flags ≡ s.current.flags → IsSoundSoFar (record { at = s.at; current = d; done = s.done })
+pub as_before : (s : Scanned) (d : Definition) → IsSoundSoFar s → d.key ≡ s.current.key → d.flags ≡ s.current.flags
+    → IsSoundSoFar (record { at = s.at; current = d; done = s.done })
 as_before s d sound h k = record { valid = rw h sound.valid; flags = rw k sound.flags; room = λ inside. rw h (sound.room inside) }

@@ -19,7 +19,8 @@ named_more : (keys : List (Option ℕ)) (key : Option ℕ) → named (keys ++ ke
 named_more keys key = filter_map-append (λ k. k) keys (key ∷ [])
 
 -- the bases seen, with one more key
-pub seen_more : (keys : List (Option ℕ)) (key : Option ℕ) → fold with_base (default_base ∷ []) (named (keys ++ key ∷ [])) ≡ with_key (fold with_base (default_base ∷ []) (named keys)) key
+pub seen_more : (keys : List (Option ℕ)) (key : Option ℕ)
+    → fold with_base (default_base ∷ []) (named (keys ++ key ∷ [])) ≡ with_key (fold with_base (default_base ∷ []) (named keys)) key
 seen_more keys None = ap (fold with_base (default_base ∷ [])) (named_more keys None ∙ append-nil (named keys))
 seen_more keys (Some base) = ap (fold with_base (default_base ∷ [])) (named_more keys (Some base)) ∙ fold-append with_base (default_base ∷ []) (named keys) (base ∷ [])
 
@@ -36,7 +37,8 @@ further_by seen None = refl
 further_by seen (Some base) = omega (arith, longer seen base (has_base base seen))
 
 -- how many partitions there are with one more definition
-pub count_more : (keys : List (Option ℕ)) (key : Option ℕ) → partition_count (keys ++ key ∷ []) ≡ partition_count keys + further (fold with_base (default_base ∷ []) (named keys)) key
+pub count_more : (keys : List (Option ℕ)) (key : Option ℕ)
+    → partition_count (keys ++ key ∷ []) ≡ partition_count keys + further (fold with_base (default_base ∷ []) (named keys)) key
 count_more keys key =
     let seen = fold with_base (default_base ∷ []) (named keys) in
     rw (seen_more keys key, rest_more keys key) (omega (arith, further_by seen key))
@@ -49,13 +51,16 @@ count_kept definitions seen others n key counted h =
 all_sound : (keys : List (Option ℕ)) (key : Option ℕ) → list_all is_sound_key keys ≡ true → is_sound_key key ≡ true → list_all is_sound_key (keys ++ key ∷ []) ≡ true
 all_sound keys key h one = list_all-append is_sound_key keys (key ∷ []) ∙ and_from (list_all is_sound_key keys) _ h (and_from (is_sound_key key) true one refl)
 
-all_within : (definitions : List Definition) (definition : Definition) → list_all (λ d. are_within d.flags) definitions ≡ true → are_within definition.flags ≡ true → list_all (λ d. are_within d.flags) (definitions ++ definition ∷ []) ≡ true
+all_within : (definitions : List Definition) (definition : Definition) → list_all (λ d. are_within d.flags) definitions ≡ true
+    → are_within definition.flags ≡ true → list_all (λ d. are_within d.flags) (definitions ++ definition ∷ []) ≡ true
 all_within definitions definition h one =
-    list_all-append (λ (d : Definition). are_within d.flags) definitions (definition ∷ []) ∙ and_from (list_all (λ d. are_within d.flags) definitions) _ h (and_from (are_within definition.flags) true one refl)
+    list_all-append (λ (d : Definition). are_within d.flags) definitions (definition ∷ [])
+    ∙ and_from (list_all (λ d. are_within d.flags) definitions) _ h (and_from (are_within definition.flags) true one refl)
 
 -- a definition that is sound and not one too many keeps what is counted
 pub counted_more : (definitions : List Definition) (definition : Definition) (seen : List ℕ) (others : ℕ) → AreCounted definitions seen others → is_sound_key definition.key ≡ true
-    → are_within definition.flags ≡ true → partition_count (keys_of definitions ++ definition.key ∷ []) ≤ PARTITIONS → AreCounted (definitions ++ definition ∷ []) (with_key seen definition.key) (others + one_if_none definition.key)
+    → are_within definition.flags ≡ true → partition_count (keys_of definitions ++ definition.key ∷ []) ≤ PARTITIONS
+    → AreCounted (definitions ++ definition ∷ []) (with_key seen definition.key) (others + one_if_none definition.key)
 counted_more definitions definition seen others counted valid within room =
     let keys = keys_more definitions definition in
     record {

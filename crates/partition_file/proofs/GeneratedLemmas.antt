@@ -1,5 +1,6 @@
 -- The bases of definitions that name none: there is always one that is free, and the least is found.
-use Rattle.std.proofs.Common.{◌≡◌, ℕ, zero, suc, ◌+◌, ◌<◌, ◌≤◌, Bool, true, false, cond, not, ◌==◌, ◌||◌, List, [], ◌∷◌, ◌++◌, length, Option, Some, None, is_none, refl, ap, subst, ◌∙◌, arith, length-append}
+use Rattle.std.proofs.Common.{◌≡◌, ℕ, zero, suc, ◌+◌, ◌<◌, ◌≤◌, Bool, true, false, cond, not, ◌==◌, ◌||◌, List, [], ◌∷◌, ◌++◌, length, Option, Some}
+use Rattle.std.proofs.Common.{None, is_none, refl, ap, subst, ◌∙◌, arith, length-append}
 use Rattle.std.specs.List.{cons_option, count_by, filter_map, find, fold, range_with_len}
 use Rattle.std.specs.Option.{unwrap_or}
 use Rattle.std.proofs.lemmas.Bool.Decides.{nat_tests}
@@ -49,7 +50,8 @@ shorter : (base : ℕ) (held : List ℕ) → has_base base held ≡ true → len
 shorter base [] h = absurd cc
 shorter base (first ∷ rest) h = by (first == base) h (λ k. shorter base rest k)
   where
-    by : (b : Bool) → (b || has_base base rest) ≡ true → (has_base base rest ≡ true → length (without base rest) + 1 ≡ length rest) → length (cond b rest (first ∷ without base rest)) + 1 ≡ length (first ∷ rest)
+    by : (b : Bool) → (b || has_base base rest) ≡ true → (has_base base rest ≡ true → length (without base rest) + 1 ≡ length rest)
+        → length (cond b rest (first ∷ without base rest)) + 1 ≡ length (first ∷ rest)
     by true k later = omega arith
     by false k later = omega (arith, later k)
 
@@ -60,7 +62,8 @@ still_there : (base other : ℕ) (held : List ℕ) → (base == other) ≡ false
 still_there base other [] apart h = h
 still_there base other (first ∷ rest) apart h = by (first == base) refl (first == other) refl h (λ k. still_there base other rest apart k)
   where
-    by : (b : Bool) → (first == base) ≡ b → (d : Bool) → (first == other) ≡ d → (d || has_base other rest) ≡ true → (has_base other rest ≡ true → has_base other (without base rest) ≡ true)
+    by : (b : Bool) → (first == base) ≡ b → (d : Bool) → (first == other) ≡ d → (d || has_base other rest) ≡ true
+        → (has_base other rest ≡ true → has_base other (without base rest) ≡ true)
         → has_base other (cond b rest (first ∷ without base rest)) ≡ true
     by true e true f k later = absurd (let gone = apart_by first base other e apart in cc)
     by true e false f k later = k
@@ -105,7 +108,8 @@ is_seen : (taken : List ℕ) (other : ℕ) (seen : List ℕ) → has_base other 
 is_seen [] other seen h = absurd cc
 is_seen (base ∷ taken) other seen h = by (base == other) refl h (λ k. is_seen taken other (with_base seen base) k)
   where
-    by : (b : Bool) → (base == other) ≡ b → (b || has_base other taken) ≡ true → (has_base other taken ≡ true → has_base other (fold with_base (with_base seen base) taken) ≡ true) → has_base other (fold with_base (with_base seen base) taken) ≡ true
+    by : (b : Bool) → (base == other) ≡ b → (b || has_base other taken) ≡ true
+        → (has_base other taken ≡ true → has_base other (fold with_base (with_base seen base) taken) ≡ true) → has_base other (fold with_base (with_base seen base) taken) ≡ true
     by true e k later =
         let there : has_base other (with_base seen base) ≡ true = subst (λ (x : ℕ). has_base x (with_base seen base) ≡ true) (same_base base other e) (added base seen (has_base base seen) refl) in
         kept_all taken other (with_base seen base) there
@@ -153,7 +157,8 @@ rest_some base keys = omega (arith, sum_by-cons (λ k. cond (is_none k) 1 0) (So
 rest_none : (keys : List (Option ℕ)) → count_by is_none (None ∷ keys) ≡ 1 + count_by is_none keys
 rest_none keys = sum_by-cons (λ k. cond (is_none k) 1 0) None keys
 
-next_few : (taken : List ℕ) (key : Option ℕ) (keys : List (Option ℕ)) → length (seen_of taken) + count_by is_none (key ∷ keys) ≤ PARTITIONS → length (seen_of (taken_after taken key)) + count_by is_none keys ≤ PARTITIONS
+next_few : (taken : List ℕ) (key : Option ℕ) (keys : List (Option ℕ)) → length (seen_of taken) + count_by is_none (key ∷ keys) ≤ PARTITIONS
+    → length (seen_of (taken_after taken key)) + count_by is_none keys ≤ PARTITIONS
 next_few taken (Some base) keys few = omega (arith, few, rest_some base keys)
 next_few taken None keys few = omega (arith, few, rest_none keys, seen_more taken (least_free taken))
 

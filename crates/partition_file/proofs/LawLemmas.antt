@@ -35,9 +35,11 @@ after_both (byte ∷ xs) ys so_far s =
     (λ t. after_both xs ys (so_far ++ byte ∷ []) t ∙ ap (λ (f : List ℕ). after (so_far ++ byte ∷ []) t xs >>= λ u. after f u ys) front)
     ∙ sym (bind_twice here (λ t. after (so_far ++ byte ∷ []) t xs) (λ u. after (so_far ++ byte ∷ xs) u ys))
 
-after_clean : (before rest : List ℕ) (byte : ℕ) (s : Scanned) → IsClean before s → after [] start (before ++ byte ∷ rest) ≡ (on_line (line_after before) (after_byte s (piece_after before) byte) >>= λ t. after (before ++ byte ∷ []) t rest)
+after_clean : (before rest : List ℕ) (byte : ℕ) (s : Scanned) → IsClean before s
+    → after [] start (before ++ byte ∷ rest) ≡ (on_line (line_after before) (after_byte s (piece_after before) byte) >>= λ t. after (before ++ byte ∷ []) t rest)
 unfolding after
-after_clean before rest byte s clean = after_both before (byte ∷ rest) [] start ∙ ap (λ (given : Result Scanned (AtLine PartitionCause)). given >>= λ t. after before t (byte ∷ rest)) clean
+after_clean before rest byte s clean =
+    after_both before (byte ∷ rest) [] start ∙ ap (λ (given : Result Scanned (AtLine PartitionCause)). given >>= λ t. after before t (byte ∷ rest)) clean
 
 -- ---- refused
 refused_text : (text : List ℕ) (e : AtLine PartitionCause) → whole (without_comments false text) ≡ Err e → partitions_of text ≡ Err e
@@ -86,7 +88,8 @@ pub record IsFound (so_far : List ℕ) (s : Scanned) (text : List ℕ) (e : AtLi
   pub told : IsToldFor (is_fault_at state (so_far ++ before) byte) e.cause
   pub line : e.line ≡ line_after (so_far ++ before)
 
-found_first : (so_far rest : List ℕ) (s : Scanned) (byte : ℕ) (f : PartitionCause) (e : AtLine PartitionCause) → after_byte s (piece_after so_far) byte ≡ Err f → record { line = line_after so_far; cause = f } ≡ e
+found_first : (so_far rest : List ℕ) (s : Scanned) (byte : ℕ) (f : PartitionCause) (e : AtLine PartitionCause)
+    → after_byte s (piece_after so_far) byte ≡ Err f → record { line = line_after so_far; cause = f } ≡ e
     → IsFound so_far s (byte ∷ rest) e
 unfolding after
 found_first so_far rest s byte f e h same = record {
@@ -100,7 +103,8 @@ found_first so_far rest s byte f e h same = record {
   line = sym (ap (λ (d : AtLine PartitionCause). d.line) same) ∙ ap line_after (sym (append-nil so_far));
 }
 
-found_later : (so_far rest : List ℕ) (s t : Scanned) (byte : ℕ) (e : AtLine PartitionCause) → after_byte s (piece_after so_far) byte ≡ Ok t → IsFound (so_far ++ byte ∷ []) t rest e → IsFound so_far s (byte ∷ rest) e
+found_later : (so_far rest : List ℕ) (s t : Scanned) (byte : ℕ) (e : AtLine PartitionCause) → after_byte s (piece_after so_far) byte ≡ Ok t
+    → IsFound (so_far ++ byte ∷ []) t rest e → IsFound so_far s (byte ∷ rest) e
 unfolding after
 found_later so_far rest s t byte e h found =
     let front : (so_far ++ byte ∷ []) ++ found.before ≡ so_far ++ byte ∷ found.before = append_assoc so_far (byte ∷ []) found.before in
@@ -120,7 +124,8 @@ unfolding after
 found [] so_far s e h = absurd cc
 found (byte ∷ rest) so_far s e h = by (after_byte s (piece_after so_far) byte) refl h (λ t there. found rest (so_far ++ byte ∷ []) t e there)
   where
-    by : (given : Result Scanned PartitionCause) → after_byte s (piece_after so_far) byte ≡ given → (on_line (line_after so_far) given >>= λ t. after (so_far ++ byte ∷ []) t rest) ≡ Err e
+    by : (given : Result Scanned PartitionCause) → after_byte s (piece_after so_far) byte ≡ given
+        → (on_line (line_after so_far) given >>= λ t. after (so_far ++ byte ∷ []) t rest) ≡ Err e
         → ((t : Scanned) → after (so_far ++ byte ∷ []) t rest ≡ Err e → IsFound (so_far ++ byte ∷ []) t rest e) → IsFound so_far s (byte ∷ rest) e
     by (Ok t) k there later = found_later so_far rest s t byte e k (later t there)
     by (Err f) k there later = found_first so_far rest s byte f e k (same_err {A = Scanned} (record { line = line_after so_far; cause = f }) e there)
@@ -143,7 +148,8 @@ whole_only_so : (shown : List ℕ) (e : AtLine PartitionCause) → whole shown �
 unfolding whole
 whole_only_so shown e h = by (after [] start shown) refl h
   where
-    by : (given : Result Scanned (AtLine PartitionCause)) → after [] start shown ≡ given → (given >>= λ s. on_line (line_after shown) (at_end s (piece_after shown))) ≡ Err e → HasFaultInside shown e ⊎ HasFaultAtEnd shown e
+    by : (given : Result Scanned (AtLine PartitionCause)) → after [] start shown ≡ given
+        → (given >>= λ s. on_line (line_after shown) (at_end s (piece_after shown))) ≡ Err e → HasFaultInside shown e ⊎ HasFaultAtEnd shown e
     by (Ok s) k there = inr (end_so shown e s k there)
     by (Err d) k there = inl (stopped_inside shown e (k ∙ ap (λ (x : AtLine PartitionCause). Err x) (same_err {A = List Definition} d e there)))
 
@@ -156,13 +162,15 @@ clean_next : (before rest : List ℕ) (byte : ℕ) (s t : Scanned) → after bef
 unfolding after
 clean_next before rest byte s t h fault = by (after_byte t (piece_after before) byte) refl h
   where
-    by : (given : Result Scanned PartitionCause) → after_byte t (piece_after before) byte ≡ given → (on_line (line_after before) given >>= λ u. after (before ++ byte ∷ []) u rest) ≡ Ok s → is_fault_at t before byte fault ≡ false
+    by : (given : Result Scanned PartitionCause) → after_byte t (piece_after before) byte ≡ given
+        → (on_line (line_after before) given >>= λ u. after (before ++ byte ∷ []) u rest) ≡ Ok s → is_fault_at t before byte fault ≡ false
     by (Ok u) k there = clean_here t u before byte k fault
     by (Err f) k there = absurd cc
 
 pub clean_throughout : CleanThroughout
 clean_throughout before rest byte s h = by (after [] start before) refl (sym (after_both before (byte ∷ rest) [] start) ∙ h)
   where
-    by : (given : Result Scanned (AtLine PartitionCause)) → after [] start before ≡ given → (given >>= λ t. after before t (byte ∷ rest)) ≡ Ok s → (t : Scanned) × (IsClean before t × ((fault : PartitionCause) → is_fault_at t before byte fault ≡ false))
+    by : (given : Result Scanned (AtLine PartitionCause)) → after [] start before ≡ given → (given >>= λ t. after before t (byte ∷ rest)) ≡ Ok s
+        → (t : Scanned) × (IsClean before t × ((fault : PartitionCause) → is_fault_at t before byte fault ≡ false))
     by (Ok t) k there = (t, (k, λ fault. clean_next before rest byte s t there fault))
     by (Err e) k there = absurd cc

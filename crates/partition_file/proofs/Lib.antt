@@ -5,6 +5,9 @@ pub mod ReadLemmas
 pub mod SoundLemmas
 pub mod TurnLemmas
 pub mod LawLemmas
+pub mod CutLemmas
+pub mod CutStepLemmas
+pub mod CutLawLemmas
 pub mod MemberLemmas
 pub mod GeneratedLemmas
 pub mod MembershipLemmas

@@ -1,5 +1,6 @@
 -- The keys of a port: one of each partition that it is a member of, no two of one base.
-use Rattle.std.proofs.Common.{◌≡◌, ◌&&◌, ℕ, suc, ◌+◌, ◌<◌, ◌≤◌, Bool, true, false, cond, ◌==◌, ◌||◌, nat_eq, List, [], ◌∷◌, ◌++◌, length, map, drop, get_or, Option, Some, None, refl, ap, subst, ◌∙◌, arith, append_assoc, length-append, drop-cons}
+use Rattle.std.proofs.Common.{◌≡◌, ◌&&◌, ℕ, suc, ◌+◌, ◌<◌, ◌≤◌, Bool, true, false, cond, ◌==◌, ◌||◌, nat_eq, List, [], ◌∷◌, ◌++◌, length, map, drop}
+use Rattle.std.proofs.Common.{get_or, Option, Some, None, refl, ap, subst, ◌∙◌, arith, append_assoc, length-append, drop-cons}
 use Rattle.std.specs.List.{AllByRecursion, IsDistinct, list_all, cons_option}
 use Rattle.std.specs.Option.{option_to_list}
 use Rattle.std.proofs.lemmas.Bool.{and_parts, or_from}
@@ -56,11 +57,13 @@ has_last base key [] = or_false (base_of key == base)
     or_false false = refl
 has_last base key (first ∷ held) = by (base_of first == base) (has_last base key held)
   where
-    by : (b : Bool) → has_base base (held ++ key ∷ []) ≡ (has_base base held || (base_of key == base)) → (b || has_base base (held ++ key ∷ [])) ≡ ((b || has_base base held) || (base_of key == base))
+    by : (b : Bool) → has_base base (held ++ key ∷ []) ≡ (has_base base held || (base_of key == base))
+        → (b || has_base base (held ++ key ∷ [])) ≡ ((b || has_base base held) || (base_of key == base))
     by true h = refl
     by false h = h
 
-still_free : (bases held : List ℕ) (base key : ℕ) → base_of key ≡ base → AllByRecursion (λ other. nat_eq base other ≡ false) bases → AreFree bases held → AreFree bases (held ++ key ∷ [])
+still_free : (bases held : List ℕ) (base key : ℕ) → base_of key ≡ base → AllByRecursion (λ other. nat_eq base other ≡ false) bases
+    → AreFree bases held → AreFree bases (held ++ key ∷ [])
 still_free [] held base key e apart free = tt
 still_free (other ∷ bases) held base key e apart free =
     let next : (base_of key == other) ≡ false = rw e apart.0 in
@@ -77,7 +80,8 @@ key_by base false full h = tt
 pub key_of_partition : (port : EndPort) (partition : Partition) → is_base partition.base ≡ true → KeyOf partition.base (key_in port partition)
 key_of_partition port partition h = key_by partition.base (is_member port partition) (is_full_member port partition) (base_below partition.base h)
 
-free_by : (bases held : List ℕ) (base : ℕ) (o : Option ℕ) → KeyOf base o → AllByRecursion (λ other. nat_eq base other ≡ false) bases → AreFree bases held → AreFree bases (held ++ option_to_list o)
+free_by : (bases held : List ℕ) (base : ℕ) (o : Option ℕ) → KeyOf base o → AllByRecursion (λ other. nat_eq base other ≡ false) bases
+    → AreFree bases held → AreFree bases (held ++ option_to_list o)
 free_by bases held base None k apart free = rw (append-nil held) free
 free_by bases held base (Some key) k apart free = still_free bases held base key k apart free
 
@@ -96,7 +100,8 @@ goes_on port partition left rest held all cut so_far =
     let valid = and_parts (is_base partition.base) (list_all is_base (all_bases rest)) kept.valid in
     record {
       same = keys_by held (key_in port partition) (keys_in rest port) (keys_in (partition ∷ rest) port) refl ∙ kept.same;
-      free = free_by (all_bases rest) held partition.base (key_in port partition) (key_of_partition port partition valid.0) (IsDistinct-head nat_eq partition.base (all_bases rest) kept.distinct) kept.free.1;
+      free =
+          free_by (all_bases rest) held partition.base (key_in port partition) (key_of_partition port partition valid.0) (IsDistinct-head nat_eq partition.base (all_bases rest) kept.distinct) kept.free.1;
       distinct = IsDistinct-tail nat_eq partition.base (all_bases rest) kept.distinct;
       room = omega (arith, kept.room, short_by held (key_in port partition));
       valid = valid.1;
@@ -108,7 +113,8 @@ pub record MayAdd (partition : Partition) (held : List ℕ) : Type 0 where
   pub free : has_base partition.base held ≡ false
   pub room : length held < PARTITIONS
 
-pub may_add : (port : EndPort) (partition : Partition) (left rest : List Partition) (held : List ℕ) (all : List Partition) → left ≡ partition ∷ rest → IsFilled port left held all → MayAdd partition held
+pub may_add : (port : EndPort) (partition : Partition) (left rest : List Partition) (held : List ℕ) (all : List Partition) → left ≡ partition ∷ rest
+    → IsFilled port left held all → MayAdd partition held
 may_add port partition left rest held all cut so_far =
     let kept : IsFilled port (partition ∷ rest) held all = subst (λ (l : List Partition). IsFilled port l held all) cut so_far in
     record {
@@ -127,7 +133,8 @@ same_bases : (partitions : List Partition) → bases_in (map heading_of partitio
 same_bases [] = refl
 same_bases (partition ∷ rest) = ap (λ (bases : List ℕ). partition.base ∷ bases) (same_bases rest)
 
-same_groups : (partitions : List Partition) → list_all (λ heading. has_fit_group heading.group) (map heading_of partitions) ≡ list_all (λ partition. has_fit_group partition.group) partitions
+same_groups : (partitions : List Partition)
+    → list_all (λ heading. has_fit_group heading.group) (map heading_of partitions) ≡ list_all (λ partition. has_fit_group partition.group) partitions
 same_groups [] = refl
 same_groups (partition ∷ rest) = ap (λ (b : Bool). has_fit_group partition.group && b) (same_groups rest)
 

@@ -27,7 +27,8 @@ passed_by : (base other : ℕ) (key : Option ℕ) (rest : List ℕ) → KeyOf ba
 passed_by base other None rest is apart = refl
 passed_by base other (Some key) rest is apart = rw (is, apart) refl
 
-none_of_base : (port : EndPort) (base : ℕ) (partitions : List Partition) → list_all is_base (all_bases partitions) ≡ true → AllByRecursion (λ other. nat_eq base other ≡ false) (all_bases partitions)
+none_of_base : (port : EndPort) (base : ℕ) (partitions : List Partition) → list_all is_base (all_bases partitions) ≡ true
+    → AllByRecursion (λ other. nat_eq base other ≡ false) (all_bases partitions)
     → find_base base (keys_in partitions port) ≡ None
 none_of_base port base [] valid apart = refl
 none_of_base port base (partition ∷ rest) valid apart =

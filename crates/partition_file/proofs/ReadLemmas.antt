@@ -1,5 +1,6 @@
 -- How far a partition text is read: the loop over its bytes.
-use Rattle.std.proofs.Common.{◌≡◌, ℕ, suc, ◌+◌, ◌-◌, ◌<◌, ◌≤◌, Bool, true, false, cond, not, List, [], ◌∷◌, ◌++◌, length, take, drop, get_or, reverse, Result, Ok, refl, sym, ap, subst, ◌∙◌, arith, length-drop, drop-cons}
+use Rattle.std.proofs.Common.{◌≡◌, ℕ, suc, ◌+◌, ◌-◌, ◌<◌, ◌≤◌, Bool, true, false, cond, not, List, [], ◌∷◌, ◌++◌, length, take, drop, get_or, reverse}
+use Rattle.std.proofs.Common.{Result, Ok, refl, sym, ap, subst, ◌∙◌, arith, length-drop, drop-cons}
 use Rattle.std.specs.List.{take_while}
 use Rattle.std.specs.Prelude.{Option}
 use Rattle.std.proofs.lemmas.List.{take_more, take_all, drop_all, reverse-append, get_or-drop}
@@ -18,11 +19,12 @@ use Rattle.result_words.specs.Gives.{Fails}
 reverse_more : (text : List ℕ) (byte : ℕ) → reverse (text ++ byte ∷ []) ≡ byte ∷ reverse text
 reverse_more text byte = reverse-append text (byte ∷ [])
 
-since_by : (passes : ℕ → Bool) (text : List ℕ) (byte : ℕ) (b : Bool) → reverse (cond (not b) (byte ∷ take_while (λ x. not (passes x)) (reverse text)) []) ≡ cond b [] (since passes text ++ byte ∷ [])
+since_by : (passes : ℕ → Bool) (text : List ℕ) (byte : ℕ) (b : Bool)
+    → reverse (cond (not b) (byte ∷ take_while (λ x. not (passes x)) (reverse text)) []) ≡ cond b [] (since passes text ++ byte ∷ [])
 since_by passes text byte true = refl
 since_by passes text byte false = reverse-append (byte ∷ []) (take_while (λ x. not (passes x)) (reverse text))
 
-since_more : (passes : ℕ → Bool) (text : List ℕ) (byte : ℕ) → since passes (text ++ byte ∷ []) ≡ cond (passes byte) [] (since passes text ++ byte ∷ [])
+pub since_more : (passes : ℕ → Bool) (text : List ℕ) (byte : ℕ) → since passes (text ++ byte ∷ []) ≡ cond (passes byte) [] (since passes text ++ byte ∷ [])
 since_more passes text byte =
     ap (λ (r : List ℕ). reverse (take_while (λ x. not (passes x)) r)) (reverse_more text byte)
     ∙ ap (λ (r : List ℕ). reverse r) (take_while-cons (λ x. not (passes x)) byte (reverse text))
@@ -54,7 +56,8 @@ raw_more text i from false within below h =
     let short : i - from < length (drop from text) = omega (arith, length-drop from text) in
     let place : from + (i - from) ≡ i = omega arith in
     let last : get_or (drop from text) (i - from) 0 ≡ get_or text i 0 = get_or-drop from text (i - from) 0 ∙ ap (λ k. get_or text k 0) place in
-    ap (λ k. take k (drop from text)) n ∙ take_more (drop from text) (i - from) 0 short ∙ ap (λ (front : List ℕ). front ++ get_or (drop from text) (i - from) 0 ∷ []) h ∙ ap (λ k. since is_delimiter (take i text) ++ k ∷ []) last
+    ap (λ k. take k (drop from text)) n ∙ take_more (drop from text) (i - from) 0 short
+    ∙ ap (λ (front : List ℕ). front ++ get_or (drop from text) (i - from) 0 ∷ []) h ∙ ap (λ k. since is_delimiter (take i text) ++ k ∷ []) last
 
 raw_next : (text : List ℕ) (i from byte : ℕ) → byte ≡ get_or text i 0 → i < length text → from ≤ i → take (i - from) (drop from text) ≡ since is_delimiter (take i text)
     → take (i + 1 - next_from (is_delimiter byte) from i) (drop (next_from (is_delimiter byte) from i) text) ≡ since is_delimiter (take (i + 1) text)
@@ -65,7 +68,8 @@ raw_next text i from byte e within below h =
     ∙ ap (λ k. since is_delimiter (take i text ++ k ∷ [])) e
     ∙ ap (since is_delimiter) (sym (take_more text i 0 within))
 
-line_by : (text : List ℕ) (i number : ℕ) (b : Bool) → is_line_end (get_or text i 0) ≡ b → i < length text → number ≡ line_after (take i text) → next_line b number ≡ line_after (take (i + 1) text)
+line_by : (text : List ℕ) (i number : ℕ) (b : Bool) → is_line_end (get_or text i 0) ≡ b → i < length text → number ≡ line_after (take i text)
+    → next_line b number ≡ line_after (take (i + 1) text)
 line_by text i number true e within h = omega (arith, h, count_by_more_yes is_line_end text i 0 within e)
 line_by text i number false e within h = omega (arith, h, count_by_more_no is_line_end text i 0 within e)
 
@@ -95,16 +99,20 @@ goes_so text i from number s byte e within so_far =
     ∙ bind_twice (on_line number (after_byte s (folded (take (i - from) (drop from text))) byte)) (λ t. after (take (i + 1) text) t (drop (i + 1) text)) finish
 
 pub goes_on : (text : List ℕ) (i from number : ℕ) (s t : Scanned) (byte : ℕ) → byte ≡ get_or text i 0 → i < length text → IsReadTo text i from number s
-    → on_line number (after_byte s (folded (take (i - from) (drop from text))) byte) ≡ Ok t → IsReadTo text (i + 1) (next_from (is_delimiter byte) from i) (next_line (is_line_end byte) number) t
+    → on_line number (after_byte s (folded (take (i - from) (drop from text))) byte) ≡ Ok t
+    → IsReadTo text (i + 1) (next_from (is_delimiter byte) from i) (next_line (is_line_end byte) number) t
 goes_on text i from number s t byte e within so_far judged = record {
-  gives = goes_so text i from number s byte e within so_far ∙ bind_after (on_line number (after_byte s (folded (take (i - from) (drop from text))) byte)) (λ u. after (take (i + 1) text) u (drop (i + 1) text) >>= λ v. on_line (line_after text) (at_end v (piece_after text))) t judged;
+  gives =
+      goes_so text i from number s byte e within so_far
+      ∙ bind_after (on_line number (after_byte s (folded (take (i - from) (drop from text))) byte)) (λ u. after (take (i + 1) text) u (drop (i + 1) text) >>= λ v. on_line (line_after text) (at_end v (piece_after text))) t judged;
   line = line_by text i number (is_line_end byte) (ap is_line_end (sym e)) within so_far.line;
   few = few_by number i (is_line_end byte) so_far.few;
   below = below_by from i (is_delimiter byte) so_far.below;
   raw = raw_next text i from byte e within so_far.below so_far.raw;
 }
 
-pub stops : (told : Option (AtLine PartitionCause)) (text : List ℕ) (i from number : ℕ) (s : Scanned) (byte : ℕ) → byte ≡ get_or text i 0 → i < length text → IsReadTo text i from number s
+pub stops : (told : Option (AtLine PartitionCause)) (text : List ℕ) (i from number : ℕ) (s : Scanned) (byte : ℕ) → byte ≡ get_or text i 0
+    → i < length text → IsReadTo text i from number s
     → Fails told (on_line number (after_byte s (folded (take (i - from) (drop from text))) byte)) → Fails told (whole text)
 stops told text i from number s byte e within so_far h =
     subst (λ (given : Result (List Definition) (AtLine PartitionCause)). Fails told given) (sym (goes_so text i from number s byte e within so_far))

@@ -1,5 +1,6 @@
 -- What is so of all partitions that definitions make.
-use Rattle.std.proofs.Common.{◌≡◌, lit≤, ℕ, zero, suc, ◌+◌, ◌<◌, ◌≤◌, Bool, true, false, cond, not, ◌==◌, ◌||◌, ◌⊎◌, inl, inr, nat_eq, List, [], ◌∷◌, ◌++◌, length, map, Option, Some, None, is_none, refl, sym, ap, subst, ◌∙◌, arith, length-append, nat_le, option_map}
+use Rattle.std.proofs.Common.{◌≡◌, lit≤, ℕ, zero, suc, ◌+◌, ◌<◌, ◌≤◌, Bool, true, false, cond, not, ◌==◌, ◌||◌, ◌⊎◌, inl, inr, nat_eq, List, [], ◌∷◌}
+use Rattle.std.proofs.Common.{◌++◌, length, map, Option, Some, None, is_none, refl, sym, ap, subst, ◌∙◌, arith, length-append, nat_le, option_map}
 use Rattle.std.specs.List.{IsDistinct, count_by, filter_map, find, fold, list_all, list_any, range_with_len, slice_get}
 use Rattle.std.specs.Option.{option_map, unwrap_or}
 use Rattle.std.proofs.lemmas.Bool.{and_from, and_parts}
@@ -13,7 +14,8 @@ use Rattle.pkey_rules.specs.PKey.{default_base, is_base}
 use Rattle.partition_file.specs.declared.definition.Definition.{Definition}
 use Rattle.partition_file.specs.declared.partition.Partition.{Partition}
 use Rattle.partition_file.specs.Counting.{has_base, keys_of, named, partition_count, with_base}
-use Rattle.partition_file.specs.Partitions.{Ruled, group_by, group_of, makes_group, base_for, bases_of, first_free, least_free, partition_of, partitions_in, rules_after, rules_of, taken_after}
+use Rattle.partition_file.specs.Partitions.{Ruled, group_by, group_of, makes_group, base_for, bases_of, first_free, least_free, partition_of}
+use Rattle.partition_file.specs.Partitions.{partitions_in, rules_after, rules_of, taken_after}
 use Rattle.pkey_rules.specs.declared.key_table.TheConstants.{PARTITIONS}
 use Rattle.partition_file.specs.declared.flag.Flag.TheVariants.{Rate, Mtu, ServiceLevel, Scope}
 use Rattle.partition_file.specs.declared.flag.Flags.{Flags}
@@ -105,7 +107,8 @@ valid_key : (taken : List ℕ) (key : Option ℕ) → is_sound_key key ≡ true 
 valid_key taken (Some base) h = h
 valid_key taken None h = least_free_base taken
 
-valid_all : (keys : List (Option ℕ)) (taken seen : List ℕ) → list_all is_base seen ≡ true → list_all is_sound_key keys ≡ true → list_all is_base (fold with_base seen (bases_after taken keys)) ≡ true
+valid_all : (keys : List (Option ℕ)) (taken seen : List ℕ) → list_all is_base seen ≡ true → list_all is_sound_key keys ≡ true
+    → list_all is_base (fold with_base seen (bases_after taken keys)) ≡ true
 valid_all [] taken seen h sound = h
 valid_all (key ∷ keys) taken seen h sound =
     let parts = and_parts (is_sound_key key) (list_all is_sound_key keys) sound in
@@ -125,7 +128,8 @@ has_last base other [] = or_false (other == base)
     or_false false = refl
 has_last base other (first ∷ seen) = by (first == base) (has_last base other seen)
   where
-    by : (b : Bool) → has_base base (seen ++ other ∷ []) ≡ (has_base base seen || (other == base)) → (b || has_base base (seen ++ other ∷ [])) ≡ ((b || has_base base seen) || (other == base))
+    by : (b : Bool) → has_base base (seen ++ other ∷ []) ≡ (has_base base seen || (other == base))
+        → (b || has_base base (seen ++ other ∷ [])) ≡ ((b || has_base base seen) || (other == base))
     by true h = refl
     by false h = h
 
@@ -216,7 +220,8 @@ fits_by flags h =
     let rest = and_parts (is_within (greatest ServiceLevel) flags.service_level) (is_within (greatest Scope) flags.scope) mtu.1 in
     and_from _ _ (fit_or 5 3 flags.rate rate.0 refl) (and_from _ _ (fit_or 4 4 flags.mtu mtu.0 refl) (and_from _ _ (fit_or 15 0 flags.service_level rest.0 refl) (fit_or 15 2 flags.scope rest.1 refl)))
 
-group_fits : (test : Ruled → Bool) (rules : List Ruled) → list_all (λ rule. are_within rule.definition.flags) rules ≡ true → has_fit_group (option_map (λ rule. group_by rule.definition.flags) (find test rules)) ≡ true
+group_fits : (test : Ruled → Bool) (rules : List Ruled) → list_all (λ rule. are_within rule.definition.flags) rules ≡ true
+    → has_fit_group (option_map (λ rule. group_by rule.definition.flags) (find test rules)) ≡ true
 group_fits test [] h = refl
 group_fits test (rule ∷ rules) h =
     let parts = and_parts (are_within rule.definition.flags) (list_all (λ rule. are_within rule.definition.flags) rules) h in
@@ -227,11 +232,13 @@ group_fits test (rule ∷ rules) h =
     by true here later = here
     by false here later = later
 
-groups_fit : (rules : List Ruled) (bases : List ℕ) → list_all (λ rule. are_within rule.definition.flags) rules ≡ true → list_all (λ partition. has_fit_group partition.group) (map (partition_of rules) bases) ≡ true
+groups_fit : (rules : List Ruled) (bases : List ℕ) → list_all (λ rule. are_within rule.definition.flags) rules ≡ true
+    → list_all (λ partition. has_fit_group partition.group) (map (partition_of rules) bases) ≡ true
 groups_fit rules [] h = refl
 groups_fit rules (base ∷ bases) h = and_from (has_fit_group (group_of rules base)) _ (group_fits (makes_group base) rules h) (groups_fit rules bases h)
 
-rules_within : (taken : List ℕ) (definitions : List Definition) → list_all (λ definition. are_within definition.flags) definitions ≡ true → list_all (λ rule. are_within rule.definition.flags) (rules_after taken definitions) ≡ true
+rules_within : (taken : List ℕ) (definitions : List Definition) → list_all (λ definition. are_within definition.flags) definitions ≡ true
+    → list_all (λ rule. are_within rule.definition.flags) (rules_after taken definitions) ≡ true
 rules_within taken [] h = refl
 rules_within taken (definition ∷ rest) h =
     let parts = and_parts (are_within definition.flags) (list_all (λ definition. are_within definition.flags) rest) h in

@@ -3,7 +3,8 @@ use Rattle.std.proofs.Common.{◌≡◌, ℕ, zero, suc, ◌+◌, ◌<◌, ◌�
 use Rattle.std.specs.List.{find}
 use Rattle.std.proofs.lemmas.Bool.Decides.{nat_tests}
 use Rattle.partition_file.specs.declared.fault.PartitionCause.{PartitionCause}
-use Rattle.partition_file.specs.declared.fault.PartitionCause.TheVariants.{BadCharacter, BadNumber, ReservedKey, UnknownFlag, BothMembership, MgidItem, TooManyPartitions, Unfinished, BadFlagValue}
+use Rattle.partition_file.specs.declared.fault.PartitionCause.TheVariants.{BadCharacter, BadNumber, ReservedKey, UnknownFlag, BothMembership}
+use Rattle.partition_file.specs.declared.fault.PartitionCause.TheVariants.{MgidItem, TooManyPartitions, Unfinished, BadFlagValue}
 use Rattle.partition_file.specs.declared.piece.Delimiter.{Delimiter}
 use Rattle.result_words.specs.Steps.{unless}
 use Rattle.partition_file.specs.Pieces.{delimiter_of, is_allowed, piece_after}
@@ -74,12 +75,14 @@ above n m b e k h = grind (arith, nat_tests)
 equal_by : (m n : ℕ) → (m == n) ≡ true → m ≡ n
 equal_by m n h = grind (arith, nat_tests)
 
-first_found : (holds : PartitionCause → Bool) (faults : List PartitionCause) (n : ℕ) (f g : PartitionCause) → InOrder n faults → find holds faults ≡ Some f → holds g ≡ true → n ≤ turn g → turn f ≤ turn g
+first_found : (holds : PartitionCause → Bool) (faults : List PartitionCause) (n : ℕ) (f g : PartitionCause) → InOrder n faults
+    → find holds faults ≡ Some f → holds g ≡ true → n ≤ turn g → turn f ≤ turn g
 first_found holds [] n f g order h k low = absurd cc
 first_found holds (fault ∷ rest) n f g order h k low = by (holds fault) refl h (λ there next. first_found holds rest (n + 1) f g order.1 there k next)
   where
     later : (b : Bool) → (turn g == n) ≡ b → holds fault ≡ false → (n + 1 ≤ turn g → turn f ≤ turn g) → turn f ≤ turn g
-    later true e none goes_on = absurd (let same : g ≡ fault = same_turn g fault (equal_by (turn g) n e ∙ sym order.0) in let gone : holds g ≡ false = subst (λ (x : PartitionCause). holds x ≡ false) (sym same) none in cc)
+    later true e none goes_on =
+        absurd (let same : g ≡ fault = same_turn g fault (equal_by (turn g) n e ∙ sym order.0) in let gone : holds g ≡ false = subst (λ (x : PartitionCause). holds x ≡ false) (sym same) none in cc)
     later false e none goes_on = goes_on (above n (turn g) false e refl low)
 
     by : (b : Bool) → holds fault ≡ b → cond b (Some fault) (find holds rest) ≡ Some f → (find holds rest ≡ Some f → n + 1 ≤ turn g → turn f ≤ turn g) → turn f ≤ turn g
@@ -106,7 +109,8 @@ told_there : (s : Scanned) (delimiter : Delimiter) (token : Token) (f : Partitio
 unfolding fault_of
 told_there s delimiter token f h = found_there (has_fault s delimiter token) in_turn f h
 
-told_first : (s : Scanned) (delimiter : Delimiter) (token : Token) (f g : PartitionCause) → fault_of s delimiter token ≡ Some f → has_fault s delimiter token g ≡ true → turn f ≤ turn g
+told_first : (s : Scanned) (delimiter : Delimiter) (token : Token) (f g : PartitionCause) → fault_of s delimiter token ≡ Some f
+    → has_fault s delimiter token g ≡ true → turn f ≤ turn g
 unfolding fault_of
 told_first s delimiter token f g h k = first_found (has_fault s delimiter token) in_turn 0 f g all_in_order h k (omega arith)
 
@@ -126,7 +130,8 @@ refused_at s None allowed piece TooManyPartitions h first = absurd cc
 refused_at s None allowed piece Unfinished h first = absurd cc
 refused_at s None allowed piece BadFlagValue h first = absurd cc
 
-pub refused_here : (s : Scanned) (before : List ℕ) (byte : ℕ) (f : PartitionCause) → is_fault_at s before byte f ≡ true → ((g : PartitionCause) → is_fault_at s before byte g ≡ true → turn f ≤ turn g)
+pub refused_here : (s : Scanned) (before : List ℕ) (byte : ℕ) (f : PartitionCause) → is_fault_at s before byte f ≡ true
+    → ((g : PartitionCause) → is_fault_at s before byte g ≡ true → turn f ≤ turn g)
     → after_byte s (piece_after before) byte ≡ Err f
 unfolding after_byte is_fault_at
 refused_here s before byte f h first = refused_at s (delimiter_of byte) (is_allowed byte) (piece_after before) f h first
@@ -136,7 +141,8 @@ pub record IsToldFor (holds : PartitionCause → Bool) (f : PartitionCause) : Ty
   pub there : holds f ≡ true
   pub first : (g : PartitionCause) → holds g ≡ true → turn f ≤ turn g
 
-told_by : (s : Scanned) (delimiter : Delimiter) (token : Token) (piece : List ℕ) (f : PartitionCause) → judged_as s delimiter token piece ≡ Err f → IsToldFor (has_fault s delimiter token) f
+told_by : (s : Scanned) (delimiter : Delimiter) (token : Token) (piece : List ℕ) (f : PartitionCause) → judged_as s delimiter token piece ≡ Err f
+    → IsToldFor (has_fault s delimiter token) f
 told_by s delimiter token piece f h =
     let told : fault_of s delimiter token ≡ Some f = unless_err (fault_of s delimiter token) (next s delimiter token piece) f h in
     record { there = told_there s delimiter token f told; first = λ other k. told_first s delimiter token f other told k }
@@ -152,7 +158,8 @@ only_character s piece TooManyPartitions h = absurd cc
 only_character s piece Unfinished h = absurd cc
 only_character s piece BadFlagValue h = absurd cc
 
-told_at_byte : (s : Scanned) (o : Option Delimiter) (allowed : Bool) (piece : List ℕ) (f : PartitionCause) → judged_at s o allowed piece ≡ Err f → IsToldFor (faults_of s o allowed piece) f
+told_at_byte : (s : Scanned) (o : Option Delimiter) (allowed : Bool) (piece : List ℕ) (f : PartitionCause) → judged_at s o allowed piece ≡ Err f
+    → IsToldFor (faults_of s o allowed piece) f
 told_at_byte s (Some delimiter) allowed piece f h = told_by s delimiter (token_of s.at piece) piece f h
 told_at_byte s None true piece f h = absurd cc
 told_at_byte s None false piece f h =
@@ -176,7 +183,8 @@ no_character s piece TooManyPartitions = refl
 no_character s piece Unfinished = refl
 no_character s piece BadFlagValue = refl
 
-clean_at_byte : (s t : Scanned) (o : Option Delimiter) (allowed : Bool) (piece : List ℕ) → judged_at s o allowed piece ≡ Ok t → (g : PartitionCause) → faults_of s o allowed piece g ≡ false
+clean_at_byte : (s t : Scanned) (o : Option Delimiter) (allowed : Bool) (piece : List ℕ) → judged_at s o allowed piece ≡ Ok t → (g : PartitionCause)
+    → faults_of s o allowed piece g ≡ false
 clean_at_byte s t (Some delimiter) allowed piece h g =
     let token = token_of s.at piece in
     none_there s delimiter token (unless_ok (fault_of s delimiter token) (next s delimiter token piece) t h).0 g

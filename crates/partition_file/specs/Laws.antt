@@ -1,5 +1,5 @@
 -- What is so of every partition text and of all partitions: the statements of the laws of `src/laws.rt`.
-use Rattle.std.specs.Prelude.{ℕ, ◌≡◌, ◌⊎◌, false, All, List, ◌∷◌, ◌++◌, filter_map, take, Err}
+use Rattle.std.specs.Prelude.{ℕ, ◌≡◌, ◌⊎◌, false, All, List, ◌∷◌, ◌++◌, filter_map, take, Ok, Err}
 use Rattle.pkey_rules.specs.KeyTable.{find_base}
 use Rattle.pkey_rules.specs.declared.end_port.EndPort.{EndPort}
 use Rattle.result_words.specs.AtLine.{AtLine}
@@ -8,10 +8,11 @@ use Rattle.partition_file.specs.declared.fault.PartitionCause.{PartitionCause}
 use Rattle.partition_file.specs.declared.partition.Partition.{Partition}
 use Rattle.partition_file.specs.Pieces.{without_comments}
 use Rattle.partition_file.specs.Scanned.{Scanned}
+use Rattle.partition_file.specs.Cut.{definitions_cut}
 use Rattle.partition_file.specs.FirstFault.{HasFaultAtEnd, HasFaultInside, IsClean, is_fault_at}
 use Rattle.partition_file.specs.Generated.{AllGetFree}
 use Rattle.partition_file.specs.Members.{key_in, keys_in}
-use Rattle.partition_file.specs.Partitions.{partitions_of}
+use Rattle.partition_file.specs.Partitions.{partitions_in, partitions_of}
 use Rattle.partition_file.specs.Sound.{AreSound, IsSound}
 
 -- ---- which fault a text is refused for
@@ -36,6 +37,12 @@ CleanThroughout = (before rest : List ℕ) (byte : ℕ) (s : Scanned) → IsClea
 -- the beginnings of a text without its comments are the beginnings of the text, without theirs
 abbrev pub CommentsByBeginning : Type 0
 CommentsByBeginning = (text : List ℕ) (n : ℕ) → take n (without_comments false text) ≡ without_comments false (take n text)
+
+-- ---- what a text that is read says
+-- its partitions are those of the definitions that cutting it gives, its comments blanked
+abbrev pub TextsAreCut : Type 0
+TextsAreCut = (text : List ℕ) (partitions : List Partition) → partitions_of text ≡ Ok partitions
+    → partitions ≡ partitions_in (definitions_cut (without_comments false text))
 
 -- ---- bases and keys
 -- each definition that names no base gets the least that is free; what the whole file names is taken from the start

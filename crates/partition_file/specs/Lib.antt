@@ -8,6 +8,7 @@ pub mod Scanned
 pub mod Tokens
 pub mod Cases
 pub mod Definitions
+pub mod Cut
 pub mod Partitions
 pub mod Sound
 pub mod FirstFault

@@ -2,7 +2,7 @@
 //! theorems.
 
 ghost use Rattle.partition_file.specs.Laws.{GeneratedBasesAreFree};
-ghost use Rattle.partition_file.specs.Laws.{KeysTellMembership};
+ghost use Rattle.partition_file.specs.Laws.{KeysTellMembership, TextsAreCut};
 ghost use Rattle.partition_file.specs.Laws.{CleanThroughout, CommentsByBeginning, EndRefuses, InsideRefuses, OnlySoRefused};
 
 /// Which fault a partition text is refused for, as a law over the definitions that [`read`] meets.
@@ -25,6 +25,18 @@ pub fn texts_are_refused_for_their_first_fault()
     ensures clean { CleanThroughout }
     // Comments don't matter to any of this.
     ensures comments { CommentsByBeginning }
+{}
+
+/// What a partition text says that is read. Cut it at each `;`, comments blanked: what stands before each
+/// is a definition. Cut a definition at its `:`, and both sides at each `,`; before the `:` the first part
+/// is its name, with a PKey behind the `=` if it has one, the others are flags, with values behind theirs;
+/// the parts behind the `:` are the ports that it lists, with their membership behind the `=`. White space
+/// at the ends of a word counts for nothing. The partitions that [`read`] gives are those of these
+/// definitions. The function does nothing; its clause is the theorem.
+///
+/// [`read`]: crate::read
+pub fn partitions_are_cut_from_the_text()
+    ensures { TextsAreCut }
 {}
 
 /// The law of the bases of definitions that name none: each is one that no definition of the file

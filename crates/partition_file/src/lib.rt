@@ -3,7 +3,8 @@
 //! [`read`] gives the [`Partitions`] that a text describes, or its first fault with the line; a text
 //! is never read in part. What definitions a text has is stated in `specs/Definitions.antt`, what is
 //! refused in `specs/Cases.antt`, asked of what each piece says (`specs/Tokens.antt`), and what
-//! partitions definitions make in `specs/Partitions.antt`. The text is that of OpenSM's partition files,
+//! partitions definitions make in `specs/Partitions.antt`. That these definitions are what cutting the whole
+//! text gives (`specs/Cut.antt`) is a law of `laws`. The text is that of OpenSM's partition files,
 //! read strictly.
 #![tactic(auto)]
 
@@ -33,7 +34,8 @@ pub use crate::fault::{PartFault, PartitionCause};
 pub use crate::heading::Heading;
 pub use crate::item::{Item, ItemList, Ports};
 pub use crate::laws::{
-    generated_bases_are_free, keys_tell_membership, texts_are_refused_for_their_first_fault,
+    generated_bases_are_free, keys_tell_membership, partitions_are_cut_from_the_text,
+    texts_are_refused_for_their_first_fault,
 };
 pub use crate::member_keys::Members;
 pub use crate::membership::members;

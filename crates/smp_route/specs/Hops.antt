@@ -5,7 +5,7 @@ use Rattle.fabric_parts.specs.declared.node_type.NodeType.{NodeType}
 use Rattle.fabric_parts.specs.declared.node_type.NodeType.TheVariants.{ChannelAdapter, Switch}
 use Rattle.smp_route.specs.declared.hop.Hop.{Hop}
 use Rattle.smp_route.specs.declared.hop.Hop.TheVariants.{Forward, ToAgent, ToManager, Discard}
-use Rattle.smp_route.specs.Places.{pointer, count, initial_port, return_port, with_pointer, with_return_port}
+use Rattle.smp_route.specs.HopFields.{pointer, count, initial_port, return_port, with_pointer, with_return_port}
 
 -- where the SMP goes, and what it is then
 pub record Step : Type 0 where

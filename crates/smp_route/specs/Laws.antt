@@ -4,7 +4,7 @@
 use Rattle.std.specs.Prelude.{ℕ, ◌≡◌, ◌+◌, ◌*◌, ◌<◌, List, length}
 use Rattle.std.specs.Int.Digits.{AllBelowBase}
 use Rattle.mad_layout.specs.Bits.{field, put_field}
-use Rattle.smp_route.specs.Places.{pointer, count, initial_port, return_port, with_pointer, with_return_port}
+use Rattle.smp_route.specs.HopFields.{pointer, count, initial_port, return_port, with_pointer, with_return_port}
 
 pub record AreFields (smp : List ℕ) : Type 0 where
   pub pointer_is : pointer smp ≡ field smp 48 8

@@ -1,3 +1,3 @@
-pub mod Places
+pub mod HopFields
 pub mod Hops
 pub mod Laws

@@ -1,7 +1,7 @@
 //! What hops, and the two ends of a path, read and write of an SMP.
 
 ghost use Rattle.std.specs.Prelude.{◌≡◌, ◌+◌, ◌<◌, ℕ, slice_set};
-ghost use Rattle.smp_route.specs.Places.{pointer, count, initial_port, is_outgoing, return_port, turned_round, with_pointer, with_return_port};
+ghost use Rattle.smp_route.specs.HopFields.{pointer, count, initial_port, is_outgoing, return_port, turned_round, with_pointer, with_return_port};
 
 use mad_layout::{Mad, get_bits, put_bits};
 

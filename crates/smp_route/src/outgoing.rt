@@ -2,7 +2,7 @@
 
 ghost use Rattle.std.specs.Prelude.{◌≡◌, ◌≤◌};
 ghost use Rattle.fabric_parts.specs.declared.node_type.NodeType.TheVariants.{Switch};
-ghost use Rattle.smp_route.specs.Places.{pointer, count};
+ghost use Rattle.smp_route.specs.HopFields.{pointer, count};
 ghost use Rattle.smp_route.specs.Hops.{noted, outgoing, sent, came_in, handed_on};
 
 use crate::fields::{

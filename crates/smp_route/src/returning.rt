@@ -1,7 +1,7 @@
 //! The answer to an SMP, on its way back to the subnet manager.
 
 ghost use Rattle.std.specs.Prelude.{◌≡◌, ◌≤◌};
-ghost use Rattle.smp_route.specs.Places.{pointer, count};
+ghost use Rattle.smp_route.specs.HopFields.{pointer, count};
 ghost use Rattle.smp_route.specs.Hops.{may_return, passes_back, returning, sent_back};
 
 use crate::fields::{MAX_HOPS, count_of, pointer_of, return_port_of, set_pointer};

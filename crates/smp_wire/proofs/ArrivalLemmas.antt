@@ -13,7 +13,7 @@ use Rattle.mad_layout.proofs.LayoutLemmas.{field-put_apart, length-put_field}
 use Rattle.mad_layout.proofs.NumberLemmas.{below_bytes}
 use Rattle.agent_rules.specs.Laws.{AsksSame, IsUnseenPut, is_unseen}
 use Rattle.agent_rules.proofs.UnseenLemmas.{apart_parts, unseen_passes}
-use Rattle.smp_route.specs.Places.{count, with_return_port}
+use Rattle.smp_route.specs.HopFields.{count, with_return_port}
 use Rattle.switch_model.specs.SwitchState.{num_ports}
 use Rattle.fabric_parts.specs.declared.cable.Cable.{Cable}
 use Rattle.fabric_parts.specs.declared.cable.PortRef.{PortRef}

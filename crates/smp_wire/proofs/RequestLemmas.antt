@@ -17,7 +17,7 @@ use Rattle.attr_tables.specs.SmpAttribute.{smp_attribute_code}
 use Rattle.smp_wire.specs.Requests.{AsksFor, path_entries, plain_request}
 use Rattle.mad_layout.proofs.AlignedLemmas.{byte_is_field}
 use Rattle.mad_layout.proofs.LayoutLemmas.{field_zeros, holds_both, number_zeros}
-use Rattle.smp_route.specs.Places.{count, pointer}
+use Rattle.smp_route.specs.HopFields.{count, pointer}
 use Rattle.agent_rules.specs.Request.{is_request, is_version_1}
 use Rattle.smp_wire.specs.Walk.{is_sent, path_of}
 

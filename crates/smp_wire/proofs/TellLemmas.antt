@@ -26,7 +26,7 @@ use Rattle.smp_wire.specs.Laws.{GetsTell}
 use Rattle.smp_wire.specs.declared.node.Node.{Node}
 use Rattle.smp_wire.specs.declared.node.Node.TheVariants.{Switch, Adapter}
 use Rattle.smp_wire.specs.FabricState.{FabricState, adapter_port, node_reply}
-use Rattle.smp_wire.specs.Get.{Tells, gives_at, node_gives}
+use Rattle.smp_wire.specs.Get.{Reads, gives_at, node_gives}
 use Rattle.smp_wire.specs.Good.{IsGood}
 use Rattle.smp_wire.specs.Replies.{answers, told_by, told_for, told_of}
 use Rattle.smp_wire.specs.Requests.{AsksFor, AsksToGet}
@@ -184,7 +184,7 @@ get_is_asked fabric attribute modifier path smp good asks =
 by_walk : (fabric : FabricState) (attribute : SmpAttribute) (modifier : ℕ) (path smp : List ℕ) (walked : Option (List PortRef))
     → IsGood fabric → AsksToGet attribute modifier path smp
     → walk fabric.nodes fabric.cables true fabric.manager path ≡ walked
-    → Tells fabric smp (option_and_then (λ at. gives_at fabric at attribute modifier) (option_map (last_of fabric.manager) walked))
+    → Reads fabric smp (option_and_then (λ at. gives_at fabric at attribute modifier) (option_map (last_of fabric.manager) walked))
 by_walk fabric attribute modifier path smp None good asks is =
     let no = walk_is fabric method.Get attribute modifier path smp asks ∙ is in
     record {

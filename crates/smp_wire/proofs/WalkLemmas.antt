@@ -6,7 +6,7 @@ use Rattle.std.proofs.lemmas.Bool.{and_parts, eqb-true}
 use Rattle.std.proofs.lemmas.Bool.Decides.{nat_tests}
 use Rattle.std.proofs.lemmas.List.{get_or-drop, get_or-take, length-drop, length-take-le}
 use Rattle.std.specs.Option.{option_and_then}
-use Rattle.smp_route.specs.Places.{count, initial_port, is_outgoing, pointer, with_pointer, with_return_port}
+use Rattle.smp_route.specs.HopFields.{count, initial_port, is_outgoing, pointer, with_pointer, with_return_port}
 use Rattle.fabric_parts.specs.declared.cable.Cable.{Cable}
 use Rattle.fabric_parts.specs.declared.cable.PortRef.{PortRef}
 use Rattle.smp_wire.specs.declared.node.Node.{Node}

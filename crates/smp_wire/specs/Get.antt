@@ -27,6 +27,6 @@ abbrev pub gives_along : FabricState → List ℕ → SmpAttribute → ℕ → O
 gives_along fabric path attribute modifier = option_and_then (λ at. gives_at fabric at attribute modifier) (end_of fabric path)
 
 -- a Get leaves the fabric as it was, and tells what is given
-pub record Tells (fabric : FabricState) (smp : List ℕ) (given : Option (Result (List ℕ) MadStatus)) : Type 0 where
+pub record Reads (fabric : FabricState) (smp : List ℕ) (given : Option (Result (List ℕ) MadStatus)) : Type 0 where
   pub unchanged : exchange_after fabric smp ≡ fabric
   pub told : told_of fabric smp ≡ told_for given

@@ -4,7 +4,7 @@ use Rattle.std.specs.Int.Digits.{AllBelowBase}
 use Rattle.attr_tables.specs.declared.smp_attribute.SmpAttribute.{SmpAttribute}
 use Rattle.smp_wire.specs.Changes.{ChangesAtMost}
 use Rattle.smp_wire.specs.FabricState.{FabricState, is_port}
-use Rattle.smp_wire.specs.Get.{Tells, gives_along}
+use Rattle.smp_wire.specs.Get.{Reads, gives_along}
 use Rattle.attr_tables.specs.declared.port_info.PortInfo.{PortInfo}
 use Rattle.agent_rules.specs.Good.{IsGoodInfo}
 use Rattle.smp_wire.specs.Good.{IsGood, ShowsLinks, SwitchesJoined, info_at, is_up}
@@ -62,7 +62,7 @@ CabledPortsAreUp =
 abbrev pub GetsTell : Type 0
 GetsTell =
     (fabric : FabricState) (attribute : SmpAttribute) (modifier : ℕ) (path smp : List ℕ)
-    → IsGood fabric → AsksToGet attribute modifier path smp → Tells fabric smp (gives_along fabric path attribute modifier)
+    → IsGood fabric → AsksToGet attribute modifier path smp → Reads fabric smp (gives_along fabric path attribute modifier)
 
 -- a Set does to a good fabric what the agent at the end of its path takes, and tells what a Get tells then; a
 -- refused one changes nothing

@@ -8,4 +8,4 @@ pub mod Get
 pub mod Set
 pub mod Changes
 pub mod Laws
-pub use Rattle.smp_route.specs.Places
+pub use Rattle.smp_route.specs.HopFields

@@ -3,7 +3,7 @@ use Rattle.std.specs.Prelude.{ℕ, ◌≡◌, ◌-◌, true, List, [], ◌∷◌
 use Rattle.std.specs.Int.Digits.{AllBelowBase}
 use Rattle.fabric_parts.specs.declared.lid.TheConstants.{PERMISSIVE_LID}
 use Rattle.mad_layout.specs.Bits.{field, number}
-use Rattle.mad_layout.specs.Layout.{Place, at}
+use Rattle.mad_layout.specs.Layout.{Field, at}
 use Rattle.mad_layout.specs.Method.{method_code}
 use Rattle.mad_layout.specs.declared.method.Method.{Method}
 use Rattle.mad_layout.specs.declared.method.Method.TheVariants as method
@@ -37,7 +37,7 @@ pub record AsksToSet (attribute : SmpAttribute) (modifier : ℕ) (path wanted : 
   pub data_is : data_of smp ≡ wanted
 
 -- a request to the bit: the permissive LID at both ends, the path from entry 1, and 0 in all that it does not say
-abbrev pub plain_request : Method → ℕ → SmpAttribute → ℕ → List ℕ → List ℕ → List Place
+abbrev pub plain_request : Method → ℕ → SmpAttribute → ℕ → List ℕ → List ℕ → List Field
 plain_request by transaction_id attribute modifier path wanted =
     at 0 8 1
     ∷ at 8 8 129
@@ -60,10 +60,10 @@ plain_request by transaction_id attribute modifier path wanted =
     ∷ at 1536 512 0
     ∷ []
 
-abbrev pub plain_get : ℕ → SmpAttribute → ℕ → List ℕ → List Place
+abbrev pub plain_get : ℕ → SmpAttribute → ℕ → List ℕ → List Field
 plain_get transaction_id attribute modifier path =
     plain_request method.Get transaction_id attribute modifier path (replicate 64 0)
 
-abbrev pub plain_set : ℕ → SmpAttribute → ℕ → List ℕ → List ℕ → List Place
+abbrev pub plain_set : ℕ → SmpAttribute → ℕ → List ℕ → List ℕ → List Field
 plain_set transaction_id attribute modifier path wanted =
     plain_request method.Set transaction_id attribute modifier path wanted

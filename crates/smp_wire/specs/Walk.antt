@@ -2,7 +2,7 @@
 -- a list of ports, and the answer that comes back.
 use Rattle.std.specs.Prelude.{ℕ, ◌+◌, ◌==◌, ◌&&◌, ◌||◌, nat_le, Bool, true, false, if◌then◌else◌, List, [], ◌∷◌, take, drop, Option, Some, None, option_map}
 use Rattle.std.specs.Option.{option_and_then}
-use Rattle.smp_route.specs.Places.{count, is_outgoing, pointer, turned_round, with_pointer, with_return_port}
+use Rattle.smp_route.specs.HopFields.{count, is_outgoing, pointer, turned_round, with_pointer, with_return_port}
 use Rattle.fabric_parts.specs.declared.cable.PortRef.{PortRef}
 use Rattle.fabric_parts.specs.declared.cable.Cable.{Cable}
 use Rattle.smp_wire.specs.declared.node.Node.{Node}

@@ -3,7 +3,7 @@
 ghost use Rattle.std.specs.Prelude.{◌≡◌, ◌≤◌, true, option_map, is_some, unwrap_or, slice_get};
 ghost use Rattle.std.specs.Option.{option_and_then};
 ghost use Rattle.agent_rules.specs.Request.{KeepsRest};
-ghost use Rattle.smp_route.specs.Places.{count};
+ghost use Rattle.smp_route.specs.HopFields.{count};
 ghost use Rattle.smp_wire.specs.FabricState.{is_port, is_switch, is_switch_at, node_reply, nodes_after};
 ghost use Rattle.smp_wire.specs.Walk.{arrival_of, hop, is_sent, path_of, returned, walk};
 

@@ -12,7 +12,7 @@ use Rattle.subnet_core.specs.Headline.{KeepsPartitionsApart}
 use Rattle.subnet_core.specs.Ports.{configuration_of, ports_of}
 use Rattle.subnet_core.specs.EndPorts.{HaveLidsInOrder}
 use Rattle.subnet_core.proofs.SeatLemmas.{each_weaker}
-use Rattle.subnet_core.specs.Run.{Told, RunGives, of_text, partitions_for, report_of, started, subnet_of, told}
+use Rattle.subnet_core.specs.Run.{ReportState, RunGives, of_text, partitions_for, report_of, started, subnet_of, report_after}
 use Rattle.subnet_core.specs.Script.{commands_in}
 use Rattle.result_words.specs.Steps.{◌>>=◌}
 use Rattle.subnet_core.specs.declared.fault.RunFault.TheVariants.{Script}
@@ -43,22 +43,22 @@ own_lids first (port ∷ ports) h =
     (each_weaker (λ b. first + 1 ≤ b.lid) (λ b. same_lid port b ≡ false) (λ b k. differ port.lid b.lid (omega arith)) ports (lids_from (first + 1) ports tail), own_lids (first + 1) ports tail)
 
 -- a run that is answered tells what the definitions of its texts give, and that is isolated
-pub told_apart : (topology script : List ℕ) (partitions : Option (List ℕ)) (r : Told) → report_of topology partitions script ≡ Ok r → HaveLidsInOrder r.ports
+pub told_apart : (topology script : List ℕ) (partitions : Option (List ℕ)) (r : ReportState) → report_of topology partitions script ≡ Ok r → HaveLidsInOrder r.ports
     → KeepsPartitionsApart topology partitions script r.events
 unfolding report_of
 told_apart topology script partitions r h lids = λ plan all commands e p f q.
     let subnet = started plan all in
-    let read : (of_text Script (commands_in plan script) >>= λ cs. Ok (told subnet cs)) ≡ Ok r = rw (brought_up topology partitions plan all e p) at h in
-    let here : Result Told RunFault = Ok (told subnet commands) in
-    let there : Result Told RunFault = Ok r in
+    let read : (of_text Script (commands_in plan script) >>= λ cs. Ok (report_after subnet cs)) ≡ Ok r = rw (brought_up topology partitions plan all e p) at h in
+    let here : Result ReportState RunFault = Ok (report_after subnet commands) in
+    let there : Result ReportState RunFault = Ok r in
     let done : here ≡ there = rw f at read in
-    let same : told subnet commands ≡ r = cc in
-    let apart = report_is_isolated (configuration_of all plan) commands r.events (ap (λ (t : Told). t.events) (sym same)) q in
-    let own = own_lids 1 (ports_of all plan) (subst (λ (t : Told). HaveLidsInOrder t.ports) (sym same) lids) in
+    let same : report_after subnet commands ≡ r = cc in
+    let apart = report_is_isolated (configuration_of all plan) commands r.events (ap (λ (t : ReportState). t.events) (sym same)) q in
+    let own = own_lids 1 (ports_of all plan) (subst (λ (t : ReportState). HaveLidsInOrder t.ports) (sym same) lids) in
     (apart.0, slids_name_their_ports (ports_of all plan) q r.events own apart.1)
 
-pub answered_apart : (topology script : List ℕ) (partitions : Option (List ℕ)) (result : Result Told RunFault)
-    → RunGives (λ (r : Told). r) result (report_of topology partitions script) → IfOk result (λ r. HaveLidsInOrder r.ports)
+pub answered_apart : (topology script : List ℕ) (partitions : Option (List ℕ)) (result : Result ReportState RunFault)
+    → RunGives (λ (r : ReportState). r) result (report_of topology partitions script) → IfOk result (λ r. HaveLidsInOrder r.ports)
     → IfOk result (λ r. KeepsPartitionsApart topology partitions script r.events)
 answered_apart topology script partitions (Ok r) h lids = told_apart topology script partitions r h lids
 answered_apart topology script partitions (Err fault) h lids = tt

@@ -1,5 +1,6 @@
 pub mod CommandLemmas
 pub mod EndPortLemmas
+pub mod FabricPortLemmas
 pub mod HeadlineLemmas
 pub mod ListingLemmas
 pub mod PayloadLemmas

@@ -1,12 +1,19 @@
 -- What holds of every topology: the statements of the laws of `src/laws.rt`.
-use Rattle.std.specs.Prelude.{List}
+use Rattle.std.specs.Prelude.{◌≡◌, List}
+use Rattle.fabric_parts.specs.declared.cable.PortRef.{PortRef}
+use Rattle.fabric_wire.specs.OfTopology.{fabric_of}
 use Rattle.partition_file.specs.declared.partition.Partition.{Partition}
 use Rattle.topo_file.specs.Sound.{IsSound}
 use Rattle.topo_file.specs.Topology.{Plan}
 use Rattle.subnet_core.specs.EndPorts.{AreEndPorts}
+use Rattle.subnet_core.specs.FabricPorts.{end_port_in, planned_port_in}
 use Rattle.subnet_core.specs.Ports.{ports_of}
 
 -- the ports of every sound topology, under whatever partitions, are its end ports, each once and in order of LID
 abbrev pub EndPortsStandInOrder : Type 0
 EndPortsStandInOrder =
     (partitions : List Partition) (plan : Plan) → IsSound plan → AreEndPorts partitions plan (ports_of partitions plan)
+
+-- the end ports of a topology are those of its fabric, with the same GUIDs, names and counts of ports
+abbrev pub EndPortsAreTheFabrics : Type 0
+EndPortsAreTheFabrics = (plan : Plan) (at : PortRef) → end_port_in (fabric_of plan) at ≡ planned_port_in plan at

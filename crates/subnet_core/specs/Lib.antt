@@ -1,6 +1,7 @@
 pub mod Fault
 pub mod Ports
 pub mod EndPorts
+pub mod FabricPorts
 pub mod Script
 pub mod Seen
 pub mod Run

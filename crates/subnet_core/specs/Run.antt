@@ -36,7 +36,7 @@ started plan partitions = record {
 }
 
 -- a report, and the ports whose names it prints
-pub record Told : Type 0 where
+pub record ReportState : Type 0 where
   pub ports : List SubnetPort
   pub events : List Event
 
@@ -62,19 +62,19 @@ abbrev pub parsed : Plan → ℕ → List ℕ → Result (Option Command) RunFau
 parsed plan number line = of_text Script (on_line number (command_of plan line))
 
 -- what is told of a subnet that carries out these commands
-abbrev pub told : Running → List Command → Told
-told subnet commands = record {
+abbrev pub report_after : Running → List Command → ReportState
+report_after subnet commands = record {
   ports = subnet.configuration.ports;
   events = events_from (step subnet.configuration) subnet.state commands;
 }
 
 -- the topology and the partitions first, then the whole script, and only then its commands, one after the
 -- other
-unfoldable pub report_of : List ℕ → Option (List ℕ) → List ℕ → Result Told RunFault
+unfoldable pub report_of : List ℕ → Option (List ℕ) → List ℕ → Result ReportState RunFault
 report_of topology partitions script = do
   subnet ← subnet_of topology partitions
   commands ← of_text Script (commands_in subnet.plan script)
-  Ok (told subnet commands)
+  Ok (report_after subnet commands)
 
 -- ---- what is answered is what is given, unless memory was refused
 abbrev pub fault_in : RunFault → Option RunFault

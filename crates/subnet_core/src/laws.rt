@@ -1,10 +1,17 @@
-//! What is so of the end ports of every topology, over the definitions alone. The function does nothing:
-//! its contract is the law.
+//! What is so of the end ports of every topology, over the definitions alone. The functions do nothing:
+//! their contracts are the laws.
 
-ghost use Rattle.subnet_core.specs.Laws.{EndPortsStandInOrder};
+ghost use Rattle.subnet_core.specs.Laws.{EndPortsAreTheFabrics, EndPortsStandInOrder};
 
 /// Of every sound topology, under whatever partitions: LIDs count from 1, the subnet manager's port has 1 and
 /// the others follow in order of GUID; the ports are the end ports of the topology, each once.
 pub fn end_ports_stand_in_order()
     ensures { EndPortsStandInOrder }
+{}
+
+/// The end ports that are listed are those of the simulated fabric: port 0 of each of its switches, and each
+/// cabled port of its channel adapters. The agents there hold the GUIDs, names and counts of ports that the
+/// topology says.
+pub fn end_ports_are_the_fabrics()
+    ensures { EndPortsAreTheFabrics }
 {}

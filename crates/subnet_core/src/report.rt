@@ -15,15 +15,15 @@ pub struct Report {
 }
 
 impl Model for Report {
-    ghost use Rattle.subnet_core.specs.Run.{Told};
+    ghost use Rattle.subnet_core.specs.Run.{ReportState};
 
-    ghost Value = { Told };
+    ghost Value = { ReportState };
 
     ghost view = { λ report. record { ports = report.configuration.ports; events = report.events.items } };
 }
 
 impl Report {
-    ghost use Rattle.subnet_core.specs.Run.{Told};
+    ghost use Rattle.subnet_core.specs.Run.{ReportState};
 
     pub(crate) fn new(alloc: Global, configuration: Configuration, events: Vec<Event>) -> Report
         ensures { result ≡ record { ports = configuration.ports; events = events.items } }

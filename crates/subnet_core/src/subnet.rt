@@ -4,7 +4,7 @@ ghost use Rattle.topo_file.specs.Topology.{topology_of};
 ghost use Rattle.subnet_model.specs.Report.{step};
 ghost use Rattle.subnet_core.specs.EndPorts.{HaveLidsInOrder};
 ghost use Rattle.subnet_core.specs.Listing.{listing_text};
-ghost use Rattle.subnet_core.specs.Run.{RunGives, of_text, parsed, partitions_for, subnet_of, told};
+ghost use Rattle.subnet_core.specs.Run.{RunGives, of_text, parsed, partitions_for, report_after, subnet_of};
 ghost use Rattle.subnet_core.specs.declared.fault.RunFault.TheVariants as run;
 
 use crate::end_ports::configuration_of;
@@ -138,7 +138,7 @@ impl Subnet {
 
     /// What is told of commands that are carried out one after another. Memory alone can be refused.
     pub(crate) fn report(self, commands: &[Command]) -> Result<Report, AllocError>
-        ensures { IfOk result (λ report. report ≡ told self commands.now) }
+        ensures { IfOk result (λ report. report ≡ report_after self commands.now) }
     {
         let mut subnet = self;
         let mut events = Vec::new(subnet.alloc);

@@ -12,7 +12,7 @@ use Rattle.fabric_parts.specs.declared.cable.Cable.{Cable}
 use Rattle.topo_file.specs.declared.node.Node.{Node}
 use Rattle.topo_file.specs.Node.{is_switch, is_switch_at, switch_count}
 use Rattle.topo_file.specs.Connectivity.{is_connected, is_joined_within, joins, is_walk, switches, Joined, AllJoined}
-use Rattle.topo_file.specs.Rounds.{is_marked, leads_to, after_rounds, reaches_all, reaches_all_from}
+use Rattle.topo_file.specs.Rounds.{is_marked, leads_to, after_rounds, leads_to_all, leads_to_all_from}
 use Rattle.result_words.proofs.PlaceLemmas.{not_there, one_more}
 use Rattle.topo_file.proofs.MarkLemmas.{mark-spread, mark-only, marked_switch, only_marks, stays, rests, all_marked, from_marked}
 
@@ -156,10 +156,10 @@ fails_at p (x ∷ xs) zero h = (or_parts (p x) _ h).0
 fails_at p (x ∷ xs) (suc i) h = fails_at p xs i (or_parts (p x) _ h).1
 
 -- ---- the rounds and the walks
-reached_joined : (nodes : List Node) (cables : List Cable) → reaches_all nodes cables ≡ true → AllJoined nodes cables
+reached_joined : (nodes : List Node) (cables : List Cable) → leads_to_all nodes cables ≡ true → AllJoined nodes cables
 reached_joined nodes cables h = by (position is_switch nodes) refl h
   where
-    by : (o : Option ℕ) → position is_switch nodes ≡ o → reaches_all_from nodes cables o ≡ true → AllJoined nodes cables
+    by : (o : Option ℕ) → position is_switch nodes ≡ o → leads_to_all_from nodes cables o ≡ true → AllJoined nodes cables
     by None e told a b at bt = absurd (let never = fails_at is_switch nodes a (not_there is_switch nodes e) in cc)
     by (Some place) e told a b at bt =
         let start = first_is_switch nodes place e in
@@ -169,10 +169,10 @@ reached_joined nodes cables h = by (position is_switch nodes) refl h
         let back : Joined nodes cables a place = walk_back nodes cables place to_a.0 a to_a.1 in
         walk_on nodes cables a back.0 place b back.1 to_b
 
-joined_reached : (nodes : List Node) (cables : List Cable) → AllJoined nodes cables → reaches_all nodes cables ≡ true
+joined_reached : (nodes : List Node) (cables : List Cable) → AllJoined nodes cables → leads_to_all nodes cables ≡ true
 joined_reached nodes cables all = by (position is_switch nodes) refl
   where
-    by : (o : Option ℕ) → position is_switch nodes ≡ o → reaches_all_from nodes cables o ≡ true
+    by : (o : Option ℕ) → position is_switch nodes ≡ o → leads_to_all_from nodes cables o ≡ true
     by None e = refl
     by (Some place) e =
         let start = first_is_switch nodes place e in
@@ -302,9 +302,9 @@ if_joined nodes cables all =
     marked_within nodes cables b (switch_count nodes) a bt (complete nodes cables b bt b walk.0 a (start_marked nodes cables b (switch_count nodes) bt) walk.1)))
 
 -- the rounds find what the test says
-pub tested : (nodes : List Node) (cables : List Cable) → reaches_all nodes cables ≡ is_connected nodes cables
+pub tested : (nodes : List Node) (cables : List Cable) → leads_to_all nodes cables ≡ is_connected nodes cables
 tested nodes cables =
-    by (reaches_all nodes cables) (is_connected nodes cables) (λ h. if_joined nodes cables (reached_joined nodes cables h)) (λ h. joined_reached nodes cables (joined_if nodes cables h))
+    by (leads_to_all nodes cables) (is_connected nodes cables) (λ h. if_joined nodes cables (reached_joined nodes cables h)) (λ h. joined_reached nodes cables (joined_if nodes cables h))
   where
     by : (one other : Bool) → (one ≡ true → other ≡ true) → (other ≡ true → one ≡ true) → one ≡ other
     by true other there back = sym (there refl)

@@ -33,10 +33,10 @@ abbrev pub marks_all : List Node → List Bool → Bool
 marks_all nodes marks = list_all (λ p. not (is_switch p.1) || is_marked marks p.0) (enumerate_from 0 nodes)
 
 -- in as many rounds as there are switches, each switch is marked from this one
-abbrev pub reaches_all_from : List Node → List Cable → Option ℕ → Bool
-reaches_all_from nodes cables None = true
-reaches_all_from nodes cables (Some place) = marks_all nodes (after_rounds nodes cables place (switch_count nodes))
+abbrev pub leads_to_all_from : List Node → List Cable → Option ℕ → Bool
+leads_to_all_from nodes cables None = true
+leads_to_all_from nodes cables (Some place) = marks_all nodes (after_rounds nodes cables place (switch_count nodes))
 
 -- from the first switch
-abbrev pub reaches_all : List Node → List Cable → Bool
-reaches_all nodes cables = reaches_all_from nodes cables (position is_switch nodes)
+abbrev pub leads_to_all : List Node → List Cable → Bool
+leads_to_all nodes cables = leads_to_all_from nodes cables (position is_switch nodes)

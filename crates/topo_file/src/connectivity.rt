@@ -2,7 +2,7 @@ ghost use Rattle.std.specs.Prelude.{◌≡◌, ◌↔◌, ◌==◌, ◌||◌, tr
 ghost use Rattle.std.specs.List.{enumerate_from, list_any};
 ghost use Rattle.topo_file.specs.Node.{is_switch, switch_count};
 ghost use Rattle.topo_file.specs.Connectivity.{AllJoined, is_connected};
-ghost use Rattle.topo_file.specs.Rounds.{after_rounds, is_marked, leads_to, marks_all, only, reaches_all, spread};
+ghost use Rattle.topo_file.specs.Rounds.{after_rounds, is_marked, leads_to, marks_all, only, leads_to_all, spread};
 
 use crate::node::{Node, switch_count};
 use fabric_parts::Cable;
@@ -15,12 +15,12 @@ pub fn is_connected(alloc: Global, nodes: &[Node], cables: &[Cable]) -> Result<b
     // Some walk over cables leads from each switch to each other.
     ensures walks { IfOk result (λ answer. answer ≡ true ↔ AllJoined nodes.now cables.now) }
 {
-    reaches_all(alloc, nodes, cables)
+    leads_to_all(alloc, nodes, cables)
 }
 
 /// Whether each switch is reached from the first.
-fn reaches_all(alloc: Global, nodes: &[Node], cables: &[Cable]) -> Result<bool, AllocError>
-    ensures { IfOk result (λ answer. answer ≡ reaches_all nodes.now cables.now) }
+fn leads_to_all(alloc: Global, nodes: &[Node], cables: &[Cable]) -> Result<bool, AllocError>
+    ensures { IfOk result (λ answer. answer ≡ leads_to_all nodes.now cables.now) }
 {
     let Some(place) = first_switch(nodes) else {
         return Ok(true);

@@ -1,4 +1,4 @@
-use Rattle.smp_route.specs.Places.{count}
+use Rattle.smp_route.specs.HopFields.{count}
 use Rattle.fabric_wire.specs.Hopping.{leads_home}
 use Rattle.fabric_wire.proofs.ReturnLemmas.{IsComing}
 use Rattle.fabric_wire.proofs.hopping.come_home.Given as goal

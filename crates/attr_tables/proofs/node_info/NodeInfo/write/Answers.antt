@@ -6,9 +6,9 @@ use Rattle.attr_tables.proofs.node_info.NodeInfo.write.Goals as goal
 
 pub returns-clause-spells : goal.returns-clause-spells
 returns-clause-spells c =
-    let places = node_info c.args.self.now in
-    let P : List ℕ → Type 0 = λ bytes. Spells bytes places in
-    subst P (sym c.put_over_zeros.ensures.fields) (spells_put_all places 64 refl c.put_over_zeros.ensures.fits)
+    let layout = node_info c.args.self.now in
+    let P : List ℕ → Type 0 = λ bytes. Spells bytes layout in
+    subst P (sym c.put_over_zeros.ensures.fields) (spells_put_all layout 64 refl c.put_over_zeros.ensures.fits)
 
 pub returns-clause-bytes : goal.returns-clause-bytes
 unfolding node_info_bytes

@@ -6,9 +6,9 @@ use Rattle.attr_tables.proofs.port_info.PortInfo.write.Goals as goal
 
 pub returns-clause-spells : goal.returns-clause-spells
 returns-clause-spells c =
-    let places = port_info c.args.self.now in
-    let P : List ℕ → Type 0 = λ bytes. Spells bytes places in
-    subst P (sym c.put_over_zeros.ensures) (spells_put_all places 64 refl c.requires)
+    let layout = port_info c.args.self.now in
+    let P : List ℕ → Type 0 = λ bytes. Spells bytes layout in
+    subst P (sym c.put_over_zeros.ensures) (spells_put_all layout 64 refl c.requires)
 
 pub returns-clause-bytes : goal.returns-clause-bytes
 unfolding port_info_bytes
