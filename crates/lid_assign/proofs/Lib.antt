@@ -1,0 +1,3 @@
+pub mod RisingLemmas
+pub mod LidLemmas
+pub mod LawLemmas

@@ -1,0 +1,2 @@
+pub mod Lids
+pub mod Laws
