@@ -15,7 +15,8 @@ mod switch_port;
 
 pub use crate::laws::{
     good_switches_give_attributes, ports_have_their_links, smps_are_read_alike,
-    smps_change_what_they_name, smps_settle, switches_stay_good, the_numbers, unseen_comes_back,
+    smps_change_what_they_name, smps_settle, switches_stay_good, the_numbers,
+    unicast_goes_by_entries, unseen_comes_back,
 };
 pub use crate::switch::{PORTS, Switch};
 pub use crate::switch_port::SwitchPort;
