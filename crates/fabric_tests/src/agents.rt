@@ -1,6 +1,6 @@
 //! Agents of subnet management: what they give, refuse and take.
 
-mod fixtures;
+pub mod fixtures;
 mod gives;
 mod refusals;
 mod sets;

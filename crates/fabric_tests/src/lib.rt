@@ -11,9 +11,13 @@ mod fat_tree;
 #[cfg(test)]
 mod fixtures;
 #[cfg(test)]
+mod forwarding;
+#[cfg(test)]
 mod hops;
 #[cfg(test)]
 mod random_fabrics;
+#[cfg(test)]
+mod sending;
 #[cfg(test)]
 mod sweeps;
 #[cfg(test)]

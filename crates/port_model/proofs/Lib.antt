@@ -1,1 +1,2 @@
 pub mod AgentLemmas
+pub mod PacketLemmas

@@ -1,20 +1,25 @@
-ghost use Rattle.std.specs.Prelude.{◌≡◌, ◌≢◌, ◌≤◌, true, ◌-◌, ◌++◌, ◌||◌, length, replicate, is_some, unwrap_or, IfOk};
+ghost use Rattle.std.specs.Prelude.{◌≡◌, ◌≢◌, ◌≤◌, true, ◌-◌, ◌++◌, ◌||◌, length, replicate, is_some, unwrap_or, IfOk, Some, None, MatchResult, if◌then◌else◌};
 ghost use Rattle.mad_layout.specs.Bits.{field};
 ghost use Rattle.agent_rules.specs.Agent.{Leaves, answer, held_after};
 ghost use Rattle.attr_tables.specs.Attribute.{IsAttribute};
 ghost use Rattle.agent_rules.specs.Request.{KeepsRest};
 ghost use Rattle.port_model.specs.AdapterState.{at_power_up};
+ghost use Rattle.data_packet.specs.declared.payload.TheConstants.{PAYLOAD_BYTES};
+ghost use Rattle.pkey_rules.specs.KeyTable.{holds};
+ghost use Rattle.pkey_rules.specs.StoredKeys.{stored_keys};
 ghost use Rattle.port_model.specs.Agent.{agent_after, agent_reply, get, is_own, set, set_keys, set_port_info};
+ghost use Rattle.port_model.specs.Packets.{accepts_packet, is_active, refusal_of, stamped};
 
 use agent_rules::{
     Link, PortSetting, attribute_asked, data_of, is_request, is_set, keys_at_power_up, modifier_of,
     node_info_of, port_info_after, port_info_at_power_up, put_reply, set_word_block, shown_at,
     whole, word_block_at,
 };
-use attr_tables::{NodeDescription, PortInfo, SmpAttribute};
-use fabric_parts::NodeType;
+use attr_tables::{NodeDescription, PortInfo, PortState, SmpAttribute};
+use data_packet::{Packet, Payload, QueuePair, Refusal};
+use fabric_parts::{NodeType, is_reserved};
 use mad_layout::{Mad, MadStatus};
-use pkey_rules::PARTITIONS;
+use pkey_rules::{PARTITIONS, PKey, stored_accepts, stored_holds};
 use std::marker::Model;
 
 /// A port of a channel adapter: what it is, and what a subnet manager reads and sets of it.
@@ -179,5 +184,76 @@ impl AdapterPort {
         }
         self.info = port_info_after(&self.info, &PortSetting::read(wanted), false)?;
         Ok(())
+    }
+
+    /// The packet of this payload, at most 256 bytes, for that LID and that queue pair under this key, from the
+    /// port's own LID; or the first reason why the port won't send it, in the order of [`Refusal`]. The key may be
+    /// any 16 bits; the port has to hold these very ones.
+    pub fn stamp(
+        &self,
+        dlid: u16,
+        p_key: u16,
+        destination_qp: QueuePair,
+        payload: &[u8],
+    ) -> Result<Packet, Refusal>
+        requires { length payload.now ≤ PAYLOAD_BYTES }
+        ensures { result ≡ stamped self.now dlid p_key destination_qp payload.now }
+    {
+        let key = self.key_to_send(dlid, p_key, destination_qp)?;
+        Ok(Packet {
+            slid: self.info.lid,
+            dlid,
+            p_key: key,
+            destination_qp,
+            payload: Payload::new(payload),
+        })
+    }
+
+    /// Whether the port takes this packet: a key of its table matches the packet's.
+    pub fn accept(&self, packet: &Packet) -> bool
+        ensures { result ≡ accepts_packet self.now packet.now }
+    {
+        stored_accepts(&self.keys, packet.p_key)
+    }
+
+    /// The key under which the packet travels, or why the port won't send it.
+    fn key_to_send(&self, dlid: u16, p_key: u16, destination_qp: QueuePair) -> Result<PKey, Refusal>
+        ensures { MatchResult result
+            (λ key. (refusal_of self.now dlid p_key destination_qp ≡ None) × (key ≡ p_key))
+            (λ refusal. refusal_of self.now dlid p_key destination_qp ≡ Some refusal) }
+    {
+        if !self.is_active() {
+            return Err(Refusal::PortNotActive);
+        }
+        let Some(key) = self.held_key(p_key) else {
+            return Err(Refusal::KeyNotHeld);
+        };
+        if destination_qp.number() == 0 {
+            return Err(Refusal::QpZero);
+        }
+        if is_reserved(dlid) {
+            return Err(Refusal::ReservedDlid);
+        }
+        Ok(key)
+    }
+
+    fn is_active(&self) -> bool
+        ensures { result ≡ is_active self.now.info }
+    {
+        self.info.port_state == PortState::Active.code()
+    }
+
+    /// The key of exactly these bits, if the port's table has it.
+    fn held_key(&self, bits: u16) -> Option<PKey>
+        ensures { result ≡ if holds bits (stored_keys self.now.keys) then Some bits else None }
+    {
+        let Ok(key) = PKey::new(bits) else {
+            return None;
+        };
+        if stored_holds(&self.keys, key) {
+            Some(key)
+        } else {
+            None
+        }
     }
 }

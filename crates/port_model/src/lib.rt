@@ -1,9 +1,12 @@
-//! A port of a channel adapter of the simulated fabric, and its agent of subnet management.
+//! A port of a channel adapter of the simulated fabric: its agent of subnet management, and the data
+//! packets that it sends and takes.
 //!
 //! [`AdapterPort::agent`] answers an SMP: its clauses say, by the definitions of `specs/Agent.antt`,
 //! whether there is a reply, each bit of it, and what the port holds from then on. A wire needs to know
-//! nothing else. What all agents share stands in `agent_rules`. The attributes are those of the
-//! InfiniBand Architecture Specification, volume 1, chapter 14; what a port holds at power-up is ours.
+//! nothing else. [`AdapterPort::stamp`] makes a packet or says why none is sent, and
+//! [`AdapterPort::accept`] says which the port takes, by what SMPs wrote (`specs/Packets.antt`). What all
+//! agents share stands in `agent_rules`. The attributes are those of the InfiniBand Architecture
+//! Specification, volume 1, chapter 14; what a port holds at power-up is ours.
 #![tactic(auto)]
 
 mod adapter_port;

@@ -2,3 +2,4 @@ pub mod PortLemmas
 pub mod AgentLemmas
 pub mod ChangeLemmas
 pub mod GoodLemmas
+pub mod ForwardingLemmas

@@ -1,5 +1,5 @@
 -- What holds of the agent of a switch, and of its ports at power-up.
-use Rattle.std.specs.Prelude.{ℕ, ◌≡◌, ◌<◌, List, ◌∷◌, length, slice_get, option_map, Ok, IfOk}
+use Rattle.std.specs.Prelude.{ℕ, ◌≡◌, ◌↔◌, ◌<◌, true, List, ◌∷◌, length, slice_get, option_map, Ok, IfOk}
 use Rattle.mad_layout.specs.Bits.{put_field}
 use Rattle.attr_tables.specs.Attribute.{IsAttribute}
 use Rattle.attr_tables.specs.declared.smp_attribute.SmpAttribute.{SmpAttribute}
@@ -7,8 +7,10 @@ use Rattle.agent_rules.specs.declared.link.Link.{Link}
 use Rattle.agent_rules.specs.declared.link.Link.TheVariants.{Internal}
 use Rattle.agent_rules.specs.Agent.{answer}
 use Rattle.agent_rules.specs.Laws.{IsSettled, IsUnseenPut, ReadsAlike}
+use Rattle.data_packet.specs.declared.packet.Packet.{Packet}
 use Rattle.switch_model.specs.Agent.{agent_after, agent_reply, get, set}
 use Rattle.switch_model.specs.Changes.{ChangesAtMost}
+use Rattle.switch_model.specs.Forwarding.{IsSentOut, sends_out}
 use Rattle.switch_model.specs.Good.{IsGoodSwitch}
 use Rattle.switch_model.specs.SwitchState.{SwitchState, at_power_up, port_at_power_up, ports_from}
 
@@ -56,3 +58,10 @@ abbrev pub PortsHaveTheirLinks : Type 0
 PortsHaveTheirLinks =
     (links : List Link) (number : ℕ)
     → slice_get (ports_from 0 (Internal ∷ links)) number ≡ option_map (port_at_power_up number) (slice_get (Internal ∷ links) number)
+
+-- a unicast packet leaves by the entry of its LID, wherever it came in and whatever the states of ports, unless the
+-- enforcement of one of the two ports is against it
+abbrev pub UnicastGoesByEntries : Type 0
+UnicastGoesByEntries =
+    (held : SwitchState) (in_port : ℕ) (packet : Packet) (out : ℕ)
+    → (sends_out held in_port packet out ≡ true) ↔ IsSentOut held in_port packet out

@@ -1,5 +1,6 @@
 pub mod SwitchState
 pub mod Agent
+pub mod Forwarding
 pub mod Good
 pub mod Changes
 pub mod Laws

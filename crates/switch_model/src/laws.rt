@@ -1,7 +1,7 @@
 ghost use Rattle.std.specs.Prelude.{◌≡◌};
 ghost use Rattle.switch_model.specs.declared.switch.TheConstants.{PORTS};
 ghost use Rattle.switch_model.specs.declared.multicast_table.TheConstants.{POSITIONS};
-ghost use Rattle.switch_model.specs.Laws.{GoodSwitchesGiveAttributes, NewSwitchesAreGood, PortsHaveTheirLinks, SmpsAreReadAlike, SmpsChangeWhatTheyName, SmpsKeepGood, SmpsSettle, UnseenComesBack};
+ghost use Rattle.switch_model.specs.Laws.{GoodSwitchesGiveAttributes, NewSwitchesAreGood, PortsHaveTheirLinks, SmpsAreReadAlike, SmpsChangeWhatTheyName, SmpsKeepGood, SmpsSettle, UnicastGoesByEntries, UnseenComesBack};
 
 /// An SMP changes at most what it names, and each port is Down afterwards exactly where it was Down. Like
 /// the laws below it does nothing: its contract is the law.
@@ -40,6 +40,12 @@ pub fn smps_are_read_alike()
 /// What an agent does not see of an SMP, as the path, comes back in its reply.
 pub fn unseen_comes_back()
     ensures { UnseenComesBack }
+{}
+
+/// A unicast packet leaves by the entry of its LID, and nothing else counts but LinearFDBTop and the enforcement
+/// of the two ports.
+pub fn unicast_goes_by_entries()
+    ensures { UnicastGoesByEntries }
 {}
 
 /// How many ports a switch has at most, and how many positions its masks, written out. Both are ours: three

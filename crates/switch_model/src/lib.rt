@@ -1,9 +1,11 @@
-//! A switch of the simulated fabric, and its agent of subnet management.
+//! A switch of the simulated fabric: its agent of subnet management, and the ports by which it forwards
+//! data packets.
 //!
 //! [`Switch::agent`] answers an SMP: its clauses say, by the definitions of `specs/Agent.antt`, whether
 //! there is a reply, each bit of it, and what the switch holds from then on. A wire needs to know nothing
-//! else. What all agents share stands in `agent_rules`. The attributes are those of the InfiniBand
-//! Architecture Specification, volume 1, chapter 14; what a switch holds at power-up is ours.
+//! else. [`Switch::unicast_out`] says by which port a packet leaves, by the tables that SMPs wrote
+//! (`specs/Forwarding.antt`). What all agents share stands in `agent_rules`. The attributes are those of
+//! the InfiniBand Architecture Specification, volume 1, chapter 14; what a switch holds at power-up is ours.
 #![tactic(auto)]
 
 mod laws;
@@ -15,7 +17,8 @@ mod switch_port;
 
 pub use crate::laws::{
     good_switches_give_attributes, ports_have_their_links, smps_are_read_alike,
-    smps_change_what_they_name, smps_settle, switches_stay_good, the_numbers, unseen_comes_back,
+    smps_change_what_they_name, smps_settle, switches_stay_good, the_numbers,
+    unicast_goes_by_entries, unseen_comes_back,
 };
 pub use crate::switch::{PORTS, Switch};
 pub use crate::switch_port::SwitchPort;

@@ -1,6 +1,7 @@
-ghost use Rattle.std.specs.Prelude.{◌≡◌, ◌≤◌, ◌/◌, ◌%◌, ◌^◌, ◌∷◌, length};
+ghost use Rattle.std.specs.Prelude.{◌≡◌, ◌≤◌, ◌<◌, ◌/◌, ◌%◌, ◌^◌, ◌∷◌, true, length, IfSome};
 ghost use Rattle.agent_rules.specs.Agent.{Leaves};
 ghost use Rattle.switch_model.specs.Agent.{key_block, key_port, get_keys, set_keys, get_port_info, set_port_info};
+ghost use Rattle.switch_model.specs.Forwarding.{leaves_by, passes_inbound, passes_outbound};
 ghost use Rattle.switch_model.specs.SwitchState.{AllFit, ports_from};
 ghost use Rattle.switch_model.specs.declared.switch.TheConstants.{PORTS};
 
@@ -9,6 +10,7 @@ use crate::switch_port::SwitchPort;
 use agent_rules::{Link, PortSetting, port_info_after, set_word_block, shown_at, word_block_at};
 use arrayvec::ArrayVec;
 use mad_layout::MadStatus;
+use pkey_rules::PKey;
 
 /// PortInfo of the port of that number, as it is shown to who comes in at that other port.
 pub fn get_port_info(
@@ -97,4 +99,37 @@ pub fn ports_at_power_up(links: &[Link]) -> ArrayVec<SwitchPort, PORTS_WITH_0>
         ports.push(SwitchPort::at_power_up(number, *link));
     }
     ports
+}
+
+/// Whether a packet under this key may come in at the port of that number.
+pub fn passes_inbound(number: u8, p_key: PKey, ports: &[SwitchPort]) -> bool
+    ensures { result ≡ passes_inbound ports.now number p_key }
+{
+    match ports.get(usize::from(number)) {
+        Some(port) => !port.info.partition_enforcement_inbound || port.accepts(p_key),
+        None => false,
+    }
+}
+
+/// The port of that number, if a packet under this key leaves by it: not port 0, which is the switch itself.
+pub fn leaves_by(number: u8, p_key: PKey, ports: &[SwitchPort]) -> Option<u8>
+    ensures value { result ≡ leaves_by ports.now p_key number }
+    ensures port { IfSome result (λ out. (1 ≤ out) × (out < length ports.now)) }
+{
+    if number > 0 && passes_outbound(number, p_key, ports) {
+        Some(number)
+    } else {
+        None
+    }
+}
+
+/// Whether a packet under this key may leave by the port of that number.
+fn passes_outbound(number: u8, p_key: PKey, ports: &[SwitchPort]) -> bool
+    ensures value { result ≡ passes_outbound ports.now number p_key }
+    ensures there { result ≡ true → number < length ports.now }
+{
+    match ports.get(usize::from(number)) {
+        Some(port) => !port.info.partition_enforcement_outbound || port.accepts(p_key),
+        None => false,
+    }
 }

@@ -1,15 +1,18 @@
-ghost use Rattle.std.specs.Prelude.{◌≡◌, ◌≢◌, ◌≤◌, true, ◌<◌, ◌-◌, ◌+◌, ◌*◌, ◌++◌, length, replicate, is_some, unwrap_or, IfOk};
+ghost use Rattle.std.specs.Prelude.{◌≡◌, ◌≢◌, ◌≤◌, true, ◌<◌, ◌-◌, ◌+◌, ◌*◌, ◌++◌, length, replicate, is_some, unwrap_or, IfOk, IfSome};
 ghost use Rattle.mad_layout.specs.Bits.{field};
 ghost use Rattle.agent_rules.specs.Agent.{Leaves, answer, held_after};
 ghost use Rattle.attr_tables.specs.Attribute.{IsAttribute};
 ghost use Rattle.agent_rules.specs.Request.{KeepsRest};
 ghost use Rattle.switch_model.specs.Agent.{agent_after, agent_reply, get, set};
+ghost use Rattle.switch_model.specs.Forwarding.{linear_entry_of, out_port};
 ghost use Rattle.switch_model.specs.SwitchState.{at_power_up, num_ports};
 ghost use Rattle.switch_model.specs.declared.switch.TheConstants.{PORTS};
 
 use crate::linear_table::{get_linear, set_linear, set_linear_top};
 use crate::multicast_table::{POSITIONS, get_masks, set_masks};
-use crate::port_list::{get_keys, get_port_info, ports_at_power_up, set_keys, set_port_info};
+use crate::port_list::{
+    get_keys, get_port_info, leaves_by, passes_inbound, ports_at_power_up, set_keys, set_port_info,
+};
 use crate::switch_port::SwitchPort;
 use agent_rules::{
     Link, attribute_asked, data_of, is_request, is_set, modifier_of, node_info_of, put_reply,
@@ -17,6 +20,7 @@ use agent_rules::{
 };
 use arrayvec::ArrayVec;
 use attr_tables::{NodeDescription, SmpAttribute, SwitchInfo};
+use data_packet::Packet;
 use fabric_parts::NodeType;
 use mad_layout::{Mad, MadStatus};
 use std::marker::Model;
@@ -105,6 +109,30 @@ impl<const LFT: usize, const MFT: usize> Switch<LFT, MFT> {
         let answer = self.answer(in_port, smp);
         put_reply(smp, &answer);
         true
+    }
+
+    /// The port by which a data packet that came in at that port leaves, if it leaves: none where the switch
+    /// discards it, or takes it itself since the LID is its own. Port 0 is where the packet comes from the switch
+    /// itself.
+    pub fn unicast_out(&self, in_port: u8, packet: &Packet) -> Option<u8>
+        ensures value { result ≡ out_port self.now in_port packet.now }
+        ensures port { IfSome result (λ out. (1 ≤ out) × (out ≤ num_ports self.now)) }
+    {
+        if !passes_inbound(in_port, packet.p_key, &self.ports) {
+            return None;
+        }
+        let out = self.linear_entry_of(packet.dlid)?;
+        leaves_by(out, packet.p_key, &self.ports)
+    }
+
+    /// The port that the linear forwarding table has for a LID that counts.
+    fn linear_entry_of(&self, lid: u16) -> Option<u8>
+        ensures { result ≡ linear_entry_of self.now lid }
+    {
+        if lid > self.info.linear_fdb_top {
+            return None;
+        }
+        self.linear.get(usize::from(lid)).copied()
     }
 
     fn answer(&mut self, in_port: u8, smp: &Mad) -> Result<[u8; 64], MadStatus>

@@ -1,12 +1,13 @@
 ghost use Rattle.std.specs.Prelude.{◌≡◌};
 ghost use Rattle.mad_layout.specs.Layout.{Fits};
 ghost use Rattle.attr_tables.specs.PortInfo.{port_info};
+ghost use Rattle.switch_model.specs.Forwarding.{port_accepts};
 ghost use Rattle.switch_model.specs.SwitchState.{port_at_power_up};
 
 use agent_rules::{Link, keys_at_power_up, port_info_at_power_up};
 use attr_tables::PortInfo;
 use fabric_parts::NodeType;
-use pkey_rules::PARTITIONS;
+use pkey_rules::{PARTITIONS, PKey, stored_accepts};
 
 /// What a port of a switch holds.
 #[derive(Clone, Copy, Debug, Default, PartialEq, Eq)]
@@ -27,5 +28,12 @@ impl SwitchPort {
             info: port_info_at_power_up(NodeType::Switch, number, link),
             keys: keys_at_power_up(),
         }
+    }
+
+    /// Whether a key of its table matches this one.
+    pub fn accepts(&self, p_key: PKey) -> bool
+        ensures { result ≡ port_accepts self.now p_key }
+    {
+        stored_accepts(&self.keys, p_key)
     }
 }
