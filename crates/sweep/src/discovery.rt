@@ -1,6 +1,6 @@
 //! How a fabric is found, node by node.
 
-ghost use Rattle.std.specs.Prelude.{ℕ, suc, ◌≡◌, ◌≤◌, ◌<◌, List, ◌∷◌, ◌++◌, true, false, [], length, Some, IfErr, IfOk, OnOk};
+ghost use Rattle.std.specs.Prelude.{ℕ, suc, ◌≡◌, ◌≤◌, ◌<◌, ◌==◌, List, ◌∷◌, ◌++◌, true, false, [], length, position, Some, None, IfErr, IfOk, OnOk};
 ghost use Rattle.std.specs.Option.{ForSome};
 ghost use Rattle.fabric_parts.specs.Cable.{far_end};
 ghost use Rattle.fabric_parts.specs.declared.cable.PortRef.{PortRef};
@@ -267,6 +267,7 @@ fn find_switch<W: SmpWire>(
     seen: &Seen,
     path: Path,
 ) -> Result<usize, SweepFault>
+    requires new { position (λ switch. switch.guid == seen.now.node_guid) survey.old.switches ≡ None }
     ensures added { ForSome (W.fabric wire.old) (λ fabric. IsGood fabric → (there : PortRef) → end_of fabric path ≡ Some there → is_switch_at fabric.nodes there.node ≡ true → seen_at fabric there ≡ Some seen.now → Adds (64 ≤ length survey.old.switches) (λ place. (place ≡ length survey.old.switches) × (length survey.old.switches < 64) × (survey.new ≡ record survey.old { switches = survey.old.switches ++ switch_of fabric (record { node = there.node; path = path }) ∷ [] })) result) }
     ensures left { ForSome (W.fabric wire.old) (λ fabric. IsGood fabric → W.fabric wire.new ≡ Some fabric) }
 {

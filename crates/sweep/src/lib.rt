@@ -15,6 +15,7 @@ mod graph;
 mod path;
 mod seen;
 mod survey;
+mod switch_list;
 
 pub use crate::discovery::sweep;
 pub use crate::fault::SweepFault;
