@@ -1,5 +1,5 @@
 -- Switches and their GUIDs, which stand in the same order.
-use Rattle.std.proofs.Common.{◌≡◌, ℕ, Bool, false, not, ◌==◌, ◌∙◌, refl, sym, ap, List, [], ◌∷◌, ◌++◌, map, position, None, arith}
+use Rattle.std.proofs.Common.{◌≡◌, ℕ, false, not, ◌==◌, ◌∙◌, refl, List, [], ◌∷◌, ◌++◌, map, position, None, arith}
 use Rattle.std.specs.List.{list_any, prefix_len}
 use Rattle.std.proofs.lemmas.Bool.Decides.{nat_tests}
 use Rattle.std.proofs.lemmas.List.{length-map, map_push}

@@ -1,5 +1,6 @@
 -- A port that no SMP goes out of, since its switch is 63 hops away: its cable is known from the other end, or leads too far.
 use Rattle.std.proofs.Common.{ℕ, zero, suc, ◌+◌, ◌<◌, ◌≤◌, ◌≡◌, ◌⊎◌, inl, inr, ◌∙◌, ◌==◌, ◌&&◌, ◌||◌, nat_le, ap, refl, sym, subst, Bool, true, false, if◌then◌else◌, List, [], ◌∷◌, find, flat_map, map, take, get_or, length, slice_get, Option, Some, None, option_map, Result, Ok, Err, arith}
+use Rattle.std.proofs.Math.Bool.{or-true}
 use Rattle.std.specs.List.{Contains, list_any, range_with_len}
 use Rattle.std.specs.Option.{option_map_or}
 use Rattle.std.proofs.lemmas.Bool.{and_parts, false≢true}
@@ -50,16 +51,12 @@ pub any_in : {X : Type 0} (p : X → Bool) (f : ℕ → List X) (a n k : ℕ) �
 any_in p f a zero k from to passes = absurd (omega (arith, from, to))
 any_in p f a (suc n) k from to passes = list_any-append p (f a) (flat_map f (range_with_len (a + 1) n)) ∙ by (nat_le k a) refl (λ later. any_in p f (a + 1) n k later (omega (arith, to)) passes)
   where
-    or_true : (b : Bool) → b || true ≡ true
-    or_true true = refl
-    or_true false = refl
-
     by : (b : Bool) → nat_le k a ≡ b → (a + 1 ≤ k → list_any p (flat_map f (range_with_len (a + 1) n)) ≡ true)
         → list_any p (f a) || list_any p (flat_map f (range_with_len (a + 1) n)) ≡ true
     by true at later =
         let same : k ≡ a = grind (arith, nat_tests, at, from) in
         rw (ap (λ (n : ℕ). list_any p (f n)) (sym same) ∙ passes) refl
-    by false at later = rw (later (grind (arith, nat_tests, at))) (or_true (list_any p (f a)))
+    by false at later = rw (later (grind (arith, nat_tests, at))) (or-true (list_any p (f a)))
 
 pub record AnyAt {X : Type 0} (p : X → Bool) (f : ℕ → List X) (a n : ℕ) : Type 0 where
   pub number : ℕ

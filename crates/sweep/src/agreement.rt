@@ -4,6 +4,7 @@ ghost use Rattle.std.specs.Prelude.{◌≡◌, ◌==◌, ◌&&◌, nat_le, [], l
 ghost use Rattle.std.specs.Bool.{Decides};
 ghost use Rattle.std.specs.List.{IsDistinct, list_all, list_any, range_with_len};
 ghost use Rattle.sweep.specs.Graph.{IsGraph, agree, all_agree, count_at, end_guids, graph_with, is_joined, is_linked, is_near, is_right_link, is_right_port, is_right_row, is_right_switch, is_switch_port, rise_above};
+ghost use Rattle.sweep.specs.declared.graph.TheConstants.{MAX_ADAPTER_PORTS, MAX_SWITCHES};
 
 use crate::graph::{GraphPort, GraphSwitch, Link, MAX_ADAPTER_PORTS, MAX_SWITCHES, Row};
 use crate::path::PATH_HOPS;
@@ -33,7 +34,7 @@ pub(crate) fn are_a_graph(
 
 /// Whether there are as many rows as switches, and no more switches and ports than a graph holds.
 fn are_few(switches: &[GraphSwitch], rows: &[Row], ports: &[GraphPort]) -> bool
-    ensures { result ≡ (nat_le (length switches.now) 64 && (nat_le (length ports.now) 256 && (length rows.now == length switches.now))) }
+    ensures { result ≡ (nat_le (length switches.now) MAX_SWITCHES && (nat_le (length ports.now) MAX_ADAPTER_PORTS && (length rows.now == length switches.now))) }
 {
     switches.len() <= MAX_SWITCHES
         && ports.len() <= MAX_ADAPTER_PORTS

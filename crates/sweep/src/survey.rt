@@ -7,6 +7,7 @@ ghost use Rattle.fabric_parts.specs.declared.cable.PortRef.{PortRef};
 ghost use Rattle.sweep.specs.Graph.{IsGraph, count_at, graph_with, is_linked};
 ghost use Rattle.sweep.specs.Survey.{SurveyState};
 ghost use Rattle.sweep.specs.declared.fault.SweepFault.TheVariants.{NoMemory, TooManyNodes, WrongReply};
+ghost use Rattle.sweep.specs.declared.graph.TheConstants.{MAX_ADAPTER_PORTS, MAX_SWITCHES};
 
 use crate::agreement::{are_a_graph, count_at, links_at};
 use crate::fault::SweepFault;
@@ -72,8 +73,8 @@ impl Survey {
         requires new { position (λ known. known.guid == switch.guid) self.old.switches ≡ None }
         ensures place { IfOk result (λ place. place ≡ length self.old.switches) }
         ensures ok { OnOk result (self.new ≡ record self.old { switches = self.old.switches ++ switch ∷ [] }) }
-        ensures room { OnOk result (length self.old.switches < 64) }
-        ensures full { IsErrOf result TooManyNodes → 64 ≤ length self.old.switches }
+        ensures room { OnOk result (length self.old.switches < MAX_SWITCHES) }
+        ensures full { IsErrOf result TooManyNodes → MAX_SWITCHES ≤ length self.old.switches }
         ensures err { IfErr result (λ fault. (fault ≡ NoMemory) ⊎ (fault ≡ TooManyNodes)) }
     {
         let place = self.switches.as_slice().len();
@@ -87,8 +88,8 @@ impl Survey {
     /// Adds a port. `TooManyNodes` where there is no room.
     pub(crate) fn add_port(&mut self, port: GraphPort) -> Result<(), SweepFault>
         ensures ok { OnOk result (self.new ≡ record self.old { ports = self.old.ports ++ port ∷ [] }) }
-        ensures room { OnOk result (length self.old.ports < 256) }
-        ensures full { IsErrOf result TooManyNodes → 256 ≤ length self.old.ports }
+        ensures room { OnOk result (length self.old.ports < MAX_ADAPTER_PORTS) }
+        ensures full { IsErrOf result TooManyNodes → MAX_ADAPTER_PORTS ≤ length self.old.ports }
         ensures err { IfErr result (λ fault. (fault ≡ NoMemory) ⊎ (fault ≡ TooManyNodes)) }
     {
         if self.ports.len() >= MAX_ADAPTER_PORTS {

@@ -1,4 +1,4 @@
-use Rattle.std.proofs.Common.{◌≡◌, ◌∙◌, ◌==◌, ap, List, ℕ}
+use Rattle.std.proofs.Common.{◌∙◌, ◌==◌, ap, List}
 use Rattle.std.specs.List.{list_any}
 use Rattle.sweep.specs.declared.graph.GraphSwitch.{GraphSwitch}
 use Rattle.sweep.proofs.GuidLemmas.{any_by_guid}

@@ -1,4 +1,4 @@
-use Rattle.std.proofs.Common.{◌≡◌, ◌∙◌, ◌==◌, ap, List, ℕ, position}
+use Rattle.std.proofs.Common.{◌∙◌, ◌==◌, ap, List, position}
 use Rattle.sweep.specs.declared.graph.GraphSwitch.{GraphSwitch}
 use Rattle.sweep.proofs.GuidLemmas.{place_by_guid}
 use Rattle.sweep.proofs.switch_list.SwitchList.place_of.Goals as goal

@@ -1,4 +1,4 @@
-use Rattle.std.proofs.Common.{◌≡◌, ◌∙◌, ◌==◌, None, position}
+use Rattle.std.proofs.Common.{◌≡◌, ◌==◌, None, position}
 use Rattle.sweep.proofs.GuidLemmas.{guids_grow}
 use Rattle.sweep.proofs.switch_list.SwitchList.push.Goals as goal
 
