@@ -120,7 +120,8 @@ pub each_near : (fabric : FabricState) (found : List Found) (survey : SurveyStat
     → IsProgress fabric found (length found) 0 survey [] → IsTooFar fabric → ⊥
 each_near fabric found survey sweepable progress far =
     let k = far.there.0 in
-    let stands : slice_get fabric.cables k ≡ Some far.cable = Rattle.std.proofs.lemmas.Option.slice_get_read fabric.cables (length fabric.cables) k far.cable refl far.there.1 (sym far.there.2) in
+    let stands : slice_get fabric.cables k ≡ Some far.cable =
+    Rattle.std.proofs.lemmas.Option.slice_get_read fabric.cables (length fabric.cables) k far.cable refl far.there.1 (sym far.there.2) in
     let ends = far_ends fabric.cables k far.cable stands (differ is_same_port _ sweepable.good.once) in
     let right = all_there (is_right fabric.nodes) fabric.cables k far.cable sweepable.good.cables stands in
     let one = and_parts (is_port fabric.nodes far.cable.first) _ right in

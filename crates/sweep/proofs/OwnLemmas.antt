@@ -93,7 +93,8 @@ in_nodes : (nodes : List Node) (b : ℕ) (y : Node) (guid : ℕ) → slice_get n
     → is_among (flat_map end_port_guids nodes) guid ≡ true
 in_nodes [] b y guid there among = cc
 in_nodes (z ∷ nodes) zero y guid there among =
-    list_any-append (λ one. one == guid) (end_port_guids z) (flat_map end_port_guids nodes) ∙ rw (ap (λ (n : Node). is_among (end_port_guids n) guid) (same_Some z y there) ∙ among) refl
+    list_any-append (λ one. one == guid) (end_port_guids z) (flat_map end_port_guids nodes)
+    ∙ rw (ap (λ (n : Node). is_among (end_port_guids n) guid) (same_Some z y there) ∙ among) refl
 in_nodes (z ∷ nodes) (suc b) y guid there among =
     list_any-append (λ one. one == guid) (end_port_guids z) (flat_map end_port_guids nodes)
     ∙ rw (in_nodes nodes b y guid there among) (or-true (is_among (end_port_guids z) guid))

@@ -39,7 +39,8 @@ switch_shown seen name path = record { guid = seen.node_guid; num_ports = seen.n
 
 -- ---- what is seen tells the kind of its node and the number of its port
 adapter_by : (guid count number : ℕ) (found : Option AdapterState) (seen : Seen)
-    → option_map (λ (one : AdapterState). record { node_type = node_type.ChannelAdapter; num_ports = count; node_guid = guid; port_guid = one.port_guid; local_port_num = number }) found ≡ Some seen
+    → option_map (λ (one : AdapterState).
+    record { node_type = node_type.ChannelAdapter; num_ports = count; node_guid = guid; port_guid = one.port_guid; local_port_num = number }) found ≡ Some seen
     → (is_switch_type seen.node_type ≡ false) × (seen.local_port_num ≡ number)
 adapter_by guid count number None seen is = absurd (cc)
 adapter_by guid count number (Some one) seen is = rw (sym (same_Some _ _ is)) (refl, refl)

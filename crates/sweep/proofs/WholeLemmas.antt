@@ -202,7 +202,8 @@ places_all p a (suc n) each = and_from (p a) _ (each a (omega arith) (omega arit
 pub at_place : (found : List Found) (k : ℕ) → k < length found → (one : Found) × StandsAt found k one
 at_place found k within = by (slice_get_cases found k).1
   where
-    by : ((x : Found) × (k < length found) × (slice_get found k ≡ Some x) × (get_or found k x ≡ x)) ⊎ ((length found ≤ k) × (slice_get found k ≡ None)) → (one : Found) × StandsAt found k one
+    by : ((x : Found) × (k < length found) × (slice_get found k ≡ Some x) × (get_or found k x ≡ x))
+        ⊎ ((length found ≤ k) × (slice_get found k ≡ None)) → (one : Found) × StandsAt found k one
     by (inl here) = (here.0, here.2)
     by (inr past) = absurd (omega (arith, past.0, within))
 
@@ -285,7 +286,8 @@ graph_manager fabric found manager good so_far is =
     (any_in (λ port. port.port_guid == manager)
     (λ number. option_map_or (port_to fabric (port at.place number)) (far_end fabric.cables (port (node_at found at.place) number)) []) 1 (ports_at fabric (node_at found at.place))
     so_far.first.port range.0 (rw node (omega (arith, range.1)))
-    (ap (λ (n : ℕ). list_any (λ port. port.port_guid == manager) (option_map_or (port_to fabric (port at.place so_far.first.port)) (far_end fabric.cables (port n so_far.first.port)) [])) node
+    (ap (λ (n : ℕ). list_any (λ port. port.port_guid == manager)
+    (option_map_or (port_to fabric (port at.place so_far.first.port)) (far_end fabric.cables (port n so_far.first.port)) [])) node
     ∙ ap (λ (o : Option PortRef). list_any (λ port. port.port_guid == manager) (option_map_or (port_to fabric (port at.place so_far.first.port)) o [])) home
     ∙ manager_port fabric (port at.place so_far.first.port) manager (seen_at fabric fabric.manager) good.manager_adapter refl is))
 
