@@ -96,7 +96,19 @@ fn read_along_paths(rt: &impl Abort, fabric: &mut Fabric, hops: usize)
 }
 
 #[test]
-fn a_fat_tree_is_made(rt: HostRuntime) -> Result<(), Fail> {
+fn a_fat_tree_of_8_switches_is_made(rt: HostRuntime) -> Result<(), Fail> {
+    fat_tree_of(rt.alloc(), 4)?;
+    Ok(())
+}
+
+#[test]
+fn a_fat_tree_of_16_switches_is_made(rt: HostRuntime) -> Result<(), Fail> {
+    fat_tree_of(rt.alloc(), 8)?;
+    Ok(())
+}
+
+#[test]
+fn a_fat_tree_of_64_switches_is_made(rt: HostRuntime) -> Result<(), Fail> {
     fat_tree(rt.alloc())?;
     Ok(())
 }

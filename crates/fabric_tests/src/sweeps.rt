@@ -5,11 +5,13 @@ mod graphs;
 
 use crate::fat_tree::{put, put_line};
 use crate::fixtures::{fabric_of, two_switch_fabric, two_switch_wire};
-use fabric_wire::{CountingWire, SilencedWire};
+use example_texts::TWO_SWITCHES;
+use fabric_wire::{CountingWire, Fabric, SilencedWire};
 use std::alloc::Global;
 use std::process::Abort;
 use std::test::Fail;
 use sweep::{Graph, SweepFault, sweep};
+use topo_file::read;
 
 /// The switches of the two-switch fabric as they are found from h0: GUID, ports, and the path.
 const SWITCHES: [(u64, u8, &[u8]); 2] = [(0x10, 4, &[1]), (0x20, 4, &[1, 3])];
@@ -102,5 +104,20 @@ fn a_sweep_goes_63_hops_and_no_further(rt: HostRuntime) -> Result<(), Fail> {
         sweep(rt.alloc(), &mut far).err(),
         Some(SweepFault::TooManyHops)
     );
+    Ok(())
+}
+
+#[test]
+fn a_graph_is_found_or_memory_is_refused(rt: HostRuntime) -> Result<(), Fail> {
+    let Ok(topology) = read(rt.alloc(), TWO_SWITCHES.as_bytes()) else {
+        return Ok(());
+    };
+    let Ok(mut fabric) = Fabric::new(rt.alloc(), &topology) else {
+        return Ok(());
+    };
+    match sweep(rt.alloc(), &mut fabric) {
+        Ok(graph) => is_the_graph(&rt, &graph),
+        Err(fault) => assert_eq!(rt; fault, SweepFault::NoMemory),
+    }
     Ok(())
 }
