@@ -61,7 +61,7 @@ impl Survey {
         count_at(self.switches.as_slice(), place)
     }
 
-    /// The place of the switch with this GUID.
+    /// The place of the switch with this GUID, looked up in constant time.
     pub(crate) fn place_of(&self, guid: u64) -> Option<usize>
         ensures { result ≡ position (λ switch. switch.guid == guid) self.now.switches }
     {

@@ -52,7 +52,7 @@ impl SwitchList {
         self.switches
     }
 
-    /// The place of the switch with this GUID.
+    /// The place of the switch with this GUID, looked up in constant time.
     pub(crate) fn place_of(&self, guid: u64) -> Option<usize>
         ensures { result ≡ position (λ switch. switch.guid == guid) self.now }
     {

@@ -8,7 +8,7 @@ use mad_layout::Mad;
 use std::test::Fail;
 use sweep::{SweepFault, sweep};
 
-// Where bytes of an SMP stand: of what is longer than one byte, the last.
+/// The place of an SMP's method; of what is longer than one byte these are the places of the last.
 const METHOD: usize = 3;
 
 const STATUS: usize = 5;
@@ -20,7 +20,8 @@ const TRANSACTION_ID: usize = 15;
 const ATTRIBUTE: usize = 17;
 
 const MODIFIER: usize = 23;
-// NodeInfo, in the data, which begin at 64.
+
+/// The place of NodeInfo's node type, in the data, which begin at 64.
 const NODE_TYPE: usize = 64 + 2;
 
 const NUM_PORTS: usize = 64 + 3;
@@ -30,7 +31,8 @@ const NODE_GUID: usize = 64 + 19;
 const PORT_GUID: usize = 64 + 27;
 
 const LOCAL_PORT_NUM: usize = 64 + 36;
-// PortInfo.
+
+/// The place of PortInfo's port state, which shares its byte.
 const PORT_STATE: usize = 64 + 32;
 
 const NODE_INFO: u8 = 0x11;
@@ -92,7 +94,7 @@ const EDITS: [(Edit, u64); 5] = [
         },
         2,
     ),
-    // Each is refused: the attribute or its modifier is none.
+    // Each is refused: a field of the attribute, or its modifier, is invalid.
     (
         Edit {
             of: &[],
