@@ -20,3 +20,4 @@ pub mod PortsLemmas
 pub mod WholeLemmas
 pub mod NearLemmas
 pub mod GuidLemmas
+pub mod AdapterLemmas

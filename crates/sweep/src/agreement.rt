@@ -3,9 +3,10 @@
 ghost use Rattle.std.specs.Prelude.{◌≡◌, ◌==◌, ◌&&◌, nat_le, [], length, get_or, IfOk};
 ghost use Rattle.std.specs.Bool.{Decides};
 ghost use Rattle.std.specs.List.{IsDistinct, list_all, list_any, range_with_len};
-ghost use Rattle.sweep.specs.Graph.{IsGraph, agree, all_agree, count_at, end_guids, graph_with, is_joined, is_linked, is_near, is_right_link, is_right_port, is_right_row, is_right_switch, is_switch_port, rise_above};
+ghost use Rattle.sweep.specs.Graph.{IsGraph, count_at, end_guids, graph_with, is_joined, is_linked, is_near, is_right_link, is_right_port, is_right_row, is_right_switch, is_switch_port, rise_above};
 ghost use Rattle.sweep.specs.declared.graph.TheConstants.{MAX_ADAPTER_PORTS, MAX_SWITCHES};
 
+use crate::adapters::all_agree;
 use crate::graph::{GraphPort, GraphSwitch, Link, MAX_ADAPTER_PORTS, MAX_SWITCHES, Row};
 use crate::path::PATH_HOPS;
 use crate::switch_list::SwitchList;
@@ -26,7 +27,7 @@ pub(crate) fn are_a_graph(
     if !are_few(switches.as_slice(), rows, ports) || !are_right(switches, rows, ports) {
         return Ok(false);
     }
-    if !has_guid(ports, manager) {
+    if !has_guid(ports, manager) || !all_agree(alloc, ports)? {
         return Ok(false);
     }
     have_own_guids(alloc, switches.as_slice(), ports)
@@ -41,14 +42,13 @@ fn are_few(switches: &[GraphSwitch], rows: &[Row], ports: &[GraphPort]) -> bool
         && rows.len() == switches.len()
 }
 
-/// Whether each switch, link and port is one that a fabric of ours may have, and agrees with the others.
+/// Whether each switch, link and port is one that a fabric of ours may have.
 fn are_right(switches: &SwitchList, rows: &[Row], ports: &[GraphPort]) -> bool
-    ensures { result ≡ (list_all is_right_switch switches.now && (list_all (is_right_row switches.now rows.now) (range_with_len 0 (length rows.now)) && (list_all (is_right_port switches.now) ports.now && all_agree ports.now))) }
+    ensures { result ≡ (list_all is_right_switch switches.now && (list_all (is_right_row switches.now rows.now) (range_with_len 0 (length rows.now)) && list_all (is_right_port switches.now) ports.now)) }
 {
     are_right_switches(switches.as_slice())
         && are_right_rows(switches.as_slice(), rows)
         && are_right_ports(switches, ports)
-        && all_agree(ports)
 }
 
 /// Whether each switch is right.
@@ -187,35 +187,6 @@ fn is_right_port(switches: &SwitchList, port: &GraphPort) -> bool
         && port.number <= port.num_ports
         && port.num_ports <= NodeType::ChannelAdapter.most_ports()
         && !switches.has(port.node_guid)
-}
-
-/// Whether two ports, if they are of one adapter, have two numbers and tell one number of ports.
-fn agree(one: &GraphPort, other: &GraphPort) -> bool
-    ensures { result ≡ agree one.now other.now }
-{
-    one.node_guid != other.node_guid
-        || (one.num_ports == other.num_ports && one.number != other.number)
-}
-
-/// Whether a port agrees with each of the others.
-fn agrees_with(port: &GraphPort, others: &[GraphPort]) -> bool
-    ensures { result ≡ list_all (agree port.now) others.now }
-{
-    others.iter().all(|other| agree(port, other))
-}
-
-/// Whether each two ports agree.
-fn all_agree(ports: &[GraphPort]) -> bool
-    ensures { result ≡ all_agree ports.now }
-{
-    let mut rest = ports;
-    while let [port, others @ ..] = rest {
-        if !agrees_with(port, others) {
-            return false;
-        }
-        rest = others;
-    }
-    true
 }
 
 /// Whether one of these ports has the GUID.

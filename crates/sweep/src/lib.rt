@@ -7,6 +7,7 @@
 //! over any wire it is one that agrees with itself (`specs/Graph.antt`). [`SweepFault`] says why a sweep stops.
 #![tactic(auto)]
 
+mod adapters;
 mod agreement;
 mod asking;
 mod discovery;
