@@ -1,14 +1,15 @@
-//! The greatest fabric: 32 leaf switches with 8 adapters each, and 32 spine switches, of which each leaf
-//! is cabled to 28. `bench/measure` counts the instructions of these tests.
+//! Fat trees: as many leaf switches, with 8 adapters each, as spine switches, of which each leaf is cabled to
+//! 28 or all. The greatest fabric has 32 of each. `bench/measure` counts the instructions of these tests.
 
 ghost use Rattle.std.specs.Prelude.{◌≤◌, ◌<◌, length};
 
 use crate::fixtures::fabric_of;
 use attr_tables::SmpAttribute;
-use fabric_wire::{Fabric, get_attribute};
+use fabric_wire::{CountingWire, Fabric, get_attribute};
 use std::alloc::Global;
 use std::process::Abort;
 use std::test::Fail;
+use sweep::sweep;
 
 pub fn put(text: &mut Vec<u8>, part: &[u8]) -> Result<(), Fail> {
     text.extend_from_slice(part).ok().ok_or("memory")?;
@@ -33,25 +34,28 @@ pub fn put_line(text: &mut Vec<u8>, parts: &[(&[u8], u16)], end: &[u8]) -> Resul
     put(text, end)
 }
 
-fn text_of_the_fat_tree(alloc: Global) -> Result<Vec<u8>, Fail> {
+fn text_of_a_fat_tree(alloc: Global, leaves: u16) -> Result<Vec<u8>, Fail>
+    requires some { 0 < leaves }
+    requires few { leaves ≤ 32 }
+{
     let mut text = Vec::new(alloc);
-    for i in 0..32u16 {
+    for i in 0..leaves {
         put_line(&mut text, &[(b"switch leaf", i), (b" 1", i)], b" 36\n")?;
         put_line(&mut text, &[(b"switch spine", i), (b" 2", i)], b" 36\n")?;
     }
-    for i in 0..256u16 {
+    for i in 0..8 * leaves {
         put_line(&mut text, &[(b"adapter h", i), (b" 3", i)], b"0 1\n")?;
         let leaf_port = [(b"cable leaf".as_slice(), i / 8), (b"/", i % 8 + 1)];
         put_line(&mut text, &leaf_port, b"")?;
         put_line(&mut text, &[(b" h", i)], b"/1\n")?;
     }
-    for i in 0..32u16 {
-        for k in 0..28u16 {
+    for i in 0..leaves {
+        for k in 0..leaves.min(28) {
             let leaf_port = [(b"cable leaf".as_slice(), i), (b"/", 9 + k)];
             put_line(&mut text, &leaf_port, b"")?;
             put_line(
                 &mut text,
-                &[(b" spine", (i + k) % 32), (b"/", k + 1)],
+                &[(b" spine", (i + k) % leaves), (b"/", k + 1)],
                 b"\n",
             )?;
         }
@@ -60,10 +64,18 @@ fn text_of_the_fat_tree(alloc: Global) -> Result<Vec<u8>, Fail> {
     Ok(text)
 }
 
-/// The greatest fabric.
-pub fn fat_tree(alloc: Global) -> Result<Fabric, Fail> {
-    let text = text_of_the_fat_tree(alloc)?;
+/// A fat tree of so many leaf switches, and as many spine switches.
+fn fat_tree_of(alloc: Global, leaves: u16) -> Result<Fabric, Fail>
+    requires some { 0 < leaves }
+    requires few { leaves ≤ 32 }
+{
+    let text = text_of_a_fat_tree(alloc, leaves)?;
     fabric_of(alloc, &text)
+}
+
+/// The greatest fabric.
+fn fat_tree(alloc: Global) -> Result<Fabric, Fail> {
+    fat_tree_of(alloc, 32)
 }
 
 /// Reads NodeInfo along 320 paths, of each as many hops as are asked for: to the leaf of the subnet
@@ -84,7 +96,19 @@ fn read_along_paths(rt: &impl Abort, fabric: &mut Fabric, hops: usize)
 }
 
 #[test]
-fn a_fat_tree_is_made(rt: HostRuntime) -> Result<(), Fail> {
+fn a_fat_tree_of_8_switches_is_made(rt: HostRuntime) -> Result<(), Fail> {
+    fat_tree_of(rt.alloc(), 4)?;
+    Ok(())
+}
+
+#[test]
+fn a_fat_tree_of_16_switches_is_made(rt: HostRuntime) -> Result<(), Fail> {
+    fat_tree_of(rt.alloc(), 8)?;
+    Ok(())
+}
+
+#[test]
+fn a_fat_tree_of_64_switches_is_made(rt: HostRuntime) -> Result<(), Fail> {
     fat_tree(rt.alloc())?;
     Ok(())
 }
@@ -99,4 +123,41 @@ fn all_of_a_fat_tree_is_read(rt: HostRuntime) -> Result<(), Fail> {
 fn a_fat_tree_is_read_at_the_subnet_managers_port(rt: HostRuntime) -> Result<(), Fail> {
     read_along_paths(&rt, &mut fat_tree(rt.alloc())?, 0);
     Ok(())
+}
+
+/// Sweeps a fat tree. Of each switch 36 ports are asked for PortInfo, what is behind each port with a cable for
+/// NodeInfo, the subnet manager's port and its switch before that, and each node for its name.
+fn is_swept(rt: &impl Abort, alloc: Global, leaves: u16) -> Result<(), Fail>
+    requires some { 0 < leaves }
+    requires few { leaves ≤ 32 }
+{
+    let mut counting = CountingWire {
+        wire: fat_tree_of(alloc, leaves)?,
+        count: 0,
+    };
+    let graph = sweep(alloc, &mut counting).or(Err("a graph"))?;
+    let switches = 2 * u64::from(leaves);
+    let adapters = 8 * u64::from(leaves);
+    let links = 2 * u64::from(leaves * leaves.min(28));
+    assert_eq!(rt; graph.switches().len() as u64, switches);
+    assert_eq!(rt; graph.ports().len() as u64, adapters);
+    let infos = adapters + links + 2;
+    assert_eq!(rt; counting.count, 36 * switches + infos + switches + adapters);
+    Ok(())
+}
+
+#[test]
+fn a_fat_tree_of_8_switches_is_swept(rt: HostRuntime) -> Result<(), Fail> {
+    is_swept(&rt, rt.alloc(), 4)
+}
+
+#[test]
+fn a_fat_tree_of_16_switches_is_swept(rt: HostRuntime) -> Result<(), Fail> {
+    is_swept(&rt, rt.alloc(), 8)
+}
+
+/// It has 4,674 SMPs for that; 4,900 are allowed.
+#[test]
+fn a_fat_tree_of_64_switches_is_swept(rt: HostRuntime) -> Result<(), Fail> {
+    is_swept(&rt, rt.alloc(), 32)
 }

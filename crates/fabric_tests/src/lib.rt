@@ -15,6 +15,8 @@ mod forwarding;
 #[cfg(test)]
 mod hops;
 #[cfg(test)]
+mod lids;
+#[cfg(test)]
 mod random_fabrics;
 #[cfg(test)]
 mod sending;

@@ -12,13 +12,13 @@ use topo_file::read;
 
 /// Numbers that look like chance, the same in each run.
 #[derive(Drop)]
-struct Chance {
-    state: u64,
+pub struct Chance {
+    pub state: u64,
 }
 
 impl Chance {
     /// One of 0 to `count` - 1.
-    fn below(&mut self, count: u8) -> u8
+    pub fn below(&mut self, count: u8) -> u8
         requires { 0 < count }
         ensures { result < count }
     {

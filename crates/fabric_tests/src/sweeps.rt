@@ -1,12 +1,18 @@
-//! Sweeps of the two-switch fabric.
+//! Sweeps of the two-switch fabric, and of rows.
 
-use crate::fat_tree::{fat_tree, put, put_line};
+mod contradictions;
+mod fault_texts;
+mod graphs;
+
+use crate::fat_tree::{put, put_line};
 use crate::fixtures::{fabric_of, two_switch_fabric, two_switch_wire};
-use fabric_wire::{CountingWire, SilencedWire};
+use example_texts::TWO_SWITCHES;
+use fabric_wire::{CountingWire, Fabric, SilencedWire};
 use std::alloc::Global;
 use std::process::Abort;
 use std::test::Fail;
 use sweep::{Graph, SweepFault, sweep};
+use topo_file::read;
 
 /// The switches of the two-switch fabric as they are found from h0: GUID, ports, and the path.
 const SWITCHES: [(u64, u8, &[u8]); 2] = [(0x10, 4, &[1]), (0x20, 4, &[1, 3])];
@@ -72,19 +78,6 @@ fn a_sweep_stops_where_no_reply_comes(rt: HostRuntime) -> Result<(), Fail> {
     Ok(())
 }
 
-#[test]
-fn a_sweep_of_the_greatest_fabric_sends_4_900_smps_at_most(rt: HostRuntime) -> Result<(), Fail> {
-    let mut counting = CountingWire {
-        wire: fat_tree(rt.alloc())?,
-        count: 0,
-    };
-    let graph = sweep(rt.alloc(), &mut counting).or(Err("a graph"))?;
-    assert_eq!(rt; graph.switches().len(), 64);
-    assert_eq!(rt; graph.ports().len(), 256);
-    assert!(rt; counting.count <= 4_900);
-    Ok(())
-}
-
 /// So many switches in a row, the subnet manager on the first.
 fn chain(alloc: Global, count: u16) -> Result<Vec<u8>, Fail> {
     let mut text = Vec::new(alloc);
@@ -112,5 +105,20 @@ fn a_sweep_goes_63_hops_and_no_further(rt: HostRuntime) -> Result<(), Fail> {
         sweep(rt.alloc(), &mut far).err(),
         Some(SweepFault::TooManyHops)
     );
+    Ok(())
+}
+
+#[test]
+fn a_graph_is_found_or_memory_is_refused(rt: HostRuntime) -> Result<(), Fail> {
+    let Ok(topology) = read(rt.alloc(), TWO_SWITCHES.as_bytes()) else {
+        return Ok(());
+    };
+    let Ok(mut fabric) = Fabric::new(rt.alloc(), &topology) else {
+        return Ok(());
+    };
+    match sweep(rt.alloc(), &mut fabric) {
+        Ok(graph) => is_the_graph(&rt, &graph),
+        Err(fault) => assert_eq!(rt; fault, SweepFault::NoMemory),
+    }
     Ok(())
 }

@@ -1,5 +1,6 @@
 -- Switches that were found, and their places.
 use Rattle.std.proofs.Common.{ℕ, zero, suc, ◌≤◌, ◌==◌, ◌≡◌, ◌∙◌, ◌&&◌, ◌||◌, ap, refl, sym, nat_le, Bool, true, false, cond, List, [], ◌∷◌, ◌++◌, length, slice_get, Option, Some, None, arith}
+use Rattle.std.proofs.Math.Bool.{or-true}
 use Rattle.std.specs.List.{AllByRecursion, IsDistinct, list_all, list_any}
 use Rattle.std.proofs.lemmas.Bool.{and_parts, false≢true, or_parts}
 use Rattle.std.proofs.lemmas.Bool.Decides.{Decides-eqb, nat_tests}
@@ -41,14 +42,10 @@ distinct_push same (y ∷ xs) x once none =
     IsDistinct-cons same y (xs ++ x ∷ []) (rec_push (λ z. same y z ≡ false) xs x (IsDistinct-head same y xs once) apart.0)
     (distinct_push same xs x (IsDistinct-tail same y xs once) apart.1)
 
-pub or_true : (b : Bool) → b || true ≡ true
-or_true true = refl
-or_true false = refl
-
 pub any_by : {X : Type 0} (p : X → Bool) (xs : List X) (k : ℕ) (x : X) → slice_get xs k ≡ Some x → p x ≡ true → list_any p xs ≡ true
 any_by p [] k x there passes = cc
 any_by p (y ∷ xs) zero x there passes = rw (same_Some y x there, passes) refl
-any_by p (y ∷ xs) (suc k) x there passes = rw (any_by p xs k x there passes) (or_true (p y))
+any_by p (y ∷ xs) (suc k) x there passes = rw (any_by p xs k x there passes) (or-true (p y))
 
 pub all_by : {X : Type 0} (p : X → Bool) (xs : List X) → ((k : ℕ) (x : X) → slice_get xs k ≡ Some x → p x ≡ true) → list_all p xs ≡ true
 all_by p [] each = refl
@@ -128,7 +125,7 @@ found_by (first ∷ found) zero one node hops there is near =
     le : length one.path ≤ hops → nat_le (length one.path) hops ≡ true
     le h = grind (arith, nat_tests, h)
 found_by (first ∷ found) (suc k) one node hops there is near =
-    rw (found_by found k one node hops there is near) (or_true ((first.node == node) && nat_le (length first.path) hops))
+    rw (found_by found k one node hops there is near) (or-true ((first.node == node) && nat_le (length first.path) hops))
 
 pub record FoundAt (found : List Found) (node hops : ℕ) : Type 0 where
   pub place : ℕ

@@ -104,7 +104,8 @@ reached fabric found deep h here (number ∷ numbers) ends asked shallow is walk
     step_from fabric found (h + suc (length numbers)) here numbers ends (hop fabric.nodes fabric.cables false here number)
     (λ there some hopped goes_on switch.
     rw (sym more) (reached fabric found deep (h + 1) there numbers some asked (omega (arith, shallow))
-    (one_hop fabric found deep h number here there asked (omega (arith, shallow)) is (hops fabric here there number hopped) (goes fabric there numbers some goes_on switch)) goes_on switch))
+    (one_hop fabric found deep h number here there asked (omega (arith, shallow)) is (hops fabric here there number hopped)
+    (goes fabric there numbers some goes_on switch)) goes_on switch))
     walked
 
 -- ---- and so from the subnet manager's port

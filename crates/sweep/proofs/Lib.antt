@@ -19,3 +19,5 @@ pub mod OwnLemmas
 pub mod PortsLemmas
 pub mod WholeLemmas
 pub mod NearLemmas
+pub mod GuidLemmas
+pub mod AdapterLemmas

@@ -77,7 +77,8 @@ short_cases : (ports : List SwitchPort) (number : ℕ)
     → ((one : SwitchPort) × (number < length ports) × (slice_get ports number ≡ Some one)) ⊎ (length ports ≤ number)
 short_cases ports number = by (slice_get_cases ports number).1
   where
-    by : ((x : SwitchPort) × (number < length ports) × (slice_get ports number ≡ Some x) × (get_or ports number x ≡ x)) ⊎ ((length ports ≤ number) × (slice_get ports number ≡ None))
+    by : ((x : SwitchPort) × (number < length ports) × (slice_get ports number ≡ Some x) × (get_or ports number x ≡ x))
+        ⊎ ((length ports ≤ number) × (slice_get ports number ≡ None))
         → ((one : SwitchPort) × (number < length ports) × (slice_get ports number ≡ Some one)) ⊎ (length ports ≤ number)
     by (inl here) = inl (here.0, here.1, here.2)
     by (inr past) = inr past.0

@@ -1,5 +1,6 @@
 -- Where each switch was asked, each cable has an end that an SMP comes to; and what a sweep comes to.
 use Rattle.std.proofs.Common.{ℕ, zero, suc, ◌≤◌, ◌≡◌, ◌⊎◌, inl, inr, ◌∙◌, ◌||◌, not, nat_le, ap, refl, sym, subst, Bool, true, false, List, [], ◌∷◌, ◌++◌, flat_map, length, slice_get, Option, Some, option_map, arith}
+use Rattle.std.proofs.Math.Bool.{or-true}
 use Rattle.std.specs.List.{list_any}
 use Rattle.std.proofs.lemmas.Bool.{and_parts, false≢true, not-true, or_cases, or_parts}
 use Rattle.std.proofs.lemmas.Bool.Decides.{nat_tests}
@@ -24,7 +25,7 @@ use Rattle.sweep.specs.declared.fault.SweepFault.{SweepFault}
 use Rattle.sweep.specs.declared.fault.SweepFault.TheVariants.{NoMemory, WrongReply}
 use Rattle.sweep.specs.declared.path.TheConstants.{PATH_HOPS}
 use Rattle.sweep.proofs.EndedLemmas.{each_found, graph_is}
-use Rattle.sweep.proofs.FoundLemmas.{among_place, or_true}
+use Rattle.sweep.proofs.FoundLemmas.{among_place}
 use Rattle.sweep.proofs.LeastLemmas.{in_range}
 use Rattle.sweep.proofs.WholeLemmas.{at_place, graph_is_whole, rows_joined}
 
@@ -36,7 +37,7 @@ ends_in p (one ∷ cables) zero cable there passes =
     let same : one ≡ cable = same_Some one cable there in
     elim (or_cases (p cable.first) (p cable.second) passes) [
       | inl first ↦ rw (same, first) refl
-      | inr second ↦ rw (same, second) (or_true (p cable.first))
+      | inr second ↦ rw (same, second) (or-true (p cable.first))
     ]
 ends_in p (one ∷ cables) (suc k) cable there passes = rw (ends_in p cables k cable there passes) (both (p one.first) (p one.second))
   where
@@ -119,7 +120,8 @@ pub each_near : (fabric : FabricState) (found : List Found) (survey : SurveyStat
     → IsProgress fabric found (length found) 0 survey [] → IsTooFar fabric → ⊥
 each_near fabric found survey sweepable progress far =
     let k = far.there.0 in
-    let stands : slice_get fabric.cables k ≡ Some far.cable = Rattle.std.proofs.lemmas.Option.slice_get_read fabric.cables (length fabric.cables) k far.cable refl far.there.1 (sym far.there.2) in
+    let stands : slice_get fabric.cables k ≡ Some far.cable =
+    Rattle.std.proofs.lemmas.Option.slice_get_read fabric.cables (length fabric.cables) k far.cable refl far.there.1 (sym far.there.2) in
     let ends = far_ends fabric.cables k far.cable stands (differ is_same_port _ sweepable.good.once) in
     let right = all_there (is_right fabric.nodes) fabric.cables k far.cable sweepable.good.cables stands in
     let one = and_parts (is_port fabric.nodes far.cable.first) _ right in

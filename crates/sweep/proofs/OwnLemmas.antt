@@ -1,5 +1,6 @@
 -- In a good fabric no two nodes, and no two ends of packets, have one GUID.
 use Rattle.std.proofs.Common.{ℕ, zero, suc, ◌-◌, ◌≡◌, ◌∙◌, ◌==◌, ◌||◌, ap, refl, sym, subst, Bool, true, false, if◌then◌else◌, List, [], ◌∷◌, ◌++◌, flat_map, length, map, slice_get, Option, Some, None, option_map}
+use Rattle.std.proofs.Math.Bool.{or-true}
 use Rattle.std.specs.List.{AllByRecursion, IsDistinct}
 use Rattle.std.specs.Option.{option_and_then, option_map_or}
 use Rattle.std.proofs.lemmas.Bool.{false≢true}
@@ -18,7 +19,7 @@ use Rattle.smp_wire.specs.declared.node.Node.TheVariants.{Switch, Adapter}
 use Rattle.sweep.specs.OfFabric.{guid_at, is_among, ports_at}
 use Rattle.sweep.specs.Seen.{seen_at, seen_in}
 use Rattle.sweep.specs.declared.seen.Seen.{Seen}
-use Rattle.sweep.proofs.FoundLemmas.{among_at, one_place, or_true}
+use Rattle.sweep.proofs.FoundLemmas.{among_at, one_place}
 
 -- ---- numbers of which no two are the same, in two parts
 left_part : (xs ys : List ℕ) → IsDistinct (λ a b. a == b) (xs ++ ys) → IsDistinct (λ a b. a == b) xs
@@ -51,7 +52,7 @@ cross (y ∷ xs) ys x once one other = by (y == x) refl (λ later. cross xs ys x
     by true is later =
         let same : y ≡ x = (Decides-eqb y x).0 is in
         rec_none y (xs ++ ys) (IsDistinct-head (λ a b. a == b) y (xs ++ ys) once)
-        (list_any-append (λ one. one == y) xs ys ∙ rw (same, other) (or_true (is_among xs x)))
+        (list_any-append (λ one. one == y) xs ys ∙ rw (same, other) (or-true (is_among xs x)))
     by false is later = later (ap (λ (b : Bool). b || is_among xs x) (sym is) ∙ one)
 
 pub joined_parts : (xs ys : List ℕ) → IsDistinct (λ a b. a == b) xs → IsDistinct (λ a b. a == b) ys
@@ -59,11 +60,11 @@ pub joined_parts : (xs ys : List ℕ) → IsDistinct (λ a b. a == b) xs → IsD
 joined_parts [] ys one other apart = other
 joined_parts (x ∷ xs) ys one other apart =
     IsDistinct-cons (λ a b. a == b) x (xs ++ ys) (rest xs ys (IsDistinct-head (λ a b. a == b) x xs one) (none ys (apart x (rw ((Decides-eqb x x).1 refl) refl))))
-    (joined_parts xs ys (IsDistinct-tail (λ a b. a == b) x xs one) other (λ y among among_other. apart y (rw among (or_true (x == y))) among_other))
+    (joined_parts xs ys (IsDistinct-tail (λ a b. a == b) x xs one) other (λ y among among_other. apart y (rw among (or-true (x == y))) among_other))
   where
     none : (some : List ℕ) → (is_among some x ≡ true → ⊥) → AllByRecursion (λ y. (x == y) ≡ false) some
     none [] absent = tt
-    none (y ∷ some) absent = (by (x == y) refl, none some (λ among. absent (rw among (or_true (y == x)))))
+    none (y ∷ some) absent = (by (x == y) refl, none some (λ among. absent (rw among (or-true (y == x)))))
       where
         by : (b : Bool) → (x == y) ≡ b → b ≡ false
         by false is = refl
@@ -92,10 +93,11 @@ in_nodes : (nodes : List Node) (b : ℕ) (y : Node) (guid : ℕ) → slice_get n
     → is_among (flat_map end_port_guids nodes) guid ≡ true
 in_nodes [] b y guid there among = cc
 in_nodes (z ∷ nodes) zero y guid there among =
-    list_any-append (λ one. one == guid) (end_port_guids z) (flat_map end_port_guids nodes) ∙ rw (ap (λ (n : Node). is_among (end_port_guids n) guid) (same_Some z y there) ∙ among) refl
+    list_any-append (λ one. one == guid) (end_port_guids z) (flat_map end_port_guids nodes)
+    ∙ rw (ap (λ (n : Node). is_among (end_port_guids n) guid) (same_Some z y there) ∙ among) refl
 in_nodes (z ∷ nodes) (suc b) y guid there among =
     list_any-append (λ one. one == guid) (end_port_guids z) (flat_map end_port_guids nodes)
-    ∙ rw (in_nodes nodes b y guid there among) (or_true (is_among (end_port_guids z) guid))
+    ∙ rw (in_nodes nodes b y guid there among) (or-true (is_among (end_port_guids z) guid))
 
 one_end : (nodes : List Node) (a b i j guid : ℕ) (x y : Node) → IsDistinct (λ a b. a == b) (flat_map end_port_guids nodes)
     → slice_get nodes a ≡ Some x → slice_get (end_port_guids x) i ≡ Some guid → slice_get nodes b ≡ Some y → slice_get (end_port_guids y) j ≡ Some guid

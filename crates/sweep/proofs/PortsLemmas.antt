@@ -2,8 +2,8 @@
 use Rattle.std.proofs.Common.{ℕ, zero, suc, ◌-◌, ◌<◌, ◌≤◌, ◌≡◌, ◌∙◌, ◌==◌, ◌&&◌, ◌||◌, not, nat_le, ap, refl, sym, subst, Bool, true, false, List, [], ◌∷◌, map, get_or, length, slice_get, Option, Some, None, option_map, ◌⊎◌, inl, inr, arith}
 use Rattle.std.specs.List.{AllByRecursion, IsDistinct, list_all, list_any}
 use Rattle.std.specs.Option.{option_map_or}
-use Rattle.std.proofs.lemmas.Bool.{and_from, and_parts, false≢true}
-use Rattle.std.proofs.lemmas.Bool.Decides.{Decides-eqb, nat_tests}
+use Rattle.std.proofs.lemmas.Bool.{and_from, and_parts, false≢true, le-leb}
+use Rattle.std.proofs.lemmas.Bool.Decides.{Decides-eqb}
 use Rattle.std.proofs.lemmas.List.Folds.{list_all-map}
 use Rattle.std.proofs.lemmas.Map.Keys.{IsDistinct-cons, IsDistinct-head, IsDistinct-tail}
 use Rattle.std.proofs.lemmas.Option.{same_Some, slice_get_cases, slice_get-map}
@@ -26,9 +26,6 @@ use Rattle.sweep.proofs.OwnLemmas.{EndAt, adapter_seen, joined_parts, own_end, o
 use Rattle.sweep.proofs.PlaceLemmas.{count_found, own_guid}
 use Rattle.sweep.proofs.ProgressLemmas.{node_of}
 use Rattle.sweep.proofs.VisitLemmas.{stands_switch}
-
-le_true : (n m : ℕ) → n ≤ m → nat_le n m ≡ true
-le_true n m h = grind (arith, nat_tests, h)
 
 -- what is known of a port that was met
 pub record IsKnownPort (fabric : FabricState) (met : Met) : Type 0 where
@@ -105,10 +102,10 @@ right_port fabric found i count met good so_far known was = by (slice_get_cases 
         ∙ few_ports known.held adapter (all_there has_a_right_count fabric.nodes met.end.node known.held good.counts known.there)
 
     first : nat_le 1 met.port.number ≡ true
-    first = ap (nat_le 1) known.number ∙ le_true 1 met.end.port known.from
+    first = ap (nat_le 1) known.number ∙ le-leb 1 met.end.port known.from
 
     last : nat_le met.port.number met.port.num_ports ≡ true
-    last = ap (λ (n : ℕ). nat_le n met.port.num_ports) known.number ∙ ap (nat_le met.end.port) known.count ∙ le_true met.end.port (ports_at fabric met.end.node) known.within
+    last = ap (λ (n : ℕ). nat_le n met.port.num_ports) known.number ∙ ap (nat_le met.end.port) known.count ∙ le-leb met.end.port (ports_at fabric met.end.node) known.within
 
     by : ((x : Found) × (met.port.at.node < length found) × (slice_get found met.port.at.node ≡ Some x) × (get_or found met.port.at.node x ≡ x))
         ⊎ ((length found ≤ met.port.at.node) × (slice_get found met.port.at.node ≡ None)) → is_right_port (map (switch_of fabric) found) met.port ≡ true
@@ -116,8 +113,8 @@ right_port fabric found i count met good so_far known was = by (slice_get_cases 
     by (inl here) =
         let counted = count_found fabric found (map (switch_of fabric) found) met.port.at.node here.0 refl here.2 in
         let node = node_of found met.port.at.node here.0 here.2 in
-        and_from _ _ (and_from (nat_le 1 met.port.at.port) _ (le_true 1 met.port.at.port was.asked.1.0)
-        (ap (nat_le met.port.at.port) (counted ∙ ap (ports_at fabric) (sym node)) ∙ le_true met.port.at.port (ports_at fabric (node_at found met.port.at.node)) was.within))
+        and_from _ _ (and_from (nat_le 1 met.port.at.port) _ (le-leb 1 met.port.at.port was.asked.1.0)
+        (ap (nat_le met.port.at.port) (counted ∙ ap (ports_at fabric) (sym node)) ∙ le-leb met.port.at.port (ports_at fabric (node_at found met.port.at.node)) was.within))
         (and_from _ _ (and_from _ _ first last) (and_from _ _ few (no_switch fabric found met good so_far known)))
 
 pub graph_ports : (fabric : FabricState) (found : List Found) (i count : ℕ) (ports : List GraphPort) → IsGood fabric → IsDiscovery fabric found

@@ -59,8 +59,16 @@ info_fits : (kind : NodeType) (count node port number : ℕ) → IsShowable kind
 info_fits kind count node port number is =
     let most = most_few kind in
     let few : count ≤ 36 = omega (arith, most, is.few) in
-    let last : number ≤ 36 = omega (arith, few, is.last) in
-    (omega arith, (omega arith, (code_fits kind, (narrow count few, (is.node_fits, (is.node_fits, (is.port_fits, (omega arith, (omega arith, (omega arith, (narrow number last, (omega arith, tt))))))))))))
+    let last : number ≤ 36 = omega (arith, few, is.last) in (
+      omega arith,
+      (
+        omega arith,
+        (
+          code_fits kind,
+          (narrow count few, (is.node_fits, (is.node_fits, (is.port_fits, (omega arith, (omega arith, (omega arith, (narrow number last, (omega arith, tt))))))))),
+        ),
+      ),
+    )
 
 info_holds : (info : NodeInfo) → Fits (node_info info) → Holds (node_info_bytes info) (node_info info)
 unfolding node_info_bytes
@@ -98,7 +106,18 @@ unfolding seen_of
 seen_again kind count node port number read is held =
     let info = node_info_of kind count node port number in
     let same = alike (node_info_bytes info) read info held (info_holds info (info_fits kind count node port number is)) in
-    rw (same.kind, code_is kind, same.count, same.node, same.port, same.number, within 1 count is.some, within count (most_ports kind) is.few, within 1 number is.first, within number count is.last) refl
+    rw (
+      same.kind,
+      code_is kind,
+      same.count,
+      same.node,
+      same.port,
+      same.number,
+      within 1 count is.some,
+      within count (most_ports kind) is.few,
+      within 1 number is.first,
+      within number count is.last,
+    ) refl
 
 -- ---- what a node of a good fabric gives
 equal : (a b : ℕ) → (a == b) ≡ true → a ≡ b
@@ -169,7 +188,8 @@ port_of ports number port order guids first there =
     let both = and_parts (port.node_guid == node_guid (Adapter ports)) (port.num_ports == length ports) own in
     let same = (bytes_eq-Decides (map (λ (one : AdapterState). one.number) ports) (range_with_len 1 (length ports))).0 parts.1 in
     let place : 1 + k ≡ number = omega (arith, first) in
-    let guid : slice_get (end_port_guids (Adapter ports)) k ≡ Some port.port_guid = slice_get-map (λ (one : AdapterState). one.port_guid) ports k ∙ ap (option_map (λ (one : AdapterState). one.port_guid)) there in
+    let guid : slice_get (end_port_guids (Adapter ports)) k ≡ Some port.port_guid = slice_get-map (λ (one : AdapterState). one.port_guid) ports k
+    ∙ ap (option_map (λ (one : AdapterState). one.port_guid)) there in
     record {
       there = rw (from_1 number first) there;
       node = equal port.node_guid (node_guid (Adapter ports)) both.0;
@@ -182,7 +202,8 @@ some_port : (ports : List AdapterState) (number : ℕ) → 1 ≤ number → numb
     → (port : AdapterState) × (slice_get ports (number - 1) ≡ Some port)
 some_port ports number first last = by (slice_get_cases ports (number - 1)).1
   where
-    by : ((x : AdapterState) × (number - 1 < length ports) × (slice_get ports (number - 1) ≡ Some x) × (get_or ports (number - 1) x ≡ x)) ⊎ ((length ports ≤ number - 1) × (slice_get ports (number - 1) ≡ None))
+    by : ((x : AdapterState) × (number - 1 < length ports) × (slice_get ports (number - 1) ≡ Some x) × (get_or ports (number - 1) x ≡ x))
+        ⊎ ((length ports ≤ number - 1) × (slice_get ports (number - 1) ≡ None))
         → (port : AdapterState) × (slice_get ports (number - 1) ≡ Some port)
     by (inl here) = (here.0, here.2)
     by (inr past) = let far = past.0 in absurd (omega (arith, first, last, far))

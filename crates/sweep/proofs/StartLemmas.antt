@@ -1,6 +1,5 @@
 -- The first two steps of a sweep over a good fabric: the subnet manager's port, and the switch at its cable.
-use Rattle.std.proofs.Common.{ℕ, ◌≡◌, ◌∙◌, ap, refl, sym, ◌==◌, ◌||◌, not, Bool, true, false, if◌then◌else◌, List, [], ◌∷◌, ◌++◌, find, length, slice_get, Option, Some, None, option_map, Result, Ok, Err}
-use Rattle.std.specs.List.{list_any}
+use Rattle.std.proofs.Common.{ℕ, ◌≡◌, ◌∙◌, ap, refl, sym, ◌==◌, ◌||◌, not, Bool, true, false, if◌then◌else◌, List, [], ◌∷◌, ◌++◌, length, slice_get, Option, Some, None, option_map, Result, Ok, Err}
 use Rattle.std.specs.Option.{ForSome, ok_or, option_and_then, option_map_or}
 use Rattle.std.proofs.lemmas.Bool.{and_parts}
 use Rattle.std.proofs.lemmas.Bool.Decides.{Decides-eqb}
@@ -25,6 +24,7 @@ use Rattle.sweep.specs.declared.fault.SweepFault.{SweepFault}
 use Rattle.sweep.specs.declared.fault.SweepFault.TheVariants.{NoReply}
 use Rattle.sweep.specs.declared.graph.GraphSwitch.{GraphSwitch}
 use Rattle.sweep.specs.declared.seen.Seen.{Seen}
+use Rattle.sweep.proofs.CabledLemmas.{any_found}
 use Rattle.sweep.proofs.EndLemmas.{end_port}
 use Rattle.sweep.proofs.ShownLemmas.{gives_info, gives_name}
 
@@ -39,7 +39,8 @@ switch_shown seen name path = record { guid = seen.node_guid; num_ports = seen.n
 
 -- ---- what is seen tells the kind of its node and the number of its port
 adapter_by : (guid count number : ℕ) (found : Option AdapterState) (seen : Seen)
-    → option_map (λ (one : AdapterState). record { node_type = node_type.ChannelAdapter; num_ports = count; node_guid = guid; port_guid = one.port_guid; local_port_num = number }) found ≡ Some seen
+    → option_map (λ (one : AdapterState).
+    record { node_type = node_type.ChannelAdapter; num_ports = count; node_guid = guid; port_guid = one.port_guid; local_port_num = number }) found ≡ Some seen
     → (is_switch_type seen.node_type ≡ false) × (seen.local_port_num ≡ number)
 adapter_by guid count number None seen is = absurd (cc)
 adapter_by guid count number (Some one) seen is = rw (sym (same_Some _ _ is)) (refl, refl)
@@ -74,18 +75,6 @@ pub switch_at : (fabric : FabricState) (at : PortRef) (seen : Seen) (name path :
 switch_at fabric at seen name path switch is named = switch_by fabric at (slice_get fabric.nodes at.node) seen name path refl switch is named
 
 -- ---- the cable of the subnet manager's port
-abbrev Finds : {X : Type 0} → (X → Bool) → List X → Type 0
-Finds {X} q xs = (x : X) × (find q xs ≡ Some x) × (q x ≡ true)
-
-any_by : {X : Type 0} (q : X → Bool) (y : X) (ys : List X) (b : Bool) → q y ≡ b → b || list_any q ys ≡ true → (list_any q ys ≡ true → Finds q ys)
-    → (x : X) × ((if b then Some y else find q ys) ≡ Some x) × (q x ≡ true)
-any_by q y ys true is any later = (y, refl, is)
-any_by q y ys false is any later = later any
-
-any_found : {X : Type 0} (q : X → Bool) (xs : List X) → list_any q xs ≡ true → Finds q xs
-any_found q [] any = absurd (cc)
-any_found q (y ∷ ys) any = any_by q y ys (q y) refl any (λ later. any_found q ys later)
-
 second_is : (x : Bool) → false || x ≡ true → x ≡ true
 second_is x h = h
 

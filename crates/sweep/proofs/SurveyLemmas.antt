@@ -1,5 +1,6 @@
 -- Links that lead to a port, and a search for one.
 use Rattle.std.proofs.Common.{ℕ, ◌≡◌, ◌==◌, ◌+◌, ◌&&◌, ◌||◌, ◌<◌, refl, Bool, true, false, if◌then◌else◌, List, [], ◌∷◌, find, get_or, length, nat_le, Option, Some, None, option_map, arith}
+use Rattle.std.proofs.Math.Bool.{or-true}
 use Rattle.std.specs.List.{list_any}
 use Rattle.std.proofs.lemmas.Bool.Decides.{Decides-eqb, nat_tests}
 use Rattle.std.proofs.lemmas.List.{get_or_past}
@@ -21,11 +22,7 @@ linked_by : (link : Link) (links : List Link) (there : PortRef) (number : ℕ) (
     → leads there number link || list_any (leads there number) links ≡ true
 linked_by link links there number true is found later =
     rw (is, (Decides-eqb link.port number).1 (same_Some _ _ found)) refl
-linked_by link links there number false is found later = rw (later found) (or_true (leads there number link))
-  where
-    or_true : (b : Bool) → b || true ≡ true
-    or_true true = refl
-    or_true false = refl
+linked_by link links there number false is found later = rw (later found) (or-true (leads there number link))
 
 pub linked : (links : List Link) (there : PortRef) (number : ℕ) → first_port links there ≡ Some number
     → list_any (leads there number) links ≡ true

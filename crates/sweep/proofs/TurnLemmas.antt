@@ -1,5 +1,6 @@
 -- A port that no SMP goes out of, since its switch is 63 hops away: its cable is known from the other end, or leads too far.
 use Rattle.std.proofs.Common.{ℕ, zero, suc, ◌+◌, ◌<◌, ◌≤◌, ◌≡◌, ◌⊎◌, inl, inr, ◌∙◌, ◌==◌, ◌&&◌, ◌||◌, nat_le, ap, refl, sym, subst, Bool, true, false, if◌then◌else◌, List, [], ◌∷◌, find, flat_map, map, take, get_or, length, slice_get, Option, Some, None, option_map, Result, Ok, Err, arith}
+use Rattle.std.proofs.Math.Bool.{or-true}
 use Rattle.std.specs.List.{Contains, list_any, range_with_len}
 use Rattle.std.specs.Option.{option_map_or}
 use Rattle.std.proofs.lemmas.Bool.{and_parts, false≢true}
@@ -48,18 +49,15 @@ no_row fabric nodes (first ∷ found) (suc i) (suc k) past = no_row fabric nodes
 pub any_in : {X : Type 0} (p : X → Bool) (f : ℕ → List X) (a n k : ℕ) → a ≤ k → k < a + n → list_any p (f k) ≡ true
     → list_any p (flat_map f (range_with_len a n)) ≡ true
 any_in p f a zero k from to passes = absurd (omega (arith, from, to))
-any_in p f a (suc n) k from to passes = list_any-append p (f a) (flat_map f (range_with_len (a + 1) n)) ∙ by (nat_le k a) refl (λ later. any_in p f (a + 1) n k later (omega (arith, to)) passes)
+any_in p f a (suc n) k from to passes = list_any-append p (f a) (flat_map f (range_with_len (a + 1) n))
+    ∙ by (nat_le k a) refl (λ later. any_in p f (a + 1) n k later (omega (arith, to)) passes)
   where
-    or_true : (b : Bool) → b || true ≡ true
-    or_true true = refl
-    or_true false = refl
-
     by : (b : Bool) → nat_le k a ≡ b → (a + 1 ≤ k → list_any p (flat_map f (range_with_len (a + 1) n)) ≡ true)
         → list_any p (f a) || list_any p (flat_map f (range_with_len (a + 1) n)) ≡ true
     by true at later =
         let same : k ≡ a = grind (arith, nat_tests, at, from) in
         rw (ap (λ (n : ℕ). list_any p (f n)) (sym same) ∙ passes) refl
-    by false at later = rw (later (grind (arith, nat_tests, at))) (or_true (list_any p (f a)))
+    by false at later = rw (later (grind (arith, nat_tests, at))) (or-true (list_any p (f a)))
 
 pub record AnyAt {X : Type 0} (p : X → Bool) (f : ℕ → List X) (a n : ℕ) : Type 0 where
   pub number : ℕ
@@ -155,7 +153,8 @@ seen_from fabric found i rows here at within are linked = by (nat_le i at.node) 
         absurd (false≢true (ap (list_any (leads here at.port)) (sym (no_row fabric (nodes_of found) found i at.node (grind (arith, nat_tests, past)))) ∙ rows_linked))
     by false before = at_one (slice_get_cases found at.node).1 (grind (arith, nat_tests, before))
       where
-        at_one : ((x : Found) × (at.node < length found) × (slice_get found at.node ≡ Some x) × (get_or found at.node x ≡ x)) ⊎ ((length found ≤ at.node) × (slice_get found at.node ≡ None))
+        at_one : ((x : Found) × (at.node < length found) × (slice_get found at.node ≡ Some x) × (get_or found at.node x ≡ x))
+            ⊎ ((length found ≤ at.node) × (slice_get found at.node ≡ None))
             → at.node < i → SeenFrom fabric found i here at
         at_one (inl stands) earlier = record {
           one = stands.0;
@@ -193,7 +192,8 @@ known_back fabric found one count survey row here there at sweepable now cable d
     same_Some there _ (sym cable ∙ good_once fabric (port from.one.node at.port) (port one.node here.port) sweepable.good (from.link.cable ∙ ap (λ (p : PortRef). Some p) end)) in
     let node : there.node ≡ from.one.node = ap (λ (p : PortRef). p.node) near in
     let switch : is_switch_at fabric.nodes there.node ≡ true = ap (is_switch_at fabric.nodes) node ∙ stands_switch fabric found at.node from.one so_far.are from.there in
-    let place : place_of (nodes_of found) there.node ≡ at.node = ap (place_of (nodes_of found)) node ∙ place_is (nodes_of found) at.node from.one.node so_far.once (node_there found at.node from.one from.there) in
+    let place : place_of (nodes_of found) there.node ≡ at.node = ap (place_of (nodes_of found)) node
+    ∙ place_is (nodes_of found) at.node from.one.node so_far.once (node_there found at.node from.one from.there) in
     let leads = all_have (Leads fabric) found at.node from.one so_far.lead from.there in (
       record {
         found_behind = λ far far_cable far_switch.
@@ -236,7 +236,8 @@ known_back fabric found one count survey row here there at sweepable now cable d
         by true long =
             let known = now.progress.asked.before at.node from.one from.before from.there in
             let is_near = known.near_behind at.port from.link.end from.link.from from.link.within from.link.cable (reach (length from.one.path) long) in
-            let found_near = least fabric found here.node count 62 from.link.end.node one sweepable.good now.progress.discovery now.progress.asked now.there is_near (omega (arith, deep)) in
+            let found_near = least fabric found here.node count 62 from.link.end.node one sweepable.good now.progress.discovery now.progress.asked now.there is_near
+            (omega (arith, deep)) in
             let at_near = found_at found from.link.end.node 62 found_near in
             let nodes : at_near.one.node ≡ one.node = at_near.node_is ∙ ap (λ (p : PortRef). p.node) end in
             let place : at_near.place ≡ here.node =
@@ -325,7 +326,8 @@ too_far fabric found one count survey row here there sweepable now cable deep no
 
             placed_here : placed (nodes_of found) (port one.node here.port) ≡ here
             placed_here =
-                let place : place_of (nodes_of found) one.node ≡ here.node = place_is (nodes_of found) here.node one.node now.progress.discovery.once (node_there found here.node one now.there) in
+                let place : place_of (nodes_of found) one.node ≡ here.node =
+                place_is (nodes_of found) here.node one.node now.progress.discovery.once (node_there found here.node one now.there) in
                 λ k. record { node = place k; port = here.port }
 
             clash : place < here.node → ⊥
@@ -346,7 +348,8 @@ turned fabric found one count survey row next here there at (Ok done) sweepable 
     let known = known_back fabric found one count survey row here there at sweepable now cable deep linked in
     record {
       more = [];
-      progress = rw (append-nil found) (link_on fabric found one here.node count here.port survey row next there at now.number now.there now.progress known.0 cable known.1 known.2 noted);
+      progress = rw (append-nil found)
+          (link_on fabric found one here.node count here.port survey row next there at now.number now.there now.progress known.0 cable known.1 known.2 noted);
     }
 turned fabric found one count survey row next here there at (Err fault) sweepable now cable deep linked noted = rw noted tt
 

@@ -139,7 +139,8 @@ new_place fabric found one count old next row here there path seen (Ok place) sw
       more = new ∷ [];
       progress = grown;
       behind = found_by (found ++ new ∷ []) (length found) new there.node (length one.path + 1) last refl (omega (arith, fresh.deep));
-      place_is = added.0 ∙ many ∙ sym (place_is (nodes_of (found ++ new ∷ [])) (length found) there.node grown.discovery.once (node_there (found ++ new ∷ []) (length found) new last));
+      place_is = added.0 ∙ many ∙ sym (place_is (nodes_of (found ++ new ∷ [])) (length found) there.node grown.discovery.once
+          (node_there (found ++ new ∷ []) (length found) new last));
     }
 new_place fabric found one count old next row here there path seen (Err NoMemory) sweepable at behind switch is added = tt
 new_place fabric found one count old next row here there path seen (Err NoReply) sweepable at behind switch is added = added
@@ -319,7 +320,8 @@ too_many fabric found i count ports good are many = inr (record {
     all_ends : (some : List Met) → All (IsShownAt fabric) some → All (WasMet fabric found i count) some
         → list_all (is_adapter_port fabric) (ends_met some) ≡ true
     all_ends some shown asked = list_all-map (is_adapter_port fabric) (λ (met : Met). met.end) some
-        ∙ all_by (λ met. is_adapter_port fabric met.end) some (λ k met there. one_end met (all_have (IsShownAt fabric) some k met shown there) (all_have (WasMet fabric found i count) some k met asked there))
+        ∙ all_by (λ met. is_adapter_port fabric met.end) some
+        (λ k met there. one_end met (all_have (IsShownAt fabric) some k met shown there) (all_have (WasMet fabric found i count) some k met asked there))
 
 pub adapter_on : (fabric : FabricState) (found : List Found) (one : Found) (count : ℕ) (old next : SurveyState) (row : List Link) (here there : PortRef)
     (path : List ℕ) (seen : Seen) (result : Result (Unit {0}) SweepFault) → IsSweepable fabric → IsAtPort fabric found one count old row here
@@ -465,11 +467,13 @@ no_way : (fabric : FabricState) (found : List Found) (switches : List GraphSwitc
     → option_map way_of (slice_get switches place) ≡ None → length found ≤ place
 no_way fabric found switches place are none = by (slice_get_cases found place).1
   where
-    by : ((x : Found) × (place < length found) × (slice_get found place ≡ Some x) × (get_or found place x ≡ x)) ⊎ ((length found ≤ place) × (slice_get found place ≡ None)) → length found ≤ place
+    by : ((x : Found) × (place < length found) × (slice_get found place ≡ Some x) × (get_or found place x ≡ x))
+        ⊎ ((length found ≤ place) × (slice_get found place ≡ None)) → length found ≤ place
     by (inr past) = past.0
     by (inl here) =
         let some : option_map way_of (slice_get switches place) ≡ Some (way_of (switch_of fabric here.0)) =
-        ap (option_map way_of) (ap (λ (some : List GraphSwitch). slice_get some place) are ∙ slice_get-map (switch_of fabric) found place ∙ ap (option_map (switch_of fabric)) here.2) in
+        ap (option_map way_of) (ap (λ (some : List GraphSwitch). slice_get some place) are ∙ slice_get-map (switch_of fabric) found place
+        ∙ ap (option_map (switch_of fabric)) here.2) in
         let clash = sym none ∙ some in
         absurd cc
 

@@ -1,8 +1,9 @@
 -- The graph of a good fabric agrees with itself.
 use Rattle.std.proofs.Common.{ℕ, zero, suc, ◌+◌, ◌<◌, ◌≤◌, ◌≡◌, ◌⊎◌, inl, inr, ◌∙◌, ◌==◌, ◌&&◌, ◌||◌, not, nat_le, nat_lt, ap, refl, sym, Bool, true, false, if◌then◌else◌, List, [], ◌∷◌, ◌++◌, flat_map, map, take, get_or, length, slice_get, Option, Some, None, option_map, arith}
+use Rattle.std.proofs.Math.Bool.{or-true}
 use Rattle.std.specs.List.{list_all, list_any, range_with_len}
 use Rattle.std.specs.Option.{option_map_or}
-use Rattle.std.proofs.lemmas.Bool.{and_from, and_parts, false≢true}
+use Rattle.std.proofs.lemmas.Bool.{and_from, and_parts, false≢true, le-leb}
 use Rattle.std.proofs.lemmas.Bool.Decides.{Decides-eqb, nat_tests}
 use Rattle.std.proofs.lemmas.List.{append-nil, length-map, take_all}
 use Rattle.std.proofs.lemmas.List.Folds.{list_all-append, list_all-map}
@@ -36,9 +37,6 @@ use Rattle.sweep.proofs.VisitLemmas.{link_is, port_is, stands_switch}
 use Rattle.sweep.proofs.PortsLemmas.{graph_agrees, graph_guids, graph_ports}
 use Rattle.sweep.proofs.ProgressLemmas.{node_of}
 
-le_true : (n m : ℕ) → n ≤ m → nat_le n m ≡ true
-le_true n m h = grind (arith, nat_tests, h)
-
 -- ---- switches
 count_by : (found : Option Node) → option_map_or is_switch found false ≡ true
     → ((node : Node) → found ≡ Some node → has_a_right_count node ≡ true)
@@ -56,7 +54,7 @@ right_switch : (fabric : FabricState) (one : Found) → IsGood fabric → is_swi
     → is_right_switch (switch_of fabric one) ≡ true
 right_switch fabric one good switch leads =
     and_from _ _ (right_count_at fabric one.node good switch)
-    (and_from (nat_le 1 (length one.path)) _ (rw leads.leaves (le_true 1 (suc (length leads.rest)) (omega arith))) (le_true (length one.path) PATH_HOPS leads.short))
+    (and_from (nat_le 1 (length one.path)) _ (rw leads.leaves (le-leb 1 (suc (length leads.rest)) (omega arith))) (le-leb (length one.path) PATH_HOPS leads.short))
 
 pub graph_switches : (fabric : FabricState) (found : List Found) → IsGood fabric → IsDiscovery fabric found
     → list_all is_right_switch (map (switch_of fabric) found) ≡ true
@@ -142,7 +140,7 @@ right_link fabric found k number one end good so_far there from within cable amo
     let at = among_place (nodes_of found) end.node among in
     let place : place_of (nodes_of found) end.node ≡ at.0 = place_is (nodes_of found) at.0 end.node so_far.once at.1 in
     let count = count_found fabric found (map (switch_of fabric) found) k one refl there in
-    and_from _ _ (rw count (le_true number (ports_at fabric one.node) within))
+    and_from _ _ (rw count (le-leb number (ports_at fabric one.node) within))
     (and_from _ _ (apart at.0 place at.1) (back at.0 place at.1))
   where
     apart : (j : ℕ) → place_of (nodes_of found) end.node ≡ j → slice_get (nodes_of found) j ≡ Some end.node → not (place_of (nodes_of found) end.node == k) ≡ true
@@ -204,7 +202,8 @@ places_all p a (suc n) each = and_from (p a) _ (each a (omega arith) (omega arit
 pub at_place : (found : List Found) (k : ℕ) → k < length found → (one : Found) × StandsAt found k one
 at_place found k within = by (slice_get_cases found k).1
   where
-    by : ((x : Found) × (k < length found) × (slice_get found k ≡ Some x) × (get_or found k x ≡ x)) ⊎ ((length found ≤ k) × (slice_get found k ≡ None)) → (one : Found) × StandsAt found k one
+    by : ((x : Found) × (k < length found) × (slice_get found k ≡ Some x) × (get_or found k x ≡ x))
+        ⊎ ((length found ≤ k) × (slice_get found k ≡ None)) → (one : Found) × StandsAt found k one
     by (inl here) = (here.0, here.2)
     by (inr past) = absurd (omega (arith, past.0, within))
 
@@ -259,15 +258,11 @@ graph_joined fabric found good so_far =
     places_all (λ place. (place == 0) || is_near (rows_of fabric found) place) 0 (length (rows_of fabric found))
     (λ k from to. by k (omega (arith, to, length-map found (λ (one : Found). row_of fabric (nodes_of found) one.node))))
   where
-    or_true : (b : Bool) → b || true ≡ true
-    or_true true = refl
-    or_true false = refl
-
     by : (k : ℕ) → k < length found → (k == 0) || is_near (rows_of fabric found) k ≡ true
     by zero within = refl
     by (suc k) within =
         let at = at_place found (suc k) within in
-        rw (near_there fabric found (suc k) at.0 good so_far at.1 (so_far.joined (suc k) at.0 (omega arith) at.1)) (or_true (suc k == 0))
+        rw (near_there fabric found (suc k) at.0 good so_far at.1 (so_far.joined (suc k) at.0 (omega arith) at.1)) (or-true (suc k == 0))
 
 -- ---- the subnet manager's port is among the ports
 manager_port : (fabric : FabricState) (at : PortRef) (manager : ℕ) (o : Option Seen) → is_switch_at fabric.nodes fabric.manager.node ≡ false
@@ -291,7 +286,8 @@ graph_manager fabric found manager good so_far is =
     (any_in (λ port. port.port_guid == manager)
     (λ number. option_map_or (port_to fabric (port at.place number)) (far_end fabric.cables (port (node_at found at.place) number)) []) 1 (ports_at fabric (node_at found at.place))
     so_far.first.port range.0 (rw node (omega (arith, range.1)))
-    (ap (λ (n : ℕ). list_any (λ port. port.port_guid == manager) (option_map_or (port_to fabric (port at.place so_far.first.port)) (far_end fabric.cables (port n so_far.first.port)) [])) node
+    (ap (λ (n : ℕ). list_any (λ port. port.port_guid == manager)
+    (option_map_or (port_to fabric (port at.place so_far.first.port)) (far_end fabric.cables (port n so_far.first.port)) [])) node
     ∙ ap (λ (o : Option PortRef). list_any (λ port. port.port_guid == manager) (option_map_or (port_to fabric (port at.place so_far.first.port)) o [])) home
     ∙ manager_port fabric (port at.place so_far.first.port) manager (seen_at fabric fabric.manager) good.manager_adapter refl is))
 

@@ -1,6 +1,7 @@
 pub mod Fault
 pub mod Seen
 pub mod Graph
+pub mod Adapters
 pub mod OfFabric
 pub mod Hops
 pub mod Limits

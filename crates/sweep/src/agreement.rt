@@ -3,10 +3,13 @@
 ghost use Rattle.std.specs.Prelude.{◌≡◌, ◌==◌, ◌&&◌, nat_le, [], length, get_or, IfOk};
 ghost use Rattle.std.specs.Bool.{Decides};
 ghost use Rattle.std.specs.List.{IsDistinct, list_all, list_any, range_with_len};
-ghost use Rattle.sweep.specs.Graph.{IsGraph, agree, all_agree, count_at, end_guids, graph_with, is_joined, is_linked, is_near, is_right_link, is_right_port, is_right_row, is_right_switch, is_switch_port, rise_above};
+ghost use Rattle.sweep.specs.Graph.{IsGraph, count_at, end_guids, graph_with, is_joined, is_linked, is_near, is_right_link, is_right_port, is_right_row, is_right_switch, is_switch_port, rise_above};
+ghost use Rattle.sweep.specs.declared.graph.TheConstants.{MAX_ADAPTER_PORTS, MAX_SWITCHES};
 
+use crate::adapters::all_agree;
 use crate::graph::{GraphPort, GraphSwitch, Link, MAX_ADAPTER_PORTS, MAX_SWITCHES, Row};
 use crate::path::PATH_HOPS;
+use crate::switch_list::SwitchList;
 use fabric_parts::{NodeType, PortRef};
 use std::alloc::{AllocError, Global};
 use std::collections::HashSet;
@@ -15,38 +18,37 @@ use std::collections::HashSet;
 pub(crate) fn are_a_graph(
     alloc: Global,
     manager: u64,
-    switches: &[GraphSwitch],
+    switches: &SwitchList,
     rows: &[Row],
     ports: &[GraphPort],
 ) -> Result<bool, AllocError>
     ensures { IfOk result (λ b. Decides b (IsGraph (graph_with manager switches.now rows.now ports.now))) }
 {
-    if !are_few(switches, rows, ports) || !are_right(switches, rows, ports) {
+    if !are_few(switches.as_slice(), rows, ports) || !are_right(switches, rows, ports) {
         return Ok(false);
     }
-    if !has_guid(ports, manager) {
+    if !has_guid(ports, manager) || !all_agree(alloc, ports)? {
         return Ok(false);
     }
-    have_own_guids(alloc, switches, ports)
+    have_own_guids(alloc, switches.as_slice(), ports)
 }
 
 /// Whether there are as many rows as switches, and no more switches and ports than a graph holds.
 fn are_few(switches: &[GraphSwitch], rows: &[Row], ports: &[GraphPort]) -> bool
-    ensures { result ≡ (nat_le (length switches.now) 64 && (nat_le (length ports.now) 256 && (length rows.now == length switches.now))) }
+    ensures { result ≡ (nat_le (length switches.now) MAX_SWITCHES && (nat_le (length ports.now) MAX_ADAPTER_PORTS && (length rows.now == length switches.now))) }
 {
     switches.len() <= MAX_SWITCHES
         && ports.len() <= MAX_ADAPTER_PORTS
         && rows.len() == switches.len()
 }
 
-/// Whether each switch, link and port is one that a fabric of ours may have, and agrees with the others.
-fn are_right(switches: &[GraphSwitch], rows: &[Row], ports: &[GraphPort]) -> bool
-    ensures { result ≡ (list_all is_right_switch switches.now && (list_all (is_right_row switches.now rows.now) (range_with_len 0 (length rows.now)) && (list_all (is_right_port switches.now) ports.now && all_agree ports.now))) }
+/// Whether each switch, link and port is one that a fabric of ours may have.
+fn are_right(switches: &SwitchList, rows: &[Row], ports: &[GraphPort]) -> bool
+    ensures { result ≡ (list_all is_right_switch switches.now && (list_all (is_right_row switches.now rows.now) (range_with_len 0 (length rows.now)) && list_all (is_right_port switches.now) ports.now)) }
 {
-    are_right_switches(switches)
-        && are_right_rows(switches, rows)
+    are_right_switches(switches.as_slice())
+        && are_right_rows(switches.as_slice(), rows)
         && are_right_ports(switches, ports)
-        && all_agree(ports)
 }
 
 /// Whether each switch is right.
@@ -64,7 +66,7 @@ fn are_right_rows(switches: &[GraphSwitch], rows: &[Row]) -> bool
 }
 
 /// Whether each port is right.
-fn are_right_ports(switches: &[GraphSwitch], ports: &[GraphPort]) -> bool
+fn are_right_ports(switches: &SwitchList, ports: &[GraphPort]) -> bool
     ensures { result ≡ list_all (is_right_port switches.now) ports.now }
 {
     ports.iter().all(|port| is_right_port(switches, port))
@@ -169,13 +171,6 @@ pub(crate) fn has_a_nearer_switch(rows: &[Row]) -> bool
     (0..rows.len()).all(|place| place == 0 || is_near(rows, place))
 }
 
-/// Whether some switch has this GUID.
-fn is_switch(switches: &[GraphSwitch], guid: u64) -> bool
-    ensures { result ≡ list_any (λ switch. switch.guid == guid) switches.now }
-{
-    switches.iter().any(|switch| switch.guid == guid)
-}
-
 /// Whether that is a port of a switch.
 fn is_switch_port(switches: &[GraphSwitch], at: PortRef) -> bool
     ensures { result ≡ is_switch_port switches.now at }
@@ -184,43 +179,14 @@ fn is_switch_port(switches: &[GraphSwitch], at: PortRef) -> bool
 }
 
 /// Whether it hangs on a port of a switch, and is one of an adapter of 1 to 8 ports.
-fn is_right_port(switches: &[GraphSwitch], port: &GraphPort) -> bool
+fn is_right_port(switches: &SwitchList, port: &GraphPort) -> bool
     ensures { result ≡ is_right_port switches.now port.now }
 {
-    is_switch_port(switches, port.at)
+    is_switch_port(switches.as_slice(), port.at)
         && 1 <= port.number
         && port.number <= port.num_ports
         && port.num_ports <= NodeType::ChannelAdapter.most_ports()
-        && !is_switch(switches, port.node_guid)
-}
-
-/// Whether two ports, if they are of one adapter, have two numbers and tell one number of ports.
-fn agree(one: &GraphPort, other: &GraphPort) -> bool
-    ensures { result ≡ agree one.now other.now }
-{
-    one.node_guid != other.node_guid
-        || (one.num_ports == other.num_ports && one.number != other.number)
-}
-
-/// Whether a port agrees with each of the others.
-fn agrees_with(port: &GraphPort, others: &[GraphPort]) -> bool
-    ensures { result ≡ list_all (agree port.now) others.now }
-{
-    others.iter().all(|other| agree(port, other))
-}
-
-/// Whether each two ports agree.
-fn all_agree(ports: &[GraphPort]) -> bool
-    ensures { result ≡ all_agree ports.now }
-{
-    let mut rest = ports;
-    while let [port, others @ ..] = rest {
-        if !agrees_with(port, others) {
-            return false;
-        }
-        rest = others;
-    }
-    true
+        && !switches.has(port.node_guid)
 }
 
 /// Whether one of these ports has the GUID.

@@ -1,6 +1,6 @@
 //! How a fabric is found, node by node.
 
-ghost use Rattle.std.specs.Prelude.{ℕ, suc, ◌≡◌, ◌≤◌, ◌<◌, List, ◌∷◌, ◌++◌, true, false, [], length, Some, IfErr, IfOk, OnOk};
+ghost use Rattle.std.specs.Prelude.{ℕ, suc, ◌≡◌, ◌≤◌, ◌<◌, ◌==◌, List, ◌∷◌, ◌++◌, true, false, [], length, position, Some, None, IfErr, IfOk, OnOk};
 ghost use Rattle.std.specs.Option.{ForSome};
 ghost use Rattle.fabric_parts.specs.Cable.{far_end};
 ghost use Rattle.fabric_parts.specs.declared.cable.PortRef.{PortRef};
@@ -13,6 +13,8 @@ ghost use Rattle.sweep.specs.Progress.{IsProgress, StandsAt};
 ghost use Rattle.sweep.specs.Seen.{seen_at};
 ghost use Rattle.sweep.specs.Sweeps.{Adds, Comes, Finds, GoesOn, IsAllAsked, IsAtPort, IsBehind, IsPlacedAt, IsSweepable, Noted};
 ghost use Rattle.sweep.specs.declared.graph.Link.{Link};
+ghost use Rattle.sweep.specs.declared.graph.TheConstants.{MAX_ADAPTER_PORTS, MAX_SWITCHES};
+ghost use Rattle.sweep.specs.declared.path.TheConstants.{PATH_HOPS};
 ghost use Rattle.sweep.specs.Start.{Starts};
 ghost use Rattle.sweep.specs.declared.fault.SweepFault.TheVariants.{NoMemory};
 
@@ -194,7 +196,7 @@ fn visit_port<W: SmpWire>(
 
 /// Notes a link that no SMP can follow, if it was seen from its other end.
 fn turn_round(survey: &Survey, row: &mut Row, here: PortRef) -> Result<(), SweepFault>
-    ensures went { (fabric : FabricState) → IsSweepable fabric → (found : List Found) (one : Found) (count : ℕ) (there : PortRef) → IsAtPort fabric found one count survey.now row.old here → far_end fabric.cables (port one.node here.port) ≡ Some there → length one.path ≡ 63 → Comes fabric (λ _. GoesOn fabric found here.node here.port survey.now row.new) result }
+    ensures went { (fabric : FabricState) → IsSweepable fabric → (found : List Found) (one : Found) (count : ℕ) (there : PortRef) → IsAtPort fabric found one count survey.now row.old here → far_end fabric.cables (port one.node here.port) ≡ Some there → length one.path ≡ PATH_HOPS → Comes fabric (λ _. GoesOn fabric found here.node here.port survey.now row.new) result }
 {
     match survey.seen_from(here) {
         Some(to) => note(row, here, to),
@@ -267,7 +269,8 @@ fn find_switch<W: SmpWire>(
     seen: &Seen,
     path: Path,
 ) -> Result<usize, SweepFault>
-    ensures added { ForSome (W.fabric wire.old) (λ fabric. IsGood fabric → (there : PortRef) → end_of fabric path ≡ Some there → is_switch_at fabric.nodes there.node ≡ true → seen_at fabric there ≡ Some seen.now → Adds (64 ≤ length survey.old.switches) (λ place. (place ≡ length survey.old.switches) × (length survey.old.switches < 64) × (survey.new ≡ record survey.old { switches = survey.old.switches ++ switch_of fabric (record { node = there.node; path = path }) ∷ [] })) result) }
+    requires new { position (λ switch. switch.guid == seen.now.node_guid) survey.old.switches ≡ None }
+    ensures added { ForSome (W.fabric wire.old) (λ fabric. IsGood fabric → (there : PortRef) → end_of fabric path ≡ Some there → is_switch_at fabric.nodes there.node ≡ true → seen_at fabric there ≡ Some seen.now → Adds (MAX_SWITCHES ≤ length survey.old.switches) (λ place. (place ≡ length survey.old.switches) × (length survey.old.switches < MAX_SWITCHES) × (survey.new ≡ record survey.old { switches = survey.old.switches ++ switch_of fabric (record { node = there.node; path = path }) ∷ [] })) result) }
     ensures left { ForSome (W.fabric wire.old) (λ fabric. IsGood fabric → W.fabric wire.new ≡ Some fabric) }
 {
     let name = match name_of(wire, transaction_id, &path) {
@@ -291,7 +294,7 @@ fn meet_port<W: SmpWire>(
     seen: &Seen,
     path: &Path,
 ) -> Result<(), SweepFault>
-    ensures added { ForSome (W.fabric wire.old) (λ fabric. IsGood fabric → (there : PortRef) → end_of fabric path.now ≡ Some there → is_switch_at fabric.nodes there.node ≡ false → seen_at fabric there ≡ Some seen.now → Adds (256 ≤ length survey.old.ports) (λ _. (length survey.old.ports < 256) × (survey.new ≡ record survey.old { ports = survey.old.ports ++ port_to fabric here there })) result) }
+    ensures added { ForSome (W.fabric wire.old) (λ fabric. IsGood fabric → (there : PortRef) → end_of fabric path.now ≡ Some there → is_switch_at fabric.nodes there.node ≡ false → seen_at fabric there ≡ Some seen.now → Adds (MAX_ADAPTER_PORTS ≤ length survey.old.ports) (λ _. (length survey.old.ports < MAX_ADAPTER_PORTS) × (survey.new ≡ record survey.old { ports = survey.old.ports ++ port_to fabric here there })) result) }
     ensures left { ForSome (W.fabric wire.old) (λ fabric. IsGood fabric → W.fabric wire.new ≡ Some fabric) }
 {
     let name = match name_of(wire, transaction_id, path) {

@@ -7,17 +7,21 @@
 //! over any wire it is one that agrees with itself (`specs/Graph.antt`). [`SweepFault`] says why a sweep stops.
 #![tactic(auto)]
 
+mod adapters;
 mod agreement;
 mod asking;
 mod discovery;
 mod fault;
 mod graph;
+mod laws;
 mod path;
 mod seen;
 mod survey;
+mod switch_list;
 
 pub use crate::discovery::sweep;
 pub use crate::fault::SweepFault;
 pub use crate::graph::{Graph, GraphPort, GraphSwitch, Link, MAX_ADAPTER_PORTS, MAX_SWITCHES, Row};
+pub use crate::laws::the_numbers;
 pub use crate::path::{PATH_HOPS, Path};
 pub use crate::seen::{Seen, seen_of};

@@ -7,11 +7,13 @@ ghost use Rattle.fabric_parts.specs.declared.cable.PortRef.{PortRef};
 ghost use Rattle.sweep.specs.Graph.{IsGraph, count_at, graph_with, is_linked};
 ghost use Rattle.sweep.specs.Survey.{SurveyState};
 ghost use Rattle.sweep.specs.declared.fault.SweepFault.TheVariants.{NoMemory, TooManyNodes, WrongReply};
+ghost use Rattle.sweep.specs.declared.graph.TheConstants.{MAX_ADAPTER_PORTS, MAX_SWITCHES};
 
 use crate::agreement::{are_a_graph, count_at, links_at};
 use crate::fault::SweepFault;
 use crate::graph::{Graph, GraphPort, GraphSwitch, Link, MAX_ADAPTER_PORTS, MAX_SWITCHES, Row};
 use crate::path::Path;
+use crate::switch_list::SwitchList;
 use fabric_parts::PortRef;
 use std::alloc::{AllocError, Global};
 use std::marker::Model;
@@ -20,7 +22,7 @@ use std::marker::Model;
 /// were met.
 #[derive(Debug, Drop)]
 pub(crate) struct Survey {
-    switches: Vec<GraphSwitch>,
+    switches: SwitchList,
     rows: Vec<Row>,
     ports: Vec<GraphPort>,
 }
@@ -30,7 +32,7 @@ impl Model for Survey {
 
     ghost Value = { SurveyState };
 
-    ghost view = { λ survey. record { switches = survey.switches.items; rows = survey.rows.items; ports = survey.ports.items } };
+    ghost view = { λ survey. record { switches = survey.switches; rows = survey.rows.items; ports = survey.ports.items } };
 }
 
 impl Survey {
@@ -39,7 +41,7 @@ impl Survey {
         ensures { result ≡ record { switches = []; rows = []; ports = [] } }
     {
         Survey {
-            switches: Vec::new(alloc),
+            switches: SwitchList::new(alloc),
             rows: Vec::new(alloc),
             ports: Vec::new(alloc),
         }
@@ -49,32 +51,33 @@ impl Survey {
     pub(crate) fn way_to(&self, place: usize) -> Option<(u8, Path)>
         ensures { result ≡ option_map (λ switch. (switch.num_ports, switch.path)) (slice_get self.now.switches place) }
     {
-        way_to(&self.switches, place)
+        way_to(self.switches.as_slice(), place)
     }
 
     /// How many ports the switch at that place has; none, where there is no switch.
     pub(crate) fn count_at(&self, place: usize) -> u8
         ensures { result ≡ count_at self.now.switches place }
     {
-        count_at(&self.switches, place)
+        count_at(self.switches.as_slice(), place)
     }
 
-    /// The place of the switch with this GUID.
+    /// The place of the switch with this GUID, looked up in constant time.
     pub(crate) fn place_of(&self, guid: u64) -> Option<usize>
         ensures { result ≡ position (λ switch. switch.guid == guid) self.now.switches }
     {
-        place_of(&self.switches, guid)
+        self.switches.place_of(guid)
     }
 
-    /// Adds a switch, and gives its place. `TooManyNodes` where there is no room.
+    /// Adds a switch whose GUID is new, and gives its place. `TooManyNodes` where there is no room.
     pub(crate) fn add_switch(&mut self, switch: GraphSwitch) -> Result<usize, SweepFault>
+        requires new { position (λ known. known.guid == switch.guid) self.old.switches ≡ None }
         ensures place { IfOk result (λ place. place ≡ length self.old.switches) }
         ensures ok { OnOk result (self.new ≡ record self.old { switches = self.old.switches ++ switch ∷ [] }) }
-        ensures room { OnOk result (length self.old.switches < 64) }
-        ensures full { IsErrOf result TooManyNodes → 64 ≤ length self.old.switches }
+        ensures room { OnOk result (length self.old.switches < MAX_SWITCHES) }
+        ensures full { IsErrOf result TooManyNodes → MAX_SWITCHES ≤ length self.old.switches }
         ensures err { IfErr result (λ fault. (fault ≡ NoMemory) ⊎ (fault ≡ TooManyNodes)) }
     {
-        let place = self.switches.len();
+        let place = self.switches.as_slice().len();
         if place >= MAX_SWITCHES {
             return Err(SweepFault::TooManyNodes);
         }
@@ -85,8 +88,8 @@ impl Survey {
     /// Adds a port. `TooManyNodes` where there is no room.
     pub(crate) fn add_port(&mut self, port: GraphPort) -> Result<(), SweepFault>
         ensures ok { OnOk result (self.new ≡ record self.old { ports = self.old.ports ++ port ∷ [] }) }
-        ensures room { OnOk result (length self.old.ports < 256) }
-        ensures full { IsErrOf result TooManyNodes → 256 ≤ length self.old.ports }
+        ensures room { OnOk result (length self.old.ports < MAX_ADAPTER_PORTS) }
+        ensures full { IsErrOf result TooManyNodes → MAX_ADAPTER_PORTS ≤ length self.old.ports }
         ensures err { IfErr result (λ fault. (fault ≡ NoMemory) ⊎ (fault ≡ TooManyNodes)) }
     {
         if self.ports.len() >= MAX_ADAPTER_PORTS {
@@ -128,7 +131,7 @@ impl Survey {
         }
         Ok(Graph {
             manager,
-            switches,
+            switches: switches.into_vec(),
             rows,
             ports,
         })
@@ -143,13 +146,6 @@ fn way_to(switches: &[GraphSwitch], place: usize) -> Option<(u8, Path)>
         Some(switch) => Some((switch.num_ports, switch.path.copied())),
         None => None,
     }
-}
-
-/// The place of the switch with this GUID.
-fn place_of(switches: &[GraphSwitch], guid: u64) -> Option<usize>
-    ensures { result ≡ position (λ switch. switch.guid == guid) switches.now }
-{
-    switches.iter().position(|switch| switch.guid == guid)
 }
 
 /// The port of that switch whose link leads there.

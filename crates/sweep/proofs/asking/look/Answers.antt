@@ -4,7 +4,8 @@ use Rattle.sweep.proofs.asking.look.Goals as goal
 
 pub returns-in-Ok-clause-told : goal.returns-in-Ok-clause-told
 returns-in-Ok-clause-told g c x stands good =
-    rw c.seen_of.ensures (looked _ c.args.path.now c.in-Ok.bytes c.read.result (λ fabric at is. sym c.in-Ok.is ∙ c.get.ensures.told fabric at is) c.read.ensures.fields x stands good)
+    rw c.seen_of.ensures (looked _ c.args.path.now c.in-Ok.bytes c.read.result
+    (λ fabric at is. sym c.in-Ok.is ∙ c.get.ensures.told fabric at is) c.read.ensures.fields x stands good)
 
 pub returns-in-Err-clause-told : goal.returns-in-Err-clause-told
 returns-in-Err-clause-told g c x stands good =

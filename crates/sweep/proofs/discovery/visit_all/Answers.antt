@@ -20,7 +20,8 @@ loop-place-preserved g c = record {
       (sym c.way_to.ensures ∙ c.in-Some.is) in
       switch_again fabric found on.more c.loop-place.place c.visit_switch.new.survey
       (subst (Comes fabric (λ _. GoesOn fabric (found ++ on.more) (suc c.loop-place.place) 0 c.visit_switch.new.survey [])) c.in-Ok.is
-      (c.visit_switch.ensures.went fabric (c.loop-place.invariant.left fabric stands sweepable.good) sweepable (found ++ on.more) way.one way.path_is way.count way.there on.progress));
+      (c.visit_switch.ensures.went fabric (c.loop-place.invariant.left fabric stands sweepable.good) sweepable
+      (found ++ on.more) way.one way.path_is way.count way.there on.progress));
 }
 
 pub returns-clause-went : goal.returns-clause-went
