@@ -10,10 +10,7 @@ const TEXTS: [(SweepFault, &str); 5] = [
         SweepFault::WrongReply,
         "a reply is refused, of another request, or contradicts an earlier one",
     ),
-    (
-        SweepFault::TooManyHops,
-        "a cable is more than 63 hops away",
-    ),
+    (SweepFault::TooManyHops, "a cable is more than 63 hops away"),
     (
         SweepFault::TooManyNodes,
         "there are more than 64 switches, or more than 256 adapter ports",
