@@ -4,7 +4,8 @@ use Rattle.std.specs.Int.Digits.{AllBelowBase}
 use Rattle.mad_layout.specs.Bits.{number, put_field}
 use Rattle.mad_layout.specs.MadStatus.{mad_status_code}
 use Rattle.mad_layout.specs.declared.status.MadStatus.{MadStatus}
-use Rattle.mad_layout.specs.declared.status.MadStatus.TheVariants.{BadVersion, MethodNotSupported, AttributeNotSupported, InvalidField, NoResources, RequestInvalid, NoRecords, TooManyRecords, InvalidGid, InsufficientComponents}
+use Rattle.mad_layout.specs.declared.status.MadStatus.TheVariants.{BadVersion, MethodNotSupported, AttributeNotSupported, InvalidField, NoResources}
+use Rattle.mad_layout.specs.declared.status.MadStatus.TheVariants.{RequestInvalid, NoRecords, TooManyRecords, InvalidGid, InsufficientComponents}
 use Rattle.mad_layout.proofs.AlignedLemmas.{bytes_stand}
 use Rattle.mad_layout.proofs.LayoutLemmas.{put_below}
 use Rattle.attr_tables.specs.Attribute.{IsAttribute}

@@ -1,5 +1,6 @@
 -- A table with one block set differs from it in that block alone.
-use Rattle.std.proofs.Common.{refl, ◌≡◌, ◌≢◌, ℕ, ◌+◌, ◌-◌, ◌*◌, ◌/◌, ◌<◌, ◌≤◌, ◌⊎◌, inl, inr, true, nat_lt, Ok, subst, List, ◌++◌, length, get_or, take, drop, ◌∙◌, ap, arith, length-append, length-drop, length-take-le}
+use Rattle.std.proofs.Common.{refl, ◌≡◌, ◌≢◌, ℕ, ◌+◌, ◌-◌, ◌*◌, ◌/◌, ◌<◌, ◌≤◌, ◌⊎◌, inl, inr, true, nat_lt, Ok, subst, List, ◌++◌, length, get_or}
+use Rattle.std.proofs.Common.{take, drop, ◌∙◌, ap, arith, length-append, length-drop, length-take-le}
 use Rattle.std.proofs.lemmas.Bool.{cases_lt}
 use Rattle.std.proofs.lemmas.Bool.Decides.{nat_tests}
 use Rattle.std.proofs.lemmas.List.{get_or_append_left, get_or-append_right, get_or-take, get_or-drop}

@@ -1,5 +1,6 @@
 -- How a call ends, from what was written and told.
-use Rattle.std.proofs.Common.{ℕ, ◌≡◌, ◌≢◌, ◌∙◌, ◌⊎◌, inl, inr, refl, sym, append-nil, arith, ap, Bool, true, List, [], Option, Some, None, IfSome, Result, Ok, Err, option_map, map, string_bytes, String, Global}
+use Rattle.std.proofs.Common.{ℕ, ◌≡◌, ◌≢◌, ◌∙◌, ◌⊎◌, inl, inr, refl, sym, append-nil, arith, ap, Bool, true, List, [], Option, Some, None, IfSome}
+use Rattle.std.proofs.Common.{Result, Ok, Err, option_map, map, string_bytes, String, Global}
 use Rattle.std.specs.Io.KnownBytes.{Appends, Keeps}
 use Rattle.std.specs.declared.io.Error.{Error}
 use Rattle.std.specs.declared.vec.IntoIter.{IntoIter}

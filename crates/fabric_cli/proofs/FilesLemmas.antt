@@ -1,5 +1,6 @@
 -- Names opened one after the other.
-use Rattle.std.proofs.Common.{ℕ, ◌≡◌, inl, inr, Bool, true, is_some, IfSome, option_map, Ok, List, [], ◌∷◌, ◌++◌, length, Option, Some, None, append_assoc, append-nil, ap, refl, sym, ◌∙◌}
+use Rattle.std.proofs.Common.{ℕ, ◌≡◌, inl, inr, Bool, true, is_some, IfSome, option_map, Ok, List, [], ◌∷◌, ◌++◌, length, Option, Some, None}
+use Rattle.std.proofs.Common.{append_assoc, append-nil, ap, refl, sym, ◌∙◌}
 use Rattle.std.proofs.Math.Seq.{take-append_seam}
 use Rattle.std.proofs.lemmas.List.Folds.{list_all-append}
 use Rattle.std.specs.Borrow.{Bor}

@@ -61,7 +61,8 @@ of_stop file reads old new names ending stop answer a b err err' three is unread
 of_stop file reads old new names ending (Words text) answer a b err err' three is unread (inl part) =
     record { line = line_of (Words text); is = rw is (inr (inr (other_status 2 answer b three part.status (λ e. omega (arith, e))))); told = part.told }
 of_stop file reads old new names ending NoMemory answer a b err err' three is unread (inl part) = of_memory file reads old new names ending a b err err' part.told
-of_stop file reads old new names ending (Unread name) answer a b err err' three is unread (inl part) = record { line = line_of (Unread name); is = inr (inl (name.now, unread, refl)); told = part.told }
+of_stop file reads old new names ending (Unread name) answer a b err err' three is unread (inl part) =
+    record { line = line_of (Unread name); is = inr (inl (name.now, unread, refl)); told = part.told }
 of_stop file reads old new names ending Unwritten answer a b err err' three is unread (inl part) = absurd is
 of_stop file reads old new names ending (Run fault) answer a b err err' three is unread (inl part) = of_run file reads old new names ending fault answer a b err err' three is part
 

@@ -144,7 +144,8 @@ IsUnreadLine file reads old new names line = (name : List ℕ) × StopsAt file r
 
 -- status 3: standard error has some beginning of a line, and all of it where it refuses nothing: the line
 -- that tells that memory, a file or the output was refused, or the line of a fault at which it refused itself
-pub record IsRefused (file : Contents) (reads : Bool) (old new : Option (List (List ℕ))) (names : List (List ℕ)) (ending : Ending) (out_is_sure err_is_sure : Bool) (err err' : Option (List ℕ)) : Type 0 where
+pub record IsRefused (file : Contents) (reads : Bool) (old new : Option (List (List ℕ))) (names : List (List ℕ))
+    (ending : Ending) (out_is_sure err_is_sure : Bool) (err err' : Option (List ℕ)) : Type 0 where
   pub line : List ℕ
   pub is : (line ≡ memory_line) ⊎ (IsUnreadLine file reads old new names line ⊎ IsLineOf out_is_sure err_is_sure ending line)
   pub told : Writes err_is_sure err err' line

@@ -1,5 +1,6 @@
 -- In a good fabric the hop rules bring an answer home, and so a reply comes exactly where they do.
-use Rattle.std.proofs.Common.{ℕ, zero, suc, ◌≡◌, ◌≢◌, ◌+◌, ◌<◌, ◌==◌, ◌∙◌, ap, refl, sym, subst, inl, inr, Bool, true, List, [], ◌∷◌, length, Option, Some, None, option_map, arith, false}
+use Rattle.std.proofs.Common.{ℕ, zero, suc, ◌≡◌, ◌≢◌, ◌+◌, ◌<◌, ◌==◌, ◌∙◌, ap, refl, sym, subst, inl, inr, Bool, true, List, [], ◌∷◌, length, Option}
+use Rattle.std.proofs.Common.{Some, None, option_map, arith, false}
 use Rattle.std.specs.Int.Digits.{AllBelowBase}
 use Rattle.std.specs.List.{list_all}
 use Rattle.std.proofs.lemmas.Bool.{and_parts, eqb-true, false≢true}
@@ -34,7 +35,8 @@ record IsBack (reply : List ℕ) : Type 0 where
   pub back : is_outgoing reply ≡ false
 
 rules_here : (fabric : FabricState) (home : Bool) (reply : List ℕ) (done : ℕ) (at : PortRef) (entered : ℕ) (smp : List ℕ) → IsBack reply
-    → IsComing fabric.nodes fabric.cables fabric.manager.node home reply done at entered smp → hop_rules fabric.nodes (visit at entered smp) ≡ back_from fabric.nodes (visit at entered smp)
+    → IsComing fabric.nodes fabric.cables fabric.manager.node home reply done at entered smp
+    → hop_rules fabric.nodes (visit at entered smp) ≡ back_from fabric.nodes (visit at entered smp)
 rules_here fabric home reply done at entered smp is on =
     rules_back fabric.nodes (visit at entered smp)
     (ap is_outgoing on.smp_is ∙ direction_kept reply 6 (on.left + 1) is.below on.long (omega arith) (omega arith)
@@ -250,7 +252,8 @@ by_hops fabric smp reply good long below answered =
     let answers : reply_at fabric at (arrived way.ends smp) ≡ Some answered.answer = rw (way.at_is, way.request_is) answered.answers in
     let one = is_answer fabric smp way.ends answered.answer good long below way.is answers in
     let home : ComesHome fabric at.node answered.answer reply = rw way.at_is answered.comes_home in
-    walk_reply fabric smp way.ends way.is ∙ ap (option_map returned) answers ∙ ap (λ (reply : List ℕ). Some reply) (sym (only_reply fabric at answered.answer reply one.long one.ready home))
+    walk_reply fabric smp way.ends way.is ∙ ap (option_map returned) answers
+    ∙ ap (λ (reply : List ℕ). Some reply) (sym (only_reply fabric at answered.answer reply one.long one.ready home))
 
 -- ---- what the fabric is then
 changed : (fabric : FabricState) (smp : List ℕ) (at : PortRef) (request : List ℕ) → IsGood fabric → length smp ≡ 256

@@ -1,5 +1,6 @@
 -- A reply is ready to come home: by the ports that its request has noted.
-use Rattle.std.proofs.Common.{ℕ, zero, suc, ◌≡◌, ◌+◌, ◌*◌, ◌<◌, ◌≤◌, ◌∙◌, refl, sym, inr, true, List, [], ◌∷◌, length, slice_get, slice_index, Option, Some, None, option_map, arith}
+use Rattle.std.proofs.Common.{ℕ, zero, suc, ◌≡◌, ◌+◌, ◌*◌, ◌<◌, ◌≤◌, ◌∙◌, refl, sym, inr, true, List, [], ◌∷◌, length, slice_get, slice_index, Option}
+use Rattle.std.proofs.Common.{Some, None, option_map, arith}
 use Rattle.std.specs.Int.Digits.{AllBelowBase}
 use Rattle.std.specs.List.{list_all}
 use Rattle.std.proofs.lemmas.Bool.{eq-eqb}

@@ -1,5 +1,6 @@
 -- In a good fabric a cable leads back to where it came from, so that a walk leads home.
-use Rattle.std.proofs.Common.{ℕ, zero, suc, ◌≡◌, ◌+◌, ◌<◌, ◌≤◌, ◌==◌, ◌∙◌, ◌&&◌, ◌||◌, nat_le, ap, refl, sym, Bool, true, false, if◌then◌else◌, List, [], ◌∷◌, flat_map, length, Option, Some, None, option_map, arith, add-one}
+use Rattle.std.proofs.Common.{ℕ, zero, suc, ◌≡◌, ◌+◌, ◌<◌, ◌≤◌, ◌==◌, ◌∙◌, ◌&&◌, ◌||◌, nat_le, ap, refl, sym, Bool, true, false, if◌then◌else◌, List}
+use Rattle.std.proofs.Common.{[], ◌∷◌, flat_map, length, Option, Some, None, option_map, arith, add-one}
 use Rattle.std.specs.List.{list_all}
 use Rattle.std.specs.Option.{option_and_then, option_map_or}
 use Rattle.std.proofs.lemmas.Bool.{and_from, and_parts}

@@ -1,5 +1,6 @@
 -- The walk of an exchange is the way that the hop rules take an SMP and its reply.
-use Rattle.std.proofs.Common.{ℕ, zero, suc, ◌≡◌, ◌≢◌, ◌+◌, ◌<◌, ◌==◌, ◌∙◌, ◌&&◌, nat_le, nat_lt, ap, refl, sym, subst, inl, inr, Bool, true, false, List, [], ◌∷◌, length, Option, Some, None, option_map, arith, ◌*◌, ◌≤◌, slice_set}
+use Rattle.std.proofs.Common.{ℕ, zero, suc, ◌≡◌, ◌≢◌, ◌+◌, ◌<◌, ◌==◌, ◌∙◌, ◌&&◌, nat_le, nat_lt, ap, refl, sym, subst, inl, inr, Bool, true, false}
+use Rattle.std.proofs.Common.{List, [], ◌∷◌, length, Option, Some, None, option_map, arith, ◌*◌, ◌≤◌, slice_set}
 use Rattle.std.specs.List.{list_all}
 use Rattle.std.proofs.lemmas.Bool.{and_from, and_parts}
 use Rattle.std.proofs.lemmas.Bool.Decides.{nat_tests}

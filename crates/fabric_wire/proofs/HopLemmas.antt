@@ -1,5 +1,6 @@
 -- The hop rules lead an SMP along the walk of the definition.
-use Rattle.std.proofs.Common.{ℕ, zero, suc, ◌≡◌, ◌≢◌, ◌+◌, ◌<◌, ◌≤◌, ◌==◌, ◌∙◌, ap, refl, sym, ◌&&◌, Bool, true, false, if◌then◌else◌, List, length, slice_index, Option, Some, None, arith}
+use Rattle.std.proofs.Common.{ℕ, zero, suc, ◌≡◌, ◌≢◌, ◌+◌, ◌<◌, ◌≤◌, ◌==◌, ◌∙◌, ap, refl, sym, ◌&&◌, Bool, true, false, if◌then◌else◌, List, length}
+use Rattle.std.proofs.Common.{slice_index, Option, Some, None, arith}
 use Rattle.std.specs.List.{list_all}
 use Rattle.std.proofs.lemmas.Bool.{eqb-true, false≢true, le-ltb}
 use Rattle.std.proofs.lemmas.Bool.Decides.{nat_tests}

@@ -1,5 +1,6 @@
 -- The GUIDs of a topology's fabric are different, since its nodes have no GUID in common.
-use Rattle.std.proofs.Common.{ℕ, zero, suc, ◌≡◌, ◌⊎◌, ◌+◌, ◌<◌, ◌≤◌, ◌^◌, ◌==◌, ◌∙◌, refl, sym, inl, inr, Bool, true, false, not, List, [], ◌∷◌, ◌++◌, map, flat_map, nat_le, nat_lt, ◌&&◌, arith}
+use Rattle.std.proofs.Common.{ℕ, zero, suc, ◌≡◌, ◌⊎◌, ◌+◌, ◌<◌, ◌≤◌, ◌^◌, ◌==◌, ◌∙◌, refl, sym, inl, inr, Bool, true, false, not, List, [], ◌∷◌, ◌++◌}
+use Rattle.std.proofs.Common.{map, flat_map, nat_le, nat_lt, ◌&&◌, arith}
 use Rattle.std.specs.List.{All, AllByRecursion, enumerate_from, list_all, list_any, range_with_len, IsDistinct}
 use Rattle.std.proofs.lemmas.Bool.{and_cases, and_from, and_parts, le-leb, leb-false, leb-true, lt-ltb, ne_eqb, not_from_false, not-true, or_from, or_parts}
 use Rattle.std.proofs.lemmas.List.Concat.{flat_map_single}

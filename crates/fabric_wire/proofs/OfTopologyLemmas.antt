@@ -1,5 +1,6 @@
 -- The nodes of a topology's fabric, each at the place of the node that it is made of.
-use Rattle.std.proofs.Common.{ℕ, zero, suc, ◌≡◌, ◌+◌, ◌≤◌, ◌∙◌, ap, refl, sym, Bool, true, false, List, [], ◌∷◌, map, length, slice_get, Option, Some, None, option_map, nat_le, ◌&&◌, arith, add-zero, zero-add, leb-true}
+use Rattle.std.proofs.Common.{ℕ, zero, suc, ◌≡◌, ◌+◌, ◌≤◌, ◌∙◌, ap, refl, sym, Bool, true, false, List, [], ◌∷◌, map, length, slice_get, Option, Some}
+use Rattle.std.proofs.Common.{None, option_map, nat_le, ◌&&◌, arith, add-zero, zero-add, leb-true}
 use Rattle.std.specs.List.{enumerate_from, list_all, list_any, IsDistinct}
 use Rattle.std.specs.Option.{option_map_or}
 use Rattle.std.proofs.lemmas.Bool.{and_from, and_parts, or_from, or_parts}

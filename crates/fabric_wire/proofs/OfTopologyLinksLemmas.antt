@@ -1,5 +1,6 @@
 -- A port of a topology's fabric is Down exactly where it has no cable.
-use Rattle.std.proofs.Common.{ℕ, zero, suc, ◌≡◌, ◌+◌, ◌-◌, ◌≤◌, ◌==◌, ◌∙◌, ap, refl, sym, if◌then◌else◌, Bool, true, false, not, List, ◌∷◌, map, nat_le, slice_get, Option, Some, None, option_map, arith}
+use Rattle.std.proofs.Common.{ℕ, zero, suc, ◌≡◌, ◌+◌, ◌-◌, ◌≤◌, ◌==◌, ◌∙◌, ap, refl, sym, if◌then◌else◌, Bool, true, false, not, List, ◌∷◌, map}
+use Rattle.std.proofs.Common.{nat_le, slice_get, Option, Some, None, option_map, arith}
 use Rattle.std.specs.List.{range_with_len}
 use Rattle.std.specs.Option.{option_and_then}
 use Rattle.std.proofs.lemmas.Bool.{and_parts, leb-true, ne_eqb}

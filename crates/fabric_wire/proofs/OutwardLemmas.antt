@@ -54,7 +54,8 @@ arrived_by nodes cables manager sent hops at entered smp step way (drops more no
     cc
 
 lost_by : (nodes : List Node) (cables : List Cable) (manager : PortRef) (sent : List ℕ) (hops : ℕ) (at : PortRef) (entered : ℕ) (smp : List ℕ) (step : Step)
-    → IsOnWay nodes cables manager sent hops at entered smp → Leaves nodes cables sent hops at smp step → (step.hop ≡ ToManager) ⊎ (step.hop ≡ Discard) → Ends nodes cables manager sent None
+    → IsOnWay nodes cables manager sent hops at entered smp → Leaves nodes cables sent hops at smp step
+    → (step.hop ≡ ToManager) ⊎ (step.hop ≡ Discard) → Ends nodes cables manager sent None
 lost_by nodes cables manager sent hops at entered smp step way (arrives over is) to =
     let hop_is : step.hop ≡ ToAgent = ap (λ (s : Step). s.hop) is in
     elim to [ inl one ↦ cc | inr other ↦ cc ]
@@ -175,7 +176,8 @@ bare_port nodes cables manager sent hops at entered smp number right way to none
 
 pub goes : (nodes : List Node) (cables : List Cable) (manager : PortRef) (sent : List ℕ) (hops : ℕ) (at there : PortRef) (entered : ℕ) (smp : List ℕ) (number : ℕ)
     → list_all (is_right nodes) cables ≡ true
-    → IsOnWay nodes cables manager sent hops at entered smp → (Turn nodes at entered smp).hop ≡ Forward number → far_end cables (record { node = at.node; port = number }) ≡ Some there
+    → IsOnWay nodes cables manager sent hops at entered smp → (Turn nodes at entered smp).hop ≡ Forward number
+    → far_end cables (record { node = at.node; port = number }) ≡ Some there
     → IsOnWay nodes cables manager sent (hops + 1) there there.port (Turn nodes at entered smp).smp
 goes nodes cables manager sent hops at there entered smp number right way to is =
     rw (add-one hops) (goes_by nodes cables manager sent hops at there entered smp _ number right way (leaves nodes cables manager sent hops at entered smp right way) to is)

@@ -1,5 +1,6 @@
 -- The hop rules bring an answer home where the ports of its return path lead there.
-use Rattle.std.proofs.Common.{ℕ, zero, suc, ◌≡◌, ◌⊎◌, ◌+◌, ◌-◌, ◌≤◌, ◌==◌, ◌∙◌, ◌&&◌, ◌||◌, nat_le, nat_lt, ap, refl, sym, inl, inr, Bool, true, false, if◌then◌else◌, List, length, Some, None, arith, add-one}
+use Rattle.std.proofs.Common.{ℕ, zero, suc, ◌≡◌, ◌⊎◌, ◌+◌, ◌-◌, ◌≤◌, ◌==◌, ◌∙◌, ◌&&◌, ◌||◌, nat_le, nat_lt, ap, refl, sym, inl, inr, Bool, true}
+use Rattle.std.proofs.Common.{false, if◌then◌else◌, List, length, Some, None, arith, add-one}
 use Rattle.std.specs.List.{list_all}
 use Rattle.std.proofs.lemmas.Bool.Decides.{nat_tests}
 use Rattle.std.proofs.lemmas.List.{set-get_or, set-set}
@@ -209,7 +210,8 @@ bare_port nodes cables manager home reply done at entered smp number right way t
 
 pub goes : (nodes : List Node) (cables : List Cable) (manager : ℕ) (home : Bool) (reply : List ℕ) (done : ℕ) (at there : PortRef) (entered : ℕ) (smp : List ℕ) (number : ℕ)
     → list_all (is_right nodes) cables ≡ true
-    → IsComing nodes cables manager home reply done at entered smp → (Turn nodes at entered smp).hop ≡ Forward number → far_end cables (record { node = at.node; port = number }) ≡ Some there
+    → IsComing nodes cables manager home reply done at entered smp → (Turn nodes at entered smp).hop ≡ Forward number
+    → far_end cables (record { node = at.node; port = number }) ≡ Some there
     → IsComing nodes cables manager home reply (done + 1) there there.port (Turn nodes at entered smp).smp
 goes nodes cables manager home reply done at there entered smp number right way to is =
     rw (add-one done) (goes_by nodes cables manager home reply done at there entered smp _ number right way (returns nodes cables manager home reply done at entered smp right way) to is)

@@ -1,5 +1,6 @@
 -- The subnet manager's GUID, and then the others as they rise, are in order of LID.
-use Rattle.std.proofs.Common.{◌≡◌, ◌≢◌, ℕ, ◌+◌, ◌<◌, Bool, true, false, cond, not, ◌==◌, ◌&&◌, ◌||◌, nat_lt, List, [], ◌∷◌, ◌++◌, length, map, filter, get_or, count_by, length-append, Ok, Err, Some, None, option_map, refl, sym, ap, subst, ◌∙◌, arith}
+use Rattle.std.proofs.Common.{◌≡◌, ◌≢◌, ℕ, ◌+◌, ◌<◌, Bool, true, false, cond, not, ◌==◌, ◌&&◌, ◌||◌, nat_lt, List, [], ◌∷◌, ◌++◌, length, map, filter}
+use Rattle.std.proofs.Common.{get_or, count_by, length-append, Ok, Err, Some, None, option_map, refl, sym, ap, subst, ◌∙◌, arith}
 use Rattle.std.specs.List.{AllByRecursion, IsDistinct, list_any}
 use Rattle.std.specs.List.Sorted.{IsBinarySearchResult, IsPermutation, IsSorted, IsStrictlyIncreasing}
 use Rattle.std.specs.Ordering.{nat_cmp}
@@ -61,8 +62,10 @@ length_kept manager (x ∷ xs) = by (x == manager) refl (length_kept manager xs)
   where
     by : (b : Bool) → (x == manager) ≡ b → length (filter (is_other manager) xs) + count_by (λ x. x == manager) xs ≡ length xs
         → length (cond (not b) (x ∷ filter (is_other manager) xs) (filter (is_other manager) xs)) + count_by (λ x. x == manager) (x ∷ xs) ≡ length (x ∷ xs)
-    by true e later = let one : count_by (λ y. y == manager) (x ∷ xs) ≡ 1 + count_by (λ y. y == manager) xs = counted (λ y. y == manager) x xs ∙ (rw e refl) in omega (arith, one, later)
-    by false e later = let none : count_by (λ y. y == manager) (x ∷ xs) ≡ 0 + count_by (λ y. y == manager) xs = counted (λ y. y == manager) x xs ∙ (rw e refl) in omega (arith, none, later)
+    by true e later =
+        let one : count_by (λ y. y == manager) (x ∷ xs) ≡ 1 + count_by (λ y. y == manager) xs = counted (λ y. y == manager) x xs ∙ (rw e refl) in omega (arith, one, later)
+    by false e later =
+        let none : count_by (λ y. y == manager) (x ∷ xs) ≡ 0 + count_by (λ y. y == manager) xs = counted (λ y. y == manager) x xs ∙ (rw e refl) in omega (arith, none, later)
 
 pub none_else : (manager : ℕ) (xs : List ℕ) → AllByRecursion (λ y. (manager == y) ≡ false) xs → count_by (λ x. x == manager) xs ≡ 0
 none_else manager [] h = refl
@@ -185,11 +188,13 @@ not_in : (x manager : ℕ) (guids : List ℕ) → AllByRecursion (λ y. (x == y)
 not_in x manager [] h there = absurd cc
 not_in x manager (y ∷ guids) h there = by (y == manager) refl there (λ later. not_in x manager guids h.1 later)
   where
-    by : (b : Bool) → (y == manager) ≡ b → (b || list_any (λ z. z == manager) guids) ≡ true → (list_any (λ z. z == manager) guids ≡ true → (x == manager) ≡ false) → (x == manager) ≡ false
+    by : (b : Bool) → (y == manager) ≡ b → (b || list_any (λ z. z == manager) guids) ≡ true
+        → (list_any (λ z. z == manager) guids ≡ true → (x == manager) ≡ false) → (x == manager) ≡ false
     by true e k later = (let same : y ≡ manager = grind (arith, nat_tests) in subst (λ (z : ℕ). (x == z) ≡ false) same h.0)
     by false e k later = later k
 
-not_behind : (x manager : ℕ) (guids behind : List ℕ) → AllByRecursion (λ y. (x == y) ≡ false) (guids ++ behind) → list_any (λ y. y == manager) behind ≡ true → (x == manager) ≡ false
+not_behind : (x manager : ℕ) (guids behind : List ℕ) → AllByRecursion (λ y. (x == y) ≡ false) (guids ++ behind)
+    → list_any (λ y. y == manager) behind ≡ true → (x == manager) ≡ false
 not_behind x manager [] behind h there = not_in x manager behind h there
 not_behind x manager (y ∷ guids) behind h there = not_behind x manager guids behind h.1 there
 
@@ -205,7 +210,8 @@ marked_from manager [] ports own there = marked_ports manager ports
 marked_from manager (switch ∷ switches) ports own there =
     (sym (not_behind switch.guid manager (map (λ (s : GraphSwitch). s.guid) switches) (map (λ (p : GraphPort). p.port_guid) ports) own.0 there), marked_from manager switches ports own.1 there)
 
-any_port : (manager : ℕ) (ports : List GraphPort) → list_any (λ y. y == manager) (map (λ (port : GraphPort). port.port_guid) ports) ≡ list_any (λ port. port.port_guid == manager) ports
+any_port : (manager : ℕ) (ports : List GraphPort)
+    → list_any (λ y. y == manager) (map (λ (port : GraphPort). port.port_guid) ports) ≡ list_any (λ port. port.port_guid == manager) ports
 any_port manager [] = refl
 any_port manager (port ∷ ports) = ap (λ (rest : Bool). (port.port_guid == manager) || rest) (any_port manager ports)
 
@@ -229,7 +235,8 @@ kept_apart : (manager x : ℕ) (xs : List ℕ) → AllByRecursion (λ y. (x == y
 kept_apart manager x [] h = tt
 kept_apart manager x (y ∷ xs) h = by (is_other manager y) (kept_apart manager x xs h.1)
   where
-    by : (b : Bool) → AllByRecursion (λ y. (x == y) ≡ false) (filter (is_other manager) xs) → AllByRecursion (λ y. (x == y) ≡ false) (cond b (y ∷ filter (is_other manager) xs) (filter (is_other manager) xs))
+    by : (b : Bool) → AllByRecursion (λ y. (x == y) ≡ false) (filter (is_other manager) xs)
+        → AllByRecursion (λ y. (x == y) ≡ false) (cond b (y ∷ filter (is_other manager) xs) (filter (is_other manager) xs))
     by true later = (h.0, later)
     by false later = later
 
@@ -238,14 +245,16 @@ unfolding IsDistinct
 kept_distinct manager [] h = tt
 kept_distinct manager (x ∷ xs) h = by (is_other manager x) (kept_distinct manager xs h.1)
   where
-    by : (b : Bool) → IsDistinct (λ a b. a == b) (filter (is_other manager) xs) → IsDistinct (λ a b. a == b) (cond b (x ∷ filter (is_other manager) xs) (filter (is_other manager) xs))
+    by : (b : Bool) → IsDistinct (λ a b. a == b) (filter (is_other manager) xs)
+        → IsDistinct (λ a b. a == b) (cond b (x ∷ filter (is_other manager) xs) (filter (is_other manager) xs))
     by true later = (kept_apart manager x xs h.0, later)
     by false later = later
 
 either_way : (a b : ℕ) → (a == b) ≡ (b == a)
 either_way a b = grind (arith, nat_tests)
 
-pub sorted_rise : (manager : ℕ) (guids others : List ℕ) → IsDistinct (λ a b. a == b) guids → IsPermutation (filter (is_other manager) guids) others → IsSorted nat_cmp others → IsStrictlyIncreasing others
+pub sorted_rise : (manager : ℕ) (guids others : List ℕ) → IsDistinct (λ a b. a == b) guids → IsPermutation (filter (is_other manager) guids) others
+    → IsSorted nat_cmp others → IsStrictlyIncreasing others
 sorted_rise manager guids others own moved sorted =
     IsStrictlyIncreasing-from_distinct others (IsNonDecreasingBy-from_sort (λ (x : ℕ). x) others sorted)
     (IsDistinct-IsPermutation (λ a b. a == b) (λ a b. either_way a b) (filter (is_other manager) guids) others moved (kept_distinct manager guids own))

@@ -1,5 +1,6 @@
 -- The laws of layouts, over any list of places.
-use Rattle.std.proofs.Common.{◌≡◌, ℕ, zero, suc, ◌+◌, ◌*◌, ◌-◌, ◌/◌, ◌%◌, ◌^◌, ◌<◌, ◌≤◌, true, ◌&&◌, ◌⊎◌, inl, inr, nat_le, List, [], ◌∷◌, length, replicate, take, drop, refl, sym, ◌∙◌, ap, subst, arith}
+use Rattle.std.proofs.Common.{◌≡◌, ℕ, zero, suc, ◌+◌, ◌*◌, ◌-◌, ◌/◌, ◌%◌, ◌^◌, ◌<◌, ◌≤◌, true, ◌&&◌, ◌⊎◌, inl, inr, nat_le, List, [], ◌∷◌, length}
+use Rattle.std.proofs.Common.{replicate, take, drop, refl, sym, ◌∙◌, ap, subst, arith}
 use Rattle.std.specs.Int.{bytes_high_first}
 use Rattle.std.specs.Int.Digits.{AllBelowBase}
 use Rattle.std.proofs.lemmas.Nat.{shr-shr, shr_high, mod_low, field_of, pow_pos, mod_below}

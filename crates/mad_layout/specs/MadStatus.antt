@@ -1,7 +1,8 @@
 -- The codes by which a request is refused (InfiniBand volume 1, 13.4.7 and chapter 15).
 use Rattle.std.specs.Prelude.{ℕ}
 use Rattle.mad_layout.specs.declared.status.MadStatus.{MadStatus}
-use Rattle.mad_layout.specs.declared.status.MadStatus.TheVariants.{BadVersion, MethodNotSupported, AttributeNotSupported, InvalidField, NoResources, RequestInvalid, NoRecords, TooManyRecords, InvalidGid, InsufficientComponents}
+use Rattle.mad_layout.specs.declared.status.MadStatus.TheVariants.{BadVersion, MethodNotSupported, AttributeNotSupported, InvalidField, NoResources}
+use Rattle.mad_layout.specs.declared.status.MadStatus.TheVariants.{RequestInvalid, NoRecords, TooManyRecords, InvalidGid, InsufficientComponents}
 
 abbrev pub mad_status_code : MadStatus → ℕ
 mad_status_code BadVersion = 4

@@ -4,7 +4,8 @@ use Rattle.result_words.specs.AtLine.{AtLine}
 use Rattle.partition_file.specs.declared.fault.PartFault.{PartFault}
 use Rattle.partition_file.specs.declared.fault.PartFault.TheVariants.{NoMemory, At}
 use Rattle.partition_file.specs.declared.fault.PartitionCause.{PartitionCause}
-use Rattle.partition_file.specs.declared.fault.PartitionCause.TheVariants.{BadCharacter, BadNumber, ReservedKey, UnknownFlag, BothMembership, MgidItem, TooManyPartitions, Unfinished, BadFlagValue}
+use Rattle.partition_file.specs.declared.fault.PartitionCause.TheVariants.{BadCharacter, BadNumber, ReservedKey, UnknownFlag, BothMembership}
+use Rattle.partition_file.specs.declared.fault.PartitionCause.TheVariants.{MgidItem, TooManyPartitions, Unfinished, BadFlagValue}
 
 abbrev pub code_of : PartitionCause → List ℕ
 code_of BadCharacter = codes "PF1"

@@ -1,5 +1,6 @@
 -- The partitions that definitions make, and those of a text.
-use Rattle.std.specs.Prelude.{ℕ, ◌+◌, ◌/◌, ◌%◌, Bool, true, false, not, ◌==◌, if◌then◌else◌, List, [], ◌∷◌, ◌++◌, map, fold, find, filter_map, flat_map, codes, Option, Some, None, Result, Ok, option_map, unwrap_or}
+use Rattle.std.specs.Prelude.{ℕ, ◌+◌, ◌/◌, ◌%◌, Bool, true, false, not, ◌==◌, if◌then◌else◌, List, [], ◌∷◌, ◌++◌, map, fold, find, filter_map}
+use Rattle.std.specs.Prelude.{flat_map, codes, Option, Some, None, Result, Ok, option_map, unwrap_or}
 use Rattle.std.specs.List.{list_any, range_with_len}
 use Rattle.pkey_rules.specs.PKey.{default_base, base_of, key_of}
 use Rattle.partition_file.specs.declared.item.Ports.TheVariants.{All, Manager}

@@ -1,5 +1,6 @@
 -- What a stored key table accepts and holds is told by the first word of the base.
-use Rattle.std.proofs.Common.{◌≡◌, ◌≢◌, ℕ, zero, suc, ◌==◌, ◌&&◌, ◌||◌, ◌∙◌, ap, refl, sym, Bool, true, false, not, if◌then◌else◌, List, [], ◌∷◌, replicate, find, Option, Some, arith}
+use Rattle.std.proofs.Common.{◌≡◌, ◌≢◌, ℕ, zero, suc, ◌==◌, ◌&&◌, ◌||◌, ◌∙◌, ap, refl, sym, Bool, true, false, not, if◌then◌else◌, List, [], ◌∷◌}
+use Rattle.std.proofs.Common.{replicate, find, Option, Some, arith}
 use Rattle.std.specs.List.{AllByRecursion, filter, list_any}
 use Rattle.std.specs.Option.{option_map_or}
 use Rattle.std.proofs.lemmas.Bool.{and_parts, eq-eqb, eqb-true}

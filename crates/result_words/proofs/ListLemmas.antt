@@ -1,5 +1,6 @@
 -- Tests of the elements of lists, and lists whose elements differ.
-use Rattle.std.proofs.Common.{ℕ, zero, suc, ◌<◌, Bool, true, List, [], ◌∷◌, ◌++◌, length, take, drop, replicate, get_or, slice_get, slice_set, Some, None, ◌≤◌, ◌⊎◌, ◌≡◌, subst, ◌∙◌, ap, refl, sym, inl, inr, arith}
+use Rattle.std.proofs.Common.{ℕ, zero, suc, ◌<◌, Bool, true, List, [], ◌∷◌, ◌++◌, length, take, drop, replicate, get_or, slice_get, slice_set, Some}
+use Rattle.std.proofs.Common.{None, ◌≤◌, ◌⊎◌, ◌≡◌, subst, ◌∙◌, ap, refl, sym, inl, inr, arith}
 use Rattle.std.specs.List.{All, IsDistinct, list_all, list_any}
 use Rattle.std.proofs.lemmas.Bool.{and_from, and_parts, or_cases, or_left, or_right}
 use Rattle.std.proofs.lemmas.List.{take-append-drop}

@@ -1,5 +1,6 @@
 -- The SMP as it arrives asks what was asked, and the ports of its walk are bytes.
-use Rattle.std.proofs.Common.{ℕ, suc, ◌≡◌, ◌+◌, ◌*◌, ◌<◌, ◌≤◌, ◌⊎◌, inl, inr, ◌∙◌, ◌&&◌, ap, refl, sym, Bool, true, false, nat_le, ◌^◌, if◌then◌else◌, List, [], ◌∷◌, length, find, slice_get, slice_set, Option, Some, None, option_map, arith}
+use Rattle.std.proofs.Common.{ℕ, suc, ◌≡◌, ◌+◌, ◌*◌, ◌<◌, ◌≤◌, ◌⊎◌, inl, inr, ◌∙◌, ◌&&◌, ap, refl, sym, Bool, true, false, nat_le, ◌^◌, if◌then◌else◌}
+use Rattle.std.proofs.Common.{List, [], ◌∷◌, length, find, slice_get, slice_set, Option, Some, None, option_map, arith}
 use Rattle.std.specs.Int.Digits.{AllBelowBase}
 use Rattle.std.specs.List.{list_all}
 use Rattle.std.specs.Option.{option_and_then, option_map_or}
@@ -176,7 +177,8 @@ abbrev WalksRight : List ℕ → List PortRef → Type 0
 WalksRight numbers ends = (length ends ≡ length numbers) × AreBytes ends
 
 walked_on : (fabric : FabricState) (numbers : List ℕ) (there : PortRef) (ends : List PortRef) (rest : Option (List PortRef)) → there.port < 256
-    → ((some : List PortRef) → rest ≡ Some some → WalksRight numbers some) → option_map (λ later. there ∷ later) rest ≡ Some ends → (length ends ≡ suc (length numbers)) × AreBytes ends
+    → ((some : List PortRef) → rest ≡ Some some → WalksRight numbers some) → option_map (λ later. there ∷ later) rest ≡ Some ends
+    → (length ends ≡ suc (length numbers)) × AreBytes ends
 walked_on fabric numbers there ends None small right is = cc
 walked_on fabric numbers there ends (Some some) small right is =
     let so = right some refl in

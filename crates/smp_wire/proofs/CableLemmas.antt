@@ -1,5 +1,6 @@
 -- Cables of a good fabric: each leads back to where it came from, and joins ports of its nodes.
-use Rattle.std.proofs.Common.{ℕ, ◌≡◌, ◌==◌, ◌∙◌, ◌&&◌, ◌||◌, not, ap, refl, sym, subst, Bool, true, false, cond, if◌then◌else◌, List, [], ◌∷◌, find, flat_map, Option, Some, None, option_map}
+use Rattle.std.proofs.Common.{ℕ, ◌≡◌, ◌==◌, ◌∙◌, ◌&&◌, ◌||◌, not, ap, refl, sym, subst, Bool, true, false, cond, if◌then◌else◌, List, [], ◌∷◌, find}
+use Rattle.std.proofs.Common.{flat_map, Option, Some, None, option_map}
 use Rattle.std.specs.List.{list_all, list_any}
 use Rattle.std.proofs.lemmas.Bool.{and_from, and_parts, eqb-true, eq-eqb, false≢true}
 use Rattle.std.proofs.lemmas.Option.{same_Some}

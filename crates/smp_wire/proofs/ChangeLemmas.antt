@@ -1,5 +1,6 @@
 -- What an exchange changes of a good fabric: at one node what the SMP names.
-use Rattle.std.proofs.Common.{ℕ, ◌≡◌, ◌≢◌, ◌-◌, ◌==◌, ◌∙◌, ap, refl, sym, subst, inl, inr, Bool, true, false, if◌then◌else◌, List, length, slice_get, slice_set, Option, Some, None, option_map, arith}
+use Rattle.std.proofs.Common.{ℕ, ◌≡◌, ◌≢◌, ◌-◌, ◌==◌, ◌∙◌, ap, refl, sym, subst, inl, inr, Bool, true, false, if◌then◌else◌, List, length, slice_get}
+use Rattle.std.proofs.Common.{slice_set, Option, Some, None, option_map, arith}
 use Rattle.std.specs.Int.Digits.{AllBelowBase}
 use Rattle.std.specs.Option.{option_and_then}
 use Rattle.std.proofs.lemmas.Bool.Decides.{nat_tests}
@@ -58,7 +59,8 @@ ports_stay false ports number smp (Some port) nothing there = set_back ports (nu
 node_stays : (node : Node) (number : ℕ) (smp : List ℕ) → ChangesNothing smp → node_after node number smp ≡ node
 unfolding node_after
 node_stays (Switch held) number smp nothing = ap (λ (one : SwitchState). Switch one) (nothing.switch held)
-node_stays (Adapter ports) number smp nothing = ap (λ (all : List AdapterState). Adapter all) (ports_stay (number == 0) ports number smp (slice_get ports (number - 1)) nothing refl)
+node_stays (Adapter ports) number smp nothing =
+    ap (λ (all : List AdapterState). Adapter all) (ports_stay (number == 0) ports number smp (slice_get ports (number - 1)) nothing refl)
 
 pub nodes_stay : (nodes : List Node) (at : PortRef) (smp : List ℕ) (found : Option Node) → ChangesNothing smp
     → slice_get nodes at.node ≡ found → nodes_after nodes at smp found ≡ nodes
@@ -173,7 +175,8 @@ unanswered_by fabric smp ends (Some answer) is silent none = cc
 
 refused_by : (fabric : FabricState) (smp reply : List ℕ) (ends : List PortRef) (answer : Option (List ℕ))
     → IsGood fabric → length smp ≡ 256 → AllBelowBase 256 smp → walk_of fabric smp ≡ Some ends
-    → reply_at fabric (last_of fabric.manager ends) (arrived ends smp) ≡ answer → option_map returned answer ≡ Some reply → field reply 33 15 ≢ 0 → exchange_after fabric smp ≡ fabric
+    → reply_at fabric (last_of fabric.manager ends) (arrived ends smp) ≡ answer → option_map returned answer ≡ Some reply → field reply 33 15 ≢ 0
+    → exchange_after fabric smp ≡ fabric
 refused_by fabric smp reply ends None good long below is answers replied status = cc
 refused_by fabric smp reply ends (Some answer) good long below is answers replied status =
     let carrier = carried fabric smp ends good long below is in
@@ -197,8 +200,10 @@ no_set_by fabric smp (Some ends) good long below is no_set =
 
 kept_by : (fabric next : FabricState) (smp : List ℕ) (walked : Option (List PortRef)) → walk_of fabric smp ≡ walked
     → next ≡ exchange_after fabric smp → (next.cables ≡ fabric.cables) × (next.manager ≡ fabric.manager)
-kept_by fabric next smp None is after = let same = after ∙ no_walk_after fabric smp is in (ap (λ (one : FabricState). one.cables) same, ap (λ (one : FabricState). one.manager) same)
-kept_by fabric next smp (Some ends) is after = let same = after ∙ walk_after fabric smp ends is in (ap (λ (one : FabricState). one.cables) same, ap (λ (one : FabricState). one.manager) same)
+kept_by fabric next smp None is after =
+    let same = after ∙ no_walk_after fabric smp is in (ap (λ (one : FabricState). one.cables) same, ap (λ (one : FabricState). one.manager) same)
+kept_by fabric next smp (Some ends) is after =
+    let same = after ∙ walk_after fabric smp ends is in (ap (λ (one : FabricState). one.cables) same, ap (λ (one : FabricState). one.manager) same)
 
 silent_by : (fabric : FabricState) (smp : List ℕ) (walked : Option (List PortRef)) → walk_of fabric smp ≡ walked
     → exchange_reply fabric smp ≡ None → exchange_after fabric smp ≡ fabric
@@ -209,7 +214,8 @@ refusal_by : (fabric : FabricState) (smp reply : List ℕ) (walked : Option (Lis
     → length smp ≡ 256 → AllBelowBase 256 smp → walk_of fabric smp ≡ walked
     → exchange_reply fabric smp ≡ Some reply → field reply 33 15 ≢ 0 → exchange_after fabric smp ≡ fabric
 refusal_by fabric smp reply None good long below is replied status = no_walk_after fabric smp is
-refusal_by fabric smp reply (Some ends) good long below is replied status = refused_by fabric smp reply ends _ good long below is refl (sym (walk_reply fabric smp ends is) ∙ replied) status
+refusal_by fabric smp reply (Some ends) good long below is replied status =
+    refused_by fabric smp reply ends _ good long below is refl (sym (walk_reply fabric smp ends is) ∙ replied) status
 
 pub exchanges_change : ExchangesChangeWhatTheyName
 exchanges_change fabric smp good long below =

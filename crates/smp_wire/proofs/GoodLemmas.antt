@@ -1,5 +1,6 @@
 -- What an SMP leaves of a node, and so of a fabric.
-use Rattle.std.proofs.Common.{ℕ, if◌then◌else◌, ◌≡◌, ◌-◌, ◌==◌, ◌∙◌, ap, refl, sym, Bool, true, false, List, [], ◌∷◌, length, map, slice_get, slice_set, Option, Some, None, option_map}
+use Rattle.std.proofs.Common.{ℕ, if◌then◌else◌, ◌≡◌, ◌-◌, ◌==◌, ◌∙◌, ap, refl, sym, Bool, true, false, List, [], ◌∷◌, length, map, slice_get}
+use Rattle.std.proofs.Common.{slice_set, Option, Some, None, option_map}
 use Rattle.std.specs.List.{list_all}
 use Rattle.std.proofs.lemmas.List.{length-set}
 use Rattle.agent_rules.specs.PortSetting.{is_down}

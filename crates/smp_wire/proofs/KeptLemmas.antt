@@ -33,7 +33,8 @@ pub record IsSame (old new : FabricState) : Type 0 where
   pub downs : (number : ℕ) → map (λ node. down_at node number) new.nodes ≡ map (λ node. down_at node number) old.nodes
 
 itself : (fabric : FabricState) → IsSame fabric fabric
-itself fabric = record { cables = refl; manager = refl; guids = refl; ends = refl; counts = refl; right = refl; order = refl; switches = refl; holdings = λ all. all; downs = λ number. refl }
+itself fabric =
+    record { cables = refl; manager = refl; guids = refl; ends = refl; counts = refl; right = refl; order = refl; switches = refl; holdings = λ all. all; downs = λ number. refl }
 
 with_node : (fabric : FabricState) (place : ℕ) (node next : Node) → slice_get fabric.nodes place ≡ Some node → IsSameNode node next
     → IsSame fabric (record fabric { nodes = slice_set fabric.nodes place next })

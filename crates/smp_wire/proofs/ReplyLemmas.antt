@@ -1,5 +1,6 @@
 -- What the agents of a good fabric reply: the request with its method, its status and an attribute.
-use Rattle.std.proofs.Common.{ℕ, ◌≡◌, ◌≢◌, ◌⊎◌, ◌+◌, ◌-◌, ◌≤◌, ◌==◌, ◌∙◌, ap, refl, subst, Bool, true, false, if◌then◌else◌, List, [], ◌∷◌, length, slice_get, Option, Some, None, Result, Ok, Err, arith}
+use Rattle.std.proofs.Common.{ℕ, ◌≡◌, ◌≢◌, ◌⊎◌, ◌+◌, ◌-◌, ◌≤◌, ◌==◌, ◌∙◌, ap, refl, subst, Bool, true, false, if◌then◌else◌, List, [], ◌∷◌, length}
+use Rattle.std.proofs.Common.{slice_get, Option, Some, None, Result, Ok, Err, arith}
 use Rattle.std.specs.Int.Digits.{AllBelowBase}
 use Rattle.std.specs.List.{All}
 use Rattle.std.specs.Option.{option_and_then}
@@ -125,7 +126,8 @@ replied getter setter held smp reply Holds shows long each holds h =
 
 -- ---- an adapter, of which a port stays as it was
 adapter_replies : (ports : List AdapterState) (number place : ℕ) (found : Option AdapterState) (smp reply : List ℕ)
-    → number - 1 ≡ place → length smp ≡ 256 → All IsGoodPort ports → slice_get ports place ≡ found → option_and_then (λ port. adapter_reply port smp) found ≡ Some reply → IsReply smp reply (adapter_ports_after ports number smp found ≡ ports)
+    → number - 1 ≡ place → length smp ≡ 256 → All IsGoodPort ports → slice_get ports place ≡ found
+    → option_and_then (λ port. adapter_reply port smp) found ≡ Some reply → IsReply smp reply (adapter_ports_after ports number smp found ≡ ports)
 unfolding adapter_reply adapter_after
 adapter_replies ports number place None smp reply at long all there h = cc
 adapter_replies ports number place (Some port) smp reply at long all there h =

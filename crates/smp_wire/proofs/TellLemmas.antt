@@ -8,13 +8,15 @@ use Rattle.mad_layout.specs.MadStatus.{mad_status_code}
 use Rattle.mad_layout.specs.declared.method.Method.{Method}
 use Rattle.mad_layout.specs.declared.method.Method.TheVariants as method
 use Rattle.mad_layout.specs.declared.status.MadStatus.{MadStatus}
-use Rattle.mad_layout.specs.declared.status.MadStatus.TheVariants.{BadVersion, MethodNotSupported, AttributeNotSupported, InvalidField, NoResources, RequestInvalid, NoRecords, TooManyRecords, InvalidGid, InsufficientComponents}
+use Rattle.mad_layout.specs.declared.status.MadStatus.TheVariants.{BadVersion, MethodNotSupported, AttributeNotSupported, InvalidField, NoResources}
+use Rattle.mad_layout.specs.declared.status.MadStatus.TheVariants.{RequestInvalid, NoRecords, TooManyRecords, InvalidGid, InsufficientComponents}
 use Rattle.mad_layout.proofs.AlignedLemmas.{byte_is_set, bytes_stand, field_aligned}
 use Rattle.mad_layout.proofs.LayoutLemmas.{length-put_field}
 use Rattle.attr_tables.specs.Attribute.{IsAttribute}
 use Rattle.attr_tables.specs.SmpAttribute.{smp_attribute_code, smp_attribute_of}
 use Rattle.attr_tables.specs.declared.smp_attribute.SmpAttribute.{SmpAttribute}
-use Rattle.attr_tables.specs.declared.smp_attribute.SmpAttribute.TheVariants.{NodeDescription, NodeInfo, SwitchInfo, PortInfo, PKeyTable, LinearForwardingTable, MulticastForwardingTable}
+use Rattle.attr_tables.specs.declared.smp_attribute.SmpAttribute.TheVariants.{NodeDescription, NodeInfo, SwitchInfo, PortInfo, PKeyTable}
+use Rattle.attr_tables.specs.declared.smp_attribute.SmpAttribute.TheVariants.{LinearForwardingTable, MulticastForwardingTable}
 use Rattle.agent_rules.specs.Agent.{Getter, Setter, reply_of}
 use Rattle.agent_rules.specs.Request.{attribute_asked, is_request, is_set, modifier_of, reply_method, reply_to}
 use Rattle.agent_rules.proofs.CarryLemmas.{carries}

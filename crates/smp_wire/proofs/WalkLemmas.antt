@@ -1,5 +1,6 @@
 -- A walk followed hop by hop, with the ports by which the SMP comes in written as it goes.
-use Rattle.std.proofs.Common.{ℕ, suc, ◌≡◌, ◌+◌, ◌<◌, ◌≤◌, ◌==◌, ◌∙◌, nat_le, ap, refl, sym, Bool, true, false, List, [], ◌∷◌, length, drop, get_or, slice_index, Option, Some, None, option_map, arith, add-one}
+use Rattle.std.proofs.Common.{ℕ, suc, ◌≡◌, ◌+◌, ◌<◌, ◌≤◌, ◌==◌, ◌∙◌, nat_le, ap, refl, sym, Bool, true, false, List, [], ◌∷◌, length, drop, get_or}
+use Rattle.std.proofs.Common.{slice_index, Option, Some, None, option_map, arith, add-one}
 use Rattle.std.proofs.Math.ListN.{drop_of_length-le}
 use Rattle.std.proofs.Math.Seq.{drop-cons}
 use Rattle.std.proofs.lemmas.Bool.{and_parts, eqb-true}
@@ -58,7 +59,9 @@ both manager sent (Some ends) = refl
 
 pub begins : (nodes : List Node) (cables : List Cable) (manager : PortRef) (sent : List ℕ) → IsUnderWay nodes cables manager sent 0 manager sent
 begins nodes cables manager sent = record {
-  gives = both manager sent (walk nodes cables true manager (path_of sent)) ∙ ap (option_map (there_with (count sent))) (follow_is_walk nodes cables true manager 1 (path_of sent) sent);
+  gives =
+      both manager sent (walk nodes cables true manager (path_of sent))
+      ∙ ap (option_map (there_with (count sent))) (follow_is_walk nodes cables true manager 1 (path_of sent) sent);
 }
 
 -- what is sent stands at the beginning of its path

@@ -21,7 +21,8 @@ fails_on fault (Some run) (Err at) f h = let same : fault at.line at.cause ≡ r
 
 -- a line that was not taken
 pub stops : {S Cause : Type 0} (fault : ℕ → Cause → RunFault) (step : ℕ → S → List ℕ → Result S Cause) (told : Option RunFault) (number : ℕ) (so_far : S) (line : List ℕ) (left rest : List (List ℕ)) (limit : ℕ) (all : Result S (AtLine Cause))
-    → left ≡ line ∷ rest → IsLeft step number so_far left limit all → Fails told (of_text fault (on_line (number + 1) (step (number + 1) so_far line))) → Fails told (of_text fault all)
+    → left ≡ line ∷ rest → IsLeft step number so_far left limit all
+    → Fails told (of_text fault (on_line (number + 1) (step (number + 1) so_far line))) → Fails told (of_text fault all)
 unfolding after_lines
 stops fault step told number so_far line left rest limit all first before judged =
     let kept = subst (λ (l : List (List ℕ)). IsLeft step number so_far l limit all) first before in

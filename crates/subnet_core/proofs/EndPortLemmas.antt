@@ -1,12 +1,15 @@
 -- The end ports of a sound topology stand in order of LID, from 1, each once.
-use Rattle.std.proofs.Common.{◌≡◌, ℕ, ◌+◌, ◌<◌, ◌≤◌, Bool, true, false, cond, not, ◌==◌, ◌&&◌, ◌||◌, nat_le, nat_lt, List, [], ◌∷◌, ◌++◌, length, map, fold, count_by, All, refl, inl, inr, ◌∙◌, sym, ap, subst, lit≤, append-nil, arith}
+use Rattle.std.proofs.Common.{◌≡◌, ℕ, ◌+◌, ◌<◌, ◌≤◌, Bool, true, false, cond, not, ◌==◌, ◌&&◌, ◌||◌, nat_le, nat_lt, List, [], ◌∷◌, ◌++◌, length, map}
+use Rattle.std.proofs.Common.{fold, count_by, All, refl, inl, inr, ◌∙◌, sym, ap, subst, lit≤, append-nil, arith}
 use Rattle.std.specs.List.{list_any, IsDistinct, AllByRecursion, range_with_len, slice_index_or}
 use Rattle.std.specs.List.Sorted.{IsPermutation}
-use Rattle.std.proofs.lemmas.Bool.{both_ways, and_from, not-true, or_left, or_right, eq-eqb, cases_Bool, cases_lt, and_parts, eqb-true, leb-true, leb-false, ltb-true, lt-ltb, le-ltb}
+use Rattle.std.proofs.lemmas.Bool.{both_ways, and_from, not-true, or_left, or_right, eq-eqb, cases_Bool, cases_lt, and_parts, eqb-true, leb-true}
+use Rattle.std.proofs.lemmas.Bool.{leb-false, ltb-true, lt-ltb, le-ltb}
 use Rattle.std.proofs.lemmas.Bool.Decides.{nat_tests}
 use Rattle.std.proofs.lemmas.List.Elements.{All-nil, All-cons, All-head, All-tail, All-weaker, All-map, All-from_recursion, recursion_from_All}
 use Rattle.std.proofs.lemmas.List.Sums.{sum_by-cons}
-use Rattle.std.proofs.lemmas.List.Sorted.{IsPermutation-refl, IsPermutation-trans, IsPermutation-middle, IsPermutation-append_left, IsPermutation-insert, All-permutation, sum_by-IsPermutation}
+use Rattle.std.proofs.lemmas.List.Sorted.{IsPermutation-refl, IsPermutation-trans, IsPermutation-middle, IsPermutation-append_left}
+use Rattle.std.proofs.lemmas.List.Sorted.{IsPermutation-insert, All-permutation, sum_by-IsPermutation}
 use Rattle.std.proofs.lemmas.Map.Keys.{IsDistinct-IsPermutation}
 use Rattle.partition_file.specs.declared.partition.Partition.{Partition}
 use Rattle.partition_file.specs.Members.{keys_in}
@@ -185,7 +188,8 @@ known partitions nodes all seat = seated nodes (keys_in partitions seat.port) (l
 abbrev as_port : List Node → List EndPort → Seat × List ℕ → SubnetPort
 as_port nodes all one = seated nodes one.1 (lid_of all one.0.port) one.0
 
-same_ports : (partitions : List Partition) (nodes : List Node) (all : List EndPort) (some : List Seat) → map (as_port nodes all) (keyed partitions some) ≡ map (known partitions nodes all) some
+same_ports : (partitions : List Partition) (nodes : List Node) (all : List EndPort) (some : List Seat)
+    → map (as_port nodes all) (keyed partitions some) ≡ map (known partitions nodes all) some
 same_ports partitions nodes all [] = refl
 same_ports partitions nodes all (seat ∷ some) = ap (λ (rest : List SubnetPort). known partitions nodes all seat ∷ rest) (same_ports partitions nodes all some)
 
@@ -262,7 +266,8 @@ numbered first (port ∷ ports) up own h =
     rw here (ap (λ rest. first ∷ rest) (numbered (first + 1) ports up.1 own.1 next))
 
 -- ---- the ports of the seats
-distinct_lids : (partitions : List Partition) (nodes : List Node) (all : List EndPort) (some : List Seat) → sm_count all ≡ 1 → AllByRecursion (λ (seat : Seat). IsThere all seat.port) some
+distinct_lids : (partitions : List Partition) (nodes : List Node) (all : List EndPort) (some : List Seat) → sm_count all ≡ 1
+    → AllByRecursion (λ (seat : Seat). IsThere all seat.port) some
     → IsDistinct same_key some → IsDistinct same_lid (map (known partitions nodes all) some)
 unfolding IsDistinct
 distinct_lids partitions nodes all [] one there d = tt
@@ -273,7 +278,8 @@ distinct_lids partitions nodes all (seat ∷ some) one there d = (beside some th
     beside [] t k = tt
     beside (b ∷ others) t k = (lids_differ all seat.port b.port one there.0 t.0 k.0, beside others t.1 k.1)
 
-distinct_guids : (partitions : List Partition) (nodes : List Node) (all : List EndPort) (some : List Seat) → IsDistinct one_guid some → IsDistinct same_guid (map (known partitions nodes all) some)
+distinct_guids : (partitions : List Partition) (nodes : List Node) (all : List EndPort) (some : List Seat) → IsDistinct one_guid some
+    → IsDistinct same_guid (map (known partitions nodes all) some)
 unfolding IsDistinct
 distinct_guids partitions nodes all [] d = tt
 distinct_guids partitions nodes all (seat ∷ some) d = (beside some d.0, distinct_guids partitions nodes all some d.1)
@@ -283,7 +289,8 @@ distinct_guids partitions nodes all (seat ∷ some) d = (beside some d.0, distin
     beside [] k = tt
     beside (b ∷ others) k = (k.0, beside others k.1)
 
-lower_count : (partitions : List Partition) (nodes : List Node) (all : List EndPort) (port : EndPort) (some : List Seat) → sm_count all ≡ 1 → AllByRecursion (λ (seat : Seat). IsThere all seat.port) some
+lower_count : (partitions : List Partition) (nodes : List Node) (all : List EndPort) (port : EndPort) (some : List Seat) → sm_count all ≡ 1
+    → AllByRecursion (λ (seat : Seat). IsThere all seat.port) some
     → count_by (λ (other : SubnetPort). nat_lt other.lid (lid_of all port)) (map (known partitions nodes all) some) ≡ count_by (λ other. nat_lt (key other) (key port)) (end_ports some)
 lower_count partitions nodes all port [] one there = refl
 lower_count partitions nodes all port (seat ∷ some) one there =

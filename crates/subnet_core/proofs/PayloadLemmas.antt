@@ -1,5 +1,6 @@
 -- The bytes that digits spell, and those behind them.
-use Rattle.std.proofs.Common.{◌≡◌, ℕ, ◌+◌, ◌-◌, ◌*◌, ◌/◌, ◌<◌, ◌≤◌, false, nat_le, List, ◌++◌, length, take, drop, replicate, Result, Ok, Err, MatchResult, refl, sym, ◌∙◌, ap, arith}
+use Rattle.std.proofs.Common.{◌≡◌, ℕ, ◌+◌, ◌-◌, ◌*◌, ◌/◌, ◌<◌, ◌≤◌, false, nat_le, List, ◌++◌, length, take, drop, replicate, Result, Ok, Err}
+use Rattle.std.proofs.Common.{MatchResult, refl, sym, ◌∙◌, ap, arith}
 use Rattle.std.proofs.lemmas.Bool.{le-leb}
 use Rattle.std.proofs.lemmas.Bool.Decides.{nat_tests}
 use Rattle.std.proofs.lemmas.List.{drop-replicate, length-replicate, length-take-le, take-replicate}

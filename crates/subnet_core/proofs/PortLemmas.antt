@@ -1,5 +1,6 @@
 -- The end ports of a topology: how many there are, their order, and the keys beside them.
-use Rattle.std.proofs.Common.{◌≡◌, ℕ, ◌+◌, ◌<◌, ◌≤◌, List, [], ◌∷◌, ◌++◌, length, take, get_or, insert, map, fold, nat_le, Option, Some, None, refl, inl, inr, ◌∙◌, ap, append-nil, length-append, lit≤, suc, arith, Iter, Global, Bor}
+use Rattle.std.proofs.Common.{◌≡◌, ℕ, ◌+◌, ◌<◌, ◌≤◌, List, [], ◌∷◌, ◌++◌, length, take, get_or, insert, map, fold, nat_le, Option, Some, None, refl}
+use Rattle.std.proofs.Common.{inl, inr, ◌∙◌, ap, append-nil, length-append, lit≤, suc, arith, Iter, Global, Bor}
 use Rattle.std.specs.Iterator.{AlwaysYields}
 use Rattle.std.specs.List.{prefix_len, flat_map, enumerate_from, range_with_len, zip}
 use Rattle.std.specs.Vec.Iter.{into_iter_steps}
@@ -69,7 +70,8 @@ one_at_most plan node at = elim (cases_Bool (is_cabled plan.cables at)) [
 
 few_of_adapter : (plan : Plan) (node : Node) (ats : List PortRef) → length (flat_map (seat_if_cabled plan node) ats) ≤ length ats
 few_of_adapter plan node [] = lit≤ tt
-few_of_adapter plan node (at ∷ ats) = omega (arith, length-append (seat_if_cabled plan node at) (flat_map (seat_if_cabled plan node) ats), one_at_most plan node at, few_of_adapter plan node ats)
+few_of_adapter plan node (at ∷ ats) =
+    omega (arith, length-append (seat_if_cabled plan node at) (flat_map (seat_if_cabled plan node) ats), one_at_most plan node at, few_of_adapter plan node ats)
 
 abbrev seat_bound : NodeType → ℕ → ℕ
 seat_bound Switch ports = 1

@@ -1,5 +1,6 @@
 -- The seats of a topology: each is an end port, each end port has one, and no two have one GUID.
-use Rattle.std.proofs.Common.{◌≡◌, ℕ, zero, suc, ◌+◌, ◌<◌, ◌≤◌, Bool, true, false, ◌==◌, ◌&&◌, nat_le, List, [], ◌∷◌, ◌++◌, map, slice_get, Option, Some, None, refl, inl, inr, ◌∙◌, sym, arith}
+use Rattle.std.proofs.Common.{◌≡◌, ℕ, zero, suc, ◌+◌, ◌<◌, ◌≤◌, Bool, true, false, ◌==◌, ◌&&◌, nat_le, List, [], ◌∷◌, ◌++◌, map, slice_get, Option}
+use Rattle.std.proofs.Common.{Some, None, refl, inl, inr, ◌∙◌, sym, arith}
 use Rattle.std.specs.List.{list_any, IsDistinct, AllByRecursion, flat_map, enumerate_from, range_with_len}
 use Rattle.std.proofs.lemmas.Bool.{cases_Bool, cases_eq, and_from, and_parts, and_right, or_cases, or_left, or_right, eq-eqb, le-leb, leb-true, eqb-true}
 use Rattle.std.proofs.lemmas.Bool.Decides.{nat_tests}
@@ -136,7 +137,8 @@ there_of_type ChannelAdapter plan m place number node e k =
     let high = k.1 in
     adapter_there plan m place number node e k.2 1 node.ports low (omega arith)
 
-there_from : (plan : Plan) (place number : ℕ) (node : Node) (some : List Node) (m i : ℕ) → slice_get some i ≡ Some node → m + i ≡ place → Stands node.node_type plan node place number
+there_from : (plan : Plan) (place number : ℕ) (node : Node) (some : List Node) (m i : ℕ) → slice_get some i ≡ Some node → m + i ≡ place
+    → Stands node.node_type plan node place number
     → list_any (sits_at place number) (flat_map (seats_at plan) (enumerate_from m some)) ≡ true
 there_from plan place number node [] m i h e k = absurd (cc)
 there_from plan place number node (first ∷ some) m zero h e k =

@@ -189,7 +189,8 @@ received_from_near ports p command sender found beside = elim (cases_Bool (is_fo
 answer_from_near : (ports : List SubnetPort) (p : ℕ) (command : SendCommand) (sender : SubnetPort) → port_with_guid ports command.port_guid ≡ Some sender
     → is_near ports p command.port_guid ≡ true → (refusal : Option Refusal)
     → AllSlidsNear ports p (unless_refused refusal command.port_guid (delivered ports sender command))
-answer_from_near ports p command sender found beside (Some refusal) = All-cons (λ event. HasSlidNear ports p event.what) (record { port_guid = command.port_guid; what = Refused refusal }) [] tt (All-nil (λ event. HasSlidNear ports p event.what))
+answer_from_near ports p command sender found beside (Some refusal) =
+    All-cons (λ event. HasSlidNear ports p event.what) (record { port_guid = command.port_guid; what = Refused refusal }) [] tt (All-nil (λ event. HasSlidNear ports p event.what))
 answer_from_near ports p command sender found beside None = received_from_near ports p command sender found beside
 
 send_from_near : (ports : List SubnetPort) (p : ℕ) (command : SendCommand) (sender : Option SubnetPort) → port_with_guid ports command.port_guid ≡ sender

@@ -1,5 +1,6 @@
 -- Ports of adapters that agree, one port more at a time.
-use Rattle.std.proofs.Common.{suc, ◌≡◌, ◌∙◌, ◌==◌, ◌&&◌, ◌||◌, ◌+◌, ◌<◌, not, cond, ℕ, Bool, true, false, refl, sym, ap, List, [], ◌∷◌, ◌++◌, take, drop, get_or, length, Option, Some, None, arith}
+use Rattle.std.proofs.Common.{suc, ◌≡◌, ◌∙◌, ◌==◌, ◌&&◌, ◌||◌, ◌+◌, ◌<◌, not, cond, ℕ, Bool, true, false, refl, sym, ap, List, [], ◌∷◌, ◌++◌, take}
+use Rattle.std.proofs.Common.{drop, get_or, length, Option, Some, None, arith}
 use Rattle.std.specs.List.{list_all, list_any}
 use Rattle.std.proofs.Math.Seq.{drop-cons}
 use Rattle.std.proofs.lemmas.List.{append_assoc, append-nil, take_more}

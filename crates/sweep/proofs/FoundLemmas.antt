@@ -1,5 +1,6 @@
 -- Switches that were found, and their places.
-use Rattle.std.proofs.Common.{ℕ, zero, suc, ◌≤◌, ◌==◌, ◌≡◌, ◌∙◌, ◌&&◌, ◌||◌, ap, refl, sym, nat_le, Bool, true, false, cond, List, [], ◌∷◌, ◌++◌, length, slice_get, Option, Some, None, arith}
+use Rattle.std.proofs.Common.{ℕ, zero, suc, ◌≤◌, ◌==◌, ◌≡◌, ◌∙◌, ◌&&◌, ◌||◌, ap, refl, sym, nat_le, Bool, true, false, cond, List, [], ◌∷◌, ◌++◌}
+use Rattle.std.proofs.Common.{length, slice_get, Option, Some, None, arith}
 use Rattle.std.proofs.Math.Bool.{or-true}
 use Rattle.std.specs.List.{AllByRecursion, IsDistinct, list_all, list_any}
 use Rattle.std.proofs.lemmas.Bool.{and_parts, false≢true, or_parts}

@@ -1,5 +1,6 @@
 -- A switch that is seen, among those that were found.
-use Rattle.std.proofs.Common.{ℕ, ◌<◌, ◌≤◌, ◌≡◌, ◌⊎◌, inl, inr, ◌∙◌, ◌==◌, ap, refl, sym, Bool, true, false, nat_lt, List, map, length, position, slice_get, get_or, Option, Some, None, option_map, arith}
+use Rattle.std.proofs.Common.{ℕ, ◌<◌, ◌≤◌, ◌≡◌, ◌⊎◌, inl, inr, ◌∙◌, ◌==◌, ap, refl, sym, Bool, true, false, nat_lt, List, map, length, position}
+use Rattle.std.proofs.Common.{slice_get, get_or, Option, Some, None, option_map, arith}
 use Rattle.std.specs.List.{list_any, position_or_len}
 use Rattle.std.specs.Option.{option_and_then, option_map_or}
 use Rattle.std.proofs.lemmas.Bool.{false≢true}

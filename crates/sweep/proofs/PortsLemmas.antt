@@ -1,5 +1,6 @@
 -- The ports in the graph of a good fabric: they agree with one another, and no two ends of packets have one GUID.
-use Rattle.std.proofs.Common.{ℕ, zero, suc, ◌-◌, ◌<◌, ◌≤◌, ◌≡◌, ◌∙◌, ◌==◌, ◌&&◌, ◌||◌, not, nat_le, ap, refl, sym, subst, Bool, true, false, List, [], ◌∷◌, map, get_or, length, slice_get, Option, Some, None, option_map, ◌⊎◌, inl, inr, arith}
+use Rattle.std.proofs.Common.{ℕ, zero, suc, ◌-◌, ◌<◌, ◌≤◌, ◌≡◌, ◌∙◌, ◌==◌, ◌&&◌, ◌||◌, not, nat_le, ap, refl, sym, subst, Bool, true, false, List, []}
+use Rattle.std.proofs.Common.{◌∷◌, map, get_or, length, slice_get, Option, Some, None, option_map, ◌⊎◌, inl, inr, arith}
 use Rattle.std.specs.List.{AllByRecursion, IsDistinct, list_all, list_any}
 use Rattle.std.specs.Option.{option_map_or}
 use Rattle.std.proofs.lemmas.Bool.{and_from, and_parts, false≢true, le-leb}

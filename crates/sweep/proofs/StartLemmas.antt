@@ -1,5 +1,6 @@
 -- The first two steps of a sweep over a good fabric: the subnet manager's port, and the switch at its cable.
-use Rattle.std.proofs.Common.{ℕ, ◌≡◌, ◌∙◌, ap, refl, sym, ◌==◌, ◌||◌, not, Bool, true, false, if◌then◌else◌, List, [], ◌∷◌, ◌++◌, length, slice_get, Option, Some, None, option_map, Result, Ok, Err}
+use Rattle.std.proofs.Common.{ℕ, ◌≡◌, ◌∙◌, ap, refl, sym, ◌==◌, ◌||◌, not, Bool, true, false, if◌then◌else◌, List, [], ◌∷◌, ◌++◌, length, slice_get}
+use Rattle.std.proofs.Common.{Option, Some, None, option_map, Result, Ok, Err}
 use Rattle.std.specs.Option.{ForSome, ok_or, option_and_then, option_map_or}
 use Rattle.std.proofs.lemmas.Bool.{and_parts}
 use Rattle.std.proofs.lemmas.Bool.Decides.{Decides-eqb}

@@ -1,5 +1,6 @@
 -- Links that lead to a port, and a search for one.
-use Rattle.std.proofs.Common.{ℕ, ◌≡◌, ◌==◌, ◌+◌, ◌&&◌, ◌||◌, ◌<◌, refl, Bool, true, false, if◌then◌else◌, List, [], ◌∷◌, find, get_or, length, nat_le, Option, Some, None, option_map, arith}
+use Rattle.std.proofs.Common.{ℕ, ◌≡◌, ◌==◌, ◌+◌, ◌&&◌, ◌||◌, ◌<◌, refl, Bool, true, false, if◌then◌else◌, List, [], ◌∷◌, find, get_or, length, nat_le}
+use Rattle.std.proofs.Common.{Option, Some, None, option_map, arith}
 use Rattle.std.proofs.Math.Bool.{or-true}
 use Rattle.std.specs.List.{list_any}
 use Rattle.std.proofs.lemmas.Bool.Decides.{Decides-eqb, nat_tests}

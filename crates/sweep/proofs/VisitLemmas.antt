@@ -1,5 +1,6 @@
 -- What is noted of a port that is visited: the switch behind it, or the port of an adapter.
-use Rattle.std.proofs.Common.{ℕ, suc, ◌+◌, ◌<◌, ◌≤◌, ◌≡◌, ◌⊎◌, inl, inr, ◌∙◌, ◌==◌, not, ap, refl, sym, subst, Bool, true, false, List, [], ◌∷◌, ◌++◌, map, length, position, slice_get, get_or, Option, Some, None, option_map, Result, Ok, Err, nat_le, unwrap_or, arith}
+use Rattle.std.proofs.Common.{ℕ, suc, ◌+◌, ◌<◌, ◌≤◌, ◌≡◌, ◌⊎◌, inl, inr, ◌∙◌, ◌==◌, not, ap, refl, sym, subst, Bool, true, false, List, [], ◌∷◌, ◌++◌}
+use Rattle.std.proofs.Common.{map, length, position, slice_get, get_or, Option, Some, None, option_map, Result, Ok, Err, nat_le, unwrap_or, arith}
 use Rattle.std.specs.List.{All, IsDistinct, list_all}
 use Rattle.std.specs.Option.{option_map_or}
 use Rattle.std.proofs.lemmas.Bool.{and_from, false≢true}

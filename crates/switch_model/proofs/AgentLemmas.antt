@@ -5,7 +5,8 @@ use Rattle.mad_layout.specs.declared.status.MadStatus.{MadStatus}
 use Rattle.mad_layout.specs.declared.status.MadStatus.TheVariants.{InvalidField}
 use Rattle.attr_tables.specs.declared.port_info.PortInfo.{PortInfo as Port}
 use Rattle.attr_tables.specs.declared.switch_info.SwitchInfo.{SwitchInfo as Info}
-use Rattle.attr_tables.specs.declared.smp_attribute.SmpAttribute.TheVariants.{NodeDescription, NodeInfo, SwitchInfo, PortInfo, PKeyTable, LinearForwardingTable, MulticastForwardingTable}
+use Rattle.attr_tables.specs.declared.smp_attribute.SmpAttribute.TheVariants.{NodeDescription, NodeInfo, SwitchInfo, PortInfo, PKeyTable}
+use Rattle.attr_tables.specs.declared.smp_attribute.SmpAttribute.TheVariants.{LinearForwardingTable, MulticastForwardingTable}
 use Rattle.result_words.specs.Steps.{◌>>=◌}
 use Rattle.agent_rules.specs.Agent.{shown_at, word_block, set_word_block}
 use Rattle.agent_rules.specs.Laws.{DiffersInBlock}
@@ -19,7 +20,8 @@ use Rattle.agent_rules.proofs.GuardLemmas.{passed, taken_ok}
 use Rattle.agent_rules.proofs.AgentLemmas.{Shows}
 use Rattle.agent_rules.proofs.TableLemmas.{block_differs, length-ports_in, same_blocks, words_shown}
 use Rattle.switch_model.specs.declared.switch_port.SwitchPort.{SwitchPort}
-use Rattle.switch_model.specs.Agent.{get, is_mask_modifier, key_block, key_port, set_keys, set_linear, set_linear_top, mask_block, mask_position, masks_at, set_masks, part_at, set_port_info, set}
+use Rattle.switch_model.specs.Agent.{get, is_mask_modifier, key_block, key_port, set_keys, set_linear, set_linear_top, mask_block, mask_position}
+use Rattle.switch_model.specs.Agent.{masks_at, set_masks, part_at, set_port_info, set}
 use Rattle.switch_model.specs.SwitchState.{SwitchState}
 
 -- a part that is there, and the list with another in its place

@@ -13,7 +13,8 @@ use Rattle.attr_tables.specs.Blocks.{block_of, has_block}
 use Rattle.attr_tables.specs.PortInfo.{port_info_bytes}
 use Rattle.attr_tables.specs.SwitchInfo.{switch_info}
 use Rattle.attr_tables.specs.declared.smp_attribute.SmpAttribute.{SmpAttribute}
-use Rattle.attr_tables.specs.declared.smp_attribute.SmpAttribute.TheVariants.{NodeDescription, NodeInfo, SwitchInfo, PortInfo, PKeyTable, LinearForwardingTable, MulticastForwardingTable}
+use Rattle.attr_tables.specs.declared.smp_attribute.SmpAttribute.TheVariants.{NodeDescription, NodeInfo, SwitchInfo, PortInfo, PKeyTable}
+use Rattle.attr_tables.specs.declared.smp_attribute.SmpAttribute.TheVariants.{LinearForwardingTable, MulticastForwardingTable}
 use Rattle.attr_tables.specs.declared.switch_info.SwitchInfo.{SwitchInfo as Info}
 use Rattle.attr_tables.proofs.AttributeLemmas.{attributes}
 use Rattle.result_words.proofs.ListLemmas.{all_alike, all_have}

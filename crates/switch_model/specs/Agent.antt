@@ -6,7 +6,8 @@ use Rattle.mad_layout.specs.declared.status.MadStatus.{MadStatus}
 use Rattle.mad_layout.specs.declared.status.MadStatus.TheVariants.{AttributeNotSupported, InvalidField}
 use Rattle.fabric_parts.specs.declared.node_type.NodeType.TheVariants.{Switch}
 use Rattle.attr_tables.specs.declared.smp_attribute.SmpAttribute.{SmpAttribute}
-use Rattle.attr_tables.specs.declared.smp_attribute.SmpAttribute.TheVariants.{NodeDescription, NodeInfo, SwitchInfo, PortInfo, PKeyTable, LinearForwardingTable, MulticastForwardingTable}
+use Rattle.attr_tables.specs.declared.smp_attribute.SmpAttribute.TheVariants.{NodeDescription, NodeInfo, SwitchInfo, PortInfo, PKeyTable}
+use Rattle.attr_tables.specs.declared.smp_attribute.SmpAttribute.TheVariants.{LinearForwardingTable, MulticastForwardingTable}
 use Rattle.result_words.specs.Steps.{◌>>=◌}
 use Rattle.agent_rules.specs.Agent.{after, reply_of, shown_at, whole, word_block, set_word_block}
 use Rattle.attr_tables.specs.Blocks.{block_of, has_block, with_block}

@@ -1,5 +1,6 @@
 -- The words of a text: where the first of them begins, where it ends, and which are left behind it.
-use Rattle.std.proofs.Common.{◌≡◌, ℕ, suc, ◌+◌, ◌<◌, ◌==◌, add-one, drop-cons, Bool, true, false, not, List, [], ◌∷◌, length, take, drop, filter, get_or, position, Some, None, refl, sym, ap, ◌∙◌, arith}
+use Rattle.std.proofs.Common.{◌≡◌, ℕ, suc, ◌+◌, ◌<◌, ◌==◌, add-one, drop-cons, Bool, true, false, not, List, [], ◌∷◌, length, take, drop, filter}
+use Rattle.std.proofs.Common.{get_or, position, Some, None, refl, sym, ap, ◌∙◌, arith}
 use Rattle.std.specs.List.{slice_split, position_or_len}
 use Rattle.std.proofs.lemmas.Bool.Decides.{nat_tests}
 use Rattle.std.proofs.lemmas.List.{drop_all}

@@ -1,5 +1,6 @@
 -- The number that digits spell, read from the left.
-use Rattle.std.proofs.Common.{◌≡◌, ℕ, ◌+◌, ◌*◌, ◌^◌, ◌<◌, ◌≤◌, Bool, true, false, ◌&&◌, cond, nat_lt, List, [], ◌∷◌, length, drop, get_or, Option, Some, None, refl, sym, ap, ◌∙◌, arith, lit<, add-one, drop-cons}
+use Rattle.std.proofs.Common.{◌≡◌, ℕ, ◌+◌, ◌*◌, ◌^◌, ◌<◌, ◌≤◌, Bool, true, false, ◌&&◌, cond, nat_lt, List, [], ◌∷◌, length, drop, get_or, Option}
+use Rattle.std.proofs.Common.{Some, None, refl, sym, ap, ◌∙◌, arith, lit<, add-one, drop-cons}
 use Rattle.std.specs.List.{list_all}
 use Rattle.std.specs.Char.{is_digit, digit_value}
 use Rattle.std.specs.Str.Parse.{digits_value_after}
@@ -83,7 +84,8 @@ pub stops : (radix value i : ℕ) (digits : List ℕ) → 1 ≤ radix → i < le
     → digit_step radix value (get_or digits i 0) ≡ None → digits_in radix digits ≡ None
 stops radix value i digits base within so_far step =
     let some : 0 < length digits = omega arith in
-    nonempty radix digits some ∙ sym so_far.same ∙ ap (digits_left radix value) (first_left digits i within) ∙ stops_here radix value (get_or digits i 0) (drop (i + 1) digits) base step
+    nonempty radix digits some ∙ sym so_far.same ∙ ap (digits_left radix value) (first_left digits i within)
+    ∙ stops_here radix value (get_or digits i 0) (drop (i + 1) digits) base step
 
 pub all_spelt : (radix value i : ℕ) (digits : List ℕ) → 0 < length digits → length digits ≤ i → IsLeft radix value (drop i digits) digits
     → digits_in radix digits ≡ Some value

@@ -30,4 +30,6 @@ is_slash byte = byte == 47
 -- a name, a slash and a number
 abbrev pub port_in : List ℕ → Option Port
 port_in word =
-    if list_any is_slash word && is_name (before_first is_slash word) then option_map (λ n. record { name = before_first is_slash word; number = n }) (number_in (after_first is_slash word)) else None
+    if list_any is_slash word && is_name (before_first is_slash word)
+    then option_map (λ n. record { name = before_first is_slash word; number = n }) (number_in (after_first is_slash word))
+    else None

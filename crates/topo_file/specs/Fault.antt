@@ -4,7 +4,9 @@ use Rattle.result_words.specs.AtLine.{AtLine}
 use Rattle.topo_file.specs.declared.fault.TopoFault.{TopoFault}
 use Rattle.topo_file.specs.declared.fault.TopoFault.TheVariants.{NoMemory, At}
 use Rattle.topo_file.specs.declared.fault.TopologyCause.{TopologyCause}
-use Rattle.topo_file.specs.declared.fault.TopologyCause.TheVariants.{Malformed, DuplicateName, DuplicateGuid, UnknownNode, NoSuchPort, PortTaken, WrongCableEnds, WrongManager, Disconnected, OverLimit, ManagerUncabled, RootNotSwitch}
+use Rattle.topo_file.specs.declared.fault.TopologyCause.TheVariants.{Malformed, DuplicateName, DuplicateGuid, UnknownNode, NoSuchPort, PortTaken}
+use Rattle.topo_file.specs.declared.fault.TopologyCause.TheVariants.{WrongCableEnds, WrongManager, Disconnected, OverLimit, ManagerUncabled}
+use Rattle.topo_file.specs.declared.fault.TopologyCause.TheVariants.{RootNotSwitch}
 
 abbrev pub code_of : TopologyCause → List ℕ
 code_of Malformed = codes "TF1"

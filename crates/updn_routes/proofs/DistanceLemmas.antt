@@ -1,5 +1,6 @@
 -- Distances: where they are, how many a switch has, and a test of a list of them.
-use Rattle.std.proofs.Common.{◌≡◌, ℕ, zero, suc, ◌+◌, ◌<◌, ◌≤◌, ◌⊎◌, Bool, true, false, not, ◌==◌, ◌&&◌, ◌||◌, nat_le, List, [], ◌∷◌, length, get_or, refl, sym, ap, subst, ◌∙◌, inl, inr, arith}
+use Rattle.std.proofs.Common.{◌≡◌, ℕ, zero, suc, ◌+◌, ◌<◌, ◌≤◌, ◌⊎◌, Bool, true, false, not, ◌==◌, ◌&&◌, ◌||◌, nat_le, List, [], ◌∷◌, length, get_or}
+use Rattle.std.proofs.Common.{refl, sym, ap, subst, ◌∙◌, inl, inr, arith}
 use Rattle.std.specs.List.{list_all, list_any, range_with_len}
 use Rattle.std.proofs.lemmas.Bool.{and_parts, and_from, cases_lt, not-true, or_left, or_right, or_cases, eqb-true, eq-eqb, leb-true, false≢true}
 use Rattle.result_words.proofs.ListLemmas.{list_any_weaker}
@@ -99,7 +100,8 @@ listed P first (suc count) each =
 
 pub joined_distances : (rows : List (List Link)) (passes : ℕ → Bool) (root : ℕ) → AllJoined rows → root < length rows
     → passes root ≡ true → (distances : List ℕ) × AreDistances rows passes distances
-joined_distances rows passes root joined there is = (all.0, record { count = all.1; each = λ s less. subst (λ (k : ℕ). IsDistance rows passes k (get_or all.0 s 0)) (zero_more s) (all.2 s less) })
+joined_distances rows passes root joined there is =
+    (all.0, record { count = all.1; each = λ s less. subst (λ (k : ℕ). IsDistance rows passes k (get_or all.0 s 0)) (zero_more s) (all.2 s less) })
   where
     zero_more : (s : ℕ) → 0 + s ≡ s
     zero_more s = omega arith

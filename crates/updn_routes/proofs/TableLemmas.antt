@@ -294,7 +294,8 @@ module _ (rows : List (List Link)) (before : ℕ → ℕ → Bool) (d : ℕ) (ca
           from own_walk =
               record {
                 path = best.to ∷ own_walk.0;
-                way = and_from (leads rows s port best.to) _ best.out (and_from (is_walk rows best.to own_walk.0 d) _ own_walk.1 (and_from (is_down before s best.to) _ best.fits own_walk.2));
+                way =
+                    and_from (leads rows s port best.to) _ best.out (and_from (is_walk rows best.to own_walk.0 d) _ own_walk.1 (and_from (is_down before s best.to) _ best.fits own_walk.2));
                 shortest = shorter own_walk.0 own_walk.3;
                 least = lesser own_walk.0 own_walk.3;
               }

@@ -10,7 +10,8 @@ invariant_of-result c =
     let graph = c.args.graph.now in
     let guids : c.in_ok-guids.guids.items ≡ end_guids graph.switches graph.ports = rw (sym c.switches.ensures, sym c.ports.ensures) c.in_ok-guids.ensures in
     let kept : c.in_ok-others.others.items ≡ filter (is_other graph.manager) (end_guids graph.switches graph.ports) =
-    c.in_ok-others.ensures ∙ ap (filter (is_other c.manager-manager.result)) (c.deref.ensures.value ∙ guids) ∙ ap (λ m. filter (is_other m) (end_guids graph.switches graph.ports)) c.manager-manager.ensures in
+    c.in_ok-others.ensures ∙ ap (filter (is_other c.manager-manager.result)) (c.deref.ensures.value ∙ guids)
+    ∙ ap (λ m. filter (is_other m) (end_guids graph.switches graph.ports)) c.manager-manager.ensures in
     rw c.manager-manager.ensures
     (assigned graph others c.is_whole.ensures
     (subst (λ xs. IsPermutation xs others) kept c.sort_unstable.ensures.permutation)
@@ -22,7 +23,8 @@ returns c =
     let graph = c.args.graph.now in
     let guids : c.in_ok-guids.guids.items ≡ end_guids graph.switches graph.ports = rw (sym c.switches.ensures, sym c.ports.ensures) c.in_ok-guids.ensures in
     let kept : c.in_ok-others.others.items ≡ filter (is_other graph.manager) (end_guids graph.switches graph.ports) =
-    c.in_ok-others.ensures ∙ ap (filter (is_other c.manager-manager.result)) (c.deref.ensures.value ∙ guids) ∙ ap (λ m. filter (is_other m) (end_guids graph.switches graph.ports)) c.manager-manager.ensures in
+    c.in_ok-others.ensures ∙ ap (filter (is_other c.manager-manager.result)) (c.deref.ensures.value ∙ guids)
+    ∙ ap (λ m. filter (is_other m) (end_guids graph.switches graph.ports)) c.manager-manager.ensures in
     rw c.manager-manager.ensures
     (assigned graph others c.is_whole.ensures
     (subst (λ xs. IsPermutation xs others) kept c.sort_unstable.ensures.permutation)

@@ -11,7 +11,8 @@ loop-byte-preserved c =
 
 pub returns-in_err-value : goal.returns-in_err-value
 returns-in_err-value c =
-    c.from_residual.ensures ∙ sym (stops c.args.radix c.loop-byte.value c.loop-byte.byte-index c.args.digits.now (omega arith) c.loop-byte-test.true c.loop-byte.invariant (sym c.with_digit.ensures ∙ c.in_err-value.was))
+    c.from_residual.ensures
+    ∙ sym (stops c.args.radix c.loop-byte.value c.loop-byte.byte-index c.args.digits.now (omega arith) c.loop-byte-test.true c.loop-byte.invariant (sym c.with_digit.ensures ∙ c.in_err-value.was))
 
 pub returns : goal.returns
 returns c =

@@ -9,7 +9,8 @@ pub returns : goal.returns
 returns c =
     record {
       right = record {
-        fabric = is_fabric seven_switches ([] ∷ (0 ∷ []) ∷ (0 ∷ []) ∷ (0 ∷ []) ∷ (0 ∷ []) ∷ (0 ∷ []) ∷ (1 ∷ 0 ∷ []) ∷ []) ([] ∷ (1 ∷ []) ∷ (2 ∷ []) ∷ (3 ∷ []) ∷ (4 ∷ []) ∷ (5 ∷ []) ∷ (1 ∷ 6 ∷ []) ∷ []) refl refl refl refl refl refl;
+        fabric =
+            is_fabric seven_switches ([] ∷ (0 ∷ []) ∷ (0 ∷ []) ∷ (0 ∷ []) ∷ (0 ∷ []) ∷ (0 ∷ []) ∷ (1 ∷ 0 ∷ []) ∷ []) ([] ∷ (1 ∷ []) ∷ (2 ∷ []) ∷ (3 ∷ []) ∷ (4 ∷ []) ∷ (5 ∷ []) ∷ (1 ∷ 6 ∷ []) ∷ []) refl refl refl refl refl refl;
         ranks = distances_tested seven_switches.rows _ seven_switches.ranks refl refl;
         depths = distances_tested seven_switches.rows _ seven_switches.depths refl refl;
       };
