@@ -28,32 +28,43 @@ fn lids_of(alloc: Global, mut fabric: Fabric) -> Result<Lids, Fail> {
     Ok(assign(alloc, &graph).or(Err("memory"))?)
 }
 
-/// LIDs count from 1 in this order, and each leads back to its GUID.
-fn are_in_order(rt: &impl Abort, lids: &Lids, guids: &[u64]) {
-    let mut lid = 0;
-    assert_eq!(rt; lids.port_of(lid), None);
-    for guid in guids.iter() {
-        lid += 1;
-        assert_eq!(rt; lids.lid_of(*guid), Some(lid));
-        assert_eq!(rt; lids.port_of(lid), Some(*guid));
+/// The LIDs of the two-switch fabric.
+const TWO_SWITCH_LIDS: [(u16, u64); 6] = [
+    (1, 0x101),
+    (2, 0x10),
+    (3, 0x20),
+    (4, 0x111),
+    (5, 0x121),
+    (6, 0x131),
+];
+
+/// Those of the other.
+const GREATEST_MANAGER_LIDS: [(u16, u64); 5] = [
+    (1, 0xffff_ffff_ffff_fff1),
+    (2, 0x30),
+    (3, 0x31),
+    (4, 0x31e),
+    (5, 0x320),
+];
+
+/// Each LID is its GUID's, both ways, and these two are nobody's.
+fn are(rt: &impl Abort, lids: &Lids, rows: &[(u16, u64)], past: u16) {
+    for (lid, guid) in rows.iter() {
+        assert_eq!(rt; lids.lid_of(*guid), Some(*lid));
+        assert_eq!(rt; lids.port_of(*lid), Some(*guid));
     }
-    assert_eq!(rt; lids.port_of(lid + 1), None);
+    assert_eq!(rt; lids.port_of(0), None);
+    assert_eq!(rt; lids.port_of(past), None);
 }
 
 #[test]
 fn lids_follow_the_guids_behind_the_managers(rt: HostRuntime) -> Result<(), Fail> {
     let lids = lids_of(rt.alloc(), two_switch_fabric(rt.alloc())?)?;
-    are_in_order(&rt, &lids, &[0x101, 0x10, 0x20, 0x111, 0x121, 0x131]);
+    are(&rt, &lids, &TWO_SWITCH_LIDS, 7);
     // An adapter's own GUID and an uncabled port's name no end port.
     assert_eq!(rt; (lids.lid_of(0x100), lids.lid_of(0x141)), (None, None));
-    let lids = lids_of(
-        rt.alloc(),
-        fabric_of(rt.alloc(), GREATEST_MANAGER.as_bytes())?,
-    )?;
-    are_in_order(
-        &rt,
-        &lids,
-        &[0xffff_ffff_ffff_fff1, 0x30, 0x31, 0x31e, 0x320],
-    );
+    let greatest = fabric_of(rt.alloc(), GREATEST_MANAGER.as_bytes())?;
+    let lids = lids_of(rt.alloc(), greatest)?;
+    are(&rt, &lids, &GREATEST_MANAGER_LIDS, 6);
     Ok(())
 }
