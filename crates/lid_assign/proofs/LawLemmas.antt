@@ -2,6 +2,7 @@
 use Rattle.std.proofs.Common.{◌≡◌, ℕ, zero, suc, ◌+◌, ◌-◌, ◌<◌, ◌≤◌, Bool, true, false, ◌==◌, List, [], ◌∷◌, length, slice_get, Option, Some, None}
 use Rattle.std.proofs.Common.{option_map, refl, sym, ap, subst, ◌∙◌, arith}
 use Rattle.std.specs.List.{AllByRecursion, IsDistinct, position}
+use Rattle.std.proofs.lemmas.Bool.{eq-eqb}
 use Rattle.std.proofs.lemmas.Bool.Decides.{nat_tests}
 use Rattle.lid_assign.specs.Laws.{LidsAndGuidsNameEachOther, LidsCountFrom1}
 use Rattle.lid_assign.specs.Lids.{guid_in, lid_in}
@@ -38,14 +39,11 @@ apart_there first guid place [] h there = absurd cc
 apart_there first guid zero (next ∷ guids) h there = subst (λ (g : ℕ). (first == g) ≡ false) (same_some next guid there) h.0
 apart_there first guid (suc place) (next ∷ guids) h there = apart_there first guid place guids h.1 there
 
-itself : (g : ℕ) → (g == g) ≡ true
-itself g = grind (arith, nat_tests)
-
 place_there : (guids : List ℕ) (guid place : ℕ) → IsDistinct (λ a b. a == b) guids → slice_get guids place ≡ Some guid → position (λ o. o == guid) guids ≡ Some place
 unfolding IsDistinct
 place_there [] guid place own there = absurd cc
 place_there (first ∷ guids) guid zero own there =
-    place_here (λ (o : ℕ). o == guid) first guids (subst (λ (g : ℕ). (first == g) ≡ true) (same_some first guid there) (itself first))
+    place_here (λ (o : ℕ). o == guid) first guids (subst (λ (g : ℕ). (first == g) ≡ true) (same_some first guid there) (eq-eqb first first refl))
 place_there (first ∷ guids) guid (suc place) own there =
     let sum : place + 1 ≡ suc place = omega arith in
     place_later (λ (o : ℕ). o == guid) first guids (apart_there first guid place guids own.0 there)

@@ -5,7 +5,7 @@ use Rattle.std.specs.List.{AllByRecursion, IsDistinct, list_any}
 use Rattle.std.specs.List.Sorted.{IsBinarySearchResult, IsPermutation, IsSorted, IsStrictlyIncreasing}
 use Rattle.std.specs.Ordering.{nat_cmp}
 use Rattle.std.proofs.lemmas.List.{length-map}
-use Rattle.std.proofs.lemmas.Bool.{or_parts, or_right}
+use Rattle.std.proofs.lemmas.Bool.{or_parts, or_right, eq-eqb}
 use Rattle.std.proofs.lemmas.List.Sorted.{IsNonDecreasingBy-from_sort, searched}
 use Rattle.std.proofs.lemmas.Map.Keys.{IsDistinct-IsPermutation, IsStrictlyIncreasing-from_distinct}
 use Rattle.std.proofs.lemmas.Bool.Decides.{nat_tests}
@@ -143,9 +143,6 @@ lid_by manager ports others port false e sm named moved rising there =
     ∙ ap (λ (k : ℕ). Some (k + 1 + 1)) (less_others manager g ports others named moved)
     ∙ ap (λ (k : ℕ). Some k) sum ∙ (rw sm refl)
 
-itself : (g : ℕ) → (g == g) ≡ true
-itself g = grind (arith, nat_tests)
-
 only_those : (manager guid : ℕ) (ports : List EndPort) (others : List ℕ) (b : Bool) → (manager == guid) ≡ b → AreNamed manager ports
     → IsPermutation (filter (is_other manager) (guids_of ports)) others → list_any (λ port. port.guid == guid) ports ≡ false → lid_in (manager ∷ others) guid ≡ None
 only_those manager guid ports others true e named moved none =
@@ -166,7 +163,7 @@ are_lids manager ports others named moved long rising =
       each = λ k d h.
           let port = get_or ports k d in
           let marked = All-from_recursion (λ (p : EndPort). p.is_sm ≡ (p.guid == manager)) ports named.marked in
-          let there = any_guid (λ x. x == port.guid) ports ∙ list_any_at (λ (p : EndPort). p.guid == port.guid) ports k d h (itself port.guid) in
+          let there = any_guid (λ x. x == port.guid) ports ∙ list_any_at (λ (p : EndPort). p.guid == port.guid) ports k d h (eq-eqb port.guid port.guid refl) in
           lid_by manager ports others port (port.guid == manager) refl (marked k d h) named moved rising there;
       only = λ guid none. only_those manager guid ports others (manager == guid) refl named moved none;
       count =

@@ -1,7 +1,7 @@
 -- The definitions of a text that is read are those that cutting it gives.
 use Rattle.std.proofs.Common.{◌≡◌, ℕ, suc, ◌+◌, take, drop, Bool, true, false, cond, ◌==◌, List, [], ◌∷◌, ◌++◌, Option, Some, None, refl, ap, ◌∙◌, arith}
 use Rattle.std.specs.List.{after_first, before_first, list_any, position_or_len, slice_split, onto_first}
-use Rattle.std.proofs.lemmas.Bool.Decides.{nat_tests}
+use Rattle.std.proofs.lemmas.Bool.{eqb-true}
 use Rattle.std.proofs.lemmas.List.Splits.{slice_split-cons_no, slice_split-cons_yes}
 use Rattle.partition_file.specs.declared.piece.Delimiter.{Delimiter}
 use Rattle.partition_file.specs.declared.piece.Delimiter.TheVariants.{Equals, Comma, Colon, Semicolon}
@@ -19,18 +19,15 @@ abbrev byte_in : Option Delimiter → ℕ
 byte_in (Some delimiter) = byte_of delimiter
 byte_in None = 0
 
-pub same_number : (a b : ℕ) → (a == b) ≡ true → a ≡ b
-same_number a b h = grind (arith, nat_tests)
-
 pub byte_is : (byte : ℕ) (delimiter : Delimiter) → delimiter_of byte ≡ Some delimiter → byte ≡ byte_of delimiter
 byte_is byte delimiter h = by (byte == 61) refl (byte == 44) refl (byte == 58) refl (byte == 59) refl h
   where
     by : (e : Bool) → (byte == 61) ≡ e → (c : Bool) → (byte == 44) ≡ c → (k : Bool) → (byte == 58) ≡ k → (s : Bool) → (byte == 59) ≡ s
         → cond e (Some Equals) (cond c (Some Comma) (cond k (Some Colon) (cond s (Some Semicolon) None))) ≡ Some delimiter → byte ≡ byte_of delimiter
-    by true e c _ k _ s _ there = same_number byte 61 e ∙ ap byte_in there
-    by false _ true c k _ s _ there = same_number byte 44 c ∙ ap byte_in there
-    by false _ false _ true k s _ there = same_number byte 58 k ∙ ap byte_in there
-    by false _ false _ false _ true s there = same_number byte 59 s ∙ ap byte_in there
+    by true e c _ k _ s _ there = eqb-true byte 61 e ∙ ap byte_in there
+    by false _ true c k _ s _ there = eqb-true byte 44 c ∙ ap byte_in there
+    by false _ false _ true k s _ there = eqb-true byte 58 k ∙ ap byte_in there
+    by false _ false _ false _ true s there = eqb-true byte 59 s ∙ ap byte_in there
     by false _ false _ false _ false _ there = absurd cc
 
 -- no delimiter stands in these bytes

@@ -2,6 +2,7 @@
 use Rattle.std.proofs.Common.{◌≡◌, ℕ, Bool, true, false, cond, List, [], ◌∷◌, ◌++◌, length, fold, Option, Some, None, refl, sym, ap, ◌∙◌, append_assoc, arith}
 use Rattle.std.specs.Prelude.{bytes_eq, codes}
 use Rattle.std.specs.List.{after_first, before_first, flat_map, slice_split, onto_first}
+use Rattle.std.proofs.lemmas.Bool.{eqb-true}
 use Rattle.std.proofs.lemmas.List.{append-nil}
 use Rattle.partition_file.specs.declared.definition.Definition.{Definition}
 use Rattle.partition_file.specs.declared.definition_part.Part.{Part}
@@ -28,7 +29,7 @@ use Rattle.partition_file.specs.Ports.{ports_named}
 use Rattle.partition_file.specs.Scanned.{Scanned, blank, is_in_list}
 use Rattle.partition_file.specs.Tokens.{base_in, flag_token, is_empty, is_full, list_token, membership_in, token_of, value_of}
 use Rattle.partition_file.proofs.CutLemmas.{IsOpen, after_behind, after_through, any_behind, before_behind, before_through, byte_of, no_colon}
-use Rattle.partition_file.proofs.CutLemmas.{no_comma, no_equals, parts_of, same_number, split_behind, split_here, split_nowhere}
+use Rattle.partition_file.proofs.CutLemmas.{no_comma, no_equals, parts_of, split_behind, split_here, split_nowhere}
 
 -- ---- the parts of a piece
 abbrev heads : List ℕ → List (List ℕ)
@@ -204,11 +205,11 @@ member_ends ports d raw free =
 -- ---- what pieces say by being cut is what they say by their tokens
 no_flag : (piece : List ℕ) → is_empty piece ≡ true → flag_of piece ≡ None
 no_flag [] h = refl
-no_flag (byte ∷ rest) h = absurd (omega (arith, same_number (length (byte ∷ rest)) 0 h))
+no_flag (byte ∷ rest) h = absurd (omega (arith, eqb-true (length (byte ∷ rest)) 0 h))
 
 no_ports : (piece : List ℕ) → is_empty piece ≡ true → ports_named piece ≡ None
 no_ports [] h = refl
-no_ports (byte ∷ rest) h = absurd (omega (arith, same_number (length (byte ∷ rest)) 0 h))
+no_ports (byte ∷ rest) h = absurd (omega (arith, eqb-true (length (byte ∷ rest)) 0 h))
 
 flag_piece : (d : Definition) (delimiter : Delimiter) (piece : List ℕ) → is_equals delimiter ≡ false
     → with_piece d (flag_token piece) delimiter piece ≡ record d { flags = with_flag (flag_of piece) d.flags }

@@ -3,6 +3,7 @@ use Rattle.std.proofs.Common.{◌≡◌, ℕ, zero, suc, ◌+◌, ◌<◌, ◌�
 use Rattle.std.proofs.Common.{None, is_none, refl, ap, subst, ◌∙◌, arith, length-append}
 use Rattle.std.specs.List.{cons_option, count_by, filter_map, find, fold, range_with_len}
 use Rattle.std.specs.Option.{unwrap_or}
+use Rattle.std.proofs.lemmas.Bool.{eqb-true}
 use Rattle.std.proofs.lemmas.Bool.Decides.{nat_tests}
 use Rattle.std.proofs.lemmas.List.Sums.{fold-append, sum_by-cons}
 use Rattle.pkey_rules.specs.declared.key_table.TheConstants.{PARTITIONS}
@@ -22,11 +23,8 @@ FoundIn test a n (Some b) = (test b ≡ true) × ((c : ℕ) → a ≤ c → c < 
 here_or_later : (a c : ℕ) (b : Bool) → (a == c) ≡ b → b ≡ false → a ≤ c → a + 1 ≤ c
 here_or_later a c b e k h = grind (arith, nat_tests)
 
-equal_by : (a c : ℕ) → (a == c) ≡ true → a ≡ c
-equal_by a c h = grind (arith, nat_tests)
-
 false_from : (test : ℕ → Bool) (a c : ℕ) (b : Bool) → (a == c) ≡ b → test a ≡ false → a ≤ c → (a + 1 ≤ c → test c ≡ false) → test c ≡ false
-false_from test a c true e h low later = subst (λ (k : ℕ). test k ≡ false) (equal_by a c e) h
+false_from test a c true e h low later = subst (λ (k : ℕ). test k ≡ false) (eqb-true a c e) h
 false_from test a c false e h low later = later (here_or_later a c false e refl low)
 
 more_false : (test : ℕ → Bool) (a n : ℕ) (o : Option ℕ) → test a ≡ false → FoundIn test (a + 1) n o → FoundIn test a (suc n) o
@@ -93,9 +91,6 @@ kept_all : (bases : List ℕ) (other : ℕ) (seen : List ℕ) → has_base other
 kept_all [] other seen h = h
 kept_all (base ∷ bases) other seen h = kept_all bases other (with_base seen base) (kept base other seen (has_base base seen) h)
 
-same_base : (a b : ℕ) → (a == b) ≡ true → a ≡ b
-same_base a b h = grind (arith, nat_tests)
-
 itself : (a : ℕ) → (a == a) ≡ true
 itself a = grind (arith, nat_tests)
 
@@ -111,7 +106,7 @@ is_seen (base ∷ taken) other seen h = by (base == other) refl h (λ k. is_seen
     by : (b : Bool) → (base == other) ≡ b → (b || has_base other taken) ≡ true
         → (has_base other taken ≡ true → has_base other (fold with_base (with_base seen base) taken) ≡ true) → has_base other (fold with_base (with_base seen base) taken) ≡ true
     by true e k later =
-        let there : has_base other (with_base seen base) ≡ true = subst (λ (x : ℕ). has_base x (with_base seen base) ≡ true) (same_base base other e) (added base seen (has_base base seen) refl) in
+        let there : has_base other (with_base seen base) ≡ true = subst (λ (x : ℕ). has_base x (with_base seen base) ≡ true) (eqb-true base other e) (added base seen (has_base base seen) refl) in
         kept_all taken other (with_base seen base) there
     by false e k later = later k
 

@@ -1,5 +1,5 @@
 -- The keys of a port tell of which partitions it is a member.
-use Rattle.std.proofs.Common.{◌≡◌, ℕ, true, false, nat_eq, ◌==◌, List, [], ◌∷◌, Option, Some, None, refl, ◌∙◌, arith}
+use Rattle.std.proofs.Common.{◌≡◌, ℕ, true, false, nat_eq, List, [], ◌∷◌, Option, Some, None, refl, ◌∙◌, arith}
 use Rattle.std.specs.List.{AllByRecursion, IsDistinct, list_all, cons_option}
 use Rattle.std.proofs.lemmas.Bool.{and_parts, eq-eqb}
 use Rattle.std.proofs.lemmas.Bool.Decides.{nat_tests}
@@ -14,13 +14,10 @@ use Rattle.partition_file.specs.Laws.{KeysTellMembership}
 use Rattle.partition_file.specs.Members.{key_in, keys_in}
 use Rattle.partition_file.specs.Sound.{all_bases}
 
-eq_self : (n : ℕ) → (n == n) ≡ true
-eq_self n = eq-eqb n n refl
-
 -- a key of this base, if there is one, is found before all others
 found_first : (base : ℕ) (key : Option ℕ) (rest : List ℕ) → KeyOf base key → find_base base rest ≡ None → find_base base (cons_option key rest) ≡ key
 found_first base None rest is none = none
-found_first base (Some key) rest is none = rw (is, eq_self base) refl
+found_first base (Some key) rest is none = rw (is, eq-eqb base base refl) refl
 
 -- a key of another base is passed by
 passed_by : (base other : ℕ) (key : Option ℕ) (rest : List ℕ) → KeyOf base key → nat_eq base other ≡ false → find_base other (cons_option key rest) ≡ find_base other rest

@@ -3,7 +3,7 @@ use Rattle.std.proofs.Common.{◌≡◌, lit≤, ℕ, zero, suc, ◌+◌, ◌<�
 use Rattle.std.proofs.Common.{◌++◌, length, map, Option, Some, None, is_none, refl, sym, ap, subst, ◌∙◌, arith, length-append, nat_le, option_map}
 use Rattle.std.specs.List.{IsDistinct, count_by, filter_map, find, fold, list_all, list_any, range_with_len, slice_get}
 use Rattle.std.specs.Option.{option_map, unwrap_or}
-use Rattle.std.proofs.lemmas.Bool.{and_from, and_parts}
+use Rattle.std.proofs.lemmas.Bool.{and_from, and_parts, eqb-true}
 use Rattle.std.proofs.lemmas.Bool.Decides.{nat_tests}
 use Rattle.std.proofs.lemmas.Cmp.{nat_eq_equiv}
 use Rattle.std.proofs.lemmas.List.{length-map}
@@ -150,12 +150,9 @@ more_many many few others base false h = record {
   count = omega (arith, h.count, length-append many (base ∷ []));
 }
 
-same_base : (a b : ℕ) → (a == b) ≡ true → a ≡ b
-same_base a b h = grind (arith, nat_tests)
-
 found_last : (base x : ℕ) (few : List ℕ) (a : Bool) → a ≡ has_base x few → (a || (base == x)) ≡ true → (has_base x few ≡ true) ⊎ (base ≡ x)
 found_last base x few true e h = inl (sym e)
-found_last base x few false e h = inr (same_base base x h)
+found_last base x few false e h = inr (eqb-true base x h)
 
 -- the same base beside both
 more_both : (many few : List ℕ) (others base : ℕ) (b d : Bool) → has_base base many ≡ b → has_base base few ≡ d → Covers many few others

@@ -1,6 +1,7 @@
 -- Which fault is told for one byte: the first in turn of those that hold there.
 use Rattle.std.proofs.Common.{◌≡◌, ℕ, zero, suc, ◌+◌, ◌<◌, ◌≤◌, Bool, true, false, cond, ◌==◌, List, [], ◌∷◌, Option, Some, None, Ok, Err, refl, sym, ap, subst, ◌∙◌, arith}
 use Rattle.std.specs.List.{find}
+use Rattle.std.proofs.lemmas.Bool.{eqb-true}
 use Rattle.std.proofs.lemmas.Bool.Decides.{nat_tests}
 use Rattle.partition_file.specs.declared.fault.PartitionCause.{PartitionCause}
 use Rattle.partition_file.specs.declared.fault.PartitionCause.TheVariants.{BadCharacter, BadNumber, ReservedKey, UnknownFlag, BothMembership}
@@ -72,9 +73,6 @@ found_there holds (fault ∷ rest) f h = by (holds fault) refl h (λ k. found_th
 above : (n m : ℕ) (b : Bool) → (m == n) ≡ b → b ≡ false → n ≤ m → n + 1 ≤ m
 above n m b e k h = grind (arith, nat_tests)
 
-equal_by : (m n : ℕ) → (m == n) ≡ true → m ≡ n
-equal_by m n h = grind (arith, nat_tests)
-
 first_found : (holds : PartitionCause → Bool) (faults : List PartitionCause) (n : ℕ) (f g : PartitionCause) → InOrder n faults
     → find holds faults ≡ Some f → holds g ≡ true → n ≤ turn g → turn f ≤ turn g
 first_found holds [] n f g order h k low = absurd cc
@@ -82,7 +80,7 @@ first_found holds (fault ∷ rest) n f g order h k low = by (holds fault) refl h
   where
     later : (b : Bool) → (turn g == n) ≡ b → holds fault ≡ false → (n + 1 ≤ turn g → turn f ≤ turn g) → turn f ≤ turn g
     later true e none goes_on =
-        absurd (let same : g ≡ fault = same_turn g fault (equal_by (turn g) n e ∙ sym order.0) in let gone : holds g ≡ false = subst (λ (x : PartitionCause). holds x ≡ false) (sym same) none in cc)
+        absurd (let same : g ≡ fault = same_turn g fault (eqb-true (turn g) n e ∙ sym order.0) in let gone : holds g ≡ false = subst (λ (x : PartitionCause). holds x ≡ false) (sym same) none in cc)
     later false e none goes_on = goes_on (above n (turn g) false e refl low)
 
     by : (b : Bool) → holds fault ≡ b → cond b (Some fault) (find holds rest) ≡ Some f → (find holds rest ≡ Some f → n + 1 ≤ turn g → turn f ≤ turn g) → turn f ≤ turn g

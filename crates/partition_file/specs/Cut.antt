@@ -1,6 +1,6 @@
 -- What the definitions of a text are, by cutting it whole: at each `;`, each piece at its `:`, what stands before that and
--- behind it at each `,`, and each part at its `=`. No place of a text is gone to one after the other here, as in
--- `Definitions`; that both say the same of every text that is read is a law of `src/laws.rt`.
+-- behind it at each `,`, and each part at its `=`. `Definitions` goes from byte to byte and hands on a state; here is
+-- neither. That both say the same of every text that is read is a law of `src/laws.rt`.
 use Rattle.std.specs.Prelude.{ℕ, Bool, ◌==◌, if◌then◌else◌, List, [], ◌∷◌, ◌++◌, map, fold, flat_map, Option, Some, None}
 use Rattle.std.specs.List.{after_first, before_first, list_any, slice_split}
 use Rattle.partition_file.specs.declared.definition.Definition.{Definition}

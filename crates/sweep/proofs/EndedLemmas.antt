@@ -2,7 +2,7 @@
 use Rattle.std.proofs.Common.{ℕ, zero, suc, ◌+◌, ◌≤◌, ◌≡◌, ◌∙◌, ◌==◌, ap, refl, sym, subst, Bool, true, false, List, [], ◌∷◌, ◌++◌, map, take, length}
 use Rattle.std.proofs.Common.{Option, Some, None, option_map, arith}
 use Rattle.std.specs.Option.{option_map_or}
-use Rattle.std.proofs.lemmas.Bool.{false≢true}
+use Rattle.std.proofs.lemmas.Bool.{false≢true, eq-eqb}
 use Rattle.std.proofs.lemmas.Bool.Decides.{Decides-eqb}
 use Rattle.std.proofs.lemmas.List.{append-nil, take_all}
 use Rattle.std.proofs.lemmas.List.Elements.{All-cons, All-nil}
@@ -34,9 +34,6 @@ first_found manager there = record { node = there.node; path = manager.port ∷ 
 abbrev pub found_first : FabricState → PortRef → List Found
 found_first fabric there = record { node = there.node; path = fabric.manager.port ∷ [] } ∷ []
 
-itself : (n : ℕ) → (n == n) ≡ true
-itself n = (Decides-eqb n n).1 refl
-
 discovery : (fabric : FabricState) (start : Origin) → IsGood fabric → (is : IsStartOf fabric start) → IsDiscovery fabric (found_first fabric is.there)
 discovery fabric start good is =
     let begin = begins fabric good in
@@ -55,7 +52,7 @@ discovery fabric start good is =
       }) (All-nil (Leads fabric));
       first = is.there;
       first_cable = is.cable;
-      first_found = rw (itself is.there.node) refl;
+      first_found = rw (eq-eqb is.there.node is.there.node refl) refl;
       joined = λ k one from at. alone k one from at;
       sorted = λ j k near far order at_j at_k. both j k near far at_j at_k;
     }

@@ -4,7 +4,7 @@ use Rattle.std.proofs.Common.{List, [], ◌∷◌, length, map, flat_map, replic
 use Rattle.std.proofs.Common.{inl, inr, arith}
 use Rattle.std.specs.List.{list_all, range_with_len}
 use Rattle.std.specs.Option.{option_and_then, option_map_or}
-use Rattle.std.proofs.lemmas.Bool.{and_parts, leb-true, ltb-true}
+use Rattle.std.proofs.lemmas.Bool.{and_parts, leb-true, ltb-true, eqb-true}
 use Rattle.std.proofs.lemmas.Bool.Decides.{Decides-eqb, nat_tests}
 use Rattle.std.proofs.lemmas.List.Concat.{flat_map-cons}
 use Rattle.std.proofs.lemmas.List.Folds.{list_all-append, list_all-map}
@@ -122,9 +122,6 @@ seen_again kind count node port number read is held =
     ) refl
 
 -- ---- what a node of a good fabric gives
-equal : (a b : ℕ) → (a == b) ≡ true → a ≡ b
-equal a b h = (Decides-eqb a b).0 h
-
 from_1 : (n : ℕ) → 1 ≤ n → (n == 0) ≡ false
 from_1 n h = grind (arith, nat_tests, h)
 
@@ -194,8 +191,8 @@ port_of ports number port order guids first there =
     ∙ ap (option_map (λ (one : AdapterState). one.port_guid)) there in
     record {
       there = rw (from_1 number first) there;
-      node = equal port.node_guid (node_guid (Adapter ports)) both.0;
-      count = equal port.num_ports (length ports) both.1;
+      node = eqb-true port.node_guid (node_guid (Adapter ports)) both.0;
+      count = eqb-true port.num_ports (length ports) both.1;
       number_is = numbered ports k port there same ∙ place;
       guid = all_there is_guid (end_port_guids (Adapter ports)) k port.port_guid guids guid;
     }

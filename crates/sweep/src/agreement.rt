@@ -209,7 +209,7 @@ fn have_own_guids(
 }
 
 /// The GUIDs of switches and ports. Memory alone can be refused.
-fn end_guids(
+pub(crate) fn end_guids(
     alloc: Global,
     switches: &[GraphSwitch],
     ports: &[GraphPort],

@@ -1,9 +1,9 @@
 //! What a graph holds.
 
-ghost use Rattle.std.specs.Prelude.{◌≡◌, [], ◌∷◌, ◌++◌, length, OnOk};
-ghost use Rattle.sweep.specs.Graph.{IsGraph, is_joined};
+ghost use Rattle.std.specs.Prelude.{◌≡◌, [], ◌∷◌, ◌++◌, length, IfOk, OnOk};
+ghost use Rattle.sweep.specs.Graph.{IsGraph, end_guids, is_joined};
 
-use crate::agreement::has_a_nearer_switch;
+use crate::agreement::{end_guids, has_a_nearer_switch};
 use crate::path::Path;
 use fabric_parts::PortRef;
 use std::alloc::{AllocError, Global};
@@ -144,6 +144,14 @@ impl Graph {
         ensures { result.now ≡ self.now.ports }
     {
         &self.ports
+    }
+
+    /// The GUIDs of the ends of packets: those of the switches, and then those of the ports. Memory alone can be
+    /// refused.
+    pub fn end_guids(&self, alloc: Global) -> Result<Vec<u64>, AllocError>
+        ensures { IfOk result (λ guids. guids.items ≡ end_guids self.now.switches self.now.ports) }
+    {
+        end_guids(alloc, &self.switches, &self.ports)
     }
 
     /// Whether links join all switches: whether each but the first has a link to one that was found earlier.

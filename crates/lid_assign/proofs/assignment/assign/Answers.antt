@@ -1,4 +1,4 @@
-use Rattle.std.proofs.Common.{◌≡◌, ap, filter, subst, sym, ◌∙◌}
+use Rattle.std.proofs.Common.{◌≡◌, ap, filter, subst, ◌∙◌}
 use Rattle.std.specs.List.Sorted.{IsPermutation}
 use Rattle.sweep.specs.Graph.{end_guids}
 use Rattle.lid_assign.proofs.LidLemmas.{assigned, is_other}
@@ -8,9 +8,8 @@ pub invariant_of-result : goal.invariant_of-result
 invariant_of-result c =
     let others = c.sort_unstable.new.self.items in
     let graph = c.args.graph.now in
-    let guids : c.in_ok-guids.guids.items ≡ end_guids graph.switches graph.ports = rw (sym c.switches.ensures, sym c.ports.ensures) c.in_ok-guids.ensures in
     let kept : c.in_ok-others.others.items ≡ filter (is_other graph.manager) (end_guids graph.switches graph.ports) =
-    c.in_ok-others.ensures ∙ ap (filter (is_other c.manager-manager.result)) (c.deref.ensures.value ∙ guids)
+    c.in_ok-others.ensures ∙ ap (filter (is_other c.manager-manager.result)) (c.deref.ensures.value ∙ c.in_ok-guids.ensures)
     ∙ ap (λ m. filter (is_other m) (end_guids graph.switches graph.ports)) c.manager-manager.ensures in
     rw c.manager-manager.ensures
     (assigned graph others c.is_whole.ensures
@@ -21,9 +20,8 @@ pub returns : goal.returns
 returns c =
     let others = c.sort_unstable.new.self.items in
     let graph = c.args.graph.now in
-    let guids : c.in_ok-guids.guids.items ≡ end_guids graph.switches graph.ports = rw (sym c.switches.ensures, sym c.ports.ensures) c.in_ok-guids.ensures in
     let kept : c.in_ok-others.others.items ≡ filter (is_other graph.manager) (end_guids graph.switches graph.ports) =
-    c.in_ok-others.ensures ∙ ap (filter (is_other c.manager-manager.result)) (c.deref.ensures.value ∙ guids)
+    c.in_ok-others.ensures ∙ ap (filter (is_other c.manager-manager.result)) (c.deref.ensures.value ∙ c.in_ok-guids.ensures)
     ∙ ap (λ m. filter (is_other m) (end_guids graph.switches graph.ports)) c.manager-manager.ensures in
     rw c.manager-manager.ensures
     (assigned graph others c.is_whole.ensures
