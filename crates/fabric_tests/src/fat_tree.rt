@@ -6,10 +6,11 @@ ghost use Rattle.std.specs.Prelude.{◌≤◌, ◌<◌, length};
 use crate::fixtures::fabric_of;
 use attr_tables::SmpAttribute;
 use fabric_wire::{CountingWire, Fabric, get_attribute};
+use lid_assign::assign;
 use std::alloc::Global;
 use std::process::Abort;
 use std::test::Fail;
-use sweep::sweep;
+use sweep::{Graph, sweep};
 
 pub fn put(text: &mut Vec<u8>, part: &[u8]) -> Result<(), Fail> {
     text.extend_from_slice(part).ok().ok_or("memory")?;
@@ -127,7 +128,7 @@ fn a_fat_tree_is_read_at_the_subnet_managers_port(rt: HostRuntime) -> Result<(),
 
 /// Sweeps a fat tree. Of each switch 36 ports are asked for PortInfo, what is behind each port with a cable for
 /// NodeInfo, the subnet manager's port and its switch before that, and each node for its name.
-fn is_swept(rt: &impl Abort, alloc: Global, leaves: u16) -> Result<(), Fail>
+fn is_swept(rt: &impl Abort, alloc: Global, leaves: u16) -> Result<Graph, Fail>
     requires some { 0 < leaves }
     requires few { leaves ≤ 32 }
 {
@@ -143,21 +144,33 @@ fn is_swept(rt: &impl Abort, alloc: Global, leaves: u16) -> Result<(), Fail>
     assert_eq!(rt; graph.ports().len() as u64, adapters);
     let infos = adapters + links + 2;
     assert_eq!(rt; counting.count, 36 * switches + infos + switches + adapters);
-    Ok(())
+    Ok(graph)
 }
 
 #[test]
 fn a_fat_tree_of_8_switches_is_swept(rt: HostRuntime) -> Result<(), Fail> {
-    is_swept(&rt, rt.alloc(), 4)
+    is_swept(&rt, rt.alloc(), 4)?;
+    Ok(())
 }
 
 #[test]
 fn a_fat_tree_of_16_switches_is_swept(rt: HostRuntime) -> Result<(), Fail> {
-    is_swept(&rt, rt.alloc(), 8)
+    is_swept(&rt, rt.alloc(), 8)?;
+    Ok(())
 }
 
 /// It has 4,674 SMPs for that; 4,900 are allowed.
 #[test]
 fn a_fat_tree_of_64_switches_is_swept(rt: HostRuntime) -> Result<(), Fail> {
-    is_swept(&rt, rt.alloc(), 32)
+    is_swept(&rt, rt.alloc(), 32)?;
+    Ok(())
+}
+
+#[test]
+fn a_fat_tree_of_64_switches_has_320_lids(rt: HostRuntime) -> Result<(), Fail> {
+    let graph = is_swept(&rt, rt.alloc(), 32)?;
+    let lids = assign(rt.alloc(), &graph).or(Err("memory"))?;
+    assert!(rt; lids.port_of(320).is_some());
+    assert_eq!(rt; lids.port_of(321), None);
+    Ok(())
 }

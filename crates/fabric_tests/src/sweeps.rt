@@ -8,6 +8,7 @@ use crate::fat_tree::{put, put_line};
 use crate::fixtures::{fabric_of, two_switch_fabric, two_switch_wire};
 use example_texts::TWO_SWITCHES;
 use fabric_wire::{CountingWire, Fabric, SilencedWire};
+use lid_assign::assign;
 use std::alloc::Global;
 use std::process::Abort;
 use std::test::Fail;
@@ -109,16 +110,23 @@ fn a_sweep_goes_63_hops_and_no_further(rt: HostRuntime) -> Result<(), Fail> {
 }
 
 #[test]
-fn a_graph_is_found_or_memory_is_refused(rt: HostRuntime) -> Result<(), Fail> {
+fn a_graph_and_its_lids_are_found_or_memory_is_refused(rt: HostRuntime) -> Result<(), Fail> {
     let Ok(topology) = read(rt.alloc(), TWO_SWITCHES.as_bytes()) else {
         return Ok(());
     };
     let Ok(mut fabric) = Fabric::new(rt.alloc(), &topology) else {
         return Ok(());
     };
-    match sweep(rt.alloc(), &mut fabric) {
-        Ok(graph) => is_the_graph(&rt, &graph),
-        Err(fault) => assert_eq!(rt; fault, SweepFault::NoMemory),
+    let graph = match sweep(rt.alloc(), &mut fabric) {
+        Ok(graph) => graph,
+        Err(fault) => {
+            assert_eq!(rt; fault, SweepFault::NoMemory);
+            return Ok(());
+        }
+    };
+    is_the_graph(&rt, &graph);
+    if let Ok(lids) = assign(rt.alloc(), &graph) {
+        assert_eq!(rt; lids.lid_of(0x131), Some(6));
     }
     Ok(())
 }

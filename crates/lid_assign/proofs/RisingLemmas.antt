@@ -3,7 +3,7 @@ use Rattle.std.proofs.Common.{◌≡◌, ℕ, suc, inl, inr, ◌+◌, ◌<◌, �
 use Rattle.std.proofs.Common.{count_by, Some, None, option_map, refl, sym, ap, subst, ◌∙◌, arith}
 use Rattle.std.specs.List.{AllByRecursion, list_any, position, position_or_len, slice_index}
 use Rattle.std.specs.List.Sorted.{IsStrictlyIncreasing}
-use Rattle.std.proofs.lemmas.Bool.{cases_lt}
+use Rattle.std.proofs.lemmas.Bool.{cases_lt, eq-eqb, eqb-true, false≢true}
 use Rattle.std.proofs.lemmas.Bool.Decides.{nat_tests}
 use Rattle.std.proofs.lemmas.Grind.{get_or_default_zero}
 use Rattle.std.proofs.lemmas.List.Folds.{list_any_none}
@@ -117,3 +117,36 @@ nowhere xs g i below above = list_any_none (λ o. o == g) xs (λ k d h. each k d
           | inl less ↦ let under = below k less in grind (arith, nat_tests)
           | inr more ↦ let over = above k more h in grind (arith, nat_tests)
         ]
+
+-- ---- lists that rise and have the same elements are the same
+least : (x y : ℕ) (ys : List ℕ) → AllByRecursion (λ z. y < z) ys → list_any (λ o. o == x) (y ∷ ys) ≡ true → y ≤ x
+least x y ys above there = by (y == x) refl there
+  where
+    by : (b : Bool) → (y == x) ≡ b → (b || list_any (λ o. o == x) ys) ≡ true → y ≤ x
+    by true e k = (let same : y ≡ x = grind (arith, nat_tests) in omega (arith, same))
+    by false e k = (let under = above_one y x ys above k in omega (arith, under))
+
+none_at : (x : ℕ) (xs : List ℕ) → AllByRecursion (λ y. x < y) xs → list_any (λ o. o == x) xs ≡ false
+none_at x [] above = refl
+none_at x (y ∷ ys) above = let apart : (y == x) ≡ false = grind (arith, nat_tests, above.0) in rw (apart, none_at x ys above.1) refl
+
+pub same_rising : (xs ys : List ℕ) → Rises xs → Rises ys → ((g : ℕ) → list_any (λ o. o == g) xs ≡ list_any (λ o. o == g) ys) → xs ≡ ys
+same_rising [] [] one other same = refl
+same_rising [] (y ∷ ys) one other same = absurd (false≢true (same y ∙ (rw (eq-eqb y y refl) refl)))
+same_rising (x ∷ xs) [] one other same = absurd (false≢true (sym (same x) ∙ (rw (eq-eqb x x refl) refl)))
+same_rising (x ∷ xs) (y ∷ ys) one other same =
+    let here : list_any (λ o. o == x) (x ∷ xs) ≡ true = rw (eq-eqb x x refl) refl in
+    let there : list_any (λ o. o == y) (y ∷ ys) ≡ true = rw (eq-eqb y y refl) refl in
+    let low = least x y ys other.0 (sym (same x) ∙ here) in
+    let high = least y x xs one.0 (same y ∙ there) in
+    let first : x ≡ y = omega (arith, low, high) in
+    rw (first, same_rising xs ys one.1 other.1 (λ g. by first g (y == g) refl)) refl
+  where
+    by : x ≡ y → (g : ℕ) (b : Bool) → (y == g) ≡ b → list_any (λ o. o == g) xs ≡ list_any (λ o. o == g) ys
+    by first g true e =
+        let at : y ≡ g = eqb-true y g e in
+        none_at g xs (subst (λ (n : ℕ). AllByRecursion (λ z. n < z) xs) (first ∙ at) one.0)
+        ∙ sym (none_at g ys (subst (λ (n : ℕ). AllByRecursion (λ z. n < z) ys) at other.0))
+    by first g false e =
+        let apart : (x == g) ≡ false = ap (λ (n : ℕ). n == g) first ∙ e in
+        ap (λ (b : Bool). b || list_any (λ o. o == g) xs) (sym apart) ∙ same g ∙ ap (λ (b : Bool). b || list_any (λ o. o == g) ys) e

@@ -1,5 +1,5 @@
 -- The LIDs of a graph's end ports.
-use Rattle.std.specs.Prelude.{ℕ, ◌+◌, ◌-◌, ◌<◌, ◌≡◌, ◌==◌, true, false, if◌then◌else◌, List, map, ◌++◌, length, position, slice_get, Option, Some, None, option_map}
+use Rattle.std.specs.Prelude.{ℕ, ◌+◌, ◌-◌, ◌<◌, ◌≡◌, ◌==◌, true, false, if◌then◌else◌, List, ◌∷◌, map, ◌++◌, length, position, slice_get, Option, Some, None, option_map}
 use Rattle.std.specs.List.{All, list_any}
 use Rattle.std.specs.List.Sorted.{IsStrictlyIncreasing}
 use Rattle.pkey_rules.specs.declared.end_port.EndPort.{EndPort}
@@ -41,3 +41,9 @@ pub record StandInOrder (manager : ℕ) (others : List ℕ) : Type 0 where
   pub rising : IsStrictlyIncreasing others
   pub apart : list_any (λ guid. guid == manager) others ≡ false
   pub few : length others < MAX_SWITCHES + MAX_ADAPTER_PORTS
+
+-- so it stands in the order of its LIDs
+pub record IsInOrder (manager : ℕ) (guids : List ℕ) : Type 0 where
+  pub others : List ℕ
+  pub guids_are : guids ≡ manager ∷ others
+  pub stand : StandInOrder manager others

@@ -1,7 +1,7 @@
 //! How LIDs are given.
 
 ghost use Rattle.std.specs.Prelude.{◌≡◌, ◌==◌, not, filter, IfOk};
-ghost use Rattle.lid_assign.specs.Lids.{AreLids, end_ports};
+ghost use Rattle.lid_assign.specs.Lids.{AreLids, IsInOrder, end_ports};
 
 use crate::lids::Lids;
 use std::alloc::{AllocError, Global};
@@ -10,7 +10,8 @@ use sweep::Graph;
 /// The LIDs of the end ports of a graph: 1 for the subnet manager's, the others from 2 in the order of their GUIDs.
 /// Memory alone can be refused.
 pub fn assign(alloc: Global, graph: &Graph) -> Result<Lids, AllocError>
-    ensures { IfOk result (λ lids. AreLids (end_ports graph.now) lids) }
+    ensures lids { IfOk result (λ lids. AreLids (end_ports graph.now) lids) }
+    ensures order { IfOk result (λ lids. IsInOrder graph.now.manager lids) }
 {
     graph.is_whole();
     let manager = graph.manager();

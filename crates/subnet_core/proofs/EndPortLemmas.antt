@@ -7,10 +7,10 @@ use Rattle.std.proofs.lemmas.Bool.{both_ways, and_from, not-true, or_left, or_ri
 use Rattle.std.proofs.lemmas.Bool.{leb-false, ltb-true, lt-ltb, le-ltb}
 use Rattle.std.proofs.lemmas.Bool.Decides.{nat_tests}
 use Rattle.std.proofs.lemmas.List.Elements.{All-nil, All-cons, All-head, All-tail, All-weaker, All-map, All-from_recursion, recursion_from_All}
-use Rattle.std.proofs.lemmas.List.Sums.{sum_by-cons}
 use Rattle.std.proofs.lemmas.List.Sorted.{IsPermutation-refl, IsPermutation-trans, IsPermutation-middle, IsPermutation-append_left}
 use Rattle.std.proofs.lemmas.List.Sorted.{IsPermutation-insert, All-permutation, sum_by-IsPermutation}
 use Rattle.std.proofs.lemmas.Map.Keys.{IsDistinct-IsPermutation}
+use Rattle.lid_assign.proofs.RisingLemmas.{counted}
 use Rattle.partition_file.specs.declared.partition.Partition.{Partition}
 use Rattle.partition_file.specs.Members.{keys_in}
 use Rattle.pkey_rules.specs.declared.end_port.EndPort.{EndPort}
@@ -33,9 +33,6 @@ use Rattle.subnet_core.proofs.SeatLemmas.{IsSeat, all_are_seats, any_so, each_we
 count_none : {X : Type 0} (p : X → Bool) (xs : List X) → AllByRecursion (λ x. p x ≡ false) xs → count_by p xs ≡ 0
 count_none p [] h = refl
 count_none p (x ∷ xs) h = rw h.0 (count_none p xs h.1)
-
-counted : {X : Type 0} (p : X → Bool) (x : X) (xs : List X) → count_by p (x ∷ xs) ≡ cond (p x) 1 0 + count_by p xs
-counted p x xs = sum_by-cons (λ y. cond (p y) 1 0) x xs
 
 count_yes : {X : Type 0} (p : X → Bool) (x : X) (xs : List X) → p x ≡ true → count_by p (x ∷ xs) ≡ 1 + count_by p xs
 count_yes p x xs h = counted p x xs ∙ ap (λ b. cond b 1 0 + count_by p xs) h
@@ -299,7 +296,7 @@ lower_count partitions nodes all port (seat ∷ some) one there =
     ∙ (ap (λ n. cond (nat_lt (key seat.port) (key port)) 1 0 + n) (lower_count partitions nodes all port some one there.1)
     ∙ sym (counted (λ (other : EndPort). nat_lt (key other) (key port)) seat.port (end_ports some))))
 
-any_map : {X Y : Type 0} (f : X → Y) (p : Y → Bool) (xs : List X) → list_any p (map f xs) ≡ list_any (λ x. p (f x)) xs
+pub any_map : {X Y : Type 0} (f : X → Y) (p : Y → Bool) (xs : List X) → list_any p (map f xs) ≡ list_any (λ x. p (f x)) xs
 any_map f p [] = refl
 any_map f p (x ∷ xs) = ap (λ b. p (f x) || b) (any_map f p xs)
 
@@ -343,7 +340,7 @@ record AreSeats (plan : Plan) (some : List Seat) : Type 0 where
   one : sm_count (end_ports some) ≡ 1
   there : AllByRecursion (λ (seat : Seat). IsThere (end_ports some) seat.port) some
 
-sm_is_end_port : (plan : Plan) → IsSound plan → is_end_port plan plan.sm ≡ true
+pub sm_is_end_port : (plan : Plan) → IsSound plan → is_end_port plan plan.sm ≡ true
 sm_is_end_port plan sound =
     let parts = and_parts (not (is_switch_at plan.nodes plan.sm.node)) (is_port plan.nodes plan.sm) sound.manager_port in
     let no_switch : is_switch_at plan.nodes plan.sm.node ≡ false = not-true (is_switch_at plan.nodes plan.sm.node) parts.0 in

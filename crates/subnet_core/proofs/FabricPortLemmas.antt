@@ -1,5 +1,5 @@
 -- The end ports of a topology's fabric are the topology's.
-use Rattle.std.proofs.Common.{◌≡◌, ℕ, zero, suc, ◌+◌, ◌-◌, ◌<◌, ◌≤◌, ◌==◌, ◌&&◌, nat_le, Bool, true, false, cond, List, [], ◌∷◌, map, slice_get}
+use Rattle.std.proofs.Common.{◌≡◌, ℕ, zero, suc, ◌+◌, ◌-◌, ◌<◌, ◌≤◌, ◌==◌, ◌&&◌, nat_le, Bool, true, false, cond, List, map, slice_get}
 use Rattle.std.proofs.Common.{Option, Some, None, option_map, refl, sym, ap, ◌∙◌, add-zero, arith}
 use Rattle.std.specs.Prelude.{if◌then◌else◌}
 use Rattle.std.specs.List.{range_with_len}
@@ -15,15 +15,13 @@ use Rattle.fabric_parts.specs.declared.node_type.NodeType.TheVariants as node_ty
 use Rattle.fabric_parts.specs.NodeType.{is_switch_type}
 use Rattle.fabric_wire.proofs.OfTopologyLemmas.{count_of, node_at, port_there, switch_there}
 use Rattle.fabric_wire.specs.OfTopology.{adapter_port_of, fabric_of, node_of, node_of_type, named}
-use Rattle.port_model.specs.AdapterState.{AdapterState}
 use Rattle.smp_wire.specs.FabricState.{adapter_port}
-use Rattle.smp_wire.specs.declared.node.Node.{Node as Held}
 use Rattle.topo_file.specs.Node.{is_switch, port_guid}
-use Rattle.topo_file.specs.Sound.{is_port}
 use Rattle.topo_file.specs.Topology.{Plan}
 use Rattle.topo_file.specs.declared.node.Node.{Node}
+use Rattle.sweep.specs.EndPorts.{FabricPort, held_in, is_end_port_of}
 use Rattle.subnet_core.specs.EndPorts.{is_end_port}
-use Rattle.subnet_core.specs.FabricPorts.{FabricPort, end_port_in, held_in, is_end_port_of, planned_port, planned_port_in}
+use Rattle.subnet_core.specs.FabricPorts.{planned_port}
 use Rattle.subnet_core.specs.Laws.{EndPortsAreTheFabrics}
 
 same_ports : (plan : Plan) (at : PortRef) → is_end_port_of (fabric_of plan) at ≡ is_end_port plan at
@@ -33,6 +31,7 @@ same_ports plan at = rw (switch_there plan.cables plan.nodes at.node, port_there
 abbrev made_of : Node → ℕ → FabricPort
 made_of node number = record {
   guid = port_guid node number;
+  number = number;
   node_guid = node.guid;
   description = named node.name;
   num_ports = node.ports;

@@ -1,6 +1,7 @@
 pub mod CommandLemmas
 pub mod EndPortLemmas
 pub mod FabricPortLemmas
+pub mod GraphPortLemmas
 pub mod HeadlineLemmas
 pub mod ListingLemmas
 pub mod PayloadLemmas

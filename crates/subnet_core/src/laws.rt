@@ -1,7 +1,7 @@
 //! What is so of the end ports of every topology, over the definitions alone. The functions do nothing:
 //! their contracts are the laws.
 
-ghost use Rattle.subnet_core.specs.Laws.{EndPortsAreTheFabrics, EndPortsStandInOrder};
+ghost use Rattle.subnet_core.specs.Laws.{EndPortsAreTheFabrics, EndPortsStandInOrder, SweepsFindWhatIsListed};
 
 /// Of every sound topology, under whatever partitions: LIDs count from 1, the subnet manager's port has 1 and
 /// the others follow in order of GUID; the ports are the end ports of the topology, each once.
@@ -14,4 +14,10 @@ pub fn end_ports_stand_in_order()
 /// topology says.
 pub fn end_ports_are_the_fabrics()
     ensures { EndPortsAreTheFabrics }
+{}
+
+/// A sweep of that fabric finds the end ports that are listed, and LIDs that are given by what it found are those
+/// that are listed: so the list may be taken from the topology or from the wire.
+pub fn sweeps_find_what_is_listed()
+    ensures { SweepsFindWhatIsListed }
 {}

@@ -20,7 +20,9 @@ mod subnet;
 
 pub use crate::end_ports::configuration_of;
 pub use crate::fault::{RunFault, ScriptCause, StepFault};
-pub use crate::laws::{end_ports_are_the_fabrics, end_ports_stand_in_order};
+pub use crate::laws::{
+    end_ports_are_the_fabrics, end_ports_stand_in_order, sweeps_find_what_is_listed,
+};
 pub use crate::report::Report;
 pub use crate::running::run;
 pub use crate::subnet::{Subnet, bring_up};

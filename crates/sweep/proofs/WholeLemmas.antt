@@ -22,7 +22,7 @@ use Rattle.smp_wire.specs.Good.{IsGood, has_a_right_count, is_right}
 use Rattle.smp_wire.specs.declared.node.Node.{Node}
 use Rattle.smp_wire.specs.declared.node.Node.TheVariants.{Switch, Adapter}
 use Rattle.sweep.specs.Graph.{IsGraph, graph_with, is_joined, is_linked, is_near, is_right_link, is_right_row, is_right_switch, port, rise_above}
-use Rattle.sweep.specs.OfFabric.{Found, Leads, is_among, link_to, node_at, nodes_of, place_of, placed, port_to, ports_at, ports_of, ports_up_to, row_of, switch_of}
+use Rattle.sweep.specs.OfFabric.{Found, Leads, is_among, link_to, node_at, nodes_of, place_of, placed, port_to, ports_at, all_ports, ports_up_to, row_of, switch_of}
 use Rattle.sweep.specs.Progress.{HasNeighbour, IsDiscovery, IsProgress, StandsAt}
 use Rattle.sweep.specs.Seen.{seen_at}
 use Rattle.sweep.specs.Survey.{SurveyState}
@@ -277,7 +277,7 @@ manager_port fabric at manager (Some seen) adapter shown is =
 
 pub graph_manager : (fabric : FabricState) (found : List Found) (manager : ℕ) → IsGood fabric → IsDiscovery fabric found
     → option_map (λ seen. seen.port_guid) (seen_at fabric fabric.manager) ≡ Some manager
-    → list_any (λ port. port.port_guid == manager) (ports_of fabric found) ≡ true
+    → list_any (λ port. port.port_guid == manager) (all_ports fabric found) ≡ true
 graph_manager fabric found manager good so_far is =
     let at = found_at found so_far.first.node 1 so_far.first_found in
     let home : far_end fabric.cables (port so_far.first.node so_far.first.port) ≡ Some fabric.manager = good_once fabric fabric.manager so_far.first good so_far.first_cable in
@@ -307,8 +307,8 @@ rows_are fabric found survey progress =
     progress.noted.rows ∙ ap (map (λ one. row_of fabric (nodes_of found) one.node)) (take_all (length found) found (omega arith))
 
 ports_are : (fabric : FabricState) (found : List Found) (survey : SurveyState) → IsProgress fabric found (length found) 0 survey []
-    → survey.ports ≡ ports_of fabric found
-ports_are fabric found survey progress = progress.noted.ports ∙ append-nil (ports_of fabric found)
+    → survey.ports ≡ all_ports fabric found
+ports_are fabric found survey progress = progress.noted.ports ∙ append-nil (all_ports fabric found)
 
 pub graph_is_whole : (fabric : FabricState) (found : List Found) (survey : SurveyState) (manager : ℕ) → IsSweepable fabric
     → option_map (λ seen. seen.port_guid) (seen_at fabric fabric.manager) ≡ Some manager → IsAllAsked fabric found survey

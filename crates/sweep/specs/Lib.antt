@@ -3,6 +3,8 @@ pub mod Seen
 pub mod Graph
 pub mod Adapters
 pub mod OfFabric
+pub mod EndPorts
+pub mod Laws
 pub mod Hops
 pub mod Limits
 pub mod Start

@@ -98,8 +98,8 @@ ports_before fabric found count =
     flat_map (λ place. ports_up_to fabric place (node_at found place) (ports_at fabric (node_at found place)))
     (range_with_len 0 count)
 
-abbrev pub ports_of : FabricState → List Found → List GraphPort
-ports_of fabric found = ports_before fabric found (length found)
+abbrev pub all_ports : FabricState → List Found → List GraphPort
+all_ports fabric found = ports_before fabric found (length found)
 
 -- ---- paths
 -- the path leaves by the subnet manager's own port, is no longer than a directed route, and ends at that switch
@@ -121,4 +121,4 @@ pub record IsGraphOf (graph : GraphState) (fabric : FabricState) : Type 0 where
   pub manager : option_map (λ seen. seen.port_guid) (seen_at fabric fabric.manager) ≡ Some graph.manager
   pub switches : graph.switches ≡ map (switch_of fabric) found
   pub rows : graph.rows ≡ map (λ one. row_of fabric (nodes_of found) one.node) found
-  pub ports : graph.ports ≡ ports_of fabric found
+  pub ports : graph.ports ≡ all_ports fabric found

@@ -22,6 +22,6 @@ mod switch_list;
 pub use crate::discovery::sweep;
 pub use crate::fault::SweepFault;
 pub use crate::graph::{Graph, GraphPort, GraphSwitch, Link, MAX_ADAPTER_PORTS, MAX_SWITCHES, Row};
-pub use crate::laws::the_numbers;
+pub use crate::laws::{graphs_have_the_end_ports, the_numbers};
 pub use crate::path::{PATH_HOPS, Path};
 pub use crate::seen::{Seen, seen_of};
