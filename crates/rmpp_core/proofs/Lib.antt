@@ -1,0 +1,3 @@
+pub mod ReplyLemmas
+pub mod CutLemmas
+pub mod ReceivingLemmas

@@ -1,0 +1,4 @@
+pub mod Reply
+pub mod Segments
+pub mod Acks
+pub mod Receiving
