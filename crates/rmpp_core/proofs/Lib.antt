@@ -1,3 +1,6 @@
 pub mod ReplyLemmas
 pub mod CutLemmas
 pub mod ReceivingLemmas
+pub mod AckLemmas
+pub mod ReadBackLemmas
+pub mod WholeLemmas

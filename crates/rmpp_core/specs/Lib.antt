@@ -2,3 +2,4 @@ pub mod Reply
 pub mod Segments
 pub mod Acks
 pub mod Receiving
+pub mod Laws

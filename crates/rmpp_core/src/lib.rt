@@ -10,12 +10,14 @@
 #![tactic(auto)]
 
 mod abort;
+mod laws;
 mod reassembly;
 mod receiver;
 mod reply;
 mod sender;
 
 pub use crate::abort::AbortCause;
+pub use crate::laws::{segments_are_received, segments_are_the_bytes, segments_go_out_in_order};
 pub use crate::receiver::{ReceiveFault, Receiver};
 pub use crate::reply::{ReplyHeader, reply_mad};
 pub use crate::sender::{Acknowledged, Sender};
