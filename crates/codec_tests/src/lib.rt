@@ -5,3 +5,5 @@
 mod attributes;
 #[cfg(test)]
 mod headers;
+#[cfg(test)]
+mod segments;

@@ -95,11 +95,7 @@ impl Reassembly {
         is_data(rmpp)
             && !self.is_whole
             && u64::from(rmpp.segment_number) == u64::from(self.segments) + 1
-            && if self.segments == 0 {
-                is_first
-            } else {
-                !is_first
-            }
+            && is_first == (self.segments == 0)
     }
 
     /// Whether the last segment tells the length of its data, and the first one that of all segments.
