@@ -1,0 +1,15 @@
+//! The records of subnet administration: what requests ask by, and what answers show.
+//!
+//! Each record is a struct of raw fields and one table of their places, as headers and attributes are (`mad_layout`):
+//! `read` gives each field its value, `write` spells the record and 0 elsewhere, and contracts compare both with the
+//! list of places that stands in `specs/`. `selected_by` says whether a record agrees with a request on every
+//! component that the request's ComponentMask names; `specs/Component.antt` says what a component is, and each record
+//! lists its own (InfiniBand Architecture Specification, volume 1, 15.2.1.1 and 15.2.5).
+#![tactic(auto)]
+
+mod component;
+mod laws;
+mod node_record;
+
+pub use crate::laws::node_record_reads_back;
+pub use crate::node_record::{NODE_RECORD_BYTES, NodeRecord};
