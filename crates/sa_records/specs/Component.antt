@@ -1,7 +1,9 @@
 -- Which records a request asks for (InfiniBand volume 1, 15.2.1.1): its ComponentMask names the components by which it
 -- asks, a bit for each.
-use Rattle.std.specs.Prelude.{ℕ, Bool, ◌==◌, ◌||◌, not, bit_and, List}
+use Rattle.std.specs.Prelude.{ℕ, Bool, true, ◌==◌, nat_lt, ◌||◌, not, if◌then◌else◌, bit_and, List}
 use Rattle.std.specs.List.{list_all}
+use Rattle.mad_layout.specs.Bits.{bit_of}
+use Rattle.pkey_rules.specs.PKey.{base_of}
 
 -- a component: its bits in the mask, and whether a record and what is asked agree on it
 pub record Component : Type 0 where
@@ -17,3 +19,20 @@ passes mask component = not (bit_and mask component.bits == component.bits) || c
 
 abbrev pub is_selected : ℕ → List Component → Bool
 is_selected mask components = list_all (passes mask) components
+
+-- ---- how what is shown and what is asked may be compared
+abbrev pub same_bit : Bool → Bool → Bool
+same_bit shown asked = bit_of shown == bit_of asked
+
+-- keys are asked for by their partition
+abbrev pub same_base : ℕ → ℕ → Bool
+same_base shown asked = base_of shown == base_of asked
+
+-- greater than what is asked, less, or equal, as the selector says; the last selector asks for the greatest that there
+-- is, and so for any
+abbrev pub satisfies : ℕ → ℕ → ℕ → Bool
+satisfies selector shown asked =
+    if selector == 0 then nat_lt asked shown
+    else if selector == 1 then nat_lt shown asked
+    else if selector == 2 then shown == asked
+    else true

@@ -1,2 +1,4 @@
 pub mod Component
+pub mod Speed
 pub mod NodeRecord
+pub mod PathRecord

@@ -2,8 +2,10 @@
 
 ghost use Rattle.std.specs.Prelude.{◌≡◌, ◌<◌};
 ghost use Rattle.sa_records.specs.NodeRecord.{node_record_bytes};
+ghost use Rattle.sa_records.specs.PathRecord.{path_record_bytes};
 
 use crate::node_record::{NODE_RECORD_BYTES, NodeRecord};
+use crate::path_record::{PATH_RECORD_BYTES, PathRecord};
 use mad_layout::known_bytes;
 
 /// A NodeRecord that is written is read again.
@@ -16,5 +18,25 @@ pub fn node_record_reads_back(shown: &NodeRecord, bytes: &mut [u8; NODE_RECORD_B
     let read = NodeRecord::read(bytes);
     known_bytes(&shown.node_string);
     known_bytes(&read.node_string);
+    read
+}
+
+/// A PathRecord that is written is read again.
+pub fn path_record_reads_back(shown: &PathRecord, bytes: &mut [u8; PATH_RECORD_BYTES]) -> PathRecord
+    requires flow_label { shown.now.flow_label < 1048576 }
+    requires numb_path { shown.now.numb_path < 128 }
+    requires qos_class { shown.now.qos_class < 4096 }
+    requires sl { shown.now.sl < 16 }
+    requires mtu_selector { shown.now.mtu_selector < 4 }
+    requires mtu { shown.now.mtu < 64 }
+    requires rate_selector { shown.now.rate_selector < 4 }
+    requires rate { shown.now.rate < 64 }
+    requires packet_life_time_selector { shown.now.packet_life_time_selector < 4 }
+    requires packet_life_time { shown.now.packet_life_time < 64 }
+    ensures read { result ≡ shown.now }
+    ensures written { bytes.new ≡ path_record_bytes shown.now }
+{
+    shown.write(bytes);
+    let read = PathRecord::read(bytes);
     read
 }

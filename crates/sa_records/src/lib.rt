@@ -10,6 +10,8 @@
 mod component;
 mod laws;
 mod node_record;
+mod path_record;
 
-pub use crate::laws::node_record_reads_back;
+pub use crate::laws::{node_record_reads_back, path_record_reads_back};
 pub use crate::node_record::{NODE_RECORD_BYTES, NodeRecord};
+pub use crate::path_record::{PATH_RECORD_BYTES, PathRecord};
