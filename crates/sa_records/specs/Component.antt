@@ -1,7 +1,8 @@
 -- Which records a request asks for (InfiniBand volume 1, 15.2.1.1): its ComponentMask names the components by which it
 -- asks, a bit for each.
-use Rattle.std.specs.Prelude.{ℕ, Bool, true, ◌==◌, nat_lt, ◌||◌, not, if◌then◌else◌, bit_and, List}
+use Rattle.std.specs.Prelude.{ℕ, Bool, true, ◌==◌, nat_lt, ◌||◌, not, if◌then◌else◌, bit_and, ◌+◌, List, slice_range}
 use Rattle.std.specs.List.{list_all}
+use Rattle.std.specs.Str.{bytes_eq}
 use Rattle.mad_layout.specs.Bits.{bit_of}
 use Rattle.pkey_rules.specs.PKey.{base_of}
 
@@ -27,6 +28,10 @@ same_bit shown asked = bit_of shown == bit_of asked
 -- keys are asked for by their partition
 abbrev pub same_base : ℕ → ℕ → Bool
 same_base shown asked = base_of shown == base_of asked
+
+-- so many bytes from this one on
+abbrev pub same_part : ℕ → ℕ → List ℕ → List ℕ → Bool
+same_part first size shown asked = bytes_eq (slice_range shown first (first + size)) (slice_range asked first (first + size))
 
 -- greater than what is asked, less, or equal, as the selector says; the last selector asks for the greatest that there
 -- is, and so for any

@@ -2,3 +2,5 @@ pub mod Component
 pub mod Speed
 pub mod NodeRecord
 pub mod PathRecord
+pub mod McMemberRecord
+pub mod ServiceRecord

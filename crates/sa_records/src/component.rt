@@ -1,7 +1,7 @@
 //! Components: what a request asks by.
 
-ghost use Rattle.std.specs.Prelude.{◌≡◌};
-ghost use Rattle.sa_records.specs.Component.{passes, same_base, satisfies};
+ghost use Rattle.std.specs.Prelude.{◌≡◌, ◌≤◌, ◌+◌};
+ghost use Rattle.sa_records.specs.Component.{passes, same_base, same_part, satisfies};
 ghost use Rattle.sa_records.specs.Speed.{speed, speed_of, rate_satisfies};
 
 use attr_tables::Rate;
@@ -18,6 +18,14 @@ pub(crate) fn same_base(shown: u16, asked: u16) -> bool
     ensures { result ≡ same_base shown asked }
 {
     shown % 0x8000 == asked % 0x8000
+}
+
+/// Whether so many bytes from this one on are the same.
+pub(crate) fn same_part(shown: &[u8; 64], asked: &[u8; 64], first: usize, size: usize) -> bool
+    requires { first + size ≤ 64 }
+    ensures { result ≡ same_part first size shown.now asked.now }
+{
+    shown[first..first + size] == asked[first..first + size]
 }
 
 /// Whether a number that is shown is greater than, less than or equal to the one that is asked, as the selector says.

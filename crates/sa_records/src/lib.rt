@@ -9,9 +9,16 @@
 
 mod component;
 mod laws;
+mod mc_member_record;
 mod node_record;
 mod path_record;
+mod service_record;
 
-pub use crate::laws::{node_record_reads_back, path_record_reads_back};
+pub use crate::laws::{
+    mc_member_record_reads_back, node_record_reads_back, path_record_reads_back,
+    service_record_reads_back,
+};
+pub use crate::mc_member_record::{MC_MEMBER_RECORD_BYTES, McMemberRecord};
 pub use crate::node_record::{NODE_RECORD_BYTES, NodeRecord};
 pub use crate::path_record::{PATH_RECORD_BYTES, PathRecord};
+pub use crate::service_record::{SERVICE_RECORD_BYTES, ServiceRecord};
