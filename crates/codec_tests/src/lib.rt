@@ -6,4 +6,6 @@ mod attributes;
 #[cfg(test)]
 mod headers;
 #[cfg(test)]
+mod records;
+#[cfg(test)]
 mod segments;
