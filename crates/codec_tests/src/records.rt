@@ -94,32 +94,32 @@ fn nodes_read_and_write(rt: HostRuntime) {
 fn nodes_are_asked_for_by_five_bits_of_the_mask(rt: HostRuntime) {
     let shown = adapter_port();
     // what each bit of the mask looks at; bit 1 and those from 5 on look at nothing
-    for (bit, other) in [
-        (0, NodeRecord { lid: 2, ..shown }),
+    for (bits, other) in [
+        (1u64 << 0, NodeRecord { lid: 2, ..shown }),
         (
-            2,
+            1u64 << 2,
             NodeRecord {
                 base_version: 2,
                 ..shown
             },
         ),
         (
-            3,
+            1u64 << 3,
             NodeRecord {
                 class_version: 2,
                 ..shown
             },
         ),
         (
-            4,
+            1u64 << 4,
             NodeRecord {
                 node_type: 2,
                 ..shown
             },
         ),
     ] {
-        assert!(rt; !shown.selected_by(1 << bit, &other));
-        assert!(rt; shown.selected_by(!(1 << bit), &other));
+        assert!(rt; !shown.selected_by(bits, &other));
+        assert!(rt; shown.selected_by(!bits, &other));
         assert!(rt; !shown.selected_by(u64::MAX, &other));
     }
     assert!(rt; shown.selected_by(u64::MAX, &shown));
@@ -286,69 +286,69 @@ fn paths_are_asked_for_by_what_constrains_them(rt: HostRuntime) {
         ..shown
     };
     assert!(rt; shown.selected_by(u64::MAX, &alike));
-    for (bit, other) in [
+    for (bits, other) in [
         (
-            2,
+            1u64 << 2,
             PathRecord {
                 dgid: SECOND_GID,
                 ..shown
             },
         ),
         (
-            3,
+            1u64 << 3,
             PathRecord {
                 sgid: FIRST_GID,
                 ..shown
             },
         ),
-        (4, PathRecord { dlid: 5, ..shown }),
-        (5, PathRecord { slid: 4, ..shown }),
+        (1u64 << 4, PathRecord { dlid: 5, ..shown }),
+        (1u64 << 5, PathRecord { slid: 4, ..shown }),
         (
-            6,
+            1u64 << 6,
             PathRecord {
                 raw_traffic: true,
                 ..shown
             },
         ),
         (
-            8,
+            1u64 << 8,
             PathRecord {
                 flow_label: 1,
                 ..shown
             },
         ),
         (
-            9,
+            1u64 << 9,
             PathRecord {
                 hop_limit: 1,
                 ..shown
             },
         ),
         (
-            10,
+            1u64 << 10,
             PathRecord {
                 t_class: 1,
                 ..shown
             },
         ),
         (
-            13,
+            1u64 << 13,
             PathRecord {
                 p_key: 0x0002,
                 ..shown
             },
         ),
         (
-            14,
+            1u64 << 14,
             PathRecord {
                 qos_class: 1,
                 ..shown
             },
         ),
-        (15, PathRecord { sl: 1, ..shown }),
+        (1u64 << 15, PathRecord { sl: 1, ..shown }),
     ] {
-        assert!(rt; !shown.selected_by(1 << bit, &other));
-        assert!(rt; shown.selected_by(!(1 << bit), &other));
+        assert!(rt; !shown.selected_by(bits, &other));
+        assert!(rt; shown.selected_by(!bits, &other));
     }
 }
 
@@ -450,87 +450,88 @@ fn groups_are_asked_for_by_what_constrains_them(rt: HostRuntime) {
             }
         )
     );
-    for (bit, other) in [
-        (0, McMemberRecord { mgid: 1, ..shown }),
+    for (bits, other) in [
+        (1u64 << 0, McMemberRecord { mgid: 1, ..shown }),
         (
-            1,
+            1u64 << 1,
             McMemberRecord {
                 port_gid: 0,
                 ..shown
             },
         ),
-        (2, McMemberRecord { q_key: 1, ..shown }),
+        (1u64 << 2, McMemberRecord { q_key: 1, ..shown }),
         (
-            3,
+            1u64 << 3,
             McMemberRecord {
                 mlid: 0xc021,
                 ..shown
             },
         ),
         (
-            6,
+            1u64 << 6,
             McMemberRecord {
                 t_class: 1,
                 ..shown
             },
         ),
         (
-            7,
+            1u64 << 7,
             McMemberRecord {
                 p_key: 0x8002,
                 ..shown
             },
         ),
-        (12, McMemberRecord { sl: 1, ..shown }),
+        (1u64 << 12, McMemberRecord { sl: 1, ..shown }),
         (
-            13,
+            1u64 << 13,
             McMemberRecord {
                 flow_label: 1,
                 ..shown
             },
         ),
         (
-            14,
+            1u64 << 14,
             McMemberRecord {
                 hop_limit: 1,
                 ..shown
             },
         ),
-        (15, McMemberRecord { scope: 1, ..shown }),
+        (1u64 << 15, McMemberRecord { scope: 1, ..shown }),
         (
-            16,
+            1u64 << 16,
             McMemberRecord {
                 join_state: 2,
                 ..shown
             },
         ),
         (
-            17,
+            1u64 << 17,
             McMemberRecord {
                 proxy_join: true,
                 ..shown
             },
         ),
     ] {
-        assert!(rt; !shown.selected_by(1 << bit, &other));
-        assert!(rt; shown.selected_by(!(1 << bit), &other));
+        assert!(rt; !shown.selected_by(bits, &other));
+        assert!(rt; shown.selected_by(!bits, &other));
     }
     // a selector and its code are one component
-    for (first, other) in [
-        (4, McMemberRecord { mtu: 3, ..shown }),
-        (8, McMemberRecord { rate: 2, ..shown }),
+    for (selector, code, other) in [
+        (1u64 << 4, 1u64 << 5, McMemberRecord { mtu: 3, ..shown }),
+        (1u64 << 8, 1u64 << 9, McMemberRecord { rate: 2, ..shown }),
         (
-            10,
+            1u64 << 10,
+            1u64 << 11,
             McMemberRecord {
                 packet_life_time: 17,
                 ..shown
             },
         ),
     ] {
-        assert!(rt; !shown.selected_by(3 << first, &other));
-        assert!(rt; shown.selected_by(1 << first, &other));
-        assert!(rt; shown.selected_by(2 << first, &other));
-        assert!(rt; shown.selected_by(!(3 << first), &other));
+        assert!(rt; !shown.selected_by(selector | code, &other));
+        assert!(rt; shown.selected_by(selector, &other));
+        assert!(rt; shown.selected_by(code, &other));
+        assert!(rt; shown.selected_by(!(selector | code), &other));
     }
 }
 
@@ -591,52 +592,52 @@ fn services_are_asked_for_by_what_constrains_them(rt: HostRuntime) {
             }
         )
     );
-    for (bit, other) in [
+    for (bits, other) in [
         (
-            0,
+            1u64 << 0,
             ServiceRecord {
                 service_id: 2,
                 ..shown
             },
         ),
         (
-            1,
+            1u64 << 1,
             ServiceRecord {
                 service_gid: FIRST_GID,
                 ..shown
             },
         ),
         (
-            2,
+            1u64 << 2,
             ServiceRecord {
                 service_p_key: 0x8002,
                 ..shown
             },
         ),
         (
-            4,
+            1u64 << 4,
             ServiceRecord {
                 service_lease: 1,
                 ..shown
             },
         ),
         (
-            5,
+            1u64 << 5,
             ServiceRecord {
                 service_key: 1,
                 ..shown
             },
         ),
         (
-            6,
+            1u64 << 6,
             ServiceRecord {
                 service_name: filled(b"dbt"),
                 ..shown
             },
         ),
     ] {
-        assert!(rt; !shown.selected_by(1 << bit, &other));
-        assert!(rt; shown.selected_by(!(1 << bit), &other));
+        assert!(rt; !shown.selected_by(bits, &other));
+        assert!(rt; shown.selected_by(!bits, &other));
     }
 }
 

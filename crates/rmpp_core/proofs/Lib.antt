@@ -4,3 +4,4 @@ pub mod ReceivingLemmas
 pub mod AckLemmas
 pub mod ReadBackLemmas
 pub mod WholeLemmas
+pub mod TableLemmas

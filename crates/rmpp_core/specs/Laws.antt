@@ -1,14 +1,14 @@
 -- What holds of all transfers: the statements of the laws of `src/laws.rt`.
-use Rattle.std.specs.Prelude.{ℕ, ◌≡◌, ◌+◌, ◌-◌, ◌^◌, ◌<◌, ◌≤◌, List, [], ◌∷◌, ◌++◌, map, length, max, Bool, true, false, Result, Ok, Err, Some}
+use Rattle.std.specs.Prelude.{ℕ, ◌≡◌, ◌+◌, ◌-◌, ◌*◌, ◌^◌, ◌<◌, ◌≤◌, ◌==◌, List, [], ◌∷◌, ◌++◌, map, length, get_or, take, max, Bool, true, false, Result, Ok, Err, Some}
 use Rattle.std.specs.Int.Digits.{AllBelowBase}
-use Rattle.std.specs.List.{flat_map, range_with_len}
+use Rattle.std.specs.List.{AllByRecursion, flat_map, range_with_len}
 use Rattle.mad_layout.specs.Layout.{Fits}
 use Rattle.mad_layout.specs.MadHeader.{mad_header}
 use Rattle.rmpp_core.specs.declared.abort.AbortCause.{AbortCause}
 use Rattle.rmpp_core.specs.declared.receiver.ReceiveFault.{ReceiveFault}
 use Rattle.rmpp_core.specs.declared.sender.Acknowledged.{Acknowledged}
 use Rattle.rmpp_core.specs.Acks.{after_ack}
-use Rattle.rmpp_core.specs.Receiving.{Received, nothing, after_data, whole_bytes}
+use Rattle.rmpp_core.specs.Receiving.{Received, nothing, rmpp_in, data_in, is_data, is_first, is_last, after_data, whole_bytes}
 use Rattle.rmpp_core.specs.Segments.{Transfer, segment_count, segments_of, segment_of, payload_size, segment_mad}
 
 -- ---- the cut: put together the segments are the bytes; each but the last has 200, and the last has some where there
@@ -64,3 +64,30 @@ after_all received (mad ∷ mads) = after_all (after_data received mad) mads
 
 abbrev pub SegmentsAreReceived : Type 0
 SegmentsAreReceived = (transfer : Transfer) → IsTransfer transfer → whole_bytes (after_all (Ok nothing) (segment_mads transfer)) ≡ Some transfer.bytes
+
+-- ---- what came to a receiver that has a table, each MAD of 256 bytes: segments in turn, First on the first and Last on
+-- the last; the bytes are the data of all, of the last as many as it tells; and the first tells the length of all, with
+-- 20 for each segment
+abbrev pub told_in : List ℕ → ℕ
+told_in mad = (rmpp_in mad).payload_length_or_new_window_last
+
+pub record IsSegmentAt (count place : ℕ) (mad : List ℕ) : Type 0 where
+  pub segment : is_data (rmpp_in mad) ≡ true
+  pub number : (rmpp_in mad).segment_number ≡ place + 1
+  pub first : is_first (rmpp_in mad) ≡ (place == 0)
+  pub last : is_last (rmpp_in mad) ≡ (place + 1 == count)
+
+pub record IsTable (mads : List (List ℕ)) (bytes : List ℕ) : Type 0 where
+  pub front : List (List ℕ)
+  pub last : List ℕ
+  pub split : mads ≡ front ++ last ∷ []
+  pub each : (place : ℕ) → place < length mads → IsSegmentAt (length mads) place (get_or mads place [])
+  pub at_least : 20 ≤ told_in last
+  pub at_most : told_in last ≤ 220
+  pub joined : bytes ≡ flat_map data_in front ++ take (told_in last - 20) (data_in last)
+  pub whole_length : told_in (get_or mads 0 []) ≡ 20 * length mads + length bytes
+
+abbrev pub WhatIsReceivedIsATable : Type 0
+WhatIsReceivedIsATable =
+    (mads : List (List ℕ)) (bytes : List ℕ) → AllByRecursion (λ mad. length mad ≡ 256) mads
+    → whole_bytes (after_all (Ok nothing) mads) ≡ Some bytes → IsTable mads bytes
