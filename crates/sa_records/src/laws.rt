@@ -1,6 +1,10 @@
 //! What is so of all records.
 
 ghost use Rattle.std.specs.Prelude.{◌≡◌, ◌<◌};
+ghost use Rattle.sa_records.specs.declared.node_record.TheConstants.{NODE_RECORD_BYTES, NODE_RECORD_OFFSET};
+ghost use Rattle.sa_records.specs.declared.path_record.TheConstants.{PATH_RECORD_BYTES, PATH_RECORD_OFFSET};
+ghost use Rattle.sa_records.specs.declared.mc_member_record.TheConstants.{MC_MEMBER_RECORD_BYTES, MC_MEMBER_RECORD_OFFSET};
+ghost use Rattle.sa_records.specs.declared.service_record.TheConstants.{SERVICE_RECORD_BYTES, SERVICE_RECORD_OFFSET};
 ghost use Rattle.sa_records.specs.NodeRecord.{node_record_bytes};
 ghost use Rattle.sa_records.specs.PathRecord.{path_record_bytes};
 ghost use Rattle.sa_records.specs.McMemberRecord.{mc_member_record_bytes};
@@ -84,3 +88,11 @@ pub fn service_record_reads_back(
     known_bytes(&read.service_data);
     read
 }
+
+/// How many bytes records fill in a table, and AttributeOffset of tables, written out.
+pub fn the_numbers()
+    ensures node_record { (NODE_RECORD_BYTES ≡ 112) × (NODE_RECORD_OFFSET ≡ 14) }
+    ensures path_record { (PATH_RECORD_BYTES ≡ 64) × (PATH_RECORD_OFFSET ≡ 8) }
+    ensures mc_member_record { (MC_MEMBER_RECORD_BYTES ≡ 56) × (MC_MEMBER_RECORD_OFFSET ≡ 7) }
+    ensures service_record { (SERVICE_RECORD_BYTES ≡ 176) × (SERVICE_RECORD_OFFSET ≡ 22) }
+{}

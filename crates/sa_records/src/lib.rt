@@ -16,9 +16,11 @@ mod service_record;
 
 pub use crate::laws::{
     mc_member_record_reads_back, node_record_reads_back, path_record_reads_back,
-    service_record_reads_back,
+    service_record_reads_back, the_numbers,
 };
-pub use crate::mc_member_record::{MC_MEMBER_RECORD_BYTES, McMemberRecord};
-pub use crate::node_record::{NODE_RECORD_BYTES, NodeRecord};
-pub use crate::path_record::{PATH_RECORD_BYTES, PathRecord};
-pub use crate::service_record::{SERVICE_RECORD_BYTES, ServiceRecord};
+pub use crate::mc_member_record::{
+    MC_MEMBER_RECORD_BYTES, MC_MEMBER_RECORD_OFFSET, McMemberRecord,
+};
+pub use crate::node_record::{NODE_RECORD_BYTES, NODE_RECORD_OFFSET, NodeRecord};
+pub use crate::path_record::{PATH_RECORD_BYTES, PATH_RECORD_OFFSET, PathRecord};
+pub use crate::service_record::{SERVICE_RECORD_BYTES, SERVICE_RECORD_OFFSET, ServiceRecord};

@@ -8,6 +8,9 @@ use mad_layout::{JoinState, read_fields, write_fields};
 /// How many bytes an MCMemberRecord fills in a table: its 52, and zero bytes up to a multiple of 8.
 pub const MC_MEMBER_RECORD_BYTES: usize = 56;
 
+/// AttributeOffset of a table of MCMemberRecords: the same in units of 8 bytes.
+pub const MC_MEMBER_RECORD_OFFSET: u16 = (MC_MEMBER_RECORD_BYTES / 8) as u16;
+
 /// A multicast group, and how a port is a member of it, each field as its raw bits.
 ///
 /// Source: IBA volume 1, 15.2.5 (MCMemberRecord).

@@ -8,6 +8,9 @@ use mad_layout::{read_fields, write_fields};
 /// How many bytes a NodeRecord fills in a table: its 108, and zero bytes up to a multiple of 8.
 pub const NODE_RECORD_BYTES: usize = 112;
 
+/// AttributeOffset of a table of NodeRecords: the same in units of 8 bytes.
+pub const NODE_RECORD_OFFSET: u16 = (NODE_RECORD_BYTES / 8) as u16;
+
 /// A port of a node, with what the node says of itself, each field as its raw bits.
 ///
 /// Source: IBA volume 1, 15.2.5; NodeInfo is 14.2.5.3.

@@ -8,6 +8,9 @@ use mad_layout::{read_fields, write_fields};
 /// How many bytes a PathRecord fills in a table.
 pub const PATH_RECORD_BYTES: usize = 64;
 
+/// AttributeOffset of a table of PathRecords: the same in units of 8 bytes.
+pub const PATH_RECORD_OFFSET: u16 = (PATH_RECORD_BYTES / 8) as u16;
+
 /// A path between two ports, each field as its raw bits.
 ///
 /// Source: IBA volume 1, 15.2.5.

@@ -8,6 +8,9 @@ use mad_layout::{read_fields, write_fields};
 /// How many bytes a ServiceRecord fills in a table.
 pub const SERVICE_RECORD_BYTES: usize = 176;
 
+/// AttributeOffset of a table of ServiceRecords: the same in units of 8 bytes.
+pub const SERVICE_RECORD_OFFSET: u16 = (SERVICE_RECORD_BYTES / 8) as u16;
+
 /// A service that a port offers, each field as its raw bits.
 ///
 /// Source: IBA volume 1, 15.2.5.14.
