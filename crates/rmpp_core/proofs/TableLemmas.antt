@@ -219,4 +219,11 @@ go (mad ∷ mads) done r bytes sizes held h =
 pub is_a_table : WhatIsReceivedIsATable
 is_a_table mads bytes sizes h =
     go mads [] nothing bytes sizes
-    (record { open_still = refl; count = refl; bytes = refl; told = λ some. absurd (omega (arith, some)); each = λ place h. absurd (omega (arith, h)); none_last = λ place h. absurd (omega (arith, h)) }) h
+    (record {
+      open_still = refl;
+      count = refl;
+      bytes = refl;
+      told = λ some. absurd (omega (arith, some));
+      each = λ place h. absurd (omega (arith, h));
+      none_last = λ place h. absurd (omega (arith, h));
+    }) h

@@ -123,7 +123,12 @@ step t k is h =
     let start : (n == 0) ≡ false = grind (arith, nat_tests) in
     let first : first_length_of (so_far t k) rmpp ≡ (if n == 0 then 0 else payload_size bytes) = rw start (first_told t k) in
     let grows : grown (so_far t k) rmpp (padded_segment bytes n) (Ok (length part)) ≡ Ok (so_far t n) =
-    ap (λ (r : Received). Ok r) (λ p. record { segments = n; first_length = first p; bytes = (ap (λ (xs : List ℕ). take (200 * k) bytes ++ xs) kept ∙ joined) p; is_whole = last p }) in
+    ap (λ (r : Received). Ok r) (λ p. record {
+      segments = n;
+      first_length = first p;
+      bytes = (ap (λ (xs : List ℕ). take (200 * k) bytes ++ xs) kept ∙ joined) p;
+      is_whole = last p;
+    }) in
     let A : RmppHeader → Type 0 = λ r. grown (so_far t k) r (data_in (segment_mad t n)) (carried (so_far t k) r) ≡ Ok (so_far t n) in
     let B : List ℕ → Type 0 = λ d. grown (so_far t k) rmpp d (carried (so_far t k) rmpp) ≡ Ok (so_far t n) in
     let C : Result ℕ ReceiveFault → Type 0 = λ c. grown (so_far t k) rmpp (padded_segment bytes n) c ≡ Ok (so_far t n) in

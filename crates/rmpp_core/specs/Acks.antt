@@ -37,7 +37,8 @@ abort_rmpp cause =
     }
 
 abbrev pub abort_sa : ReplyHeader → SaMad
-abort_sa header = record { sm_key = 0; attribute_offset = 0; component_mask = header.component_mask; «data» = replicate 200 0 }
+abort_sa header =
+    record { sm_key = 0; attribute_offset = 0; component_mask = header.component_mask; «data» = replicate 200 0 }
 
 abbrev pub abort_fields : ReplyHeader → AbortCause → List Field
 abort_fields header cause = reply_fields header.header (abort_rmpp cause) (abort_sa header)

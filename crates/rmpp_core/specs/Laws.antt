@@ -8,7 +8,7 @@ use Rattle.rmpp_core.specs.declared.abort.AbortCause.{AbortCause}
 use Rattle.rmpp_core.specs.declared.receiver.ReceiveFault.{ReceiveFault}
 use Rattle.rmpp_core.specs.declared.sender.Acknowledged.{Acknowledged}
 use Rattle.rmpp_core.specs.Acks.{after_ack}
-use Rattle.rmpp_core.specs.Receiving.{Received, nothing, rmpp_in, data_in, is_data, is_first, is_last, after_data, whole_bytes}
+use Rattle.rmpp_core.specs.Receiving.{Received, nothing, rmpp_in, data_in, told, is_data, is_first, is_last, after_data, whole_bytes}
 use Rattle.rmpp_core.specs.Segments.{Transfer, segment_count, segments_of, segment_of, payload_size, segment_mad}
 
 -- ---- the cut: put together the segments are the bytes; each but the last has 200, and the last has some where there
@@ -23,8 +23,8 @@ pub record AreTheSegments (bytes : List ℕ) : Type 0 where
 abbrev pub SegmentsAreTheBytes : Type 0
 SegmentsAreTheBytes = (bytes : List ℕ) → AreTheSegments bytes
 
--- ---- ACKs, each with its segment and its window, until one ends the transfer or aborts it: the numbers of the segments
--- that are sent, where `count` is the number of segments and `window` the window
+-- ---- ACKs, each with its segment and its window, until one ends the transfer or aborts it: the numbers of the
+-- segments that are sent, where `count` is the number of segments and `window` the window
 abbrev pub numbers_to_send : Acknowledged → List ℕ
 numbers_to_send acked = range_with_len acked.first (acked.last + 1 - acked.first)
 
@@ -38,7 +38,8 @@ sent_on_ack (Err cause) later = []
 
 abbrev pub sent_on_acks : ℕ → ℕ → List (ℕ × ℕ) → List ℕ
 sent_on_acks count window [] = []
-sent_on_acks count window (ack ∷ acks) = sent_on_ack (after_ack window count ack.0 ack.1) (sent_on_acks count (max window ack.1) acks)
+sent_on_acks count window (ack ∷ acks) =
+    sent_on_ack (after_ack window count ack.0 ack.1) (sent_on_acks count (max window ack.1) acks)
 
 -- what is sent, segment 1 included, is segments 1 to some last one
 abbrev pub SegmentsGoOutInOrder : Type 0
@@ -63,13 +64,15 @@ after_all received [] = received
 after_all received (mad ∷ mads) = after_all (after_data received mad) mads
 
 abbrev pub SegmentsAreReceived : Type 0
-SegmentsAreReceived = (transfer : Transfer) → IsTransfer transfer → whole_bytes (after_all (Ok nothing) (segment_mads transfer)) ≡ Some transfer.bytes
+SegmentsAreReceived =
+    (transfer : Transfer) → IsTransfer transfer
+    → whole_bytes (after_all (Ok nothing) (segment_mads transfer)) ≡ Some transfer.bytes
 
--- ---- what came to a receiver that has a table, each MAD of 256 bytes: segments in turn, First on the first and Last on
--- the last; the bytes are the data of all, of the last as many as it tells; and the first tells the length of all, with
--- 20 for each segment
+-- ---- what came to a receiver that has a table, each MAD of 256 bytes: segments in turn, First on the first and Last
+-- on the last; the bytes are the data of all, of the last as many as it tells; and the first tells the length of all,
+-- with 20 for each segment
 abbrev pub told_in : List ℕ → ℕ
-told_in mad = (rmpp_in mad).payload_length_or_new_window_last
+told_in mad = told (rmpp_in mad)
 
 pub record IsSegmentAt (count place : ℕ) (mad : List ℕ) : Type 0 where
   pub segment : is_data (rmpp_in mad) ≡ true

@@ -24,6 +24,10 @@ rmpp_in mad =
 abbrev pub data_in : List ℕ → List ℕ
 data_in mad = slice_range mad 56 256
 
+-- the length that it tells
+abbrev pub told : RmppHeader → ℕ
+told rmpp = rmpp.payload_length_or_new_window_last
+
 abbrev pub has_flag : ℕ → RmppHeader → Bool
 has_flag flag rmpp = bit_and rmpp.flags flag == flag
 
@@ -50,30 +54,38 @@ nothing = record { segments = 0; first_length = 0; bytes = []; is_whole = false 
 -- the next segment has the next number; First is on number 1 alone, and after Last none is next
 abbrev pub is_expected : Received → RmppHeader → Bool
 is_expected so_far rmpp =
-    is_data rmpp && (not so_far.is_whole && ((rmpp.segment_number == so_far.segments + 1) && (if so_far.segments == 0 then is_first rmpp else not (is_first rmpp))))
+    is_data rmpp
+    && (not so_far.is_whole
+    && ((rmpp.segment_number == so_far.segments + 1)
+    && (if so_far.segments == 0 then is_first rmpp else not (is_first rmpp))))
 
 -- the length that the first segment told, which may be this one
 abbrev pub first_length_of : Received → RmppHeader → ℕ
-first_length_of so_far rmpp = if so_far.segments == 0 then rmpp.payload_length_or_new_window_last else so_far.first_length
+first_length_of so_far rmpp = if so_far.segments == 0 then told rmpp else so_far.first_length
 
 -- beside its data each segment counts for 20 bytes: the last tells its own length, the first that of all
 abbrev pub has_right_length : Received → RmppHeader → Bool
 has_right_length so_far rmpp =
-    nat_le 20 rmpp.payload_length_or_new_window_last
-    && (nat_le rmpp.payload_length_or_new_window_last 220
-    && (first_length_of so_far rmpp == 20 * (so_far.segments + 1) + (length so_far.bytes + (rmpp.payload_length_or_new_window_last - 20))))
+    nat_le 20 (told rmpp)
+    && (nat_le (told rmpp) 220
+    && (first_length_of so_far rmpp == 20 * (so_far.segments + 1) + (length so_far.bytes + (told rmpp - 20))))
 
 -- how many bytes of its data a segment has
 abbrev pub carried : Received → RmppHeader → Result ℕ ReceiveFault
 carried so_far rmpp =
     if not (is_expected so_far rmpp) then Err UnexpectedSegment
     else if not (is_last rmpp) then Ok 200
-    else if has_right_length so_far rmpp then Ok (rmpp.payload_length_or_new_window_last - 20)
+    else if has_right_length so_far rmpp then Ok (told rmpp - 20)
     else Err WrongLength
 
 abbrev pub grown : Received → RmppHeader → List ℕ → Result ℕ ReceiveFault → Result Received ReceiveFault
 grown so_far rmpp bytes (Ok count) =
-    Ok (record { segments = so_far.segments + 1; first_length = first_length_of so_far rmpp; bytes = so_far.bytes ++ take count bytes; is_whole = is_last rmpp })
+    Ok (record {
+      segments = so_far.segments + 1;
+      first_length = first_length_of so_far rmpp;
+      bytes = so_far.bytes ++ take count bytes;
+      is_whole = is_last rmpp;
+    })
 grown so_far rmpp bytes (Err fault) = Err fault
 
 unfoldable pub with_segment : Received → List ℕ → Result Received ReceiveFault

@@ -75,7 +75,9 @@ segment_sa transfer number =
     }
 
 abbrev pub segment_fields : Transfer → ℕ → List Field
-segment_fields transfer number = reply_fields transfer.header.header (segment_rmpp transfer.bytes number) (segment_sa transfer number)
+segment_fields transfer number =
+    reply_fields transfer.header.header (segment_rmpp transfer.bytes number) (segment_sa transfer number)
 
 abbrev pub segment_mad : Transfer → ℕ → List ℕ
-segment_mad transfer number = reply_bytes transfer.header.header (segment_rmpp transfer.bytes number) (segment_sa transfer number)
+segment_mad transfer number =
+    reply_bytes transfer.header.header (segment_rmpp transfer.bytes number) (segment_sa transfer number)

@@ -25,7 +25,12 @@ impl Model for Reassembly {
 
     ghost Value = { Received };
 
-    ghost view = { λ r. record { segments = r.segments; first_length = r.first_length; bytes = r.bytes.items; is_whole = r.is_whole } };
+    ghost view = { λ r. record {
+      segments = r.segments;
+      first_length = r.first_length;
+      bytes = r.bytes.items;
+      is_whole = r.is_whole;
+    } };
 
     ghost invariant = { λ r. length r.bytes.items ≤ 200 * r.segments };
 }

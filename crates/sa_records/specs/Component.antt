@@ -31,7 +31,8 @@ same_base shown asked = base_of shown == base_of asked
 
 -- so many bytes from this one on
 abbrev pub same_part : ℕ → ℕ → List ℕ → List ℕ → Bool
-same_part first size shown asked = bytes_eq (slice_range shown first (first + size)) (slice_range asked first (first + size))
+same_part first size shown asked =
+    bytes_eq (slice_range shown first (first + size)) (slice_range asked first (first + size))
 
 -- greater than what is asked, less, or equal, as the selector says; the last selector asks for the greatest that there
 -- is, and so for any
