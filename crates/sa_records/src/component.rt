@@ -41,15 +41,16 @@ pub(crate) fn satisfies(selector: u8, shown: u16, asked: u16) -> bool
     }
 }
 
-/// The same for codes that rise with what they stand for, as those of MTUs and life times do.
-pub(crate) fn code_satisfies(selector: u8, shown: u8, asked: u8) -> bool
+/// Whether a code that is shown satisfies a selector and the code that is asked, for codes that rise with what they
+/// stand for, as those of MTUs and life times do.
+pub fn code_satisfies(selector: u8, shown: u8, asked: u8) -> bool
     ensures { result ≡ satisfies selector shown asked }
 {
     satisfies(selector, shown.into(), asked.into())
 }
 
 /// The same for rates, by their speed: their codes don't rise with it. A code of no rate satisfies nothing.
-pub(crate) fn rate_satisfies(selector: u8, shown: u8, asked: u8) -> bool
+pub fn rate_satisfies(selector: u8, shown: u8, asked: u8) -> bool
     ensures { result ≡ rate_satisfies selector shown asked }
 {
     match (speed_of(shown), speed_of(asked)) {

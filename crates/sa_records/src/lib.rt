@@ -14,6 +14,7 @@ mod node_record;
 mod path_record;
 mod service_record;
 
+pub use crate::component::{code_satisfies, rate_satisfies};
 pub use crate::laws::{
     mc_member_record_reads_back, node_record_reads_back, path_record_reads_back,
     service_record_reads_back, the_numbers,

@@ -43,4 +43,5 @@ returns-clause-read c =
     let h = c.read-read.ensures.fields in
     let g = c.write.ensures.spells.fields in
     same_record c.read-read.result c.args.shown.now c.write.new.bytes h g
-    (number_same c.read-read.result.node_string c.args.shown.now.node_string c.known_bytes-2.ensures c.known_bytes.ensures (omega arith) (h.1.1.1.1.1.1.1.1.1.1.1.1.1.0 ∙ sym g.1.1.1.1.1.1.1.1.1.1.1.1.1.0))
+    (number_same c.read-read.result.node_string c.args.shown.now.node_string
+    c.known_bytes-2.ensures c.known_bytes.ensures (omega arith) (h.1.1.1.1.1.1.1.1.1.1.1.1.1.0 ∙ sym g.1.1.1.1.1.1.1.1.1.1.1.1.1.0))
