@@ -5,3 +5,7 @@
 mod attributes;
 #[cfg(test)]
 mod headers;
+#[cfg(test)]
+mod records;
+#[cfg(test)]
+mod segments;

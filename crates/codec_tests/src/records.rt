@@ -1,0 +1,663 @@
+use bitflags::Flags;
+use mad_layout::JoinState;
+use sa_records::{McMemberRecord, NodeRecord, PathRecord, ServiceRecord};
+
+/// These bytes, and zero bytes after them.
+fn filled<const SIZE: usize>(bytes: &[u8]) -> [u8; SIZE] {
+    let mut all = [0; SIZE];
+    for (to, from) in all.iter_mut().zip(bytes) {
+        *to = *from;
+    }
+    all
+}
+
+/// The ports with GUID 0x111 and 0x121.
+const FIRST_GID: u128 = 0xfe80_0000_0000_0000_0000_0000_0000_0111;
+
+const SECOND_GID: u128 = 0xfe80_0000_0000_0000_0000_0000_0000_0121;
+
+/// The subnet manager's port of an adapter h0 with GUID 0x100, whose node has one port.
+const ADAPTER_PORT: [u8; 46] = [
+    0x00, 0x01, // LID
+    0x00, 0x00, // reserved
+    0x01, 0x01, 0x01, 0x01, // BaseVersion, ClassVersion, NodeType, NumPorts
+    0, 0, 0, 0, 0, 0, 0x01, 0x00, // SystemImageGUID
+    0, 0, 0, 0, 0, 0, 0x01, 0x00, // NodeGUID
+    0, 0, 0, 0, 0, 0, 0x01, 0x01, // PortGUID
+    0x00, 0x20, 0x00, 0x00, // PartitionCap, DeviceID
+    0x00, 0x00, 0x00, 0x00, // Revision
+    0x01, 0x00, 0x00, 0x00, // LocalPortNum, VendorID
+    b'h', b'0', // NodeDescription
+];
+
+/// Port 0 of a switch A with GUID 0x10 and four ports.
+const SWITCH_PORT: [u8; 45] = [
+    0x00, 0x02, // LID
+    0x00, 0x00, // reserved
+    0x01, 0x01, 0x02, 0x04, // BaseVersion, ClassVersion, NodeType, NumPorts
+    0, 0, 0, 0, 0, 0, 0x00, 0x10, // SystemImageGUID
+    0, 0, 0, 0, 0, 0, 0x00, 0x10, // NodeGUID
+    0, 0, 0, 0, 0, 0, 0x00, 0x10, // PortGUID
+    0x00, 0x20, 0x00, 0x00, // PartitionCap, DeviceID
+    0x00, 0x00, 0x00, 0x00, // Revision
+    0x00, 0x00, 0x00, 0x00, // LocalPortNum, VendorID
+    b'A', // NodeDescription
+];
+
+fn adapter_port() -> NodeRecord {
+    NodeRecord {
+        lid: 1,
+        base_version: 1,
+        class_version: 1,
+        node_type: 1,
+        num_ports: 1,
+        system_image_guid: 0x100,
+        node_guid: 0x100,
+        port_guid: 0x101,
+        partition_cap: 32,
+        device_id: 0,
+        revision: 0,
+        local_port_num: 1,
+        vendor_id: 0,
+        node_string: filled(b"h0"),
+    }
+}
+
+fn switch_port() -> NodeRecord {
+    NodeRecord {
+        lid: 2,
+        node_type: 2,
+        num_ports: 4,
+        system_image_guid: 0x10,
+        node_guid: 0x10,
+        port_guid: 0x10,
+        local_port_num: 0,
+        node_string: filled(b"A"),
+        ..adapter_port()
+    }
+}
+
+#[test]
+fn nodes_read_and_write(rt: HostRuntime) {
+    for (bytes, record) in [
+        (filled::<112>(&ADAPTER_PORT), adapter_port()),
+        (filled::<112>(&SWITCH_PORT), switch_port()),
+    ] {
+        assert_eq!(rt; NodeRecord::read(&bytes), record);
+        let mut written = [0xff; 112];
+        NodeRecord::read(&bytes).write(&mut written);
+        assert_eq!(rt; written, bytes);
+    }
+}
+
+#[test]
+fn nodes_are_asked_for_by_five_bits_of_the_mask(rt: HostRuntime) {
+    let shown = adapter_port();
+    // what each bit of the mask looks at; bit 1 and those from 5 on look at nothing
+    for (bits, other) in [
+        (1u64 << 0, NodeRecord { lid: 2, ..shown }),
+        (
+            1u64 << 2,
+            NodeRecord {
+                base_version: 2,
+                ..shown
+            },
+        ),
+        (
+            1u64 << 3,
+            NodeRecord {
+                class_version: 2,
+                ..shown
+            },
+        ),
+        (
+            1u64 << 4,
+            NodeRecord {
+                node_type: 2,
+                ..shown
+            },
+        ),
+    ] {
+        assert!(rt; !shown.selected_by(bits, &other));
+        assert!(rt; shown.selected_by(!bits, &other));
+        assert!(rt; !shown.selected_by(u64::MAX, &other));
+    }
+    assert!(rt; shown.selected_by(u64::MAX, &shown));
+    assert!(rt; shown.selected_by(0, &switch_port()));
+    assert!(rt; shown.selected_by(0xffff_ffff_ffff_ffe2, &switch_port()));
+}
+
+/// A path from the second port to the first.
+const PATH: [u8; 58] = [
+    0, 0, 0, 0, 0, 0, 0, 0, // ServiceID
+    0xfe, 0x80, 0, 0, 0, 0, 0, 0, 0, 0, 0, 0, 0, 0, 0x01, 0x11, // DGID
+    0xfe, 0x80, 0, 0, 0, 0, 0, 0, 0, 0, 0, 0, 0, 0, 0x01, 0x21, // SGID
+    0x00, 0x04, 0x00, 0x05, // DLID, SLID
+    0x00, 0x00, 0x00, 0x00, // RawTraffic, FlowLabel, HopLimit
+    0x00, 0x80, // TClass; Reversible and NumbPath
+    0x00, 0x01, // P_Key
+    0x00, 0x00, // QoSClass, SL
+    0x84, 0x83, 0x92, // MTU, Rate, PacketLifeTime, each with its selector
+    0x00, // Preference
+];
+
+fn path() -> PathRecord {
+    PathRecord {
+        service_id: 0,
+        dgid: FIRST_GID,
+        sgid: SECOND_GID,
+        dlid: 4,
+        slid: 5,
+        raw_traffic: false,
+        flow_label: 0,
+        hop_limit: 0,
+        t_class: 0,
+        reversible: true,
+        numb_path: 0,
+        p_key: 0x0001,
+        qos_class: 0,
+        sl: 0,
+        mtu_selector: 2,
+        mtu: 4,
+        rate_selector: 2,
+        rate: 3,
+        packet_life_time_selector: 2,
+        packet_life_time: 18,
+        preference: 0,
+    }
+}
+
+#[test]
+fn paths_read_and_write(rt: HostRuntime) {
+    let bytes = filled::<64>(&PATH);
+    assert_eq!(rt; PathRecord::read(&bytes), path());
+    let mut written = [0xff; 64];
+    PathRecord::read(&bytes).write(&mut written);
+    assert_eq!(rt; written, bytes);
+    // bytes whose fields all differ
+    let odd = PathRecord::read(&[
+        0x01, 0x02, 0x03, 0x04, 0x05, 0x06, 0x07, 0x08, 0x11, 0x12, 0x13, 0x14, 0x15, 0x16, 0x17,
+        0x18, 0x19, 0x1a, 0x1b, 0x1c, 0x1d, 0x1e, 0x1f, 0x20, 0x21, 0x22, 0x23, 0x24, 0x25, 0x26,
+        0x27, 0x28, 0x29, 0x2a, 0x2b, 0x2c, 0x2d, 0x2e, 0x2f, 0x30, 0x31, 0x32, 0x33, 0x34, 0xfa,
+        0xbc, 0xde, 0x35, 0x36, 0x85, 0x37, 0x38, 0x12, 0x3f, 0x45, 0x86, 0xc7, 0x39, 0, 0, 0, 0,
+        0, 0,
+    ]);
+    assert_eq!(rt; (odd.dlid, odd.slid), (0x3132, 0x3334));
+    assert_eq!(rt;
+        (odd.raw_traffic, odd.flow_label, odd.hop_limit),
+        (true, 0xabcde, 0x35)
+    );
+    assert_eq!(rt;
+        (odd.t_class, odd.reversible, odd.numb_path),
+        (0x36, true, 5)
+    );
+    assert_eq!(rt; (odd.p_key, odd.qos_class, odd.sl), (0x3738, 0x123, 15));
+    assert_eq!(rt; (odd.mtu_selector, odd.mtu), (1, 5));
+    assert_eq!(rt; (odd.rate_selector, odd.rate), (2, 6));
+    assert_eq!(rt;
+        (odd.packet_life_time_selector, odd.packet_life_time),
+        (3, 7)
+    );
+    assert_eq!(rt; odd.preference, 0x39);
+}
+
+/// RateSelector, the code that is asked, and whether a path of 10 Gb/s, code 3, is selected: 5 Gb/s has code 5, 2.5
+/// has code 2, and 30 has code 4; 11 is no rate's.
+const RATES: [(u8, u8, bool); 17] = [
+    (0, 5, true),
+    (0, 2, true),
+    (0, 3, false),
+    (0, 4, false),
+    (1, 5, false),
+    (1, 2, false),
+    (1, 3, false),
+    (1, 4, true),
+    (2, 5, false),
+    (2, 2, false),
+    (2, 3, true),
+    (3, 5, true),
+    (3, 4, true),
+    (0, 11, false),
+    (1, 11, false),
+    (2, 11, false),
+    (3, 11, false),
+];
+
+#[test]
+fn rates_are_compared_by_their_speed(rt: HostRuntime) {
+    for (rate_selector, rate, selected) in RATES {
+        let asked = PathRecord {
+            rate_selector,
+            rate,
+            ..path()
+        };
+        assert_eq!(rt; path().selected_by(0b11 << 18, &asked), selected);
+        // one without the other constrains nothing
+        assert!(rt; path().selected_by(1 << 18, &asked));
+        assert!(rt; path().selected_by(1 << 19, &asked));
+    }
+    // a path whose own code is no rate's agrees with none
+    let unknown = PathRecord { rate: 11, ..path() };
+    assert!(rt; !unknown.selected_by(0b11 << 18, &unknown));
+}
+
+/// Selector, the code that is asked, and whether a path of MTU 4 is selected.
+const MTUS: [(u8, u8, bool); 9] = [
+    (0, 3, true),
+    (0, 4, false),
+    (0, 5, false),
+    (1, 4, false),
+    (1, 5, true),
+    (2, 3, false),
+    (2, 4, true),
+    (3, 1, true),
+    (3, 5, true),
+];
+
+#[test]
+fn mtus_and_life_times_are_compared_by_their_codes(rt: HostRuntime) {
+    for (selector, code, selected) in MTUS {
+        let asked = PathRecord {
+            mtu_selector: selector,
+            mtu: code,
+            packet_life_time_selector: selector,
+            packet_life_time: code + 14,
+            ..path()
+        };
+        for first in [16, 20] {
+            assert_eq!(rt; path().selected_by(0b11 << first, &asked), selected);
+            assert!(rt; path().selected_by(1 << first, &asked));
+            assert!(rt; path().selected_by(2 << first, &asked));
+        }
+    }
+}
+
+#[test]
+fn paths_are_asked_for_by_what_constrains_them(rt: HostRuntime) {
+    let shown = path();
+    assert!(rt; shown.selected_by(u64::MAX, &shown));
+    // a key is asked for by its partition; ServiceID, Reversible and NumbPath constrain nothing
+    let alike = PathRecord {
+        p_key: 0x8001,
+        service_id: 7,
+        reversible: false,
+        numb_path: 3,
+        preference: 9,
+        ..shown
+    };
+    assert!(rt; shown.selected_by(u64::MAX, &alike));
+    for (bits, other) in [
+        (
+            1u64 << 2,
+            PathRecord {
+                dgid: SECOND_GID,
+                ..shown
+            },
+        ),
+        (
+            1u64 << 3,
+            PathRecord {
+                sgid: FIRST_GID,
+                ..shown
+            },
+        ),
+        (1u64 << 4, PathRecord { dlid: 5, ..shown }),
+        (1u64 << 5, PathRecord { slid: 4, ..shown }),
+        (
+            1u64 << 6,
+            PathRecord {
+                raw_traffic: true,
+                ..shown
+            },
+        ),
+        (
+            1u64 << 8,
+            PathRecord {
+                flow_label: 1,
+                ..shown
+            },
+        ),
+        (
+            1u64 << 9,
+            PathRecord {
+                hop_limit: 1,
+                ..shown
+            },
+        ),
+        (
+            1u64 << 10,
+            PathRecord {
+                t_class: 1,
+                ..shown
+            },
+        ),
+        (
+            1u64 << 13,
+            PathRecord {
+                p_key: 0x0002,
+                ..shown
+            },
+        ),
+        (
+            1u64 << 14,
+            PathRecord {
+                qos_class: 1,
+                ..shown
+            },
+        ),
+        (1u64 << 15, PathRecord { sl: 1, ..shown }),
+    ] {
+        assert!(rt; !shown.selected_by(bits, &other));
+        assert!(rt; shown.selected_by(!bits, &other));
+    }
+}
+
+/// A group that was made by a join, with the port that joined; and one that a partition file made.
+const JOINED_GROUP: [u8; 49] = [
+    0xff, 0x12, 0, 0, 0, 0, 0, 0, 0, 0, 0, 0, 0, 0, 0x00, 0x0a, // MGID
+    0xfe, 0x80, 0, 0, 0, 0, 0, 0, 0, 0, 0, 0, 0, 0, 0x01, 0x11, // PortGID
+    0x00, 0x00, 0x12, 0x34, // Q_Key
+    0xc0, 0x20, // MLID
+    0x84, 0x00, // MTU with its selector, TClass
+    0x80, 0x01, // P_Key
+    0x83, 0x92, // Rate, PacketLifeTime, each with its selector
+    0x00, 0x00, 0x00, 0x00, // SL, FlowLabel, HopLimit
+    0x21, // Scope, JoinState
+];
+
+const FILE_GROUP: [u8; 49] = [
+    0xff, 0x12, 0x40, 0x1b, 0x80, 0x01, 0, 0, 0, 0, 0, 0, 0xff, 0xff, 0xff, 0xff, // MGID
+    0, 0, 0, 0, 0, 0, 0, 0, 0, 0, 0, 0, 0, 0, 0, 0, // PortGID
+    0x00, 0x00, 0x0b, 0x1b, // Q_Key
+    0xc0, 0x20, // MLID
+    0x84, 0x00, // MTU with its selector, TClass
+    0x80, 0x01, // P_Key
+    0x83, 0x92, // Rate, PacketLifeTime, each with its selector
+    0x00, 0x00, 0x00, 0x00, // SL, FlowLabel, HopLimit
+    0x20, // Scope, JoinState
+];
+
+fn joined_group() -> McMemberRecord {
+    McMemberRecord {
+        mgid: 0xff12_0000_0000_0000_0000_0000_0000_000a,
+        port_gid: FIRST_GID,
+        q_key: 0x1234,
+        mlid: 0xc020,
+        mtu_selector: 2,
+        mtu: 4,
+        t_class: 0,
+        p_key: 0x8001,
+        rate_selector: 2,
+        rate: 3,
+        packet_life_time_selector: 2,
+        packet_life_time: 18,
+        sl: 0,
+        flow_label: 0,
+        hop_limit: 0,
+        scope: 2,
+        join_state: 1,
+        proxy_join: false,
+    }
+}
+
+fn file_group() -> McMemberRecord {
+    McMemberRecord {
+        mgid: 0xff12_401b_8001_0000_0000_0000_ffff_ffff,
+        port_gid: 0,
+        q_key: 0x0b1b,
+        join_state: 0,
+        ..joined_group()
+    }
+}
+
+#[test]
+fn groups_read_and_write(rt: HostRuntime) {
+    for (bytes, record) in [
+        (filled::<56>(&JOINED_GROUP), joined_group()),
+        (filled::<56>(&FILE_GROUP), file_group()),
+    ] {
+        assert_eq!(rt; McMemberRecord::read(&bytes), record);
+        let mut written = [0xff; 56];
+        McMemberRecord::read(&bytes).write(&mut written);
+        assert_eq!(rt; written, bytes);
+    }
+    assert!(rt; joined_group().join_state().contains(JoinState::FULL_MEMBER));
+    assert!(rt; !joined_group().join_state().contains(JoinState::NON_MEMBER));
+    // the byte of SL and the two after it, HopLimit, Scope with JoinState, ProxyJoin
+    let mut odd = filled::<56>(&JOINED_GROUP);
+    for (to, from) in odd
+        .iter_mut()
+        .skip(44)
+        .zip([0x5a, 0xbc, 0xde, 0x0f, 0x36, 0x80])
+    {
+        *to = from;
+    }
+    let odd = McMemberRecord::read(&odd);
+    assert_eq!(rt; (odd.sl, odd.flow_label, odd.hop_limit), (5, 0xabcde, 15));
+    assert_eq!(rt; (odd.scope, odd.join_state, odd.proxy_join), (3, 6, true));
+}
+
+#[test]
+fn groups_are_asked_for_by_what_constrains_them(rt: HostRuntime) {
+    let shown = joined_group();
+    assert!(rt; shown.selected_by(u64::MAX, &shown));
+    assert!(rt;
+        shown.selected_by(
+            u64::MAX,
+            &McMemberRecord {
+                p_key: 0x0001,
+                ..shown
+            }
+        )
+    );
+    for (bits, other) in [
+        (1u64 << 0, McMemberRecord { mgid: 1, ..shown }),
+        (
+            1u64 << 1,
+            McMemberRecord {
+                port_gid: 0,
+                ..shown
+            },
+        ),
+        (1u64 << 2, McMemberRecord { q_key: 1, ..shown }),
+        (
+            1u64 << 3,
+            McMemberRecord {
+                mlid: 0xc021,
+                ..shown
+            },
+        ),
+        (
+            1u64 << 6,
+            McMemberRecord {
+                t_class: 1,
+                ..shown
+            },
+        ),
+        (
+            1u64 << 7,
+            McMemberRecord {
+                p_key: 0x8002,
+                ..shown
+            },
+        ),
+        (1u64 << 12, McMemberRecord { sl: 1, ..shown }),
+        (
+            1u64 << 13,
+            McMemberRecord {
+                flow_label: 1,
+                ..shown
+            },
+        ),
+        (
+            1u64 << 14,
+            McMemberRecord {
+                hop_limit: 1,
+                ..shown
+            },
+        ),
+        (1u64 << 15, McMemberRecord { scope: 1, ..shown }),
+        (
+            1u64 << 16,
+            McMemberRecord {
+                join_state: 2,
+                ..shown
+            },
+        ),
+        (
+            1u64 << 17,
+            McMemberRecord {
+                proxy_join: true,
+                ..shown
+            },
+        ),
+    ] {
+        assert!(rt; !shown.selected_by(bits, &other));
+        assert!(rt; shown.selected_by(!bits, &other));
+    }
+    // a selector and its code are one component
+    for (selector, code, other) in [
+        (1u64 << 4, 1u64 << 5, McMemberRecord { mtu: 3, ..shown }),
+        (1u64 << 8, 1u64 << 9, McMemberRecord { rate: 2, ..shown }),
+        (
+            1u64 << 10,
+            1u64 << 11,
+            McMemberRecord {
+                packet_life_time: 17,
+                ..shown
+            },
+        ),
+    ] {
+        assert!(rt; !shown.selected_by(selector | code, &other));
+        assert!(rt; shown.selected_by(selector, &other));
+        assert!(rt; shown.selected_by(code, &other));
+        assert!(rt; shown.selected_by(!(selector | code), &other));
+    }
+}
+
+/// A service named dbs.
+const SERVICE: [u8; 51] = [
+    0, 0, 0, 0, 0, 0, 0, 1, // ServiceID
+    0xfe, 0x80, 0, 0, 0, 0, 0, 0, 0, 0, 0, 0, 0, 0, 0x01, 0x21, // ServiceGID
+    0x80, 0x01, // ServiceP_Key
+    0x00, 0x00, // reserved
+    0x00, 0x00, 0x00, 0x00, // ServiceLease
+    0, 0, 0, 0, 0, 0, 0, 0, 0, 0, 0, 0, 0, 0, 0, 0, // ServiceKey
+    b'd', b'b', b's', // ServiceName
+];
+
+fn service() -> ServiceRecord {
+    ServiceRecord {
+        service_id: 1,
+        service_gid: SECOND_GID,
+        service_p_key: 0x8001,
+        service_lease: 0,
+        service_key: 0,
+        service_name: filled(b"dbs"),
+        service_data: [0; 64],
+    }
+}
+
+#[test]
+fn services_read_and_write(rt: HostRuntime) {
+    let bytes = filled::<176>(&SERVICE);
+    assert_eq!(rt; ServiceRecord::read(&bytes), service());
+    let mut written = [0xff; 176];
+    ServiceRecord::read(&bytes).write(&mut written);
+    assert_eq!(rt; written, bytes);
+    // the lease, the key and the data stand behind one another
+    let mut odd = bytes;
+    for (to, from) in odd.iter_mut().skip(28).zip([0x01, 0x02, 0x03, 0x04, 0x05]) {
+        *to = from;
+    }
+    for (to, from) in odd.iter_mut().skip(112).zip([0x06, 0x07]) {
+        *to = from;
+    }
+    let odd = ServiceRecord::read(&odd);
+    assert_eq!(rt; odd.service_lease, 0x0102_0304);
+    assert_eq!(rt; odd.service_key, 0x05 << 120);
+    assert_eq!(rt; odd.service_data, filled(&[0x06, 0x07]));
+}
+
+#[test]
+fn services_are_asked_for_by_what_constrains_them(rt: HostRuntime) {
+    let shown = service();
+    assert!(rt; shown.selected_by(u64::MAX, &shown));
+    assert!(rt;
+        shown.selected_by(
+            u64::MAX,
+            &ServiceRecord {
+                service_p_key: 0x0001,
+                ..shown
+            }
+        )
+    );
+    for (bits, other) in [
+        (
+            1u64 << 0,
+            ServiceRecord {
+                service_id: 2,
+                ..shown
+            },
+        ),
+        (
+            1u64 << 1,
+            ServiceRecord {
+                service_gid: FIRST_GID,
+                ..shown
+            },
+        ),
+        (
+            1u64 << 2,
+            ServiceRecord {
+                service_p_key: 0x8002,
+                ..shown
+            },
+        ),
+        (
+            1u64 << 4,
+            ServiceRecord {
+                service_lease: 1,
+                ..shown
+            },
+        ),
+        (
+            1u64 << 5,
+            ServiceRecord {
+                service_key: 1,
+                ..shown
+            },
+        ),
+        (
+            1u64 << 6,
+            ServiceRecord {
+                service_name: filled(b"dbt"),
+                ..shown
+            },
+        ),
+    ] {
+        assert!(rt; !shown.selected_by(bits, &other));
+        assert!(rt; shown.selected_by(!bits, &other));
+    }
+}
+
+/// The bit of the mask for each byte of ServiceData: 16 numbers of 1 byte, 8 of 2, 4 of 4 and 2 of 8.
+const DATA_BITS: [u32; 64] = [
+    7, 8, 9, 10, 11, 12, 13, 14, 15, 16, 17, 18, 19, 20, 21, 22, 23, 23, 24, 24, 25, 25, 26, 26,
+    27, 27, 28, 28, 29, 29, 30, 30, 31, 31, 31, 31, 32, 32, 32, 32, 33, 33, 33, 33, 34, 34, 34, 34,
+    35, 35, 35, 35, 35, 35, 35, 35, 36, 36, 36, 36, 36, 36, 36, 36,
+];
+
+#[test]
+fn each_number_of_service_data_has_its_bit(rt: HostRuntime) {
+    let shown = service();
+    for (place, bit) in DATA_BITS.iter().enumerate() {
+        let mut other = shown;
+        for (at, byte) in other.service_data.iter_mut().enumerate() {
+            *byte = if at == place { 1 } else { 0 };
+        }
+        let bits = 1u64.checked_shl(*bit).unwrap_or(0);
+        assert!(rt; !shown.selected_by(bits, &other));
+        assert!(rt; shown.selected_by(!bits, &other));
+    }
+}

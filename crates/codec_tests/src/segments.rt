@@ -1,0 +1,367 @@
+use mad_layout::{Header, Mad};
+use rmpp_core::{AbortCause, Acknowledged, ReceiveFault, Receiver, ReplyHeader, Sender};
+use std::alloc::Global;
+use std::test::Fail;
+
+/// A table of node records, 112 bytes from one to the next.
+const NODE_RECORDS: ReplyHeader = ReplyHeader {
+    header: Header {
+        base_version: 1,
+        mgmt_class: 0x03,
+        class_version: 2,
+        method: 0x92,
+        status: 0,
+        class_specific: 0,
+        transaction_id: 4,
+        attribute_id: 0x0011,
+        attribute_modifier: 0,
+    },
+    attribute_offset: 14,
+    component_mask: 0,
+};
+
+/// The header of such a MAD.
+const NODE_RECORDS_HEADER: [u8; 24] = [
+    0x01, // BaseVersion
+    0x03, // MgmtClass
+    0x02, // ClassVersion
+    0x92, // R, Method
+    0x00, 0x00, // Status
+    0x00, 0x00, // ClassSpecific
+    0x00, 0x00, 0x00, 0x00, 0x00, 0x00, 0x00, 0x04, // TransactionID
+    0x00, 0x11, // AttributeID
+    0x00, 0x00, // reserved
+    0x00, 0x00, 0x00, 0x00, // AttributeModifier
+];
+
+/// SM_Key, AttributeOffset, reserved, ComponentMask.
+const NODE_RECORDS_FIELDS: [u8; 20] = [
+    0, 0, 0, 0, 0, 0, 0, 0, 0x00, 0x0e, 0, 0, 0, 0, 0, 0, 0, 0, 0, 0,
+];
+
+/// Bytes that differ from their neighbours, and from those of the segments before and after.
+fn table() -> [u8; 600] {
+    let mut bytes = [0; 600];
+    for (place, byte) in bytes.iter_mut().enumerate() {
+        *byte = (place % 251) as u8;
+    }
+    bytes
+}
+
+/// How many bytes a table has and in how many segments; the number of a segment, the bytes of its RMPP header,
+/// and which bytes of the table it has.
+const SEGMENTS: [(usize, u32, u32, [u8; 12], (usize, usize)); 9] = [
+    // four node records
+    (
+        448,
+        3,
+        1,
+        [1, 1, 3, 0, 0, 0, 0, 1, 0x00, 0x00, 0x01, 0xfc],
+        (0, 200),
+    ),
+    (
+        448,
+        3,
+        2,
+        [1, 1, 1, 0, 0, 0, 0, 2, 0x00, 0x00, 0x00, 0x00],
+        (200, 400),
+    ),
+    (
+        448,
+        3,
+        3,
+        [1, 1, 5, 0, 0, 0, 0, 3, 0x00, 0x00, 0x00, 0x44],
+        (400, 448),
+    ),
+    // no record at all
+    (
+        0,
+        1,
+        1,
+        [1, 1, 7, 0, 0, 0, 0, 1, 0x00, 0x00, 0x00, 0x14],
+        (0, 0),
+    ),
+    // one segment that is full, two that begin a byte later, two that are full
+    (
+        200,
+        1,
+        1,
+        [1, 1, 7, 0, 0, 0, 0, 1, 0x00, 0x00, 0x00, 0xdc],
+        (0, 200),
+    ),
+    (
+        201,
+        2,
+        1,
+        [1, 1, 3, 0, 0, 0, 0, 1, 0x00, 0x00, 0x00, 0xf1],
+        (0, 200),
+    ),
+    (
+        201,
+        2,
+        2,
+        [1, 1, 5, 0, 0, 0, 0, 2, 0x00, 0x00, 0x00, 0x15],
+        (200, 201),
+    ),
+    (
+        400,
+        2,
+        1,
+        [1, 1, 3, 0, 0, 0, 0, 1, 0x00, 0x00, 0x01, 0xb8],
+        (0, 200),
+    ),
+    (
+        400,
+        2,
+        2,
+        [1, 1, 5, 0, 0, 0, 0, 2, 0x00, 0x00, 0x00, 0xdc],
+        (200, 400),
+    ),
+];
+
+/// A MAD of these headers and of this data.
+fn mad_of(header: &[u8; 24], rmpp: &[u8; 12], fields: &[u8; 20], part: &[u8]) -> Mad {
+    let bytes = header.iter().chain(rmpp).chain(fields).chain(part);
+    let mut mad = [0; 256];
+    for (to, from) in mad.iter_mut().zip(bytes) {
+        *to = *from;
+    }
+    mad
+}
+
+/// The segment of that number, or zero bytes where there is none.
+fn segment_of(sender: &Sender, number: u32) -> Mad {
+    if number >= 1 && number <= sender.segment_count() {
+        sender.segment(number)
+    } else {
+        [0; 256]
+    }
+}
+
+#[test]
+fn a_table_is_cut_into_segments_of_200_bytes(rt: HostRuntime) -> Result<(), Fail> {
+    let bytes = table();
+    for (size, count, number, rmpp, (first, last)) in SEGMENTS {
+        let sender = Sender::open(rt.alloc(), NODE_RECORDS, bytes.get(..size).unwrap_or(&[]))?;
+        assert_eq!(rt; sender.segment_count(), count);
+        let part = bytes.get(first..last).unwrap_or(&[]);
+        assert_eq!(rt; part.len(), last.saturating_sub(first));
+        let wanted = mad_of(&NODE_RECORDS_HEADER, &rmpp, &NODE_RECORDS_FIELDS, part);
+        assert_eq!(rt; segment_of(&sender, number), wanted);
+    }
+    Ok(())
+}
+
+/// A sender of four node records, in three segments.
+fn three_segments(alloc: Global) -> Result<Sender, Fail> {
+    Ok(Sender::open(alloc, NODE_RECORDS, table().get(..448).unwrap_or(&[]))?)
+}
+
+const fn sends(first: u32, last: u32) -> Result<Acknowledged, AbortCause> {
+    Ok(Acknowledged {
+        first,
+        last,
+        is_complete: false,
+    })
+}
+
+/// Three segments, and ACKs one after the other: the segment and the window of each, and what it brings.
+#[test]
+fn an_ack_brings_the_segments_of_its_window(rt: HostRuntime) -> Result<(), Fail> {
+    let complete = |first, last| {
+        Ok(Acknowledged {
+            first,
+            last,
+            is_complete: true,
+        })
+    };
+    // the window is too small, the segment too big; neither changes anything, so all are sent then
+    let mut sender = three_segments(rt.alloc())?;
+    assert_eq!(rt; sender.on_ack(2, 1), Err(AbortCause::WindowTooSmall));
+    assert_eq!(rt; sender.on_ack(4, 9), Err(AbortCause::SegmentTooBig));
+    assert_eq!(rt; sender.on_ack(4, 3), Err(AbortCause::WindowTooSmall));
+    assert_eq!(rt; sender.on_ack(1, 9), sends(2, 3));
+    assert_eq!(rt; sender.on_ack(3, 3), complete(4, 3));
+    // the greatest window there is; after it a small one takes nothing back
+    let mut sender = three_segments(rt.alloc())?;
+    assert_eq!(rt; sender.on_ack(1, 0xffff_ffff), sends(2, 3));
+    assert_eq!(rt; sender.on_ack(2, 2), sends(4, 3));
+    assert_eq!(rt; sender.on_ack(3, 0xffff_ffff), complete(4, 3));
+    // one after the other; an ACK that comes again brings nothing again
+    let mut sender = three_segments(rt.alloc())?;
+    assert_eq!(rt; sender.on_ack(0, 0), sends(2, 1));
+    assert_eq!(rt; sender.on_ack(1, 2), sends(2, 2));
+    assert_eq!(rt; sender.on_ack(1, 2), sends(3, 2));
+    assert_eq!(rt; sender.on_ack(1, 1), sends(3, 2));
+    assert_eq!(rt; sender.on_ack(2, 3), sends(3, 3));
+    assert_eq!(rt; sender.on_ack(3, 3), complete(4, 3));
+    // of a segment that was not sent yet
+    let mut sender = three_segments(rt.alloc())?;
+    assert_eq!(rt; sender.on_ack(2, 2), sends(2, 2));
+    assert_eq!(rt; sender.on_ack(3, 3), complete(3, 3));
+    Ok(())
+}
+
+#[test]
+fn an_abort_has_no_data(rt: HostRuntime) -> Result<(), Fail> {
+    // the table's ComponentMask stands, its AttributeOffset does not
+    let header = ReplyHeader {
+        component_mask: 0x1d,
+        ..NODE_RECORDS
+    };
+    let fields = [
+        0, 0, 0, 0, 0, 0, 0, 0, 0x00, 0x00, 0, 0, 0, 0, 0, 0, 0, 0, 0, 0x1d,
+    ];
+    let sender = Sender::open(rt.alloc(), header, table().get(..448).unwrap_or(&[]))?;
+    for (cause, code) in [
+        (AbortCause::WindowTooSmall, 0x7a),
+        (AbortCause::SegmentTooBig, 0x7b),
+    ] {
+        let rmpp = [1, 4, 1, code, 0, 0, 0, 0, 0, 0, 0, 0];
+        let wanted = mad_of(&NODE_RECORDS_HEADER, &rmpp, &fields, &[]);
+        assert_eq!(rt; sender.abort(cause), wanted);
+    }
+    Ok(())
+}
+
+#[test]
+fn segments_in_order_are_the_table(rt: HostRuntime) -> Result<(), Fail> {
+    let bytes = table();
+    for size in [0, 1, 199, 200, 201, 399, 400, 401, 448, 600] {
+        let part = bytes.get(..size).unwrap_or(&[]);
+        let sender = Sender::open(rt.alloc(), NODE_RECORDS, part)?;
+        let mut receiver = Receiver::new(rt.alloc());
+        for number in 1..=sender.segment_count() {
+            assert_eq!(rt; receiver.bytes(), None);
+            receiver.on_data(&sender.segment(number))?;
+        }
+        assert_eq!(rt; receiver.bytes(), Some(part));
+    }
+    Ok(())
+}
+
+/// Whether a receiver of three segments, given those of these numbers, refuses the last one of them for this fault, and
+/// every segment after it.
+fn refuses(alloc: Global, sender: &Sender, numbers: &[u32], fault: ReceiveFault) -> bool {
+    let mut receiver = Receiver::new(alloc);
+    let mut last = Ok(());
+    for number in numbers {
+        last = receiver.on_data(&segment_of(sender, *number));
+    }
+    last == Err(fault)
+        && receiver.bytes().is_none()
+        && receiver.on_data(&segment_of(sender, 1)) == Err(fault)
+        && receiver.bytes().is_none()
+}
+
+#[test]
+fn segments_out_of_order_are_refused_for_good(rt: HostRuntime) -> Result<(), Fail> {
+    let sender = three_segments(rt.alloc())?;
+    let fault = ReceiveFault::UnexpectedSegment;
+    // the second first, one twice, one left out, one after the last; 0 is no segment at all
+    assert!(rt; refuses(rt.alloc(), &sender, &[2], fault));
+    assert!(rt; refuses(rt.alloc(), &sender, &[1, 1], fault));
+    assert!(rt; refuses(rt.alloc(), &sender, &[1, 2, 2], fault));
+    assert!(rt; refuses(rt.alloc(), &sender, &[1, 3], fault));
+    assert!(rt; refuses(rt.alloc(), &sender, &[1, 2, 3, 3], fault));
+    assert!(rt; refuses(rt.alloc(), &sender, &[1, 2, 3, 4], fault));
+    assert!(rt; refuses(rt.alloc(), &sender, &[0], fault));
+    Ok(())
+}
+
+/// The byte of a MAD that is changed and what it is then, in the first segment and in the third, and what a receiver of
+/// all three says to it.
+const CHANGED: [(u32, usize, u8, ReceiveFault); 15] = [
+    // RMPPVersion, RMPPType (ACK, STOP, ABORT), RMPPFlags: not Active, not First, First on the last
+    (1, 24, 2, ReceiveFault::UnexpectedSegment),
+    (1, 25, 2, ReceiveFault::UnexpectedSegment),
+    (1, 25, 3, ReceiveFault::UnexpectedSegment),
+    (3, 25, 4, ReceiveFault::UnexpectedSegment),
+    (1, 26, 2, ReceiveFault::UnexpectedSegment),
+    (1, 26, 1, ReceiveFault::UnexpectedSegment),
+    (3, 26, 7, ReceiveFault::UnexpectedSegment),
+    // SegmentNumber
+    (3, 28, 1, ReceiveFault::UnexpectedSegment),
+    (3, 31, 4, ReceiveFault::UnexpectedSegment),
+    // PayloadLength of the first: without 20 for each segment, without the first two bytes, and of the last: 19, 221,
+    // and the 200 of a whole segment
+    (1, 35, 0xc0, ReceiveFault::WrongLength),
+    (1, 34, 0x00, ReceiveFault::WrongLength),
+    (1, 32, 0x01, ReceiveFault::WrongLength),
+    (3, 35, 19, ReceiveFault::WrongLength),
+    (3, 35, 221, ReceiveFault::WrongLength),
+    (3, 35, 200, ReceiveFault::WrongLength),
+];
+
+#[test]
+fn contradictions_are_refused_for_good(rt: HostRuntime) -> Result<(), Fail> {
+    let sender = three_segments(rt.alloc())?;
+    for (number, place, value, fault) in CHANGED {
+        let mut receiver = Receiver::new(rt.alloc());
+        let mut last = Ok(());
+        for each in 1..=sender.segment_count() {
+            let mut mad = sender.segment(each);
+            if each == number {
+                if let Some(byte) = mad.get_mut(place) {
+                    *byte = value;
+                }
+            }
+            last = receiver.on_data(&mad);
+        }
+        assert_eq!(rt; last, Err(fault));
+        assert_eq!(rt; receiver.bytes(), None);
+    }
+    Ok(())
+}
+
+#[test]
+fn a_single_segment_is_held_to_both_lengths(rt: HostRuntime) -> Result<(), Fail> {
+    let rmpp = |length| [1, 1, 7, 0, 0, 0, 0, 1, 0, 0, 0, length];
+    for (length, size) in [
+        (20, Some(0)),
+        (21, Some(1)),
+        (220, Some(200)),
+        (19, None),
+        (221, None),
+        (0, None),
+    ] {
+        let mad = mad_of(
+            &NODE_RECORDS_HEADER,
+            &rmpp(length),
+            &NODE_RECORDS_FIELDS,
+            table().get(..200).unwrap_or(&[]),
+        );
+        let mut receiver = Receiver::new(rt.alloc());
+        assert_eq!(rt; receiver.on_data(&mad).is_ok(), size.is_some());
+        assert_eq!(rt; receiver.bytes().map(|bytes| bytes.len()), size);
+    }
+    Ok(())
+}
+
+/// A table that is sent and received: what came, or nothing where memory was refused.
+fn passed_on(alloc: Global, size: usize) -> Result<Vec<u8>, ReceiveFault> {
+    let sender = Sender::open(alloc, NODE_RECORDS, table().get(..size).unwrap_or(&[]))?;
+    let mut receiver = Receiver::new(alloc);
+    for number in 1..=sender.segment_count() {
+        if let Err(fault) = receiver.on_data(&sender.segment(number)) {
+            // for good, and with nothing to show
+            let stays = receiver.on_data(&sender.segment(number)) == Err(fault);
+            return Err(if stays && receiver.bytes().is_none() {
+                fault
+            } else {
+                ReceiveFault::UnexpectedSegment
+            });
+        }
+    }
+    let mut bytes = Vec::new(alloc);
+    bytes.extend_from_slice(receiver.bytes().unwrap_or(&[]))?;
+    Ok(bytes)
+}
+
+#[test]
+fn a_table_is_passed_on_or_memory_is_refused(rt: HostRuntime) {
+    match passed_on(rt.alloc(), 448) {
+        Ok(bytes) => assert!(rt; bytes.as_slice() == table().get(..448).unwrap_or(&[])),
+        Err(fault) => assert_eq!(rt; fault, ReceiveFault::NoMemory),
+    }
+}

@@ -1,0 +1,5 @@
+pub mod Reply
+pub mod Segments
+pub mod Acks
+pub mod Receiving
+pub mod Laws

@@ -1,0 +1,27 @@
+//! Segments: how an answer that is longer than one management datagram (MAD) goes over the wire.
+//!
+//! Subnet administration sends a table of records in segments of 200 bytes by the Reliable Multi-Packet
+//! Protocol (RMPP; InfiniBand Architecture Specification, volume 1, chapter 13, as 15.2.1.1 lays its header
+//! before that of subnet administration). A [`Sender`] holds the bytes of one table: it gives each
+//! segment as a MAD, and says of each ACK which segments to send next, or why the transfer aborts. A
+//! [`Receiver`] takes segments in order and has the bytes once the last has come. `specs/Segments.antt` says
+//! what the segments are, `specs/Acks.antt` what an ACK brings, `specs/Receiving.antt` which segments a receiver
+//! takes; the laws over all three are that a receiver of all segments has the sender's bytes, and that what any
+//! receiver has came in segments, each in its turn (`laws.rt`).
+#![tactic(auto)]
+
+mod abort;
+mod laws;
+mod reassembly;
+mod receiver;
+mod reply;
+mod sender;
+
+pub use crate::abort::AbortCause;
+pub use crate::laws::{
+    segments_are_received, segments_are_the_bytes, segments_go_out_in_order,
+    what_is_received_is_a_table,
+};
+pub use crate::receiver::{ReceiveFault, Receiver};
+pub use crate::reply::{ReplyHeader, reply_mad};
+pub use crate::sender::{Acknowledged, Sender};

@@ -1,0 +1,33 @@
+ghost use Rattle.std.specs.Prelude.{◌≡◌, ◌<◌};
+ghost use Rattle.mad_layout.specs.Layout.{Spells};
+ghost use Rattle.rmpp_core.specs.Reply.{reply_fields, reply_bytes};
+
+use mad_layout::{Header, Mad, RmppHeader, SaMad};
+
+/// What every MAD of one transfer begins with: the header of the answer, and what subnet administration
+/// says of its records.
+///
+/// Source: IBA volume 1, 15.2.1.1.
+#[derive(Clone, Copy, Debug, PartialEq, Eq)]
+pub struct ReplyHeader {
+    /// The MAD's header.
+    pub header: Header,
+    /// From one record of the table to the next, in units of 8 bytes.
+    pub attribute_offset: u16,
+    /// Which components the request asked by.
+    pub component_mask: u64,
+}
+
+/// The MAD with these three headers and this data; every bit outside their fields is 0.
+pub fn reply_mad(header: &Header, rmpp: &RmppHeader, fields: &SaMad) -> Mad
+    requires response_time { rmpp.now.response_time < 32 }
+    requires flags { rmpp.now.flags < 8 }
+    ensures spells { Spells result (reply_fields header.now rmpp.now fields.now) }
+    ensures bytes { result ≡ reply_bytes header.now rmpp.now fields.now }
+{
+    let mut mad = [0; 256];
+    header.write(&mut mad);
+    rmpp.write(&mut mad);
+    fields.write(&mut mad);
+    mad
+}

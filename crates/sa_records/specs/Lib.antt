@@ -1,0 +1,6 @@
+pub mod Component
+pub mod Speed
+pub mod NodeRecord
+pub mod PathRecord
+pub mod McMemberRecord
+pub mod ServiceRecord

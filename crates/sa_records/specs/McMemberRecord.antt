@@ -1,0 +1,56 @@
+-- MCMemberRecord (InfiniBand volume 1, 15.2.5): the places of its fields.
+use Rattle.std.specs.Prelude.{ℕ, Bool, ◌==◌, List, [], ◌∷◌, replicate}
+use Rattle.mad_layout.specs.Bits.{bit_of}
+use Rattle.mad_layout.specs.Layout.{Field, at, put_all}
+use Rattle.sa_records.specs.declared.mc_member_record.McMemberRecord.{McMemberRecord}
+use Rattle.sa_records.specs.Component.{Component, on, is_selected, same_bit, same_base, satisfies}
+use Rattle.sa_records.specs.Speed.{rate_satisfies}
+
+abbrev pub mc_member_record : McMemberRecord → List Field
+mc_member_record one =
+    at 0 128 one.mgid
+    ∷ at 128 128 one.port_gid
+    ∷ at 256 32 one.q_key
+    ∷ at 288 16 one.mlid
+    ∷ at 304 2 one.mtu_selector
+    ∷ at 306 6 one.mtu
+    ∷ at 312 8 one.t_class
+    ∷ at 320 16 one.p_key
+    ∷ at 336 2 one.rate_selector
+    ∷ at 338 6 one.rate
+    ∷ at 344 2 one.packet_life_time_selector
+    ∷ at 346 6 one.packet_life_time
+    ∷ at 352 4 one.sl
+    ∷ at 356 20 one.flow_label
+    ∷ at 376 8 one.hop_limit
+    ∷ at 384 4 one.scope
+    ∷ at 388 4 one.join_state
+    ∷ at 392 1 (bit_of one.proxy_join)
+    ∷ []
+
+-- the bytes that it fills in a table
+unfoldable pub mc_member_record_bytes : McMemberRecord → List ℕ
+mc_member_record_bytes one = put_all (replicate 56 0) (mc_member_record one)
+
+-- the components by which groups are asked for
+abbrev pub mc_member_record_components : McMemberRecord → McMemberRecord → List Component
+mc_member_record_components shown asked =
+    on 1 (shown.mgid == asked.mgid)
+    ∷ on 2 (shown.port_gid == asked.port_gid)
+    ∷ on 4 (shown.q_key == asked.q_key)
+    ∷ on 8 (shown.mlid == asked.mlid)
+    ∷ on 48 (satisfies asked.mtu_selector shown.mtu asked.mtu)
+    ∷ on 64 (shown.t_class == asked.t_class)
+    ∷ on 128 (same_base shown.p_key asked.p_key)
+    ∷ on 768 (rate_satisfies asked.rate_selector shown.rate asked.rate)
+    ∷ on 3072 (satisfies asked.packet_life_time_selector shown.packet_life_time asked.packet_life_time)
+    ∷ on 4096 (shown.sl == asked.sl)
+    ∷ on 8192 (shown.flow_label == asked.flow_label)
+    ∷ on 16384 (shown.hop_limit == asked.hop_limit)
+    ∷ on 32768 (shown.scope == asked.scope)
+    ∷ on 65536 (shown.join_state == asked.join_state)
+    ∷ on 131072 (same_bit shown.proxy_join asked.proxy_join)
+    ∷ []
+
+unfoldable pub mc_member_record_selected : ℕ → McMemberRecord → McMemberRecord → Bool
+mc_member_record_selected mask shown asked = is_selected mask (mc_member_record_components shown asked)

@@ -1,0 +1,59 @@
+-- PathRecord (InfiniBand volume 1, 15.2.5): the places of its fields.
+use Rattle.std.specs.Prelude.{ℕ, Bool, ◌==◌, List, [], ◌∷◌, replicate}
+use Rattle.mad_layout.specs.Bits.{bit_of}
+use Rattle.mad_layout.specs.Layout.{Field, at, put_all}
+use Rattle.sa_records.specs.declared.path_record.PathRecord.{PathRecord}
+use Rattle.sa_records.specs.Component.{Component, on, is_selected, same_bit, same_base, satisfies}
+use Rattle.sa_records.specs.Speed.{rate_satisfies}
+
+abbrev pub path_record : PathRecord → List Field
+path_record one =
+    at 0 64 one.service_id
+    ∷ at 64 128 one.dgid
+    ∷ at 192 128 one.sgid
+    ∷ at 320 16 one.dlid
+    ∷ at 336 16 one.slid
+    ∷ at 352 1 (bit_of one.raw_traffic)
+    ∷ at 356 20 one.flow_label
+    ∷ at 376 8 one.hop_limit
+    ∷ at 384 8 one.t_class
+    ∷ at 392 1 (bit_of one.reversible)
+    ∷ at 393 7 one.numb_path
+    ∷ at 400 16 one.p_key
+    ∷ at 416 12 one.qos_class
+    ∷ at 428 4 one.sl
+    ∷ at 432 2 one.mtu_selector
+    ∷ at 434 6 one.mtu
+    ∷ at 440 2 one.rate_selector
+    ∷ at 442 6 one.rate
+    ∷ at 448 2 one.packet_life_time_selector
+    ∷ at 450 6 one.packet_life_time
+    ∷ at 456 8 one.preference
+    ∷ []
+
+-- the bytes that it fills in a table
+unfoldable pub path_record_bytes : PathRecord → List ℕ
+path_record_bytes one = put_all (replicate 64 0) (path_record one)
+
+-- the components by which paths are asked for. ServiceID (bits 0 and 1), Reversible (11) and NumbPath (12) constrain no
+-- record: NumbPath says how many are wanted
+abbrev pub path_record_components : PathRecord → PathRecord → List Component
+path_record_components shown asked =
+    on 4 (shown.dgid == asked.dgid)
+    ∷ on 8 (shown.sgid == asked.sgid)
+    ∷ on 16 (shown.dlid == asked.dlid)
+    ∷ on 32 (shown.slid == asked.slid)
+    ∷ on 64 (same_bit shown.raw_traffic asked.raw_traffic)
+    ∷ on 256 (shown.flow_label == asked.flow_label)
+    ∷ on 512 (shown.hop_limit == asked.hop_limit)
+    ∷ on 1024 (shown.t_class == asked.t_class)
+    ∷ on 8192 (same_base shown.p_key asked.p_key)
+    ∷ on 16384 (shown.qos_class == asked.qos_class)
+    ∷ on 32768 (shown.sl == asked.sl)
+    ∷ on 196608 (satisfies asked.mtu_selector shown.mtu asked.mtu)
+    ∷ on 786432 (rate_satisfies asked.rate_selector shown.rate asked.rate)
+    ∷ on 3145728 (satisfies asked.packet_life_time_selector shown.packet_life_time asked.packet_life_time)
+    ∷ []
+
+unfoldable pub path_record_selected : ℕ → PathRecord → PathRecord → Bool
+path_record_selected mask shown asked = is_selected mask (path_record_components shown asked)

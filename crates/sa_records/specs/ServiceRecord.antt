@@ -1,0 +1,117 @@
+-- ServiceRecord (InfiniBand volume 1, 15.2.5.14): the places of its fields.
+use Rattle.std.specs.Prelude.{ℕ, Bool, ◌==◌, ◌&&◌, List, [], ◌∷◌, replicate}
+use Rattle.mad_layout.specs.Bits.{number}
+use Rattle.mad_layout.specs.Layout.{Field, at, put_all}
+use Rattle.sa_records.specs.declared.service_record.ServiceRecord.{ServiceRecord}
+use Rattle.std.specs.Str.{bytes_eq}
+use Rattle.sa_records.specs.Component.{Component, on, is_selected, same_base, same_part}
+
+abbrev pub service_record : ServiceRecord → List Field
+service_record one =
+    at 0 64 one.service_id
+    ∷ at 64 128 one.service_gid
+    ∷ at 192 16 one.service_p_key
+    ∷ at 224 32 one.service_lease
+    ∷ at 256 128 one.service_key
+    ∷ at 384 512 (number one.service_name)
+    ∷ at 896 512 (number one.service_data)
+    ∷ []
+
+-- the bytes that it fills in a table
+unfoldable pub service_record_bytes : ServiceRecord → List ℕ
+service_record_bytes one = put_all (replicate 176 0) (service_record one)
+
+-- the components by which services are asked for: ServiceID, ServiceGID, ServiceP_Key, ServiceLease, ServiceKey and
+-- ServiceName
+abbrev pub names_components : ServiceRecord → ServiceRecord → List Component
+names_components shown asked =
+    on 1 (shown.service_id == asked.service_id)
+    ∷ on 2 (shown.service_gid == asked.service_gid)
+    ∷ on 4 (same_base shown.service_p_key asked.service_p_key)
+    ∷ on 16 (shown.service_lease == asked.service_lease)
+    ∷ on 32 (shown.service_key == asked.service_key)
+    ∷ on 64 (bytes_eq shown.service_name asked.service_name)
+    ∷ []
+
+unfoldable pub names_selected : ℕ → ServiceRecord → ServiceRecord → Bool
+names_selected mask shown asked = is_selected mask (names_components shown asked)
+
+-- ---- and the numbers in ServiceData, each by its bit in the mask, its first byte and how many it has
+-- Data8_1 to Data8_8
+abbrev pub data8_front_components : List ℕ → List ℕ → List Component
+data8_front_components shown asked =
+    on 128 (same_part 0 1 shown asked)
+    ∷ on 256 (same_part 1 1 shown asked)
+    ∷ on 512 (same_part 2 1 shown asked)
+    ∷ on 1024 (same_part 3 1 shown asked)
+    ∷ on 2048 (same_part 4 1 shown asked)
+    ∷ on 4096 (same_part 5 1 shown asked)
+    ∷ on 8192 (same_part 6 1 shown asked)
+    ∷ on 16384 (same_part 7 1 shown asked)
+    ∷ []
+
+unfoldable pub data8_front_selected : ℕ → List ℕ → List ℕ → Bool
+data8_front_selected mask shown asked = is_selected mask (data8_front_components shown asked)
+
+-- Data8_9 to Data8_16
+abbrev pub data8_back_components : List ℕ → List ℕ → List Component
+data8_back_components shown asked =
+    on 32768 (same_part 8 1 shown asked)
+    ∷ on 65536 (same_part 9 1 shown asked)
+    ∷ on 131072 (same_part 10 1 shown asked)
+    ∷ on 262144 (same_part 11 1 shown asked)
+    ∷ on 524288 (same_part 12 1 shown asked)
+    ∷ on 1048576 (same_part 13 1 shown asked)
+    ∷ on 2097152 (same_part 14 1 shown asked)
+    ∷ on 4194304 (same_part 15 1 shown asked)
+    ∷ []
+
+unfoldable pub data8_back_selected : ℕ → List ℕ → List ℕ → Bool
+data8_back_selected mask shown asked = is_selected mask (data8_back_components shown asked)
+
+-- Data16_1 to Data16_8
+abbrev pub data16_components : List ℕ → List ℕ → List Component
+data16_components shown asked =
+    on 8388608 (same_part 16 2 shown asked)
+    ∷ on 16777216 (same_part 18 2 shown asked)
+    ∷ on 33554432 (same_part 20 2 shown asked)
+    ∷ on 67108864 (same_part 22 2 shown asked)
+    ∷ on 134217728 (same_part 24 2 shown asked)
+    ∷ on 268435456 (same_part 26 2 shown asked)
+    ∷ on 536870912 (same_part 28 2 shown asked)
+    ∷ on 1073741824 (same_part 30 2 shown asked)
+    ∷ []
+
+unfoldable pub data16_selected : ℕ → List ℕ → List ℕ → Bool
+data16_selected mask shown asked = is_selected mask (data16_components shown asked)
+
+-- Data32_1 to Data32_4
+abbrev pub data32_components : List ℕ → List ℕ → List Component
+data32_components shown asked =
+    on 2147483648 (same_part 32 4 shown asked)
+    ∷ on 4294967296 (same_part 36 4 shown asked)
+    ∷ on 8589934592 (same_part 40 4 shown asked)
+    ∷ on 17179869184 (same_part 44 4 shown asked)
+    ∷ []
+
+unfoldable pub data32_selected : ℕ → List ℕ → List ℕ → Bool
+data32_selected mask shown asked = is_selected mask (data32_components shown asked)
+
+-- Data64_1 and Data64_2
+abbrev pub data64_components : List ℕ → List ℕ → List Component
+data64_components shown asked =
+    on 34359738368 (same_part 48 8 shown asked)
+    ∷ on 68719476736 (same_part 56 8 shown asked)
+    ∷ []
+
+unfoldable pub data64_selected : ℕ → List ℕ → List ℕ → Bool
+data64_selected mask shown asked = is_selected mask (data64_components shown asked)
+
+unfoldable pub service_record_selected : ℕ → ServiceRecord → ServiceRecord → Bool
+service_record_selected mask shown asked =
+    names_selected mask shown asked
+    && (data8_front_selected mask shown.service_data asked.service_data
+    && (data8_back_selected mask shown.service_data asked.service_data
+    && (data16_selected mask shown.service_data asked.service_data
+    && (data32_selected mask shown.service_data asked.service_data
+    && data64_selected mask shown.service_data asked.service_data))))

@@ -1,0 +1,27 @@
+//! The records of subnet administration: what requests ask by, and what answers show.
+//!
+//! Each record is a struct of raw fields and one table of their places, as headers and attributes are (`mad_layout`):
+//! `read` gives each field its value, `write` spells the record and 0 elsewhere, and contracts compare both with the
+//! list of places that stands in `specs/`. `selected_by` says whether a record agrees with a request on every
+//! component that the request's ComponentMask names; `specs/Component.antt` says what a component is, and each record
+//! lists its own (InfiniBand Architecture Specification, volume 1, 15.2.1.1 and 15.2.5).
+#![tactic(auto)]
+
+mod component;
+mod laws;
+mod mc_member_record;
+mod node_record;
+mod path_record;
+mod service_record;
+
+pub use crate::component::{code_satisfies, rate_satisfies};
+pub use crate::laws::{
+    mc_member_record_reads_back, node_record_reads_back, path_record_reads_back,
+    service_record_reads_back, the_numbers,
+};
+pub use crate::mc_member_record::{
+    MC_MEMBER_RECORD_BYTES, MC_MEMBER_RECORD_OFFSET, McMemberRecord,
+};
+pub use crate::node_record::{NODE_RECORD_BYTES, NODE_RECORD_OFFSET, NodeRecord};
+pub use crate::path_record::{PATH_RECORD_BYTES, PATH_RECORD_OFFSET, PathRecord};
+pub use crate::service_record::{SERVICE_RECORD_BYTES, SERVICE_RECORD_OFFSET, ServiceRecord};

@@ -1,0 +1,182 @@
+ghost use Rattle.std.specs.Prelude.{◌≡◌, ◌<◌, ◌≤◌, length, replicate};
+ghost use Rattle.mad_layout.specs.Layout.{Holds, Fits, put_all, Spells};
+ghost use Rattle.sa_records.specs.McMemberRecord.{mc_member_record, mc_member_record_bytes, mc_member_record_selected};
+
+use crate::component::{agrees, code_satisfies, rate_satisfies, same_base};
+use mad_layout::{JoinState, read_fields, write_fields};
+
+/// How many bytes an MCMemberRecord fills in a table: its 52, and zero bytes up to a multiple of 8.
+pub const MC_MEMBER_RECORD_BYTES: usize = 56;
+
+/// AttributeOffset of a table of MCMemberRecords: the same in units of 8 bytes.
+pub const MC_MEMBER_RECORD_OFFSET: u16 = (MC_MEMBER_RECORD_BYTES / 8) as u16;
+
+/// A multicast group, and how a port is a member of it, each field as its raw bits.
+///
+/// Source: IBA volume 1, 15.2.5 (MCMemberRecord).
+#[derive(Clone, Copy, Debug, PartialEq, Eq)]
+pub struct McMemberRecord {
+    /// The GID of the group.
+    pub mgid: u128,
+    /// The GID of the port that is a member.
+    pub port_gid: u128,
+    /// The key of the queue pairs of the group.
+    pub q_key: u32,
+    /// The multicast LID of the group.
+    pub mlid: u16,
+    /// How the MTU is compared, 2 bits.
+    pub mtu_selector: u8,
+    /// The code of the longest packet, 6 bits.
+    pub mtu: u8,
+    /// The class of traffic between subnets.
+    pub t_class: u8,
+    /// The key of the partition.
+    pub p_key: u16,
+    /// How the rate is compared, 2 bits.
+    pub rate_selector: u8,
+    /// The code of the rate, 6 bits.
+    pub rate: u8,
+    /// How the life time is compared, 2 bits.
+    pub packet_life_time_selector: u8,
+    /// The code of how long a packet may be on its way, 6 bits.
+    pub packet_life_time: u8,
+    /// The service level, 4 bits.
+    pub sl: u8,
+    /// The flow of packets between subnets, 20 bits.
+    pub flow_label: u32,
+    /// How many routers a packet may pass.
+    pub hop_limit: u8,
+    /// How far the group reaches, 4 bits.
+    pub scope: u8,
+    /// How the port is a member, 4 bits. [`McMemberRecord::join_state`] names them.
+    pub join_state: u8,
+    /// Whether another port joined for this one.
+    pub proxy_join: bool,
+}
+
+/// MCMemberRecord (IBA volume 1, 15.2.5): field, type, first bit, bits.
+macro_rules! mc_member_record_layout {
+    ($then:ident!($($context:tt)*)) => {
+        $then!($($context)*;
+            mgid: u128, 0, 128;
+            port_gid: u128, 128, 128;
+            q_key: u32, 256, 32;
+            mlid: u16, 288, 16;
+            mtu_selector: u8, 304, 2;
+            mtu: u8, 306, 6;
+            t_class: u8, 312, 8;
+            p_key: u16, 320, 16;
+            rate_selector: u8, 336, 2;
+            rate: u8, 338, 6;
+            packet_life_time_selector: u8, 344, 2;
+            packet_life_time: u8, 346, 6;
+            sl: u8, 352, 4;
+            flow_label: u32, 356, 20;
+            hop_limit: u8, 376, 8;
+            scope: u8, 384, 4;
+            join_state: u8, 388, 4;
+            proxy_join: bool, 392, 1;
+        )
+    };
+}
+
+impl McMemberRecord {
+    /// Reads the record that these bytes begin with; bits outside its fields are not looked at.
+    pub fn read(bytes: &[u8]) -> McMemberRecord
+        requires { 52 ≤ length bytes.now }
+        ensures fields { Holds bytes.now (mc_member_record result) }
+        ensures mtu_selector { result.mtu_selector < 4 }
+        ensures mtu { result.mtu < 64 }
+        ensures rate_selector { result.rate_selector < 4 }
+        ensures rate { result.rate < 64 }
+        ensures packet_life_time_selector { result.packet_life_time_selector < 4 }
+        ensures packet_life_time { result.packet_life_time < 64 }
+        ensures sl { result.sl < 16 }
+        ensures flow_label { result.flow_label < 1048576 }
+        ensures scope { result.scope < 16 }
+        ensures join_state { result.join_state < 16 }
+    {
+        mc_member_record_layout!(read_fields!(McMemberRecord bytes))
+    }
+
+    /// Writes the record; every bit outside its fields is 0.
+    pub fn write(&self, bytes: &mut [u8; MC_MEMBER_RECORD_BYTES])
+        requires mtu_selector { self.now.mtu_selector < 4 }
+        requires mtu { self.now.mtu < 64 }
+        requires rate_selector { self.now.rate_selector < 4 }
+        requires rate { self.now.rate < 64 }
+        requires packet_life_time_selector { self.now.packet_life_time_selector < 4 }
+        requires packet_life_time { self.now.packet_life_time < 64 }
+        requires sl { self.now.sl < 16 }
+        requires flow_label { self.now.flow_label < 1048576 }
+        requires scope { self.now.scope < 16 }
+        requires join_state { self.now.join_state < 16 }
+        ensures spells { Spells bytes.new (mc_member_record self.now) }
+        ensures bytes { bytes.new ≡ mc_member_record_bytes self.now }
+    {
+        self.put_over_zeros(bytes);
+    }
+
+    /// JoinState as a set.
+    pub fn join_state(&self) -> JoinState
+        ensures { result.0 ≡ self.now.join_state }
+    {
+        JoinState(self.join_state)
+    }
+
+    /// Whether the record agrees with `asked` on every component that the mask names.
+    #[tactic(auto, unfolding(crate::specs::McMemberRecord::mc_member_record_selected))]
+    pub fn selected_by(&self, mask: u64, asked: &McMemberRecord) -> bool
+        ensures { result ≡ mc_member_record_selected mask self.now asked.now }
+    {
+        agrees(mask, 1 << 0, self.mgid == asked.mgid)
+            && agrees(mask, 1 << 1, self.port_gid == asked.port_gid)
+            && agrees(mask, 1 << 2, self.q_key == asked.q_key)
+            && agrees(mask, 1 << 3, self.mlid == asked.mlid)
+            && agrees(
+                mask,
+                0b11 << 4,
+                code_satisfies(asked.mtu_selector, self.mtu, asked.mtu),
+            )
+            && agrees(mask, 1 << 6, self.t_class == asked.t_class)
+            && agrees(mask, 1 << 7, same_base(self.p_key, asked.p_key))
+            && agrees(
+                mask,
+                0b11 << 8,
+                rate_satisfies(asked.rate_selector, self.rate, asked.rate),
+            )
+            && agrees(
+                mask,
+                0b11 << 10,
+                code_satisfies(
+                    asked.packet_life_time_selector,
+                    self.packet_life_time,
+                    asked.packet_life_time,
+                ),
+            )
+            && agrees(mask, 1 << 12, self.sl == asked.sl)
+            && agrees(mask, 1 << 13, self.flow_label == asked.flow_label)
+            && agrees(mask, 1 << 14, self.hop_limit == asked.hop_limit)
+            && agrees(mask, 1 << 15, self.scope == asked.scope)
+            && agrees(mask, 1 << 16, self.join_state == asked.join_state)
+            && agrees(mask, 1 << 17, self.proxy_join == asked.proxy_join)
+    }
+
+    fn put_over_zeros(&self, bytes: &mut [u8; MC_MEMBER_RECORD_BYTES])
+        requires mtu_selector { self.now.mtu_selector < 4 }
+        requires mtu { self.now.mtu < 64 }
+        requires rate_selector { self.now.rate_selector < 4 }
+        requires rate { self.now.rate < 64 }
+        requires packet_life_time_selector { self.now.packet_life_time_selector < 4 }
+        requires packet_life_time { self.now.packet_life_time < 64 }
+        requires sl { self.now.sl < 16 }
+        requires flow_label { self.now.flow_label < 1048576 }
+        requires scope { self.now.scope < 16 }
+        requires join_state { self.now.join_state < 16 }
+        ensures fields { bytes.new ≡ put_all (replicate 56 0) (mc_member_record self.now) }
+        ensures fits { Fits (mc_member_record self.now) }
+    {
+        *bytes = [0; MC_MEMBER_RECORD_BYTES];
+        mc_member_record_layout!(write_fields!(self bytes))
+    }
+}

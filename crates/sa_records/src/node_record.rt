@@ -1,0 +1,109 @@
+ghost use Rattle.std.specs.Prelude.{◌≡◌, ◌<◌, ◌≤◌, length, replicate};
+ghost use Rattle.mad_layout.specs.Layout.{Holds, Fits, put_all, Spells};
+ghost use Rattle.sa_records.specs.NodeRecord.{node_record, node_record_bytes, node_record_selected};
+
+use crate::component::agrees;
+use mad_layout::{read_fields, write_fields};
+
+/// How many bytes a NodeRecord fills in a table: its 108, and zero bytes up to a multiple of 8.
+pub const NODE_RECORD_BYTES: usize = 112;
+
+/// AttributeOffset of a table of NodeRecords: the same in units of 8 bytes.
+pub const NODE_RECORD_OFFSET: u16 = (NODE_RECORD_BYTES / 8) as u16;
+
+/// A port of a node, with what the node says of itself, each field as its raw bits.
+///
+/// Source: IBA volume 1, 15.2.5; NodeInfo is 14.2.5.3.
+#[derive(Clone, Copy, Debug, PartialEq, Eq)]
+pub struct NodeRecord {
+    /// The LID of the port.
+    pub lid: u16,
+    /// The version of the MAD's base format that the node supports.
+    pub base_version: u8,
+    /// The version of the SMP's format that the node supports.
+    pub class_version: u8,
+    /// What kind of node it is.
+    pub node_type: u8,
+    /// How many ports the node has, a switch's port 0 not counted.
+    pub num_ports: u8,
+    /// The GUID of the system that the node is part of.
+    pub system_image_guid: u64,
+    /// The GUID of the node.
+    pub node_guid: u64,
+    /// The GUID of the port.
+    pub port_guid: u64,
+    /// How many entries each key table of the node has.
+    pub partition_cap: u16,
+    /// The device, as its vendor numbers it.
+    pub device_id: u16,
+    /// The device's revision.
+    pub revision: u32,
+    /// The port's own number.
+    pub local_port_num: u8,
+    /// The device's vendor, 24 bits.
+    pub vendor_id: u32,
+    /// The name of the node: text, and zero bytes after it.
+    pub node_string: [u8; 64],
+}
+
+/// NodeRecord (IBA volume 1, 15.2.5): field, type, first bit, bits.
+macro_rules! node_record_layout {
+    ($then:ident!($($context:tt)*)) => {
+        $then!($($context)*;
+            lid: u16, 0, 16;
+            base_version: u8, 32, 8;
+            class_version: u8, 40, 8;
+            node_type: u8, 48, 8;
+            num_ports: u8, 56, 8;
+            system_image_guid: u64, 64, 64;
+            node_guid: u64, 128, 64;
+            port_guid: u64, 192, 64;
+            partition_cap: u16, 256, 16;
+            device_id: u16, 272, 16;
+            revision: u32, 288, 32;
+            local_port_num: u8, 320, 8;
+            vendor_id: u32, 328, 24;
+            node_string: bytes_64, 352, 512;
+        )
+    };
+}
+
+impl NodeRecord {
+    /// Reads the record that these bytes begin with; bits outside its fields are not looked at.
+    pub fn read(bytes: &[u8]) -> NodeRecord
+        requires { 108 ≤ length bytes.now }
+        ensures fields { Holds bytes.now (node_record result) }
+        ensures vendor_id { result.vendor_id < 16777216 }
+    {
+        node_record_layout!(read_fields!(NodeRecord bytes))
+    }
+
+    /// Writes the record; every bit outside its fields is 0.
+    pub fn write(&self, bytes: &mut [u8; NODE_RECORD_BYTES])
+        requires { self.now.vendor_id < 16777216 }
+        ensures spells { Spells bytes.new (node_record self.now) }
+        ensures bytes { bytes.new ≡ node_record_bytes self.now }
+    {
+        self.put_over_zeros(bytes);
+    }
+
+    /// Whether the record agrees with `asked` on every component that the mask names.
+    #[tactic(auto, unfolding(crate::specs::NodeRecord::node_record_selected))]
+    pub fn selected_by(&self, mask: u64, asked: &NodeRecord) -> bool
+        ensures { result ≡ node_record_selected mask self.now asked.now }
+    {
+        agrees(mask, 1 << 0, self.lid == asked.lid)
+            && agrees(mask, 1 << 2, self.base_version == asked.base_version)
+            && agrees(mask, 1 << 3, self.class_version == asked.class_version)
+            && agrees(mask, 1 << 4, self.node_type == asked.node_type)
+    }
+
+    fn put_over_zeros(&self, bytes: &mut [u8; NODE_RECORD_BYTES])
+        requires { self.now.vendor_id < 16777216 }
+        ensures fields { bytes.new ≡ put_all (replicate 112 0) (node_record self.now) }
+        ensures fits { Fits (node_record self.now) }
+    {
+        *bytes = [0; NODE_RECORD_BYTES];
+        node_record_layout!(write_fields!(self bytes))
+    }
+}

@@ -1,0 +1,183 @@
+ghost use Rattle.std.specs.Prelude.{◌≡◌, ◌<◌, ◌≤◌, length, replicate};
+ghost use Rattle.mad_layout.specs.Layout.{Holds, Fits, put_all, Spells};
+ghost use Rattle.sa_records.specs.PathRecord.{path_record, path_record_bytes, path_record_selected};
+
+use crate::component::{agrees, code_satisfies, rate_satisfies, same_base};
+use mad_layout::{read_fields, write_fields};
+
+/// How many bytes a PathRecord fills in a table.
+pub const PATH_RECORD_BYTES: usize = 64;
+
+/// AttributeOffset of a table of PathRecords: the same in units of 8 bytes.
+pub const PATH_RECORD_OFFSET: u16 = (PATH_RECORD_BYTES / 8) as u16;
+
+/// A path between two ports, each field as its raw bits.
+///
+/// Source: IBA volume 1, 15.2.5.
+#[derive(Clone, Copy, Debug, PartialEq, Eq)]
+pub struct PathRecord {
+    /// The service that the path is to serve.
+    pub service_id: u64,
+    /// The GID of the port that the path leads to.
+    pub dgid: u128,
+    /// The GID of the port that it comes from.
+    pub sgid: u128,
+    /// The LID of the port that it leads to.
+    pub dlid: u16,
+    /// The LID of the port that it comes from.
+    pub slid: u16,
+    /// Whether raw packets go over it.
+    pub raw_traffic: bool,
+    /// The flow of packets between subnets, 20 bits.
+    pub flow_label: u32,
+    /// How many routers a packet may pass.
+    pub hop_limit: u8,
+    /// The class of traffic between subnets.
+    pub t_class: u8,
+    /// Whether packets can go back by it.
+    pub reversible: bool,
+    /// How many paths are asked for at most, 7 bits.
+    pub numb_path: u8,
+    /// The key of the partition.
+    pub p_key: u16,
+    /// The class of service, 12 bits.
+    pub qos_class: u16,
+    /// The service level, 4 bits.
+    pub sl: u8,
+    /// How the MTU is compared, 2 bits.
+    pub mtu_selector: u8,
+    /// The code of the longest packet, 6 bits.
+    pub mtu: u8,
+    /// How the rate is compared, 2 bits.
+    pub rate_selector: u8,
+    /// The code of the rate, 6 bits.
+    pub rate: u8,
+    /// How the life time is compared, 2 bits.
+    pub packet_life_time_selector: u8,
+    /// The code of how long a packet may be on its way, 6 bits.
+    pub packet_life_time: u8,
+    /// Which of several paths is preferred.
+    pub preference: u8,
+}
+
+/// PathRecord (IBA volume 1, 15.2.5): field, type, first bit, bits.
+macro_rules! path_record_layout {
+    ($then:ident!($($context:tt)*)) => {
+        $then!($($context)*;
+            service_id: u64, 0, 64;
+            dgid: u128, 64, 128;
+            sgid: u128, 192, 128;
+            dlid: u16, 320, 16;
+            slid: u16, 336, 16;
+            raw_traffic: bool, 352, 1;
+            flow_label: u32, 356, 20;
+            hop_limit: u8, 376, 8;
+            t_class: u8, 384, 8;
+            reversible: bool, 392, 1;
+            numb_path: u8, 393, 7;
+            p_key: u16, 400, 16;
+            qos_class: u16, 416, 12;
+            sl: u8, 428, 4;
+            mtu_selector: u8, 432, 2;
+            mtu: u8, 434, 6;
+            rate_selector: u8, 440, 2;
+            rate: u8, 442, 6;
+            packet_life_time_selector: u8, 448, 2;
+            packet_life_time: u8, 450, 6;
+            preference: u8, 456, 8;
+        )
+    };
+}
+
+impl PathRecord {
+    /// Reads the record that these bytes begin with; bits outside its fields are not looked at.
+    pub fn read(bytes: &[u8]) -> PathRecord
+        requires { 64 ≤ length bytes.now }
+        ensures fields { Holds bytes.now (path_record result) }
+        ensures flow_label { result.flow_label < 1048576 }
+        ensures numb_path { result.numb_path < 128 }
+        ensures qos_class { result.qos_class < 4096 }
+        ensures sl { result.sl < 16 }
+        ensures mtu_selector { result.mtu_selector < 4 }
+        ensures mtu { result.mtu < 64 }
+        ensures rate_selector { result.rate_selector < 4 }
+        ensures rate { result.rate < 64 }
+        ensures packet_life_time_selector { result.packet_life_time_selector < 4 }
+        ensures packet_life_time { result.packet_life_time < 64 }
+    {
+        path_record_layout!(read_fields!(PathRecord bytes))
+    }
+
+    /// Writes the record; every bit outside its fields is 0.
+    pub fn write(&self, bytes: &mut [u8; PATH_RECORD_BYTES])
+        requires flow_label { self.now.flow_label < 1048576 }
+        requires numb_path { self.now.numb_path < 128 }
+        requires qos_class { self.now.qos_class < 4096 }
+        requires sl { self.now.sl < 16 }
+        requires mtu_selector { self.now.mtu_selector < 4 }
+        requires mtu { self.now.mtu < 64 }
+        requires rate_selector { self.now.rate_selector < 4 }
+        requires rate { self.now.rate < 64 }
+        requires packet_life_time_selector { self.now.packet_life_time_selector < 4 }
+        requires packet_life_time { self.now.packet_life_time < 64 }
+        ensures spells { Spells bytes.new (path_record self.now) }
+        ensures bytes { bytes.new ≡ path_record_bytes self.now }
+    {
+        self.put_over_zeros(bytes);
+    }
+
+    /// Whether the record agrees with `asked` on every component that the mask names.
+    #[tactic(auto, unfolding(crate::specs::PathRecord::path_record_selected))]
+    pub fn selected_by(&self, mask: u64, asked: &PathRecord) -> bool
+        ensures { result ≡ path_record_selected mask self.now asked.now }
+    {
+        agrees(mask, 1 << 2, self.dgid == asked.dgid)
+            && agrees(mask, 1 << 3, self.sgid == asked.sgid)
+            && agrees(mask, 1 << 4, self.dlid == asked.dlid)
+            && agrees(mask, 1 << 5, self.slid == asked.slid)
+            && agrees(mask, 1 << 6, self.raw_traffic == asked.raw_traffic)
+            && agrees(mask, 1 << 8, self.flow_label == asked.flow_label)
+            && agrees(mask, 1 << 9, self.hop_limit == asked.hop_limit)
+            && agrees(mask, 1 << 10, self.t_class == asked.t_class)
+            && agrees(mask, 1 << 13, same_base(self.p_key, asked.p_key))
+            && agrees(mask, 1 << 14, self.qos_class == asked.qos_class)
+            && agrees(mask, 1 << 15, self.sl == asked.sl)
+            && agrees(
+                mask,
+                0b11 << 16,
+                code_satisfies(asked.mtu_selector, self.mtu, asked.mtu),
+            )
+            && agrees(
+                mask,
+                0b11 << 18,
+                rate_satisfies(asked.rate_selector, self.rate, asked.rate),
+            )
+            && agrees(
+                mask,
+                0b11 << 20,
+                code_satisfies(
+                    asked.packet_life_time_selector,
+                    self.packet_life_time,
+                    asked.packet_life_time,
+                ),
+            )
+    }
+
+    fn put_over_zeros(&self, bytes: &mut [u8; PATH_RECORD_BYTES])
+        requires flow_label { self.now.flow_label < 1048576 }
+        requires numb_path { self.now.numb_path < 128 }
+        requires qos_class { self.now.qos_class < 4096 }
+        requires sl { self.now.sl < 16 }
+        requires mtu_selector { self.now.mtu_selector < 4 }
+        requires mtu { self.now.mtu < 64 }
+        requires rate_selector { self.now.rate_selector < 4 }
+        requires rate { self.now.rate < 64 }
+        requires packet_life_time_selector { self.now.packet_life_time_selector < 4 }
+        requires packet_life_time { self.now.packet_life_time < 64 }
+        ensures fields { bytes.new ≡ put_all (replicate 64 0) (path_record self.now) }
+        ensures fits { Fits (path_record self.now) }
+    {
+        *bytes = [0; PATH_RECORD_BYTES];
+        path_record_layout!(write_fields!(self bytes))
+    }
+}
