@@ -14,3 +14,4 @@ pub mod ExampleLemmas
 pub mod BestLemmas
 pub mod ExistLemmas
 pub mod FabricLemmas
+pub mod RoundLemmas

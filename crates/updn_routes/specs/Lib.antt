@@ -8,3 +8,4 @@ pub mod Fabric
 pub mod Places
 pub mod Laws
 pub mod Examples
+pub mod Rounds

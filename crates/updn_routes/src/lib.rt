@@ -7,8 +7,10 @@
 //! laws over these definitions; none computes a route yet.
 #![tactic(auto)]
 
+mod distance;
 mod laws;
 mod link;
+mod row;
 
 pub use crate::laws::{
     choices_lead_home, every_fabric_has_routes, joined_switches_have_distances, no_circle_waits,
@@ -17,3 +19,4 @@ pub use crate::laws::{
     the_tree_leads_to_the_first_root, the_two_switch_fabric_meets_the_laws, ways_down_come_first,
 };
 pub use crate::link::Link;
+pub use crate::row::Row;
