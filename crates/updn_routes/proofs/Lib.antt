@@ -15,3 +15,4 @@ pub mod BestLemmas
 pub mod ExistLemmas
 pub mod FabricLemmas
 pub mod RoundLemmas
+pub mod WriteLemmas

@@ -9,3 +9,4 @@ pub mod Places
 pub mod Laws
 pub mod Examples
 pub mod Rounds
+pub mod Tables

@@ -10,7 +10,9 @@
 mod distance;
 mod laws;
 mod link;
+mod place;
 mod row;
+mod table;
 
 pub use crate::laws::{
     choices_lead_home, every_fabric_has_routes, joined_switches_have_distances, no_circle_waits,
