@@ -16,3 +16,6 @@ pub mod ExistLemmas
 pub mod FabricLemmas
 pub mod RoundLemmas
 pub mod WriteLemmas
+pub mod EntryLemmas
+pub mod RootLemmas
+pub mod AnswerLemmas

@@ -1,5 +1,5 @@
 -- Tables while they are written: an entry that is set changes none of those that do not read it.
-use Rattle.std.proofs.Common.{◌≡◌, ◌≢◌, ℕ, zero, suc, ◌+◌, ◌-◌, ◌<◌, ◌≤◌, Bool, true, false, not, cond, ◌==◌, nat_lt, List, [], ◌∷◌, length, map, slice_set, get_or, ◌⊎◌, inl, inr}
+use Rattle.std.proofs.Common.{◌≡◌, ◌≢◌, ℕ, zero, suc, ◌+◌, ◌-◌, ◌<◌, ◌≤◌, Bool, true, false, not, cond, ◌==◌, nat_lt, List, [], ◌∷◌, ◌++◌, length, map, slice_set, get_or, ◌⊎◌, inl, inr}
 use Rattle.std.proofs.Common.{Option, Some, None, IfSome, refl, sym, ap, subst, ◌∙◌, arith, get_or-set_same, get_or-set_other}
 use Rattle.std.proofs.lemmas.List.{set-get_or}
 use Rattle.std.specs.List.{fold, list_all, range_with_len}
@@ -9,7 +9,7 @@ use Rattle.std.proofs.lemmas.List.FromFn.{get_or-map-range_with_len, length-map-
 use Rattle.updn_routes.specs.declared.link.Link.{Link}
 use Rattle.updn_routes.specs.declared.table.Hop.{Hop}
 use Rattle.updn_routes.specs.Cabling.{links_of}
-use Rattle.updn_routes.specs.Tables.{AllDown, AllUp, AllWithin, IsDownFrom, IsUpTo, best_of, entry_at, entry_first, home, or_better, or_link, or_up, shorter}
+use Rattle.updn_routes.specs.Tables.{AllDown, AllUp, AllWithin, AreTables, IsDownFrom, IsTable, IsUpTo, best_of, entry_at, entry_first, home, or_better, or_link, or_up, shorter}
 use Rattle.updn_routes.proofs.CablingLemmas.{list_all_weaker}
 
 -- ---- lists
@@ -234,3 +234,36 @@ up_step ups down table last most way all less is so_far = by (entry_at table las
         let kept : way ≡ entry_at table last = is ∙ (ap (λ o. or_up o (best_of table (links_of ups last))) e ∙ sym e) in
         let same : table ≡ slice_set table last way = sym (ap (λ o. slice_set table last o) kept ∙ set-get_or table last None) in
         subst (λ (list : List (Option Hop)). IsUpTo ups down (last + 1) (most + 1) list) same (up_same ups down table last most hop e so_far)
+
+-- ---- all targets
+pub tables_none : (downs ups : List (List Link)) → AreTables downs ups 0 []
+tables_none downs ups =
+    record { count = refl; each = λ d less. absurd (let no_room : ⊥ = omega (arith, less) in no_room) }
+
+at_push : (tables : List (List (Option Hop))) (one : List (Option Hop)) (i : ℕ) → i < length tables
+    → get_or (tables ++ one ∷ []) i [] ≡ get_or tables i []
+at_push [] one i less = absurd (let no_room : ⊥ = omega (arith, less) in no_room)
+at_push (table ∷ tables) one zero less = refl
+at_push (table ∷ tables) one (suc i) less = at_push tables one i (omega (arith, less))
+
+at_last : (tables : List (List (Option Hop))) (one : List (Option Hop))
+    → get_or (tables ++ one ∷ []) (length tables) [] ≡ one
+at_last [] one = refl
+at_last (table ∷ tables) one = at_last tables one
+
+long_push : (tables : List (List (Option Hop))) (one : List (Option Hop)) → length (tables ++ one ∷ []) ≡ length tables + 1
+long_push [] one = refl
+long_push (table ∷ tables) one = let more = long_push tables one in omega (arith, more)
+
+pub tables_more : (downs ups : List (List Link)) (many : ℕ) (tables : List (List (Option Hop))) (one : List (Option Hop))
+    → AreTables downs ups many tables → IsTable downs ups many one → AreTables downs ups (many + 1) (tables ++ one ∷ [])
+tables_more downs ups many tables one are is =
+    record { count = long_push tables one ∙ ap (λ k. k + 1) are.count; each = λ d less. by d less (cases_lt d many) }
+  where
+    by : (d : ℕ) → d < many + 1 → (d < many) ⊎ (many ≤ d) → IsTable downs ups d (get_or (tables ++ one ∷ []) d [])
+    by d less (inl low) =
+        subst (λ (t : List (Option Hop)). IsTable downs ups d t) (sym (at_push tables one d (let long = are.count in omega (arith, low, long)))) (are.each d low)
+    by d less (inr high) =
+        let same : many ≡ d = omega (arith, less, high) in
+        subst (λ (k : ℕ). IsTable downs ups k (get_or (tables ++ one ∷ []) k [])) same
+        (subst (λ (t : List (Option Hop)). IsTable downs ups many t) (sym (ap (λ k. get_or (tables ++ one ∷ []) k []) (sym are.count) ∙ at_last tables one)) is)

@@ -10,3 +10,5 @@ pub mod Laws
 pub mod Examples
 pub mod Rounds
 pub mod Tables
+pub mod Routes
+pub mod Fault

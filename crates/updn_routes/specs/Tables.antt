@@ -99,6 +99,11 @@ pub record IsTable (downs ups : List (List Link)) (d : ℕ) (table : List (Optio
   pub down_is : IsDownFrom downs d 0 d down
   pub up_is : IsUpTo ups down (length downs) (d + length downs) table
 
+-- the tables towards the targets at so many places
+pub record AreTables (downs ups : List (List Link)) (many : ℕ) (tables : List (List (Option Hop))) : Type 0 where
+  pub count : length tables ≡ many
+  pub each : (d : ℕ) → d < many → IsTable downs ups d (get_or tables d [])
+
 -- all links of these rows lead to later places, and all of those to earlier ones
 abbrev pub AllDown : List (List Link) → Type 0
 AllDown downs = (p : ℕ) → list_all (λ link. nat_lt p link.to) (links_of downs p) ≡ true

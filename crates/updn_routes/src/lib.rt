@@ -8,9 +8,14 @@
 #![tactic(auto)]
 
 mod distance;
+mod fault;
 mod laws;
 mod link;
 mod place;
+pub mod probing;
+mod root;
+mod routes;
+mod routing;
 mod row;
 mod table;
 
@@ -21,4 +26,7 @@ pub use crate::laws::{
     the_tree_leads_to_the_first_root, the_two_switch_fabric_meets_the_laws, ways_down_come_first,
 };
 pub use crate::link::Link;
+pub use crate::fault::RouteFault;
+pub use crate::routes::Routes;
+pub use crate::routing::routes_over;
 pub use crate::row::Row;

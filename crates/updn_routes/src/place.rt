@@ -52,7 +52,7 @@ fn rank_of(ranks: &[usize], switch: usize) -> usize
     }
 }
 
-fn guid_of(guids: &[u64], switch: usize) -> u64
+pub(crate) fn guid_of(guids: &[u64], switch: usize) -> u64
     ensures { result ≡ get_or guids.now switch 0 }
 {
     match guids.get(switch) {

@@ -1,13 +1,14 @@
 //! The table towards one switch: the port and the hops that are left from each place.
 
-ghost use Rattle.std.specs.Prelude.{ℕ, ◌≡◌, ◌≤◌, ◌<◌, ◌+◌, map, length, IfOk, IfSome};
+ghost use Rattle.std.specs.Prelude.{ℕ, ◌≡◌, ◌≤◌, ◌<◌, ◌+◌, map, length, get_or, [], IfOk, IfSome};
 ghost use Rattle.std.specs.List.{range_with_len};
 ghost use Rattle.updn_routes.specs.Cabling.{links_of};
-ghost use Rattle.updn_routes.specs.Tables.{AllDown, AllUp, AllWithin, IsDownFrom, IsTable, IsUpTo, best_of, entry_at, entry_first, or_better, or_up};
+ghost use Rattle.updn_routes.specs.Tables.{AllDown, AllUp, AllWithin, AreTables, IsDownFrom, IsTable, IsUpTo, best_of, entry_at, entry_first, or_better, or_up};
 
 use crate::link::Link;
 use crate::row::{Row, links_of};
 use std::alloc::{AllocError, Global};
+use std::marker::Model;
 
 /// The next hop of a route, and how many are left with it.
 #[derive(Clone, Copy, Debug, PartialEq, Eq)]
@@ -18,25 +19,69 @@ pub(crate) struct Hop {
     pub hops: u8,
 }
 
+/// The hops towards one switch, by the place at which they begin.
+#[derive(Debug, Drop)]
+pub(crate) struct Table {
+    entries: Vec<Option<Hop>>,
+}
+
+impl Model for Table {
+    ghost use Rattle.std.specs.Prelude.{List, Option};
+    ghost use Rattle.updn_routes.specs.declared.table.Hop.{Hop};
+
+    ghost Value = { List (Option Hop) };
+
+    ghost view = { λ table. table.entries.items };
+}
+
+impl Table {
+    /// The entries.
+    pub(crate) fn as_slice(&self) -> &[Option<Hop>]
+        ensures { result.now ≡ self.now }
+    {
+        &self.entries
+    }
+}
+
 /// At the target itself.
 const HOME: Hop = Hop { port: 0, hops: 0 };
 
-/// The table towards the target at that place. Memory alone can be refused.
-pub(crate) fn table(
+/// The table towards each switch, by the switch's place. Memory alone can be refused.
+pub(crate) fn all_tables(
+    alloc: Global,
+    downs: &[Row],
+    ups: &[Row],
+) -> Result<Vec<Table>, AllocError>
+    requires few { length downs.now ≤ 64 }
+    requires count { length ups.now ≡ length downs.now }
+    requires down { AllDown downs.now }
+    requires up { AllUp ups.now }
+    ensures { IfOk result (λ tables. AreTables downs.now ups.now (length downs.now) tables.items) }
+{
+    let mut tables = Vec::new(alloc);
+    for target in 0..downs.len() {
+        tables.push(table_towards(alloc, downs, ups, target)?)?;
+    }
+    Ok(tables)
+}
+
+/// The table towards the target at that place.
+fn table_towards(
     alloc: Global,
     downs: &[Row],
     ups: &[Row],
     target: usize,
-) -> Result<Vec<Option<Hop>>, AllocError>
+) -> Result<Table, AllocError>
     requires few { length downs.now ≤ 64 }
     requires count { length ups.now ≡ length downs.now }
     requires there { target < length downs.now }
     requires down { AllDown downs.now }
     requires up { AllUp ups.now }
-    ensures { IfOk result (λ table. IsTable downs.now ups.now target table.items) }
+    ensures { IfOk result (λ table. IsTable downs.now ups.now target table) }
 {
-    let table = downwards(alloc, downs, target)?;
-    Ok(upwards(ups, target, table))
+    let downwards = downwards(alloc, downs, target)?;
+    let entries = upwards(ups, target, downwards);
+    Ok(Table { entries })
 }
 
 /// The ways down: each place reads the entries of later places alone, and these are written before it.
@@ -114,6 +159,16 @@ fn or_better(best: Option<Hop>, port: u8, beyond: Option<Hop>) -> Option<Hop>
     match best {
         Some(best) if best.hops <= hops => Some(best),
         _ => Some(Hop { port, hops }),
+    }
+}
+
+/// The table towards the switch at a place; no entry, where there is no such place.
+pub(crate) fn table_at(tables: &[Table], place: usize) -> &[Option<Hop>]
+    ensures { result.now ≡ get_or tables.now place [] }
+{
+    match tables.get(place) {
+        Some(table) => table.as_slice(),
+        None => &[],
     }
 }
 
