@@ -16,12 +16,12 @@ use Rattle.updn_routes.specs.Fabric.{IsFabric}
 use Rattle.updn_routes.specs.Laws.{KeepsTheOrder}
 use Rattle.updn_routes.specs.Order.{AreDistances, AreRanks, IsDistance, IsOrder, is_first_root, is_root, place_of, precedes}
 use Rattle.updn_routes.specs.Rounds.{is_marked}
-use Rattle.updn_routes.specs.Routes.{AllReached, AllRouted, AreRoutes, AreRoutesOf, IsFirstUnreached, IsPair, IsRouted, LeadsToLid, LegalPath, NoLegalPath, RoutesState, all_hang, carries, has_gap, home_of, hop_to, is_gap, next_hop, order_of, port_towards, routes_with}
+use Rattle.updn_routes.specs.Routes.{AllReached, AllRouted, AreRoutes, AreRoutesOf, IsFirstUnreached, IsPair, IsRouted, LeadsToLid, LegalPath, NoLegalPath, RoutesState, all_hang, carries, has_gap, home_of, hop_to, is_gap, next_hop, number_of, order_of, port_towards, routes_with}
 use Rattle.updn_routes.specs.Tables.{AreTables, all_downs, all_ups, downs_at, place_at, places_of}
 use Rattle.updn_routes.specs.Tree.{AreDepths}
-use Rattle.updn_routes.specs.UpDown.{channel_numbers, is_legal}
-use Rattle.updn_routes.proofs.CablingLemmas.{ends}
-use Rattle.updn_routes.proofs.EntryLemmas.{places_count, places_keep, table_home, table_right}
+use Rattle.updn_routes.specs.UpDown.{channel_number, channel_numbers, is_legal}
+use Rattle.updn_routes.proofs.CablingLemmas.{ends, leads_there, next_leads}
+use Rattle.updn_routes.proofs.EntryLemmas.{place_is, places_count, places_keep, table_home, table_right}
 use Rattle.updn_routes.proofs.FabricLemmas.{FirstRoot, first_root}
 use Rattle.updn_routes.proofs.NumberLemmas.{legal_numbers, legal_short}
 use Rattle.updn_routes.proofs.OrderLemmas.{ranks_order}
@@ -176,7 +176,7 @@ module _ (routes : RoutesState) (are : AreRoutes routes) where
                 (let same = there.3 in
                 let is : there.0 ≡ home = cc (there.2, h) in
                 ltb-true home.node (length routes.rows) (subst (λ (one : PortRef). nat_lt one.node (length routes.rows) ≡ true) is
-                  (subst (λ (one : PortRef). nat_lt one.node (length routes.rows) ≡ true) same (at homes i there.0 there.1 all))))
+                (subst (λ (one : PortRef). nat_lt one.node (length routes.rows) ≡ true) same (at homes i there.0 there.1 all))))
             | inr past ↦ absurd (let no_room : ⊥ = cc (past.1, h) in no_room)
           ]
         where
@@ -269,7 +269,7 @@ some_at p (x ∷ xs) d some = by (or_cases (p x) (list_any p xs) some) (λ h. so
     by (inl here) later = (0, (omega arith, here))
     by (inr h) later = let more = later h in let less = more.1.0 in (suc more.0, (omega (arith, less), more.1.1))
 
-get_or_default : {X : Type 0} (xs : List X) (i : ℕ) (one other : X) → i < length xs → get_or xs i one ≡ get_or xs i other
+pub get_or_default : {X : Type 0} (xs : List X) (i : ℕ) (one other : X) → i < length xs → get_or xs i one ≡ get_or xs i other
 get_or_default [] i one other less = absurd (let no_room : ⊥ = omega (arith, less) in no_room)
 get_or_default (x ∷ xs) zero one other less = refl
 get_or_default (x ∷ xs) (suc i) one other less = get_or_default xs i one other (omega (arith, less))
@@ -343,7 +343,7 @@ module _ (routes : RoutesState) (are : AreRoutes routes) where
   abbrev at_place : ℕ → PortRef
   at_place i = get_or routes.homes i (record { node = 0; port = 0 })
 
-  gap_there : (i : ℕ) → position (has_gap routes) routes.homes ≡ Some i
+  pub gap_there : (i : ℕ) → position (has_gap routes) routes.homes ≡ Some i
       → position (is_gap routes (at_place i).node) routes.homes ≡ None → ⊥
   gap_there i e none =
       let from = position-Some (has_gap routes) routes.homes i (record { node = 0; port = 0 }) e in
@@ -411,9 +411,45 @@ module _ (routes : RoutesState) (are : AreRoutes routes) where
           let home : at_place i ≡ record { node = s; port = 0 } = ap at_place (sym same) ∙ (sym (same_default at.0 (record { node = s; port = 0 }) at.1.1.0) ∙ at.1.1.1) in
           let node : (at_place i).node ≡ s = ap (λ h. h.node) home in
           legal_pair a b s d other (inr (λ port h.
-            let there = stands routes.homes b (record { node = d; port = port }) h in
-            let ends = there.1.0 in
-            let less = later.1 in
-            let low : there.0 < j = omega (arith, ends, less) in
-            subst (λ (from : ℕ). is_gap routes from (record { node = d; port = port }) ≡ false) node
-            (subst (λ (one : PortRef). is_gap routes (at_place i).node one ≡ false) (sym (same_default there.0 (record { node = d; port = port }) there.1.1.0) ∙ there.1.1.1) (to.2 there.0 low))))
+          let there = stands routes.homes b (record { node = d; port = port }) h in
+          let ends = there.1.0 in
+          let less = later.1 in
+          let low : there.0 < j = omega (arith, ends, less) in
+          subst (λ (from : ℕ). is_gap routes from (record { node = d; port = port }) ≡ false) node
+          (subst (λ (one : PortRef). is_gap routes (at_place i).node one ≡ false) (sym (same_default there.0 (record { node = d; port = port }) there.1.1.0) ∙ there.1.1.1) (to.2 there.0 low))))
+
+-- ---- channel numbers
+module _ (routes : RoutesState) (are : AreRoutes routes) where
+  abbrev comes_before : ℕ → ℕ → Bool
+  comes_before = precedes routes.ranks routes.guids
+
+  kept : KeepsTheOrder (length routes.rows) comes_before (place_at routes.places)
+  kept =
+      subst (λ (n : ℕ). KeepsTheOrder n comes_before (place_at routes.places)) are.count
+      (subst (λ (ps : List ℕ). KeepsTheOrder (length routes.guids) comes_before (place_at ps)) (sym are.places) (places_keep routes.ranks routes.guids (subst (λ (n : ℕ). IsOrder n comes_before) (sym are.count) are.order)))
+
+  placed : (s : ℕ) → s < length routes.rows → place_of comes_before (length routes.rows) s ≡ place_at routes.places s
+  placed s less =
+      let count = are.count in
+      ap (λ n. place_of comes_before n s) (sym are.count) ∙ (sym (place_is routes.ranks routes.guids s (omega (arith, less, count))) ∙ ap (λ ps. place_at ps s) (sym are.places))
+
+  side : (s t : ℕ) → is_next_to routes.rows s t ≡ true → (s < length routes.rows) × (t < length routes.rows)
+  side s t beside =
+      let out = next_leads routes.rows s t beside in
+      let low = leads_there routes.rows s out.0 t out.1 in
+      (low, (ends routes.rows s t are.cabling low beside).0)
+
+  pub place_low : (s t : ℕ) → is_next_to routes.rows s t ≡ true → place_at routes.places s < length routes.rows
+  place_low s t beside = kept.below s (side s t beside).0
+
+  pub number_is : (s t : ℕ) → is_next_to routes.rows s t ≡ true
+      → number_of routes s t ≡ Some (cond (nat_lt (place_at routes.places t) (place_at routes.places s)) (length routes.rows - 1 - place_at routes.places s) (length routes.rows + place_at routes.places s))
+  number_is s t beside =
+      let low = side s t beside in
+      ap (λ b. cond b (Some (channel_number comes_before (length routes.rows) s t)) None) beside
+      ∙ (ap (λ b. Some (cond b (length routes.rows - 1 - place_of comes_before (length routes.rows) s) (length routes.rows + place_of comes_before (length routes.rows) s))) (sym (kept.less t s low.1 low.0))
+      ∙ ap (λ k. Some (cond (nat_lt (place_at routes.places t) (place_at routes.places s)) (length routes.rows - 1 - k) (length routes.rows + k))) (placed s low.0))
+
+-- ---- lengths
+pub downs_count : (rows : List (List Link)) (places : List ℕ) → length (all_downs rows places) ≡ length places
+downs_count rows places = length-map-range_with_len (downs_at rows places) 0 (length places)

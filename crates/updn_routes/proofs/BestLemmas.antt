@@ -65,22 +65,22 @@ pub take_best : (kind : ℕ → Bool) (far : ℕ → Option ℕ) (link : Link) (
     → BestIn (link ∷ row) kind far link.port k
 take_best kind far link row k fits at nearest least =
     (
-      record {
-        to = link.to;
-        out = or_left (goes link.port link.to link) _ (and_from (link.port == link.port) (link.to == link.to) (eq-eqb link.port link.port refl) (eq-eqb link.to link.to refl));
-        fits = fits;
-        at = at;
-        nearest = λ q t j way so far_is. elim (or_cases (goes q t link) (list_any (goes q t) row) way) [
-          | inl here ↦
-              (let same = eqb-true link.to t (and_parts (link.port == q) (link.to == t) here).1 in
-              let even = same_some k j (sym at ∙ (ap far same ∙ far_is)) in omega (arith, even))
-          | inr later ↦ nearest q t j later so far_is
-        ];
-        least = λ q t way so far_is. elim (or_cases (goes q t link) (list_any (goes q t) row) way) [
-          | inl here ↦ (let same = eqb-true link.port q (and_parts (link.port == q) (link.to == t) here).0 in omega (arith, same))
-          | inr later ↦ least q t later so far_is
-        ];
-      }
+    record {
+      to = link.to;
+      out = or_left (goes link.port link.to link) _ (and_from (link.port == link.port) (link.to == link.to) (eq-eqb link.port link.port refl) (eq-eqb link.to link.to refl));
+      fits = fits;
+      at = at;
+      nearest = λ q t j way so far_is. elim (or_cases (goes q t link) (list_any (goes q t) row) way) [
+        | inl here ↦
+            (let same = eqb-true link.to t (and_parts (link.port == q) (link.to == t) here).1 in
+            let even = same_some k j (sym at ∙ (ap far same ∙ far_is)) in omega (arith, even))
+        | inr later ↦ nearest q t j later so far_is
+      ];
+      least = λ q t way so far_is. elim (or_cases (goes q t link) (list_any (goes q t) row) way) [
+        | inl here ↦ (let same = eqb-true link.port q (and_parts (link.port == q) (link.to == t) here).0 in omega (arith, same))
+        | inr later ↦ least q t later so far_is
+      ];
+    }
     )
 
 take : (kind : ℕ → Bool) (far : ℕ → Option ℕ) (link : Link) (row : List Link) (k : ℕ) → kind link.to ≡ true
@@ -97,27 +97,27 @@ pub pass_best : (kind : ℕ → Bool) (far : ℕ → Option ℕ) (link : Link) (
     → BestIn row kind far port k → BestIn (link ∷ row) kind far port k
 pass_best kind far link row j port k at worse best =
     (
-      record {
-        to = best.to;
-        out = or_right (goes port best.to link) _ best.out;
-        fits = best.fits;
-        at = best.at;
-        nearest = λ q t i way so far_is. elim (or_cases (goes q t link) (list_any (goes q t) row) way) [
-          | inl here ↦ (let even = here_is q t i here far_is in elim worse [ inl past ↦ omega (arith, past, even) | inr tie ↦ (let same = tie.0 in omega (arith, same, even)) ])
-          | inr later ↦ best.nearest q t i later so far_is
-        ];
-        least = λ q t way so far_is. elim (or_cases (goes q t link) (list_any (goes q t) row) way) [
-          | inl here ↦
-              (let even = here_is q t k here far_is in
-              let own = eqb-true link.port q (and_parts (link.port == q) (link.to == t) here).0 in
-              elim worse [
-                | inl past ↦ absurd (let no_room : ⊥ =
-                    omega (arith, past, even) in no_room)
-                | inr tie ↦ (let less = tie.1 in omega (arith, less, own))
-              ])
-          | inr later ↦ best.least q t later so far_is
-        ];
-      }
+    record {
+      to = best.to;
+      out = or_right (goes port best.to link) _ best.out;
+      fits = best.fits;
+      at = best.at;
+      nearest = λ q t i way so far_is. elim (or_cases (goes q t link) (list_any (goes q t) row) way) [
+        | inl here ↦ (let even = here_is q t i here far_is in elim worse [ inl past ↦ omega (arith, past, even) | inr tie ↦ (let same = tie.0 in omega (arith, same, even)) ])
+        | inr later ↦ best.nearest q t i later so far_is
+      ];
+      least = λ q t way so far_is. elim (or_cases (goes q t link) (list_any (goes q t) row) way) [
+        | inl here ↦
+            (let even = here_is q t k here far_is in
+            let own = eqb-true link.port q (and_parts (link.port == q) (link.to == t) here).0 in
+            elim worse [
+              | inl past ↦ absurd (let no_room : ⊥ =
+                  omega (arith, past, even) in no_room)
+              | inr tie ↦ (let less = tie.1 in omega (arith, less, own))
+            ])
+        | inr later ↦ best.least q t later so far_is
+      ];
+    }
     )
   where
     here_is : (q t i : ℕ) → goes q t link ≡ true → far t ≡ Some i → j ≡ i

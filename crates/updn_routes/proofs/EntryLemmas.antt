@@ -59,12 +59,15 @@ module _ (table : List (Option Hop)) (place : ℕ → ℕ) (test : ℕ → Bool)
   off link row best given out (inr t) =
       inr (record { port = t.port; more = t.more; is = t.is; own = skip_best kind far link row t.port t.more out t.own; ahead = t.ahead })
   off link row best given out (inl kept) =
-      inl (kept.0, λ q t j way fits at. elim (or_cases (goes q t link) (list_any (goes q t) row) way) [
-        | inl here ↦
-            (let same = eqb-true link.to t (and_parts (link.port == q) (link.to == t) here).1 in
-            absurd (none_some j (sym (subst (λ (v : ℕ). far v ≡ None) same (out (subst (λ (v : ℕ). kind v ≡ true) (sym same) fits))) ∙ at)))
-        | inr later ↦ kept.1 q t j later fits at
-      ])
+      inl (
+        kept.0,
+        λ q t j way fits at. elim (or_cases (goes q t link) (list_any (goes q t) row) way) [
+          | inl here ↦
+              (let same = eqb-true link.to t (and_parts (link.port == q) (link.to == t) here).1 in
+              absurd (none_some j (sym (subst (λ (v : ℕ). far v ≡ None) same (out (subst (λ (v : ℕ). kind v ≡ true) (sym same) fits))) ∙ at)))
+          | inr later ↦ kept.1 q t j later fits at
+        ],
+      )
     where
       none_some : (j : ℕ) → ◌≡◌ {A = Option ℕ} None (Some j) → ⊥
       none_some j h = cc
@@ -104,12 +107,15 @@ module _ (table : List (Option Hop)) (place : ℕ → ℕ) (test : ℕ → Bool)
   under : (link : Link) (row : List Link) (hop : Hop) (beyond : ℕ) (given : Option Hop) → far link.to ≡ Some beyond
       → hop.hops ≤ suc beyond → Picks row (Some hop) given → Picks (link ∷ row) (Some hop) given
   under link row hop beyond given at worse (inl kept) =
-      inl (kept.0, λ q t j way fits so_at. elim (or_cases (goes q t link) (list_any (goes q t) row) way) [
-        | inl here ↦
-            (let same = eqb-true link.to t (and_parts (link.port == q) (link.to == t) here).1 in
-            let even = same_some beyond j (sym at ∙ (ap far same ∙ so_at)) in (hop, refl, omega (arith, worse, even)))
-        | inr later ↦ kept.1 q t j later fits so_at
-      ])
+      inl (
+        kept.0,
+        λ q t j way fits so_at. elim (or_cases (goes q t link) (list_any (goes q t) row) way) [
+          | inl here ↦
+              (let same = eqb-true link.to t (and_parts (link.port == q) (link.to == t) here).1 in
+              let even = same_some beyond j (sym at ∙ (ap far same ∙ so_at)) in (hop, refl, omega (arith, worse, even)))
+          | inr later ↦ kept.1 q t j later fits so_at
+        ],
+      )
   under link row hop beyond given at worse (inr t) =
       let less = t.ahead hop refl in
       inr (record {
@@ -255,8 +261,8 @@ module _ (rows : List (List Link)) (before : ℕ → ℕ → Bool) (places : Lis
   switch_is : (s : ℕ) → s < length rows → switch_at places (place_at places s) ≡ Some s
   switch_is s less =
       let first = position_or_len_is (λ other. other == place_at places s) places s (length places) (omega (arith, less, count))
-          (λ k low. ne_eqb (place_at places k) (place_at places s) (λ same. let even = keeps.own k s (omega (arith, low, less)) less same in let no_room : ⊥ = omega (arith, low, even) in no_room))
-          (λ low. eq-eqb (place_at places s) (place_at places s) refl) in
+      (λ k low. ne_eqb (place_at places k) (place_at places s) (λ same. let even = keeps.own k s (omega (arith, low, less)) less same in let no_room : ⊥ = omega (arith, low, even) in no_room))
+      (λ low. eq-eqb (place_at places s) (place_at places s) refl) in
       let room : s < length places = omega (arith, less, count) in
       rw (first, lt-ltb s (length places) room) refl
 
@@ -385,7 +391,7 @@ module _ (rows : List (List Link)) (before : ℕ → ℕ → Bool) (places : Lis
     from_past s less high =
         from_up s less (is.down_is.past (place_at places s) high)
         (λ q t out fits. let more = ltb-true (place_at places s) (place_at places t) (keeps.less s t less (reached s q t less out) ∙ fits) in
-          ap (option_map (λ hop. hop.hops)) (is.down_is.past (place_at places t) (omega (arith, high, more))))
+        ap (option_map (λ hop. hop.hops)) (is.down_is.past (place_at places t) (omega (arith, high, more))))
 
     each : (s : ℕ) → s < length rows → s ≢ d → IsEntry rows before (hops_in is.down) (hops_in table) next s
     each s less away =

@@ -12,13 +12,13 @@ mod fault;
 mod laws;
 mod link;
 mod place;
-pub mod probing;
 mod root;
 mod routes;
 mod routing;
 mod row;
 mod table;
 
+pub use crate::fault::RouteFault;
 pub use crate::laws::{
     choices_lead_home, every_fabric_has_routes, joined_switches_have_distances, no_circle_waits,
     one_choice_is_left, places_keep_order_and_walks, ranks_and_guids_order,
@@ -26,7 +26,6 @@ pub use crate::laws::{
     the_tree_leads_to_the_first_root, the_two_switch_fabric_meets_the_laws, ways_down_come_first,
 };
 pub use crate::link::Link;
-pub use crate::fault::RouteFault;
 pub use crate::routes::Routes;
 pub use crate::routing::routes_over;
 pub use crate::row::Row;

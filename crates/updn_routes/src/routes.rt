@@ -1,6 +1,6 @@
 //! What routes answer.
 
-ghost use Rattle.std.specs.Prelude.{ℕ, ◌≡◌, ◌+◌, ◌==◌, None, length, get_or, position, IfSome};
+ghost use Rattle.std.specs.Prelude.{ℕ, ◌≡◌, ◌+◌, ◌-◌, ◌<◌, ◌≤◌, ◌==◌, nat_lt, if◌then◌else◌, None, length, get_or, position, IfSome};
 ghost use Rattle.std.specs.List.{list_any};
 ghost use Rattle.updn_routes.specs.Cabling.{is_next_to};
 ghost use Rattle.updn_routes.specs.Order.{place_of};
@@ -58,16 +58,13 @@ impl Routes {
     pub fn channel_number(&self, switch: usize, next: usize) -> Option<usize>
         ensures { result ≡ number_of self.now switch next }
     {
-        if !self.is_next_to(switch, next) {
+        let count = self.rows.len();
+        if !is_next_to(&self.rows, switch, next) {
             return None;
         }
-        let count = self.rows.len();
         let place = place_at(&self.places, switch);
-        if place_at(&self.places, next) < place {
-            Some(count - 1 - place)
-        } else {
-            Some(count + place)
-        }
+        let other = place_at(&self.places, next);
+        Some(number(count, place, other))
     }
 
     /// The port that joins a switch to the spanning tree, over which multicast packets go; none for the first
@@ -115,15 +112,6 @@ impl Routes {
             Some(hop) => Some(hop.port),
             None => None,
         }
-    }
-
-    /// Whether a cable joins the switches.
-    fn is_next_to(&self, switch: usize, other: usize) -> bool
-        ensures { result ≡ is_next_to self.now.rows switch other }
-    {
-        links_of(&self.rows, switch)
-            .iter()
-            .any(|link| link.to == other)
     }
 
     /// Whether no port is chosen at the switch towards that adapter's port.
@@ -190,5 +178,26 @@ fn home_of(homes: &[PortRef], lid: u16) -> Option<PortRef>
     match lid {
         0 => None,
         _ => homes.get(usize::from(lid) - 1).copied(),
+    }
+}
+
+/// Whether a cable joins the switches.
+fn is_next_to(rows: &[Row], switch: usize, other: usize) -> bool
+    ensures { result ≡ is_next_to rows.now switch other }
+{
+    links_of(rows, switch).iter().any(|link| link.to == other)
+}
+
+/// The number of the channel from a place to another, among so many: those up first, from the last place to the
+/// first, and then those down, from the first to the last.
+fn number(count: usize, place: usize, other: usize) -> usize
+    requires few { count ≤ 64 }
+    requires there { place < count }
+    ensures { result ≡ (if nat_lt other place then count - 1 - place else count + place) }
+{
+    if other < place {
+        count - 1 - place
+    } else {
+        count + place
     }
 }
