@@ -80,7 +80,7 @@ has_routes rows guids roots fabric =
     }
 
 -- ---- joined by way of the first switch
-walk_on : (rows : List (List Link)) (s m d : ℕ) (steps more : List ℕ) → is_walk rows s steps m ≡ true
+pub walk_on : (rows : List (List Link)) (s m d : ℕ) (steps more : List ℕ) → is_walk rows s steps m ≡ true
     → is_walk rows m more d ≡ true → is_walk rows s (steps ++ more) d ≡ true
 walk_on rows s m d [] more walk on = subst (λ (k : ℕ). is_walk rows k more d ≡ true) (sym (eqb-true s m walk)) on
 walk_on rows s m d (t ∷ steps) more walk on =

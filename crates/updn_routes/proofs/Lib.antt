@@ -19,3 +19,4 @@ pub mod WriteLemmas
 pub mod EntryLemmas
 pub mod RootLemmas
 pub mod AnswerLemmas
+pub mod GraphLemmas

@@ -12,3 +12,4 @@ pub mod Rounds
 pub mod Tables
 pub mod Routes
 pub mod Fault
+pub mod Subnet
