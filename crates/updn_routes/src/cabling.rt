@@ -1,6 +1,7 @@
 //! What routes are of, taken from a graph and its LIDs.
 
-ghost use Rattle.std.specs.Prelude.{ℕ, ◌≡◌, ◌<◌, length, get_or, IfOk};
+ghost use Rattle.std.specs.Prelude.{ℕ, ◌≡◌, ◌==◌, ◌<◌, length, get_or, IfOk};
+ghost use Rattle.std.specs.List.{list_all, list_any};
 ghost use Rattle.lid_assign.specs.Lids.{AreLids, end_ports};
 ghost use Rattle.updn_routes.specs.Subnet.{guids_of, home_from, homes_of, link_of, place_of, row_of, rows_of, seat_of};
 
@@ -106,4 +107,22 @@ fn home_from(place: Option<usize>, at: Option<PortRef>) -> PortRef
         (None, Some(at)) => at,
         (None, None) => PortRef { node: 0, port: 0 },
     }
+}
+
+/// Whether each of these GUIDs is a switch's of the graph, as those of roots are to be.
+pub fn are_switches(graph: &Graph, roots: &[u64]) -> bool
+    ensures { result ≡ list_all (λ root. list_any (λ guid. guid == root) (guids_of graph.now)) roots.now }
+{
+    roots.iter().all(|root| is_switch(graph, *root))
+}
+
+/// Whether some switch of the graph has this GUID.
+fn is_switch(graph: &Graph, root: u64) -> bool
+    ensures { result ≡ list_any (λ guid. guid == root) (guids_of graph.now) }
+{
+    graph
+        .switches()
+        .iter()
+        .map(|switch| switch.guid)
+        .any(|guid| guid == root)
 }

@@ -25,6 +25,7 @@ mod row;
 mod table;
 
 pub use crate::answer::Routes;
+pub use crate::cabling::are_switches;
 pub use crate::fault::RouteFault;
 pub use crate::laws::{
     choices_lead_home, every_fabric_has_routes, joined_switches_have_distances, no_circle_waits,
