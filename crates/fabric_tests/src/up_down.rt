@@ -1,11 +1,16 @@
 //! Routes over fabrics that a sweep finds.
 
+mod searches;
+
 use crate::fixtures::{fabric_of, two_switch_fabric};
+use example_texts::TWO_SWITCHES;
+use fabric_wire::Fabric;
 use lid_assign::assign;
 use std::alloc::Global;
 use std::process::Abort;
 use std::test::Fail;
 use sweep::{Graph, sweep};
+use topo_file::read;
 use updn_routes::{RouteFault, Routes, are_switches, routes};
 
 /// Roots R1 and R2, and L1 and L2 below both; h0 on L1 and h1 on L2.
@@ -129,5 +134,28 @@ fn two_roots_that_switches_below_join_cannot_reach_each_other(rt: HostRuntime) -
     // R1 has LID 2, and h1's port LID 6.
     let fault = routes_of(rt.alloc(), &graph, &ROOTS).err();
     assert_eq!(rt; fault, Some(RouteFault::NoLegalPath { switch: 2, port: 6 }));
+    Ok(())
+}
+
+#[test]
+fn routes_are_computed_or_memory_is_refused(rt: HostRuntime) -> Result<(), Fail> {
+    let Ok(topology) = read(rt.alloc(), TWO_SWITCHES.as_bytes()) else {
+        return Ok(());
+    };
+    let Ok(mut fabric) = Fabric::new(rt.alloc(), &topology) else {
+        return Ok(());
+    };
+    let Ok(graph) = sweep(rt.alloc(), &mut fabric) else {
+        return Ok(());
+    };
+    match routes_of(rt.alloc(), &graph, &[]) {
+        Ok(routes) => sends(
+            &rt,
+            &routes,
+            0,
+            &[(1, 1), (2, 0), (3, 3), (4, 2), (5, 3), (6, 3)],
+        ),
+        Err(fault) => assert_eq!(rt; fault, RouteFault::NoMemory),
+    }
     Ok(())
 }
