@@ -86,6 +86,13 @@ impl Routes {
         depth != 0 && self.depth_of(switch) == depth - 1
     }
 
+    /// What holds of all routes: towards each switch they are what the definition chooses.
+    pub fn are_whole(&self)
+        ensures { AreRoutes self.now }
+    {
+        let _ = &self.rows;
+    }
+
     /// How far a switch is from the first root; 0 where there is no such switch.
     pub fn depth_of(&self, switch: usize) -> usize
         ensures { result ≡ get_or self.now.depths switch 0 }
