@@ -23,4 +23,6 @@ mod sending;
 #[cfg(test)]
 mod sweeps;
 #[cfg(test)]
+mod up_down;
+#[cfg(test)]
 mod wires;

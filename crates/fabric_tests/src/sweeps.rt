@@ -2,7 +2,7 @@
 
 mod contradictions;
 mod fault_texts;
-mod graphs;
+pub mod graphs;
 
 use crate::fat_tree::{put, put_line};
 use crate::fixtures::{fabric_of, two_switch_fabric, two_switch_wire};

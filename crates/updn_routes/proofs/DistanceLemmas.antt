@@ -30,7 +30,7 @@ abbrev EndsOf : List (List Link) → (ℕ → Bool) → ℕ → ℕ → Type 0
 EndsOf rows passes s k =
     (d : ℕ) × (steps : List ℕ) × (passes d ≡ true) × (is_walk rows s steps d ≡ true) × (length steps ≡ k)
 
-next_of : (p : ℕ → Bool) (row : List Link) → list_any (λ link. p link.to) row ≡ true
+pub next_of : (p : ℕ → Bool) (row : List Link) → list_any (λ link. p link.to) row ≡ true
     → (t : ℕ) × ((list_any (λ link. link.to == t) row ≡ true) × (p t ≡ true))
 next_of p [] h = absurd (false≢true h)
 next_of p (link ∷ row) h =

@@ -44,13 +44,13 @@ least_there x (y ∷ ys) = with (least_there y ys)
           )
         ]
 
-record FirstRoot (guids roots : List ℕ) : Type 0 where
-  place : ℕ
-  there : place < length guids
-  first : is_first_root guids roots place ≡ true
-  root : is_root guids roots place ≡ true
+pub record FirstRoot (guids roots : List ℕ) : Type 0 where
+  pub place : ℕ
+  pub there : place < length guids
+  pub first : is_first_root guids roots place ≡ true
+  pub root : is_root guids roots place ≡ true
 
-first_root : (guids roots : List ℕ) → 0 < length guids
+pub first_root : (guids roots : List ℕ) → 0 < length guids
     → list_all (λ root. list_any (λ guid. guid == root) guids) roots ≡ true → FirstRoot guids roots
 first_root [] roots some named = absurd (let no_room : ⊥ = omega (arith, some) in no_room)
 first_root (guid ∷ guids) [] some named = let least = least_there guid guids in record { place = least.0; there = least.1; first = least.2; root = least.2 }
@@ -80,7 +80,7 @@ has_routes rows guids roots fabric =
     }
 
 -- ---- joined by way of the first switch
-walk_on : (rows : List (List Link)) (s m d : ℕ) (steps more : List ℕ) → is_walk rows s steps m ≡ true
+pub walk_on : (rows : List (List Link)) (s m d : ℕ) (steps more : List ℕ) → is_walk rows s steps m ≡ true
     → is_walk rows m more d ≡ true → is_walk rows s (steps ++ more) d ≡ true
 walk_on rows s m d [] more walk on = subst (λ (k : ℕ). is_walk rows k more d ≡ true) (sym (eqb-true s m walk)) on
 walk_on rows s m d (t ∷ steps) more walk on =

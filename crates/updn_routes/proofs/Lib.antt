@@ -14,3 +14,9 @@ pub mod ExampleLemmas
 pub mod BestLemmas
 pub mod ExistLemmas
 pub mod FabricLemmas
+pub mod RoundLemmas
+pub mod WriteLemmas
+pub mod EntryLemmas
+pub mod RootLemmas
+pub mod AnswerLemmas
+pub mod GraphLemmas

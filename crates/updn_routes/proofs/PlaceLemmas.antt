@@ -9,7 +9,7 @@ use Rattle.updn_routes.specs.Order.{IsOrder, place_of}
 
 -- ---- what filters keep
 -- fewer pass the stronger test
-fewer : (strong weak : ℕ → Bool) → ((t : ℕ) → strong t ≡ true → weak t ≡ true) → (xs : List ℕ)
+pub fewer : (strong weak : ℕ → Bool) → ((t : ℕ) → strong t ≡ true → weak t ≡ true) → (xs : List ℕ)
     → length (filter strong xs) ≤ length (filter weak xs)
 fewer strong weak implies [] = omega arith
 fewer strong weak implies (x ∷ xs) = by (strong x) (weak x) (implies x) (fewer strong weak implies xs)
@@ -22,7 +22,7 @@ fewer strong weak implies (x ∷ xs) = by (strong x) (weak x) (implies x) (fewer
     by false false i h = h
 
 -- and where one number passes the weaker alone, fewer by one at least
-fewer_by_one : (strong weak : ℕ → Bool) → ((t : ℕ) → strong t ≡ true → weak t ≡ true) → (first count s : ℕ)
+pub fewer_by_one : (strong weak : ℕ → Bool) → ((t : ℕ) → strong t ≡ true → weak t ≡ true) → (first count s : ℕ)
     → first ≤ s → s < first + count
     → strong s ≡ false → weak s ≡ true
     → length (filter strong (range_with_len first count)) < length (filter weak (range_with_len first count))
@@ -53,7 +53,7 @@ fewer_by_one strong weak implies first (suc count) s low high gone there =
     by false e later =
         let other = eqb-false first s e in more (strong first) (weak first) (implies first) (later (omega (arith, low, other)))
 
-all_stay : (xs : List ℕ) → length (filter (λ _. true) xs) ≡ length xs
+pub all_stay : (xs : List ℕ) → length (filter (λ _. true) xs) ≡ length xs
 all_stay [] = refl
 all_stay (x ∷ xs) = ap suc (all_stay xs)
 

@@ -8,3 +8,8 @@ pub mod Fabric
 pub mod Places
 pub mod Laws
 pub mod Examples
+pub mod Rounds
+pub mod Tables
+pub mod Routes
+pub mod Fault
+pub mod Subnet

@@ -1,15 +1,32 @@
-//! Up/down routes between the switches of a subnet: what a route is, and what follows from that.
+//! Up/down routes between the switches of a subnet: what a route is, what follows from that, and how all of them
+//! are computed.
+//!
+//! [`routes`] is the one call: over a graph and its LIDs it gives the [`Routes`], which tell the port by which a
+//! switch sends what is for a LID, the numbers of channels, and the spanning tree of multicast. The standard leaves
+//! the choice of ways to a subnet manager (InfiniBand Architecture Specification, volume 1, chapter 14).
 //!
 //! The cables between switches are rows of [`Link`]s, one row for each switch. `specs/Order.antt` says how far
 //! switches are from roots, and which of two comes before the other: a step is up where it goes to the one that
 //! does. `specs/UpDown.antt` says which walks are legal, `specs/Choice.antt` which port a switch chooses towards
-//! another, `specs/Tree.antt` by which port it is joined to the spanning tree of multicast. The functions here are
-//! laws over these definitions; none computes a route yet.
+//! another, `specs/Tree.antt` by which port it is joined to the spanning tree of multicast, and
+//! `specs/Routes.antt` what routes answer. Laws over these definitions stand in `src/laws.rt`.
 #![tactic(auto)]
 
+mod answer;
+mod cabling;
+mod distance;
+mod fault;
 mod laws;
 mod link;
+mod place;
+mod root;
+mod routing;
+mod row;
+mod table;
 
+pub use crate::answer::Routes;
+pub use crate::cabling::are_switches;
+pub use crate::fault::RouteFault;
 pub use crate::laws::{
     choices_lead_home, every_fabric_has_routes, joined_switches_have_distances, no_circle_waits,
     one_choice_is_left, places_keep_order_and_walks, ranks_and_guids_order,
@@ -17,3 +34,5 @@ pub use crate::laws::{
     the_tree_leads_to_the_first_root, the_two_switch_fabric_meets_the_laws, ways_down_come_first,
 };
 pub use crate::link::Link;
+pub use crate::routing::{routes, routes_over};
+pub use crate::row::Row;

@@ -156,7 +156,7 @@ fn put_cable(text: &mut Vec<u8>, ends: [(&[u8], u8, u8); 2]) -> Result<(), Fail>
 
 /// The text of a fabric of up to 6 switches and 5 adapters. Switch i is cabled to one before it, by port i of
 /// that; up to 4 cables more join any two, and an adapter has both ports on any switches, or one.
-fn fabric_text(alloc: Global, chance: &mut Chance) -> Result<Vec<u8>, Fail> {
+pub fn fabric_text(alloc: Global, chance: &mut Chance) -> Result<Vec<u8>, Fail> {
     let switches = 1 + chance.below(6);
     let mut text = Vec::new(alloc);
     for i in 0..switches {

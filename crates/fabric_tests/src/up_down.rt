@@ -1,0 +1,161 @@
+//! Routes over fabrics that a sweep finds.
+
+mod searches;
+
+use crate::fixtures::{fabric_of, two_switch_fabric};
+use example_texts::TWO_SWITCHES;
+use fabric_wire::Fabric;
+use lid_assign::assign;
+use std::alloc::Global;
+use std::process::Abort;
+use std::test::Fail;
+use sweep::{Graph, sweep};
+use topo_file::read;
+use updn_routes::{RouteFault, Routes, are_switches, routes};
+
+/// Roots R1 and R2, and L1 and L2 below both; h0 on L1 and h1 on L2.
+const FOUR_SWITCHES: &str = "\
+switch R1 0x10 4
+switch R2 0x20 4
+switch L1 0x30 4
+switch L2 0x40 4
+adapter h0 0x100 1
+adapter h1 0x110 1
+cable R1/1 L1/1
+cable R1/2 L2/1
+cable R2/1 L1/2
+cable R2/2 L2/2
+cable h0/1 L1/3
+cable h1/1 L2/3
+sm h0/1
+";
+
+/// The same, with h0 on R1 and h1 on R2.
+const ADAPTERS_ON_ROOTS: &str = "\
+switch R1 0x10 4
+switch R2 0x20 4
+switch L1 0x30 4
+switch L2 0x40 4
+adapter h0 0x100 1
+adapter h1 0x110 1
+cable R1/1 L1/1
+cable R1/2 L2/1
+cable R2/1 L1/2
+cable R2/2 L2/2
+cable h0/1 R1/3
+cable h1/1 R2/3
+sm h0/1
+";
+
+const ROOTS: [u64; 2] = [0x10, 0x20];
+
+/// The routes of a graph, with these roots named.
+pub fn routes_of(alloc: Global, graph: &Graph, roots: &[u64]) -> Result<Routes, RouteFault> {
+    let lids = match assign(alloc, graph) {
+        Ok(lids) => lids,
+        Err(_) => return Err(RouteFault::NoMemory),
+    };
+    if !graph.is_joined() || !are_switches(graph, roots) {
+        return Err(RouteFault::NoMemory);
+    }
+    routes(alloc, graph, &lids, roots)
+}
+
+/// The ports by which a switch sends what is for LIDs 1, 2 and so on.
+fn sends(rt: &impl Abort, routes: &Routes, switch: usize, ports: &[(u16, u8)]) {
+    for (lid, port) in ports {
+        assert_eq!(rt; routes.next_hop(switch, *lid), Some(*port));
+    }
+}
+
+#[test]
+fn two_switches_send_over_the_cable_between_them(rt: HostRuntime) -> Result<(), Fail> {
+    let mut fabric = two_switch_fabric(rt.alloc())?;
+    let graph = sweep(rt.alloc(), &mut fabric).or(Err("a graph"))?;
+    let routes = routes_of(rt.alloc(), &graph, &[]).or(Err("routes"))?;
+    sends(
+        &rt,
+        &routes,
+        0,
+        &[(1, 1), (2, 0), (3, 3), (4, 2), (5, 3), (6, 3)],
+    );
+    sends(
+        &rt,
+        &routes,
+        1,
+        &[(1, 3), (2, 3), (3, 0), (4, 3), (5, 1), (6, 2)],
+    );
+    assert_eq!(rt;
+        (
+            routes.next_hop(0, 0),
+            routes.next_hop(0, 7),
+            routes.next_hop(2, 1)
+        ),
+        (None, None, None)
+    );
+    assert_eq!(rt;
+        (routes.channel_number(1, 0), routes.channel_number(0, 1)),
+        (Some(0), Some(2))
+    );
+    assert_eq!(rt;
+        (routes.channel_number(0, 0), routes.channel_number(0, 2)),
+        (None, None)
+    );
+    assert_eq!(rt;
+        (
+            routes.tree_port(0),
+            routes.tree_port(1),
+            routes.tree_port(2)
+        ),
+        (None, Some(3), None)
+    );
+    Ok(())
+}
+
+#[test]
+fn of_two_equal_ways_the_lesser_port_is_taken(rt: HostRuntime) -> Result<(), Fail> {
+    let mut fabric = fabric_of(rt.alloc(), FOUR_SWITCHES.as_bytes())?;
+    let graph = sweep(rt.alloc(), &mut fabric).or(Err("a graph"))?;
+    let routes = routes_of(rt.alloc(), &graph, &ROOTS).or(Err("routes"))?;
+    // L1, on which the subnet manager's port hangs, is found first; h1 has LID 6.
+    sends(
+        &rt,
+        &routes,
+        0,
+        &[(1, 3), (2, 1), (3, 2), (4, 0), (5, 1), (6, 1)],
+    );
+    Ok(())
+}
+
+#[test]
+fn two_roots_that_switches_below_join_cannot_reach_each_other(rt: HostRuntime) -> Result<(), Fail> {
+    let mut fabric = fabric_of(rt.alloc(), ADAPTERS_ON_ROOTS.as_bytes())?;
+    let graph = sweep(rt.alloc(), &mut fabric).or(Err("a graph"))?;
+    // R1 has LID 2, and h1's port LID 6.
+    let fault = routes_of(rt.alloc(), &graph, &ROOTS).err();
+    assert_eq!(rt; fault, Some(RouteFault::NoLegalPath { switch: 2, port: 6 }));
+    Ok(())
+}
+
+#[test]
+fn routes_are_computed_or_memory_is_refused(rt: HostRuntime) -> Result<(), Fail> {
+    let Ok(topology) = read(rt.alloc(), TWO_SWITCHES.as_bytes()) else {
+        return Ok(());
+    };
+    let Ok(mut fabric) = Fabric::new(rt.alloc(), &topology) else {
+        return Ok(());
+    };
+    let Ok(graph) = sweep(rt.alloc(), &mut fabric) else {
+        return Ok(());
+    };
+    match routes_of(rt.alloc(), &graph, &[]) {
+        Ok(routes) => sends(
+            &rt,
+            &routes,
+            0,
+            &[(1, 1), (2, 0), (3, 3), (4, 2), (5, 3), (6, 3)],
+        ),
+        Err(fault) => assert_eq!(rt; fault, RouteFault::NoMemory),
+    }
+    Ok(())
+}

@@ -1,0 +1,207 @@
+//! Routes compared with a plain search over all legal walks.
+
+use crate::random_fabrics::Chance;
+use crate::sweeps::graphs::fabric_text;
+use crate::up_down::routes_of;
+use fabric_wire::Fabric;
+use lid_assign::{Lids, assign};
+use std::alloc::Global;
+use std::process::Abort;
+use std::test::Fail;
+use sweep::{Graph, sweep};
+use topo_file::read;
+use updn_routes::{RouteFault, Routes};
+
+/// A number above every rank.
+const FAR: usize = 1000;
+
+fn number_at(numbers: &[usize], switch: usize) -> usize {
+    numbers.get(switch).copied().unwrap_or(FAR)
+}
+
+fn is_marked(marks: &[bool], switch: usize) -> bool {
+    marks.get(switch).copied().unwrap_or(false)
+}
+
+fn mark(marks: &mut [bool], switch: usize) {
+    if let Some(marked) = marks.get_mut(switch) {
+        *marked = true;
+    }
+}
+
+fn guid_at(graph: &Graph, switch: usize) -> u64 {
+    match graph.switches().get(switch) {
+        Some(switch) => switch.guid,
+        None => 0,
+    }
+}
+
+/// No switch, marked.
+fn none(alloc: Global, graph: &Graph) -> Result<Vec<bool>, Fail> {
+    let marks = graph.switches().iter().map(|_| false).collect(alloc);
+    Ok(marks.or(Err("memory"))?)
+}
+
+/// How far each switch is from the nearest of these roots: with no path shorter than by one link over another.
+fn ranks_of(alloc: Global, graph: &Graph, roots: &[u64]) -> Result<Vec<usize>, Fail> {
+    let own = graph
+        .switches()
+        .iter()
+        .map(|switch| if roots.contains(&switch.guid) { 0 } else { FAR })
+        .collect(alloc);
+    let mut ranks: Vec<usize> = own.or(Err("memory"))?;
+    for _ in graph.switches() {
+        for (switch, row) in graph.rows().iter().enumerate() {
+            for link in row.as_slice() {
+                let further = number_at(&ranks, link.to.node).saturating_add(1);
+                if let Some(rank) = ranks.get_mut(switch) {
+                    *rank = further.min(*rank);
+                }
+            }
+        }
+    }
+    Ok(ranks)
+}
+
+/// Whether the step goes up.
+fn is_up(graph: &Graph, ranks: &[usize], from: usize, to: usize) -> bool {
+    let (old, new) = (number_at(ranks, from), number_at(ranks, to));
+    new < old || (new == old && guid_at(graph, to) < guid_at(graph, from))
+}
+
+/// The least number of steps of a walk from one switch to another that goes up and then down, or down alone.
+fn shortest(
+    alloc: Global,
+    graph: &Graph,
+    ranks: &[usize],
+    ends: (usize, usize),
+    down_alone: bool,
+) -> Result<Option<usize>, Fail> {
+    let mut rising = none(alloc, graph)?;
+    let mut falling = none(alloc, graph)?;
+    mark(&mut rising, ends.0);
+    for steps in 0..16usize {
+        if is_marked(&rising, ends.1) || is_marked(&falling, ends.1) {
+            return Ok(Some(steps));
+        }
+        let mut next_rising = none(alloc, graph)?;
+        let mut next_falling = none(alloc, graph)?;
+        for (switch, row) in graph.rows().iter().enumerate() {
+            for link in row.as_slice() {
+                let still = is_marked(&rising, switch);
+                if !is_up(graph, ranks, switch, link.to.node) {
+                    if still || is_marked(&falling, switch) {
+                        mark(&mut next_falling, link.to.node);
+                    }
+                } else if still && !down_alone {
+                    mark(&mut next_rising, link.to.node);
+                }
+            }
+        }
+        rising = next_rising;
+        falling = next_falling;
+    }
+    Ok(None)
+}
+
+/// How many steps next hops lead from one switch to another, where they go up and then down.
+fn followed(
+    graph: &Graph,
+    ranks: &[usize],
+    routes: &Routes,
+    ends: (usize, usize),
+    lid: u16,
+) -> Option<usize> {
+    let mut here = ends.0;
+    let mut fell = false;
+    for steps in 0..16usize {
+        if here == ends.1 {
+            return Some(steps);
+        }
+        let port = routes.next_hop(here, lid)?;
+        let links = graph.rows().get(here)?.as_slice();
+        let link = links.iter().find(|link| link.port == port)?;
+        let up = is_up(graph, ranks, here, link.to.node);
+        if up && fell {
+            return None;
+        }
+        fell = !up;
+        here = link.to.node;
+    }
+    None
+}
+
+/// The switch on which a LID hangs.
+fn switch_of(graph: &Graph, lids: &Lids, lid: u16) -> Option<usize> {
+    let guid = lids.port_of(lid)?;
+    let port = graph.ports().iter().find(|port| port.port_guid == guid);
+    match port {
+        Some(port) => Some(port.at.node),
+        None => graph
+            .switches()
+            .iter()
+            .position(|switch| switch.guid == guid),
+    }
+}
+
+/// Routes are there exactly where a legal walk is; they are legal, and go the shortest way down where there is one.
+fn agree(
+    rt: &impl Abort,
+    alloc: Global,
+    graph: &Graph,
+    lids: &Lids,
+    roots: &[u64],
+) -> Result<(), Fail> {
+    let least = graph.switches().iter().map(|switch| switch.guid).min();
+    let least = [least.unwrap_or(0)];
+    let ranks = ranks_of(alloc, graph, if roots.is_empty() { &least } else { roots })?;
+    let routes = match routes_of(alloc, graph, roots) {
+        Ok(routes) => routes,
+        Err(RouteFault::NoMemory) => {
+            assert!(rt; false);
+            return Ok(());
+        }
+        Err(RouteFault::NoLegalPath { switch, port }) => {
+            let from = switch_of(graph, lids, switch).ok_or("a switch")?;
+            let to = switch_of(graph, lids, port).ok_or("a port")?;
+            assert_eq!(rt; shortest(alloc, graph, &ranks, (from, to), false)?, None);
+            return Ok(());
+        }
+    };
+    for lid in 1..40u16 {
+        let Some(to) = switch_of(graph, lids, lid) else {
+            assert_eq!(rt; routes.next_hop(0, lid), None);
+            continue;
+        };
+        for from in 0..graph.switches().len() {
+            let legal = shortest(alloc, graph, &ranks, (from, to), false)?;
+            let down = shortest(alloc, graph, &ranks, (from, to), true)?;
+            let steps = followed(graph, &ranks, &routes, (from, to), lid);
+            assert_eq!(rt; routes.next_hop(from, lid).is_some(), legal.is_some());
+            assert_eq!(rt; steps.is_some(), legal.is_some());
+            assert!(rt; steps >= legal);
+            if down.is_some() {
+                assert_eq!(rt; steps, down);
+            }
+        }
+    }
+    Ok(())
+}
+
+#[test]
+fn by_chance_routes_are_those_of_a_plain_search(rt: HostRuntime) -> Result<(), Fail> {
+    let mut chance = Chance { state: 31 };
+    for _ in 0..12u8 {
+        let text = fabric_text(rt.alloc(), &mut chance)?;
+        let topology = read(rt.alloc(), &text).ok().ok_or("the topology")?;
+        let mut fabric = Fabric::new(rt.alloc(), &topology).ok().ok_or("memory")?;
+        let graph = sweep(rt.alloc(), &mut fabric).or(Err("a graph"))?;
+        let lids = assign(rt.alloc(), &graph).or(Err("memory"))?;
+        agree(&rt, rt.alloc(), &graph, &lids, &[])?;
+        let first = graph.switches().first().ok_or("a switch")?.guid;
+        let last = graph.switches().last().ok_or("a switch")?.guid;
+        agree(&rt, rt.alloc(), &graph, &lids, &[first])?;
+        agree(&rt, rt.alloc(), &graph, &lids, &[last, first])?;
+    }
+    Ok(())
+}

@@ -1,0 +1,138 @@
+-- Routes of a whole subnet: by LIDs, with the port at which each LID hangs.
+use Rattle.std.specs.Prelude.{ℕ, ◌≡◌, ◌≢◌, ◌⊎◌, ◌+◌, ◌-◌, ◌*◌, ◌<◌, ◌≤◌, ◌==◌, not, ◌&&◌, nat_lt, Bool, true, false, if◌then◌else◌, List, [], length, get_or, slice_get, Option, Some, None, option_map, is_none}
+use Rattle.std.specs.List.{list_all, list_any}
+use Rattle.fabric_parts.specs.declared.cable.PortRef.{PortRef}
+use Rattle.updn_routes.specs.declared.link.Link.{Link}
+use Rattle.updn_routes.specs.declared.table.Hop.{Hop}
+use Rattle.updn_routes.specs.Cabling.{is_cabling, is_next_to, is_walk, rises}
+use Rattle.updn_routes.specs.Choice.{AllChosen, is_route}
+use Rattle.updn_routes.specs.Order.{AreRanks, IsOrder, precedes}
+use Rattle.updn_routes.specs.Tables.{entry_at, place_at, places_of}
+use Rattle.updn_routes.specs.Tree.{AreDepths}
+use Rattle.updn_routes.specs.UpDown.{channel_number, channel_numbers, is_legal}
+
+-- the switches' links, GUIDs, ranks and depths, each by the number of the switch; the place of each in the order, and
+-- for the target at each place its table by places; and where each LID hangs, from LID 1 on
+pub record RoutesState : Type 0 where
+  pub rows : List (List Link)
+  pub guids : List ℕ
+  pub ranks : List ℕ
+  pub depths : List ℕ
+  pub places : List ℕ
+  pub tables : List (List (Option Hop))
+  pub homes : List PortRef
+
+-- the routes of these parts
+abbrev pub routes_with : List (List Link) → List ℕ → List ℕ → List ℕ → List ℕ → List (List (Option Hop)) → List PortRef
+    → RoutesState
+routes_with rows guids ranks depths places tables homes =
+    record { rows = rows; guids = guids; ranks = ranks; depths = depths; places = places; tables = tables; homes = homes }
+
+-- ---- LIDs
+-- where a LID hangs: the port of a switch that has a cable to the adapter's port, and 0 of a switch for its own LID
+abbrev pub home_of : List PortRef → ℕ → Option PortRef
+home_of homes lid = if lid == 0 then None else slice_get homes (lid - 1)
+
+-- ---- what routes answer
+abbrev pub order_of : RoutesState → ℕ → ℕ → Bool
+order_of routes = precedes routes.ranks routes.guids
+
+-- the port chosen at s towards the switch d, and 0 where it is s
+abbrev pub port_towards : RoutesState → ℕ → ℕ → Option ℕ
+port_towards routes d s =
+    option_map (λ hop. hop.port) (entry_at (get_or routes.tables (place_at routes.places d) []) (place_at routes.places s))
+
+-- the port by which s sends what is for something that hangs there
+abbrev pub hop_to : RoutesState → ℕ → Option PortRef → Option ℕ
+hop_to routes s None = None
+hop_to routes s (Some home) = if home.node == s then Some home.port else port_towards routes home.node s
+
+abbrev pub next_hop : RoutesState → ℕ → ℕ → Option ℕ
+next_hop routes s lid = hop_to routes s (home_of routes.homes lid)
+
+-- the number of the channel between two switches that are side by side
+abbrev pub number_of : RoutesState → ℕ → ℕ → Option ℕ
+number_of routes s t =
+    if is_next_to routes.rows s t then Some (channel_number (order_of routes) (length routes.rows) s t) else None
+
+-- ---- what holds of all routes
+abbrev pub all_hang : List PortRef → ℕ → Bool
+all_hang homes count = list_all (λ home. nat_lt home.node count) homes
+
+pub record AreRoutes (routes : RoutesState) : Type 0 where
+  pub cabling : is_cabling routes.rows ≡ true
+  pub count : length routes.guids ≡ length routes.rows
+  pub order : IsOrder (length routes.rows) (order_of routes)
+  pub places : routes.places ≡ places_of routes.ranks routes.guids
+  pub hang : all_hang routes.homes (length routes.rows) ≡ true
+  pub few : length routes.rows ≤ 64
+  pub few_lids : length routes.homes ≤ 49151
+  pub chosen : (d : ℕ) → d < length routes.rows → AllChosen routes.rows (order_of routes) (port_towards routes d) d
+  pub at_home : (d : ℕ) → d < length routes.rows → port_towards routes d d ≡ Some 0
+
+-- the routes of this cabling, with these roots named
+pub record AreRoutesOf (rows : List (List Link)) (guids roots : List ℕ) (homes : List PortRef) (routes : RoutesState) : Type 0 where
+  pub rows_are : routes.rows ≡ rows
+  pub guids_are : routes.guids ≡ guids
+  pub homes_are : routes.homes ≡ homes
+  pub ranks_are : AreRanks rows guids roots routes.ranks
+  pub depths_are : AreDepths rows guids roots routes.depths
+
+-- ---- following them
+-- these steps from s are where a LID's next hops lead: to the switch d at which it hangs, and there out of its port
+pub record LeadsToLid (routes : RoutesState) (lid s d port : ℕ) (steps : List ℕ) : Type 0 where
+  pub route : is_route routes.rows (λ t. next_hop routes t lid) s steps d ≡ true
+  pub legal : is_legal (order_of routes) s steps ≡ true
+  pub rising : rises (channel_numbers (order_of routes) (length routes.rows) s steps) ≡ true
+  pub short : length steps + 1 ≤ 2 * length routes.rows
+  pub out : next_hop routes d lid ≡ Some port
+
+-- a LID that hangs at port of d, seen from s: with a next hop, following these leads there; with none, no legal path does
+pub record IsRouted (routes : RoutesState) (lid s d port : ℕ) : Type 0 where
+  pub arrives : (first : ℕ) → next_hop routes s lid ≡ Some first → (steps : List ℕ) × LeadsToLid routes lid s d port steps
+  pub none : next_hop routes s lid ≡ None
+      → (steps : List ℕ) → (is_walk routes.rows s steps d && is_legal (order_of routes) s steps) ≡ false
+
+abbrev pub AllRouted : RoutesState → ℕ → ℕ → Type 0
+AllRouted routes s lid =
+    (d port : ℕ) → s < length routes.rows → home_of routes.homes lid ≡ Some (record { node = d; port = port }) → IsRouted routes lid s d port
+
+-- ---- what has no route
+-- some LID hangs on a port of the switch: an adapter's port does
+abbrev pub carries : List PortRef → ℕ → Bool
+carries homes s = list_any (λ home. not (home.port == 0) && (home.node == s)) homes
+
+-- a is the LID of a switch that carries adapters' ports, and b that of an adapter's port
+pub record IsPair (homes : List PortRef) (a b s d : ℕ) : Type 0 where
+  pub port : ℕ
+  pub switch : home_of homes a ≡ Some (record { node = s; port = 0 })
+  pub carried : carries homes s ≡ true
+  pub adapter : home_of homes b ≡ Some (record { node = d; port = port })
+  pub is_port : port ≢ 0
+
+abbrev pub LegalPath : List (List Link) → (ℕ → ℕ → Bool) → ℕ → ℕ → Type 0
+LegalPath rows before s d = (steps : List ℕ) × ((is_walk rows s steps d && is_legal before s steps) ≡ true)
+
+abbrev pub NoLegalPath : List (List Link) → (ℕ → ℕ → Bool) → ℕ → ℕ → Type 0
+NoLegalPath rows before s d = (steps : List ℕ) → (is_walk rows s steps d && is_legal before s steps) ≡ false
+
+-- each pair has a legal path
+abbrev pub AllReached : List (List Link) → (ℕ → ℕ → Bool) → List PortRef → Type 0
+AllReached rows before homes = (a b s d : ℕ) → IsPair homes a b s d → LegalPath rows before s d
+
+-- this one has none, and each earlier one, by the switch's LID and then by the port's, has one
+pub record IsFirstUnreached (rows : List (List Link)) (before : ℕ → ℕ → Bool) (homes : List PortRef) (a b : ℕ) : Type 0 where
+  pub s : ℕ
+  pub d : ℕ
+  pub pair : IsPair homes a b s d
+  pub gone : NoLegalPath rows before s d
+  pub earlier : (a' b' s' d' : ℕ) → IsPair homes a' b' s' d' → (a' < a) ⊎ ((a' ≡ a) × (b' < b)) → LegalPath rows before s' d'
+
+-- ---- as they are found
+-- no port is chosen there towards where that port hangs
+abbrev pub is_gap : RoutesState → ℕ → PortRef → Bool
+is_gap routes s to = not (to.port == 0) && is_none (port_towards routes to.node s)
+
+abbrev pub has_gap : RoutesState → PortRef → Bool
+has_gap routes from =
+    (from.port == 0) && (carries routes.homes from.node && list_any (is_gap routes from.node) routes.homes)

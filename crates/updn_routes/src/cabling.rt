@@ -1,0 +1,128 @@
+//! What routes are of, taken from a graph and its LIDs.
+
+ghost use Rattle.std.specs.Prelude.{ℕ, ◌≡◌, ◌==◌, ◌<◌, length, get_or, IfOk};
+ghost use Rattle.std.specs.List.{list_all, list_any};
+ghost use Rattle.lid_assign.specs.Lids.{AreLids, end_ports};
+ghost use Rattle.updn_routes.specs.Subnet.{guids_of, home_from, homes_of, link_of, place_of, row_of, rows_of, seat_of};
+
+use crate::link::Link;
+use crate::row::Row;
+use fabric_parts::PortRef;
+use lid_assign::Lids;
+use std::alloc::{AllocError, Global};
+use sweep::{Graph, GraphPort, GraphSwitch};
+
+/// The links between the switches of a graph. Memory alone can be refused.
+pub(crate) fn rows_of(alloc: Global, graph: &Graph) -> Result<Vec<Row>, AllocError>
+    ensures { IfOk result (λ rows. rows.items ≡ rows_of graph.now) }
+{
+    let mut rows = Vec::new(alloc);
+    let of_graph = graph.rows();
+    for row in of_graph {
+        rows.push(Row::of(row_of(alloc, row.as_slice())?))?;
+    }
+    Ok(rows)
+}
+
+/// The links of a switch, to switches.
+fn row_of(alloc: Global, links: &[sweep::Link]) -> Result<Vec<Link>, AllocError>
+    ensures { IfOk result (λ row. row.items ≡ row_of links.now) }
+{
+    links
+        .iter()
+        .map(|link| Link {
+            port: link.port,
+            to: link.to.node,
+        })
+        .collect(alloc)
+}
+
+/// The GUIDs of the switches of a graph. Memory alone can be refused.
+pub(crate) fn guids_of(alloc: Global, graph: &Graph) -> Result<Vec<u64>, AllocError>
+    ensures { IfOk result (λ guids. guids.items ≡ guids_of graph.now) }
+{
+    graph
+        .switches()
+        .iter()
+        .map(|switch| switch.guid)
+        .collect(alloc)
+}
+
+/// Where each LID hangs, from LID 1 on. Memory alone can be refused.
+pub(crate) fn homes_of(
+    alloc: Global,
+    graph: &Graph,
+    lids: &Lids,
+) -> Result<Vec<PortRef>, AllocError>
+    requires { AreLids (end_ports graph.now) lids.now }
+    ensures { IfOk result (λ homes. homes.items ≡ homes_of graph.now lids.now) }
+{
+    graph.is_whole();
+    lids.are_own();
+    let switches = graph.switches();
+    let ports = graph.ports();
+    let count = switches.len() + ports.len();
+    let mut homes = Vec::new(alloc);
+    for before in 0..count {
+        homes.push(home_of(switches, ports, lids, before))?;
+    }
+    Ok(homes)
+}
+
+/// Where the LID after so many hangs.
+fn home_of(switches: &[GraphSwitch], ports: &[GraphPort], lids: &Lids, before: usize) -> PortRef
+    requires there { before < length lids.now }
+    requires few { before < 49151 }
+    ensures { result ≡ home_from (place_of switches.now (get_or lids.now before 0)) (seat_of ports.now (get_or lids.now before 0)) }
+{
+    match lids.port_of((before + 1) as u16) {
+        Some(guid) => home_from(place_of(switches, guid), seat_of(ports, guid)),
+        None => PortRef { node: 0, port: 0 },
+    }
+}
+
+/// The place of the switch with that GUID.
+fn place_of(switches: &[GraphSwitch], guid: u64) -> Option<usize>
+    ensures { result ≡ place_of switches.now guid }
+{
+    switches.iter().position(|switch| switch.guid == guid)
+}
+
+/// The port of a switch on which the adapter's port with that GUID hangs.
+fn seat_of(ports: &[GraphPort], guid: u64) -> Option<PortRef>
+    ensures { result ≡ seat_of ports.now guid }
+{
+    ports
+        .iter()
+        .find(|port| port.port_guid == guid)
+        .map(|port| port.at)
+}
+
+/// Where an end port hangs: on the switch whose own it is, or on a port of one.
+fn home_from(place: Option<usize>, at: Option<PortRef>) -> PortRef
+    ensures { result ≡ home_from place at }
+{
+    match (place, at) {
+        (Some(node), _) => PortRef { node, port: 0 },
+        (None, Some(at)) => at,
+        (None, None) => PortRef { node: 0, port: 0 },
+    }
+}
+
+/// Whether each of these GUIDs is a switch's of the graph, as those of roots are to be.
+pub fn are_switches(graph: &Graph, roots: &[u64]) -> bool
+    ensures { result ≡ list_all (λ root. list_any (λ guid. guid == root) (guids_of graph.now)) roots.now }
+{
+    roots.iter().all(|root| is_switch(graph, *root))
+}
+
+/// Whether some switch of the graph has this GUID.
+fn is_switch(graph: &Graph, root: u64) -> bool
+    ensures { result ≡ list_any (λ guid. guid == root) (guids_of graph.now) }
+{
+    graph
+        .switches()
+        .iter()
+        .map(|switch| switch.guid)
+        .any(|guid| guid == root)
+}

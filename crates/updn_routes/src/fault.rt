@@ -1,0 +1,47 @@
+//! Why there are no routes.
+
+ghost use Rattle.std.specs.Prelude.{◌≡◌, option_map};
+ghost use Rattle.updn_routes.specs.Fault.{code_of};
+
+use std::alloc::{AllocError, AllocFailed};
+use thiserror::Error;
+
+/// Why there are no routes.
+#[derive(Clone, Copy, Debug, PartialEq, Eq, Error)]
+pub enum RouteFault {
+    /// Memory was refused.
+    #[error("out of memory")]
+    NoMemory,
+    /// From a switch that carries adapters' ports no legal path leads to one of these. Of all such pairs this is
+    /// the first, by the switch's LID and then by the port's.
+    #[error("no legal path leads from a switch to a port")]
+    NoLegalPath {
+        /// The switch's LID.
+        switch: u16,
+        /// The LID of the adapter's port.
+        port: u16,
+    },
+}
+
+impl RouteFault {
+    /// The code that is printed for the fault; want of memory has none.
+    pub fn code(self) -> Option<&'static str>
+        ensures { option_map (λ code. code.now) result ≡ code_of self }
+    {
+        match self {
+            RouteFault::NoMemory => None,
+            RouteFault::NoLegalPath { .. } => Some("UR1"),
+        }
+    }
+}
+
+impl From<AllocError> for RouteFault {
+    ghost use Rattle.std.specs.Prelude.{◌≡◌};
+    ghost use Rattle.updn_routes.specs.declared.fault.RouteFault.TheVariants.{NoMemory};
+
+    ghost from_gives = { λ _ e. e ≡ NoMemory };
+
+    fn from(_error: AllocError) -> RouteFault {
+        RouteFault::NoMemory
+    }
+}
