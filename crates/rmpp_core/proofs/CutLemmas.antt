@@ -1,11 +1,11 @@
 -- Bytes that are cut into segments.
-use Rattle.std.proofs.Common.{◌≡◌, ℕ, zero, suc, ◌+◌, ◌-◌, ◌*◌, ◌/◌, ◌<◌, ◌≤◌, List, [], ◌∷◌, ◌++◌, length, get_or, take, drop, min, max}
+use Rattle.std.proofs.Common.{◌≡◌, ℕ, zero, suc, ◌+◌, ◌-◌, ◌*◌, ◌<◌, ◌≤◌, List, [], ◌∷◌, ◌++◌, length, get_or, take, drop, min}
 use Rattle.std.proofs.Common.{refl, sym, ◌∙◌, ap, arith, length-drop}
 use Rattle.std.specs.Simd.{first_chunks}
 use Rattle.std.specs.List.{flat_map}
 use Rattle.std.proofs.lemmas.List.{drop-drop, take-append-drop, length-take}
 use Rattle.rmpp_core.specs.Laws.{SegmentsAreTheBytes}
-use Rattle.rmpp_core.specs.Segments.{segment_count, segments_of, segment_of}
+use Rattle.rmpp_core.specs.Segments.{segment_count, segment_of}
 
 -- a piece, counted from 0
 piece_at : (xs : List ℕ) (size count place : ℕ) → place < count → get_or (first_chunks size count xs) place [] ≡ take size (drop (size * place) xs)

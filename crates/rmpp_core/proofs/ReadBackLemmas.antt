@@ -1,23 +1,20 @@
 -- What is read in the MAD of a segment is what was written.
-use Rattle.std.proofs.Common.{◌≡◌, ℕ, zero, suc, ◌+◌, ◌-◌, ◌*◌, ◌^◌, ◌<◌, ◌≤◌, Bool, true, false, ◌==◌, if◌then◌else◌, cond, bit_and, List, [], ◌∷◌, ◌++◌}
-use Rattle.std.proofs.Common.{length, replicate, take, drop, refl, sym, ◌∙◌, ap, subst, arith, inl, inr, length-append}
+use Rattle.std.proofs.Common.{◌≡◌, ℕ, zero, suc, ◌+◌, ◌-◌, ◌*◌, ◌^◌, ◌<◌, ◌≤◌, Bool, true, false, ◌==◌, if◌then◌else◌, List, [], ◌∷◌}
+use Rattle.std.proofs.Common.{length, replicate, take, drop, sym, ◌∙◌, ap, subst, arith, length-append}
 use Rattle.std.specs.Int.Digits.{AllBelowBase}
-use Rattle.std.proofs.lemmas.Bool.{cases_Bool}
 use Rattle.std.proofs.lemmas.List.{length-replicate}
 use Rattle.mad_layout.specs.declared.mad_header.Header.{Header}
 use Rattle.mad_layout.specs.declared.rmpp_header.RmppHeader.{RmppHeader}
 use Rattle.mad_layout.specs.declared.sa_mad.SaMad.{SaMad}
-use Rattle.mad_layout.specs.Bits.{bit_of, field, put_field}
-use Rattle.mad_layout.specs.Layout.{Field, Holds, Fits, put_all, Spells}
-use Rattle.mad_layout.specs.RmppHeader.{rmpp_header}
-use Rattle.mad_layout.specs.SaMad.{sa_mad}
+use Rattle.mad_layout.specs.Bits.{bit_of, put_field}
+use Rattle.mad_layout.specs.Layout.{Field, Holds, put_all}
 use Rattle.mad_layout.proofs.AlignedLemmas.{bytes_stand}
 use Rattle.mad_layout.proofs.LayoutLemmas.{length-put_all, put_below}
-use Rattle.mad_layout.proofs.NumberLemmas.{below_parts, below_append, number_below}
+use Rattle.mad_layout.proofs.NumberLemmas.{below_append, number_below}
 use Rattle.rmpp_core.specs.Laws.{IsTransfer}
 use Rattle.rmpp_core.specs.Receiving.{rmpp_in, data_in}
 use Rattle.rmpp_core.specs.Reply.{reply_fields, reply_bytes}
-use Rattle.rmpp_core.specs.Segments.{Transfer, segment_count, segment_of, payload_size, payload_length, flags_of, padded_segment, segment_rmpp, segment_sa, segment_fields, segment_mad}
+use Rattle.rmpp_core.specs.Segments.{Transfer, segment_count, segment_of, payload_size, payload_length, padded_segment, segment_rmpp, segment_sa, segment_mad}
 use Rattle.rmpp_core.proofs.CutLemmas.{segment_is, segment_length}
 use Rattle.rmpp_core.proofs.ReplyLemmas.{reply_fits, reply_spelled}
 

@@ -1,5 +1,5 @@
 -- What a receiver does with a segment.
-use Rattle.std.proofs.Common.{◌≡◌, ℕ, ◌+◌, Bool, List, ◌++◌, take, Result, Ok, Err, refl, sym, ◌∙◌, ap, subst}
+use Rattle.std.proofs.Common.{◌≡◌, ℕ, ◌+◌, Bool, List, ◌++◌, take, Result, Ok, Err, sym, subst}
 use Rattle.mad_layout.specs.declared.rmpp_header.RmppHeader.{RmppHeader}
 use Rattle.rmpp_core.specs.declared.receiver.ReceiveFault.{ReceiveFault}
 use Rattle.rmpp_core.specs.Receiving.{Received, rmpp_in, data_in, is_last, first_length_of, carried, grown, with_segment, Grows}

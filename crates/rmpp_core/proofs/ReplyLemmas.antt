@@ -1,14 +1,14 @@
 -- Headers that are written one after the other are one layout.
-use Rattle.std.proofs.Common.{◌≡◌, ℕ, List, [], ◌∷◌, ◌++◌, replicate, refl, sym, ◌∙◌, ap, subst}
+use Rattle.std.proofs.Common.{◌≡◌, ℕ, List, [], ◌∷◌, ◌++◌, replicate, refl, sym, ◌∙◌, ap}
 use Rattle.mad_layout.specs.declared.mad_header.Header.{Header}
 use Rattle.mad_layout.specs.declared.rmpp_header.RmppHeader.{RmppHeader}
 use Rattle.mad_layout.specs.declared.sa_mad.SaMad.{SaMad}
 use Rattle.mad_layout.specs.Bits.{put_field}
-use Rattle.mad_layout.specs.Layout.{Field, Holds, Fits, put_all, Spells}
+use Rattle.mad_layout.specs.Layout.{Field, Fits, put_all, Spells}
 use Rattle.mad_layout.specs.MadHeader.{mad_header}
 use Rattle.mad_layout.specs.RmppHeader.{rmpp_header}
 use Rattle.mad_layout.specs.SaMad.{sa_mad}
-use Rattle.mad_layout.proofs.LayoutLemmas.{spells_put_all, fits_from_holds}
+use Rattle.mad_layout.proofs.LayoutLemmas.{spells_put_all}
 use Rattle.rmpp_core.specs.Reply.{reply_fields, reply_bytes}
 
 put_both : (bytes : List ℕ) (ps qs : List Field) → put_all bytes (ps ++ qs) ≡ put_all (put_all bytes ps) qs

@@ -1,9 +1,9 @@
 -- A receiver of all segments has the bytes.
-use Rattle.std.proofs.Common.{◌≡◌, ℕ, zero, suc, ◌+◌, ◌-◌, ◌*◌, ◌<◌, ◌≤◌, Bool, true, false, ◌&&◌, not, ◌==◌, nat_le, if◌then◌else◌, cond, bit_and}
-use Rattle.std.proofs.Common.{List, [], ◌∷◌, ◌++◌, map, length, replicate, take, drop, Result, Ok, Err, Option, Some, None, refl, sym, ◌∙◌, ap, subst, arith, inl, inr, length-drop}
+use Rattle.std.proofs.Common.{◌≡◌, ℕ, zero, suc, ◌+◌, ◌-◌, ◌*◌, ◌<◌, Bool, true, false, not, ◌==◌, if◌then◌else◌, bit_and}
+use Rattle.std.proofs.Common.{List, [], ◌++◌, map, length, replicate, take, drop, Result, Ok, Err, Some, refl, sym, ◌∙◌, ap, subst, arith}
 use Rattle.std.specs.List.{range_with_len}
 use Rattle.std.proofs.Math.Seq.{take-add, take-append_seam}
-use Rattle.std.proofs.lemmas.Bool.{and_from, cases_Bool, eq-eqb, eqb-true, le-leb}
+use Rattle.std.proofs.lemmas.Bool.{and_from, eq-eqb, eqb-true, le-leb}
 use Rattle.std.proofs.lemmas.Bool.Decides.{nat_tests}
 use Rattle.std.proofs.lemmas.List.{take_all, length-take}
 use Rattle.mad_layout.specs.declared.rmpp_header.RmppHeader.{RmppHeader}
@@ -11,9 +11,9 @@ use Rattle.mad_layout.specs.Bits.{bit_of}
 use Rattle.rmpp_core.specs.declared.receiver.ReceiveFault.{ReceiveFault}
 use Rattle.rmpp_core.specs.declared.receiver.ReceiveFault.TheVariants.{UnexpectedSegment, WrongLength}
 use Rattle.rmpp_core.specs.Laws.{IsTransfer, segment_mads, after_all, SegmentsAreReceived}
-use Rattle.rmpp_core.specs.Receiving.{Received, nothing, is_data, is_first, is_last, is_expected, first_length_of, has_right_length, carried, grown, with_segment, after_data, whole_of, whole_bytes}
-use Rattle.rmpp_core.specs.Receiving.{rmpp_in, data_in}
-use Rattle.rmpp_core.specs.Segments.{Transfer, segment_count, segment_of, payload_size, payload_length, flags_of, padded_segment, segment_rmpp, segment_mad}
+use Rattle.rmpp_core.specs.Receiving.{Received, nothing, is_last, is_expected, first_length_of, has_right_length, carried, grown, with_segment, whole_bytes}
+use Rattle.rmpp_core.specs.Receiving.{data_in}
+use Rattle.rmpp_core.specs.Segments.{Transfer, segment_count, segment_of, payload_size, payload_length, padded_segment, segment_rmpp, segment_mad}
 use Rattle.rmpp_core.proofs.CutLemmas.{segment_is, segment_length}
 use Rattle.rmpp_core.proofs.ReadBackLemmas.{reads_back}
 

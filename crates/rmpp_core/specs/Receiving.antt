@@ -1,5 +1,5 @@
 -- Which segments a receiver takes (InfiniBand volume 1, chapter 13).
-use Rattle.std.specs.Prelude.{ℕ, ◌≡◌, ◌+◌, ◌-◌, ◌*◌, ◌==◌, Bool, true, false, ◌&&◌, not, nat_le, if◌then◌else◌, bit_and}
+use Rattle.std.specs.Prelude.{ℕ, ◌≡◌, ◌+◌, ◌-◌, ◌*◌, ◌==◌, Bool, false, ◌&&◌, not, nat_le, if◌then◌else◌, bit_and}
 use Rattle.std.specs.Prelude.{List, [], ◌++◌, length, take, slice_range, Option, Some, None, Result, Ok, Err}
 use Rattle.mad_layout.specs.declared.rmpp_header.RmppHeader.{RmppHeader}
 use Rattle.mad_layout.specs.declared.rmpp_kind.RmppKind.TheVariants.{Data}

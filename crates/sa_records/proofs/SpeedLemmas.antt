@@ -1,11 +1,10 @@
 -- The speed of a code.
-use Rattle.std.proofs.Common.{◌≡◌, ℕ, Bool, true, false, ◌==◌, Option, Some, None, refl, sym, ◌∙◌, ap, inl, inr}
-use Rattle.std.specs.List.{find}
+use Rattle.std.proofs.Common.{◌≡◌, ℕ, false, ◌==◌, Some, None, refl, ◌∙◌, ap, inl, inr}
 use Rattle.std.proofs.lemmas.Bool.{cases_Bool, eqb-true}
 use Rattle.attr_tables.specs.declared.rate.Rate.{Rate}
 use Rattle.attr_tables.specs.declared.rate.Rate.TheVariants.{Gbps2_5, Gbps10, Gbps30, Gbps5, Gbps20, Gbps40, Gbps60, Gbps80, Gbps120}
 use Rattle.attr_tables.specs.Rate.{rate_code}
-use Rattle.sa_records.specs.Speed.{rates, speed, speed_of}
+use Rattle.sa_records.specs.Speed.{speed, speed_of}
 
 own_speed : (rate : Rate) → Some (speed rate) ≡ speed_of (rate_code rate)
 unfolding speed_of

@@ -1,4 +1,4 @@
-use Rattle.std.proofs.Common.{ℕ, List, replicate, sym, subst}
+use Rattle.std.proofs.Common.{ℕ, List, sym, subst}
 use Rattle.mad_layout.specs.Layout.{Spells}
 use Rattle.mad_layout.specs.MadHeader.{mad_header}
 use Rattle.mad_layout.specs.RmppHeader.{rmpp_header}

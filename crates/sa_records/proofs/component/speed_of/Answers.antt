@@ -1,5 +1,4 @@
-use Rattle.std.proofs.Common.{◌≡◌, ℕ, Option, Some, None, ap, ◌∙◌}
-use Rattle.attr_tables.specs.Rate.{rate_code}
+use Rattle.std.proofs.Common.{ℕ, Some, ap, ◌∙◌}
 use Rattle.sa_records.proofs.SpeedLemmas.{speed_found, speed_missing}
 use Rattle.sa_records.proofs.component.speed_of.Goals as goal
 

@@ -1,4 +1,4 @@
-use Rattle.std.proofs.Common.{◌≡◌, ℕ, ◌+◌, ◌*◌, ◌-◌, List, length, take, drop, min, sym, ◌∙◌, ap}
+use Rattle.std.proofs.Common.{ℕ, ◌+◌, ◌*◌, ◌-◌, List, length, take, drop, min, sym, ◌∙◌, ap}
 use Rattle.rmpp_core.specs.Segments.{Transfer}
 use Rattle.rmpp_core.proofs.CutLemmas.{segment_between}
 use Rattle.rmpp_core.proofs.sender.Sender.data_of.Goals as goal

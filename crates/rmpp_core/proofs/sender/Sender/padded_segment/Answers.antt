@@ -1,6 +1,5 @@
-use Rattle.std.proofs.Common.{◌≡◌, ℕ, List, length, replicate, drop, ◌++◌, ◌-◌, ◌∙◌, ap}
+use Rattle.std.proofs.Common.{ℕ, List, length, replicate, drop, ◌++◌, ◌-◌, ◌∙◌, ap}
 use Rattle.std.proofs.lemmas.List.{drop-replicate}
-use Rattle.rmpp_core.specs.Segments.{segment_of}
 use Rattle.rmpp_core.proofs.sender.Sender.padded_segment.Goals as goal
 
 pub returns : goal.returns
