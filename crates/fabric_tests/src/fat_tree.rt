@@ -4,6 +4,7 @@
 ghost use Rattle.std.specs.Prelude.{◌≤◌, ◌<◌, length};
 
 use crate::fixtures::fabric_of;
+use crate::up_down::routes_of;
 use attr_tables::SmpAttribute;
 use fabric_wire::{CountingWire, Fabric, get_attribute};
 use lid_assign::assign;
@@ -173,4 +174,39 @@ fn a_fat_tree_of_64_switches_has_320_lids(rt: HostRuntime) -> Result<(), Fail> {
     assert!(rt; lids.port_of(320).is_some());
     assert_eq!(rt; lids.port_of(321), None);
     Ok(())
+}
+
+/// Routes of a fat tree, whose spines are the roots: each leaf sends up what is for an adapter of another.
+fn is_routed(rt: &impl Abort, alloc: Global, leaves: u16) -> Result<(), Fail>
+    requires some { 0 < leaves }
+    requires few { leaves ≤ 32 }
+{
+    let mut fabric = fat_tree_of(alloc, leaves)?;
+    let graph = sweep(alloc, &mut fabric).or(Err("a graph"))?;
+    let guids = graph.switches().iter().map(|switch| switch.guid);
+    let spines = guids.filter(|guid| *guid >= 2000).collect(alloc);
+    let roots: Vec<u64> = spines.or(Err("memory"))?;
+    let routes = routes_of(alloc, &graph, &roots).or(Err("routes"))?;
+    // The subnet manager's port hangs on port 1 of the first leaf. Each leaf knows the way there; a spine that has
+    // no cable to that leaf does not.
+    assert_eq!(rt; routes.next_hop(0, 1), Some(1));
+    for (place, switch) in graph.switches().iter().enumerate() {
+        assert!(rt; switch.guid >= 2000 || routes.next_hop(place, 1).is_some());
+    }
+    Ok(())
+}
+
+#[test]
+fn a_fat_tree_of_8_switches_is_routed(rt: HostRuntime) -> Result<(), Fail> {
+    is_routed(&rt, rt.alloc(), 4)
+}
+
+#[test]
+fn a_fat_tree_of_16_switches_is_routed(rt: HostRuntime) -> Result<(), Fail> {
+    is_routed(&rt, rt.alloc(), 8)
+}
+
+#[test]
+fn a_fat_tree_of_64_switches_is_routed(rt: HostRuntime) -> Result<(), Fail> {
+    is_routed(&rt, rt.alloc(), 32)
 }
