@@ -1,5 +1,7 @@
 //! Routes over fabrics that a sweep finds.
 
+mod searches;
+
 use crate::fixtures::{fabric_of, two_switch_fabric};
 use example_texts::TWO_SWITCHES;
 use fabric_wire::Fabric;
