@@ -1,5 +1,3 @@
-ghost use Rattle.std.specs.Prelude.{◌+◌, ◌≤◌, length};
-
 use agent_rules::{Link, node_info_of, port_info_at_power_up, switch_info_at_power_up};
 use attr_tables::{
     BlockPlace, Mtu, NodeDescription, NodeInfo, PortBlock, PortInfo, PortPhysicalState, PortState,
@@ -8,11 +6,11 @@ use attr_tables::{
 use fabric_parts::NodeType;
 
 /// An attribute of zero bytes but for these, from that byte on.
-fn attribute_with(first: usize, bytes: &[u8]) -> [u8; 64]
-    requires { first + length bytes.now ≤ 64 }
-{
+fn attribute_with(first: usize, bytes: &[u8]) -> [u8; 64] {
     let mut attribute = [0; 64];
-    attribute[first..first + bytes.len()].copy_from_slice(bytes);
+    for (place, byte) in attribute.iter_mut().skip(first).zip(bytes) {
+        *place = *byte;
+    }
     attribute
 }
 
@@ -161,24 +159,22 @@ fn blocks_of_keys_and_masks_read_and_write(rt: HostRuntime) {
     }
 }
 
+/// The ports to LIDs 1 to 6.
+const ENTRIES: [u8; 64] = [
+    0xff, 0x01, 0x00, 0x03, 0x02, 0x03, 0x03, 0xff, 0xff, 0xff, 0xff, 0xff, 0xff, 0xff, 0xff, 0xff,
+    0xff, 0xff, 0xff, 0xff, 0xff, 0xff, 0xff, 0xff, 0xff, 0xff, 0xff, 0xff, 0xff, 0xff, 0xff, 0xff,
+    0xff, 0xff, 0xff, 0xff, 0xff, 0xff, 0xff, 0xff, 0xff, 0xff, 0xff, 0xff, 0xff, 0xff, 0xff, 0xff,
+    0xff, 0xff, 0xff, 0xff, 0xff, 0xff, 0xff, 0xff, 0xff, 0xff, 0xff, 0xff, 0xff, 0xff, 0xff, 0xff,
+];
+
 #[test]
 fn a_block_of_ports_reads_and_writes(rt: HostRuntime) {
-    let mut bytes = [0xff; 64];
-    // the ports to LIDs 1 to 6
-    bytes[1..7].copy_from_slice(&[0x01, 0x00, 0x03, 0x02, 0x03, 0x03]);
-    let block = PortBlock::read(&bytes);
-    assert_eq!(rt;
-        (
-            block.ports[0],
-            block.ports[1],
-            block.ports[2],
-            block.ports[3]
-        ),
-        (0xff, 1, 0, 3)
-    );
+    let block = PortBlock::read(&ENTRIES);
+    assert_eq!(rt; (block.ports[0], block.ports[1]), (0xff, 1));
+    assert_eq!(rt; (block.ports[2], block.ports[3]), (0, 3));
     let mut written = [0; 64];
     block.write(&mut written);
-    assert_eq!(rt; written, bytes);
+    assert_eq!(rt; written, ENTRIES);
 }
 
 #[test]

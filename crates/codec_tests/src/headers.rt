@@ -1,15 +1,13 @@
-ghost use Rattle.std.specs.Prelude.{◌+◌, ◌≤◌, length};
-
 use bitflags::Flags;
 use mad_layout::{DrSmp, Header, Mad, MadStatus, Method, RmppFlags, RmppHeader, RmppKind, SaMad};
 use std::test::Fail;
 
 /// A MAD of zero bytes but for these, from that byte on.
-fn mad_with(first: usize, bytes: &[u8]) -> Mad
-    requires { first + length bytes.now ≤ 256 }
-{
+fn mad_with(first: usize, bytes: &[u8]) -> Mad {
     let mut mad = [0; 256];
-    mad[first..first + bytes.len()].copy_from_slice(bytes);
+    for (place, byte) in mad.iter_mut().skip(first).zip(bytes) {
+        *place = *byte;
+    }
     mad
 }
 
@@ -203,21 +201,21 @@ const ADMINISTRATION_FIELDS: [([u8; 20], u16, u64); 3] = [
     ),
 ];
 
+fn written(fields: &SaMad) -> Mad {
+    let mut mad = [0; 256];
+    fields.write(&mut mad);
+    mad
+}
+
 #[test]
 fn administration_fields_read_and_write(rt: HostRuntime) {
     for (bytes, attribute_offset, component_mask) in ADMINISTRATION_FIELDS {
         let mad = mad_with(36, &bytes);
         let read = SaMad::read(&mad);
-        let fields = SaMad {
-            sm_key: 0,
-            attribute_offset,
-            component_mask,
-            data: [0; 200],
-        };
-        assert_eq!(rt; read, fields);
-        let mut written = [0; 256];
-        read.write(&mut written);
-        assert_eq!(rt; written, mad);
+        assert_eq!(rt; (read.sm_key, read.data), (0, [0; 200]));
+        assert_eq!(rt; read.attribute_offset, attribute_offset);
+        assert_eq!(rt; read.component_mask, component_mask);
+        assert_eq!(rt; written(&read), mad);
     }
 }
 

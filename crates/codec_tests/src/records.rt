@@ -77,17 +77,20 @@ fn switch_port() -> NodeRecord {
     }
 }
 
+fn written_node(record: &NodeRecord) -> [u8; 112] {
+    let mut bytes = [0xff; 112];
+    record.write(&mut bytes);
+    bytes
+}
+
 #[test]
 fn nodes_read_and_write(rt: HostRuntime) {
-    for (bytes, record) in [
-        (filled::<112>(&ADAPTER_PORT), adapter_port()),
-        (filled::<112>(&SWITCH_PORT), switch_port()),
-    ] {
-        assert_eq!(rt; NodeRecord::read(&bytes), record);
-        let mut written = [0xff; 112];
-        NodeRecord::read(&bytes).write(&mut written);
-        assert_eq!(rt; written, bytes);
-    }
+    let adapter = filled(&ADAPTER_PORT);
+    assert_eq!(rt; NodeRecord::read(&adapter), adapter_port());
+    assert_eq!(rt; written_node(&adapter_port()), adapter);
+    let switch = filled(&SWITCH_PORT);
+    assert_eq!(rt; NodeRecord::read(&switch), switch_port());
+    assert_eq!(rt; written_node(&switch_port()), switch);
 }
 
 #[test]
@@ -648,14 +651,20 @@ const DATA_BITS: [u32; 64] = [
     35, 35, 35, 35, 35, 35, 35, 35, 36, 36, 36, 36, 36, 36, 36, 36,
 ];
 
+/// The service, with a 1 in that byte of its data.
+fn with_data_at(place: usize) -> ServiceRecord {
+    let mut other = service();
+    if let Some(byte) = other.service_data.get_mut(place) {
+        *byte = 1;
+    }
+    other
+}
+
 #[test]
 fn each_number_of_service_data_has_its_bit(rt: HostRuntime) {
     let shown = service();
     for (place, bit) in DATA_BITS.iter().enumerate() {
-        let mut other = shown;
-        for (at, byte) in other.service_data.iter_mut().enumerate() {
-            *byte = if at == place { 1 } else { 0 };
-        }
+        let other = with_data_at(place);
         let bits = 1u64.checked_shl(*bit).unwrap_or(0);
         assert!(rt; !shown.selected_by(bits, &other));
         assert!(rt; shown.selected_by(!bits, &other));

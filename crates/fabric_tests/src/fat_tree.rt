@@ -3,7 +3,7 @@
 
 ghost use Rattle.std.specs.Prelude.{◌≤◌, ◌<◌, length};
 
-use crate::fixtures::fabric_of;
+use crate::fixtures::{fabric_of, graph_of};
 use crate::up_down::routes_of;
 use attr_tables::SmpAttribute;
 use fabric_wire::{CountingWire, Fabric, get_attribute};
@@ -12,6 +12,7 @@ use std::alloc::Global;
 use std::process::Abort;
 use std::test::Fail;
 use sweep::{Graph, sweep};
+use updn_routes::Routes;
 
 pub fn put(text: &mut Vec<u8>, part: &[u8]) -> Result<(), Fail> {
     text.extend_from_slice(part).ok().ok_or("memory")?;
@@ -182,18 +183,27 @@ fn is_routed(rt: &impl Abort, alloc: Global, leaves: u16) -> Result<(), Fail>
     requires few { leaves ≤ 32 }
 {
     let mut fabric = fat_tree_of(alloc, leaves)?;
-    let graph = sweep(alloc, &mut fabric).or(Err("a graph"))?;
+    let graph = graph_of(alloc, &mut fabric)?;
+    let routes = routes_below_spines(alloc, &graph)?;
+    leaves_know_the_way(rt, &graph, &routes);
+    Ok(())
+}
+
+/// The routes, with the spines as roots.
+fn routes_below_spines(alloc: Global, graph: &Graph) -> Result<Routes, Fail> {
     let guids = graph.switches().iter().map(|switch| switch.guid);
     let spines = guids.filter(|guid| *guid >= 2000).collect(alloc);
     let roots: Vec<u64> = spines.or(Err("memory"))?;
-    let routes = routes_of(alloc, &graph, &roots).or(Err("routes"))?;
-    // The subnet manager's port hangs on port 1 of the first leaf. Each leaf knows the way there; a spine that has
-    // no cable to that leaf does not.
+    Ok(routes_of(alloc, graph, &roots).or(Err("routes"))?)
+}
+
+/// The subnet manager's port hangs on port 1 of the first leaf. Each leaf knows the way there; a spine that has
+/// no cable to that leaf does not.
+fn leaves_know_the_way(rt: &impl Abort, graph: &Graph, routes: &Routes) {
     assert_eq!(rt; routes.next_hop(0, 1), Some(1));
     for (place, switch) in graph.switches().iter().enumerate() {
         assert!(rt; switch.guid >= 2000 || routes.next_hop(place, 1).is_some());
     }
-    Ok(())
 }
 
 #[test]

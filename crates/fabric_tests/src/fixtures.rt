@@ -6,14 +6,45 @@ use fabric_parts::PortRef;
 use fabric_wire::{AdapterPorts, Fabric, Node, PlainWire};
 use port_model::AdapterPort;
 use std::alloc::Global;
+use std::process::Abort;
 use std::test::Fail;
+use sweep::{Graph, SweepFault, sweep};
 use switch_model::{PORTS, Switch};
 use topo_file::{Node as PlannedNode, Topology, read};
 
+/// The fabric of a topology.
+pub fn fabric_over(alloc: Global, topology: &Topology) -> Result<Fabric, Fail> {
+    Ok(Fabric::new(alloc, topology).or(Err("memory"))?)
+}
+
 /// The fabric that a text describes.
 pub fn fabric_of(alloc: Global, text: &[u8]) -> Result<Fabric, Fail> {
-    let topology = read(alloc, text).ok().ok_or("the topology")?;
-    Ok(Fabric::new(alloc, &topology).ok().ok_or("memory")?)
+    let topology = read(alloc, text).or(Err("the topology"))?;
+    fabric_over(alloc, &topology)
+}
+
+/// What a sweep finds.
+pub fn graph_of(alloc: Global, fabric: &mut Fabric) -> Result<Graph, Fail> {
+    Ok(sweep(alloc, fabric).or(Err("a graph"))?)
+}
+
+/// What a sweep of the fabric that a text describes finds.
+pub fn graph_of_text(alloc: Global, text: &[u8]) -> Result<Graph, Fail> {
+    let mut fabric = fabric_of(alloc, text)?;
+    graph_of(alloc, &mut fabric)
+}
+
+/// What a sweep of the two-switch fabric finds; nothing where memory is refused, and no other fault.
+pub fn two_switch_graph(rt: &impl Abort, alloc: Global) -> Option<Graph> {
+    let topology = read(alloc, TWO_SWITCHES.as_bytes()).ok()?;
+    let mut fabric = Fabric::new(alloc, &topology).ok()?;
+    match sweep(alloc, &mut fabric) {
+        Ok(graph) => Some(graph),
+        Err(fault) => {
+            assert_eq!(rt; fault, SweepFault::NoMemory);
+            None
+        }
+    }
 }
 
 /// The two-switch fabric, hop by hop.
@@ -23,9 +54,7 @@ pub fn two_switch_fabric(alloc: Global) -> Result<Fabric, Fail> {
 
 /// The same, over the plain wire.
 pub fn two_switch_wire(alloc: Global) -> Result<PlainWire, Fail> {
-    let topology = read(alloc, TWO_SWITCHES.as_bytes())
-        .ok()
-        .ok_or("the topology")?;
+    let topology = read(alloc, TWO_SWITCHES.as_bytes()).or(Err("the topology"))?;
     plain_wire_of(alloc, &topology)
 }
 

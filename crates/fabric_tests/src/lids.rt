@@ -1,12 +1,11 @@
 //! LIDs of fabrics that a sweep finds.
 
-use crate::fixtures::{fabric_of, two_switch_fabric};
-use fabric_wire::Fabric;
+use crate::fixtures::graph_of_text;
+use example_texts::TWO_SWITCHES;
 use lid_assign::{Lids, assign};
 use std::alloc::Global;
 use std::process::Abort;
 use std::test::Fail;
-use sweep::sweep;
 
 /// On one switch the subnet manager's port, of the greatest GUID, and two ports whose GUIDs are next to each other
 /// and to the switch's.
@@ -23,8 +22,8 @@ cable A/4 h3/1
 sm h0/1
 ";
 
-fn lids_of(alloc: Global, mut fabric: Fabric) -> Result<Lids, Fail> {
-    let graph = sweep(alloc, &mut fabric).or(Err("a graph"))?;
+fn lids_of(alloc: Global, text: &str) -> Result<Lids, Fail> {
+    let graph = graph_of_text(alloc, text.as_bytes())?;
     Ok(assign(alloc, &graph).or(Err("memory"))?)
 }
 
@@ -59,12 +58,11 @@ fn are(rt: &impl Abort, lids: &Lids, rows: &[(u16, u64)], past: u16) {
 
 #[test]
 fn lids_follow_the_guids_behind_the_managers(rt: HostRuntime) -> Result<(), Fail> {
-    let lids = lids_of(rt.alloc(), two_switch_fabric(rt.alloc())?)?;
+    let lids = lids_of(rt.alloc(), TWO_SWITCHES)?;
     are(&rt, &lids, &TWO_SWITCH_LIDS, 7);
     // An adapter's own GUID and an uncabled port's name no end port.
     assert_eq!(rt; (lids.lid_of(0x100), lids.lid_of(0x141)), (None, None));
-    let greatest = fabric_of(rt.alloc(), GREATEST_MANAGER.as_bytes())?;
-    let lids = lids_of(rt.alloc(), greatest)?;
+    let lids = lids_of(rt.alloc(), GREATEST_MANAGER)?;
     are(&rt, &lids, &GREATEST_MANAGER_LIDS, 6);
     Ok(())
 }

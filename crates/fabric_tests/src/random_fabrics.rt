@@ -2,11 +2,12 @@
 
 ghost use Rattle.std.specs.Prelude.{◌<◌};
 
-use crate::fixtures::plain_wire_of;
+use crate::fixtures::{fabric_over, plain_wire_of};
 use attr_tables::SmpAttribute;
-use fabric_wire::{Fabric, SmpWire, get_request, set_request};
+use fabric_wire::{Fabric, PlainWire, SmpWire, get_request, set_request};
 use mad_layout::Mad;
 use std::alloc::Global;
+use std::process::Abort;
 use std::test::Fail;
 use topo_file::read;
 
@@ -113,23 +114,39 @@ fn some_request(chance: &mut Chance) -> Mad {
     smp
 }
 
+/// Sends both wires 100 requests by chance, and counts those that come back.
+fn answers_of(
+    rt: &impl Abort,
+    fabric: &mut Fabric,
+    plain: &mut PlainWire,
+    chance: &mut Chance,
+) -> u32 {
+    let mut answers = 0u32;
+    for _ in 0..100u8 {
+        let request = some_request(chance);
+        let answer = fabric.exchange(&request);
+        answers = answers.saturating_add(u32::from(answer.is_some()));
+        assert_eq!(rt; answer, plain.exchange(&request));
+    }
+    answers
+}
+
+/// The same of a fabric by chance.
+fn answers_by_chance(rt: &impl Abort, alloc: Global, chance: &mut Chance) -> Result<u32, Fail> {
+    let text = fabric_text(alloc, chance)?;
+    let topology = read(alloc, &text).or(Err("the topology"))?;
+    let mut plain = plain_wire_of(alloc, &topology)?;
+    let mut fabric = fabric_over(alloc, &topology)?;
+    Ok(answers_of(rt, &mut fabric, &mut plain, chance))
+}
+
 #[test]
 fn by_chance_the_fabric_answers_as_the_plain_wire_does(rt: HostRuntime) -> Result<(), Fail> {
     let mut chance = Chance { state: 2026 };
     let mut answers = 0u32;
     for _ in 0..20u8 {
-        let text = fabric_text(rt.alloc(), &mut chance)?;
-        let topology = read(rt.alloc(), &text).ok().ok_or("the topology")?;
-        let mut fabric = Fabric::new(rt.alloc(), &topology).ok().ok_or("memory")?;
-        let mut plain = plain_wire_of(rt.alloc(), &topology)?;
-        for _ in 0..100u8 {
-            let request = some_request(&mut chance);
-            let answer = fabric.exchange(&request);
-            if answer.is_some() {
-                answers = answers.saturating_add(1);
-            }
-            assert_eq!(rt; answer, plain.exchange(&request));
-        }
+        let more = answers_by_chance(&rt, rt.alloc(), &mut chance)?;
+        answers = answers.saturating_add(more);
     }
     // Of 2,000 requests enough come back for the comparison to say something.
     assert!(rt; answers > 500);

@@ -5,15 +5,15 @@ mod fault_texts;
 pub mod graphs;
 
 use crate::fat_tree::{put, put_line};
-use crate::fixtures::{fabric_of, two_switch_fabric, two_switch_wire};
+use crate::fixtures::{fabric_of, graph_of_text, two_switch_graph, two_switch_wire};
 use example_texts::TWO_SWITCHES;
-use fabric_wire::{CountingWire, Fabric, SilencedWire};
+use fabric_parts::PortRef;
+use fabric_wire::{CountingWire, SilencedWire};
 use lid_assign::assign;
 use std::alloc::Global;
 use std::process::Abort;
 use std::test::Fail;
-use sweep::{Graph, SweepFault, sweep};
-use topo_file::read;
+use sweep::{Graph, Link, SweepFault, sweep};
 
 /// The switches of the two-switch fabric as they are found from h0: GUID, ports, and the path.
 const SWITCHES: [(u64, u8, &[u8]); 2] = [(0x10, 4, &[1]), (0x20, 4, &[1, 3])];
@@ -21,33 +21,52 @@ const SWITCHES: [(u64, u8, &[u8]); 2] = [(0x10, 4, &[1]), (0x20, 4, &[1, 3])];
 /// The ports that hang on them: GUID, and the switch, by its place, and its port.
 const PORTS: [(u64, usize, u8); 4] = [(0x101, 0, 1), (0x111, 0, 2), (0x121, 1, 1), (0x131, 1, 2)];
 
-/// One cable joins the switches, port 3 to port 3; each has it in its row.
+/// One cable joins the switches, port 3 to port 3; each has it in its row, by the place of the other.
+const LINKS: [Link; 2] = [
+    Link {
+        port: 3,
+        to: PortRef { node: 1, port: 3 },
+    },
+    Link {
+        port: 3,
+        to: PortRef { node: 0, port: 3 },
+    },
+];
+
+fn has_the_switches(rt: &impl Abort, graph: &Graph) {
+    assert_eq!(rt; graph.switches().len(), 2);
+    for (switch, (guid, ports, path)) in graph.switches().iter().zip(SWITCHES) {
+        assert_eq!(rt; (switch.guid, switch.num_ports), (guid, ports));
+        assert_eq!(rt; switch.path.as_slice(), path);
+    }
+}
+
+fn has_the_links(rt: &impl Abort, graph: &Graph) {
+    assert_eq!(rt; graph.rows().len(), 2);
+    for (row, link) in graph.rows().iter().zip(LINKS) {
+        assert_eq!(rt; row.as_slice(), [link].as_slice());
+    }
+}
+
+fn has_the_ports(rt: &impl Abort, graph: &Graph) {
+    assert_eq!(rt; graph.ports().len(), 4);
+    for (port, expected) in graph.ports().iter().zip(PORTS) {
+        assert_eq!(rt; (port.port_guid, port.at.node, port.at.port), expected);
+    }
+}
+
 fn is_the_graph(rt: &impl Abort, graph: &Graph) {
     assert_eq!(rt; graph.manager(), 0x101);
-    assert_eq!(rt; graph.switches().len(), 2);
-    for (switch, expected) in graph.switches().iter().zip(SWITCHES.iter()) {
-        assert_eq!(rt; switch.guid, expected.0);
-        assert_eq!(rt; switch.num_ports, expected.1);
-        assert_eq!(rt; switch.path.as_slice(), expected.2);
-    }
-    for (row, other) in graph.rows().iter().zip([1usize, 0].iter()) {
-        let links = row.as_slice();
-        assert_eq!(rt; links.len(), 1);
-        assert_eq!(rt; links[0].port, 3);
-        assert_eq!(rt; (links[0].to.node, links[0].to.port), (*other, 3));
-    }
-    assert_eq!(rt; graph.ports().len(), 4);
-    for (port, expected) in graph.ports().iter().zip(PORTS.iter()) {
-        assert_eq!(rt; (port.port_guid, port.at.node, port.at.port), *expected);
-    }
+    has_the_switches(rt, graph);
+    has_the_links(rt, graph);
+    has_the_ports(rt, graph);
 }
 
 #[test]
 fn a_sweep_finds_switches_links_and_ports(rt: HostRuntime) -> Result<(), Fail> {
     let mut wire = two_switch_wire(rt.alloc())?;
     is_the_graph(&rt, &sweep(rt.alloc(), &mut wire).or(Err("a graph"))?);
-    let mut fabric = two_switch_fabric(rt.alloc())?;
-    is_the_graph(&rt, &sweep(rt.alloc(), &mut fabric).or(Err("a graph"))?);
+    is_the_graph(&rt, &graph_of_text(rt.alloc(), TWO_SWITCHES.as_bytes())?);
     Ok(())
 }
 
@@ -95,34 +114,25 @@ fn chain(alloc: Global, count: u16) -> Result<Vec<u8>, Fail> {
     Ok(text)
 }
 
+/// How many switches a sweep of such a row finds, or its fault.
+fn found(alloc: Global, count: u16) -> Result<Result<usize, SweepFault>, Fail> {
+    let mut fabric = fabric_of(alloc, &chain(alloc, count)?)?;
+    let swept = sweep(alloc, &mut fabric);
+    Ok(swept.map(|graph| graph.switches().len()))
+}
+
 /// The cable to the 64th switch begins 63 hops away, so that no SMP goes over it.
 #[test]
 fn a_sweep_goes_63_hops_and_no_further(rt: HostRuntime) -> Result<(), Fail> {
-    let mut near = fabric_of(rt.alloc(), &chain(rt.alloc(), 63)?)?;
-    let graph = sweep(rt.alloc(), &mut near).or(Err("a graph"))?;
-    assert_eq!(rt; graph.switches().len(), 63);
-    let mut far = fabric_of(rt.alloc(), &chain(rt.alloc(), 64)?)?;
-    assert_eq!(rt;
-        sweep(rt.alloc(), &mut far).err(),
-        Some(SweepFault::TooManyHops)
-    );
+    assert_eq!(rt; found(rt.alloc(), 63)?, Ok(63));
+    assert_eq!(rt; found(rt.alloc(), 64)?, Err(SweepFault::TooManyHops));
     Ok(())
 }
 
 #[test]
 fn a_graph_and_its_lids_are_found_or_memory_is_refused(rt: HostRuntime) -> Result<(), Fail> {
-    let Ok(topology) = read(rt.alloc(), TWO_SWITCHES.as_bytes()) else {
+    let Some(graph) = two_switch_graph(&rt, rt.alloc()) else {
         return Ok(());
-    };
-    let Ok(mut fabric) = Fabric::new(rt.alloc(), &topology) else {
-        return Ok(());
-    };
-    let graph = match sweep(rt.alloc(), &mut fabric) {
-        Ok(graph) => graph,
-        Err(fault) => {
-            assert_eq!(rt; fault, SweepFault::NoMemory);
-            return Ok(());
-        }
     };
     is_the_graph(&rt, &graph);
     if let Ok(lids) = assign(rt.alloc(), &graph) {

@@ -2,15 +2,13 @@
 
 mod searches;
 
-use crate::fixtures::{fabric_of, two_switch_fabric};
+use crate::fixtures::{graph_of_text, two_switch_graph};
 use example_texts::TWO_SWITCHES;
-use fabric_wire::Fabric;
 use lid_assign::assign;
 use std::alloc::Global;
 use std::process::Abort;
 use std::test::Fail;
-use sweep::{Graph, sweep};
-use topo_file::read;
+use sweep::Graph;
 use updn_routes::{RouteFault, Routes, are_switches, routes};
 
 /// Roots R1 and R2, and L1 and L2 below both; h0 on L1 and h1 on L2.
@@ -68,54 +66,50 @@ fn sends(rt: &impl Abort, routes: &Routes, switch: usize, ports: &[(u16, u8)]) {
     }
 }
 
+/// The ports by which the two switches send what is for these LIDs.
+const BY_A: [(u16, u8); 6] = [(1, 1), (2, 0), (3, 3), (4, 2), (5, 3), (6, 3)];
+
+const BY_B: [(u16, u8); 6] = [(1, 3), (2, 3), (3, 0), (4, 3), (5, 1), (6, 2)];
+
 #[test]
 fn two_switches_send_over_the_cable_between_them(rt: HostRuntime) -> Result<(), Fail> {
-    let mut fabric = two_switch_fabric(rt.alloc())?;
-    let graph = sweep(rt.alloc(), &mut fabric).or(Err("a graph"))?;
+    let graph = graph_of_text(rt.alloc(), TWO_SWITCHES.as_bytes())?;
     let routes = routes_of(rt.alloc(), &graph, &[]).or(Err("routes"))?;
-    sends(
-        &rt,
-        &routes,
-        0,
-        &[(1, 1), (2, 0), (3, 3), (4, 2), (5, 3), (6, 3)],
-    );
-    sends(
-        &rt,
-        &routes,
-        1,
-        &[(1, 3), (2, 3), (3, 0), (4, 3), (5, 1), (6, 2)],
-    );
-    assert_eq!(rt;
-        (
-            routes.next_hop(0, 0),
-            routes.next_hop(0, 7),
-            routes.next_hop(2, 1)
-        ),
-        (None, None, None)
-    );
-    assert_eq!(rt;
-        (routes.channel_number(1, 0), routes.channel_number(0, 1)),
-        (Some(0), Some(2))
-    );
-    assert_eq!(rt;
-        (routes.channel_number(0, 0), routes.channel_number(0, 2)),
-        (None, None)
-    );
-    assert_eq!(rt;
-        (
-            routes.tree_port(0),
-            routes.tree_port(1),
-            routes.tree_port(2)
-        ),
-        (None, Some(3), None)
-    );
+    sends(&rt, &routes, 0, &BY_A);
+    sends(&rt, &routes, 1, &BY_B);
+    are_numbered(&rt, &routes);
     Ok(())
+}
+
+/// A switch, a LID, and the port; LID 0 and LID 7 are nobody's, and there is no third switch.
+const NOWHERE: [(usize, u16); 3] = [(0, 0), (0, 7), (2, 1)];
+
+/// Two switches, and the number of the channel from the one to the other.
+const NUMBERS: [(usize, usize, Option<usize>); 4] = [
+    (1, 0, Some(0)),
+    (0, 1, Some(2)),
+    (0, 0, None),
+    (0, 2, None),
+];
+
+const TREE_PORTS: [(usize, Option<u8>); 3] = [(0, None), (1, Some(3)), (2, None)];
+
+/// The channels and the tree of the two-switch fabric.
+fn are_numbered(rt: &impl Abort, routes: &Routes) {
+    for (switch, lid) in NOWHERE {
+        assert_eq!(rt; routes.next_hop(switch, lid), None);
+    }
+    for (switch, next, number) in NUMBERS {
+        assert_eq!(rt; routes.channel_number(switch, next), number);
+    }
+    for (switch, port) in TREE_PORTS {
+        assert_eq!(rt; routes.tree_port(switch), port);
+    }
 }
 
 #[test]
 fn of_two_equal_ways_the_lesser_port_is_taken(rt: HostRuntime) -> Result<(), Fail> {
-    let mut fabric = fabric_of(rt.alloc(), FOUR_SWITCHES.as_bytes())?;
-    let graph = sweep(rt.alloc(), &mut fabric).or(Err("a graph"))?;
+    let graph = graph_of_text(rt.alloc(), FOUR_SWITCHES.as_bytes())?;
     let routes = routes_of(rt.alloc(), &graph, &ROOTS).or(Err("routes"))?;
     // L1, on which the subnet manager's port hangs, is found first; h1 has LID 6.
     sends(
@@ -129,8 +123,7 @@ fn of_two_equal_ways_the_lesser_port_is_taken(rt: HostRuntime) -> Result<(), Fai
 
 #[test]
 fn two_roots_that_switches_below_join_cannot_reach_each_other(rt: HostRuntime) -> Result<(), Fail> {
-    let mut fabric = fabric_of(rt.alloc(), ADAPTERS_ON_ROOTS.as_bytes())?;
-    let graph = sweep(rt.alloc(), &mut fabric).or(Err("a graph"))?;
+    let graph = graph_of_text(rt.alloc(), ADAPTERS_ON_ROOTS.as_bytes())?;
     // R1 has LID 2, and h1's port LID 6.
     let fault = routes_of(rt.alloc(), &graph, &ROOTS).err();
     assert_eq!(rt; fault, Some(RouteFault::NoLegalPath { switch: 2, port: 6 }));
@@ -139,22 +132,11 @@ fn two_roots_that_switches_below_join_cannot_reach_each_other(rt: HostRuntime) -
 
 #[test]
 fn routes_are_computed_or_memory_is_refused(rt: HostRuntime) -> Result<(), Fail> {
-    let Ok(topology) = read(rt.alloc(), TWO_SWITCHES.as_bytes()) else {
-        return Ok(());
-    };
-    let Ok(mut fabric) = Fabric::new(rt.alloc(), &topology) else {
-        return Ok(());
-    };
-    let Ok(graph) = sweep(rt.alloc(), &mut fabric) else {
+    let Some(graph) = two_switch_graph(&rt, rt.alloc()) else {
         return Ok(());
     };
     match routes_of(rt.alloc(), &graph, &[]) {
-        Ok(routes) => sends(
-            &rt,
-            &routes,
-            0,
-            &[(1, 1), (2, 0), (3, 3), (4, 2), (5, 3), (6, 3)],
-        ),
+        Ok(routes) => sends(&rt, &routes, 0, &BY_A),
         Err(fault) => assert_eq!(rt; fault, RouteFault::NoMemory),
     }
     Ok(())

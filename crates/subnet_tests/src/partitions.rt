@@ -1,7 +1,9 @@
 use crate::fixtures::{GUIDS, ONE_PARTITION};
 use example_texts::{ONE_PARTITION_FILE, TWO_SWITCHES};
+use std::alloc::Global;
 use std::test::Fail;
 use subnet_core::{RunFault, bring_up, configuration_of};
+use subnet_model::Configuration;
 
 const PORTS: &str = "\
 port 0x0001 0x0000000000000101 h0/1
@@ -12,11 +14,16 @@ port 0x0005 0x0000000000000121 h2/1
 port 0x0006 0x0000000000000131 h3/1
 ";
 
+/// The two-switch fabric under that file; a clause on it would have the caller's proof read both texts.
+fn under_one_partition(alloc: Global) -> Result<Configuration, Fail> {
+    let topology = topo_file::read(alloc, TWO_SWITCHES.as_bytes())?;
+    let partitions = partition_file::read(alloc, ONE_PARTITION_FILE.as_bytes())?;
+    Ok(configuration_of(alloc, &topology, &partitions)?)
+}
+
 #[test]
 fn end_ports_hold_the_keys_that_a_file_gives_them(rt: HostRuntime) -> Result<(), Fail> {
-    let topology = topo_file::read(rt.alloc(), TWO_SWITCHES.as_bytes())?;
-    let partitions = partition_file::read(rt.alloc(), ONE_PARTITION_FILE.as_bytes())?;
-    let configuration = configuration_of(rt.alloc(), &topology, &partitions)?;
+    let configuration = under_one_partition(rt.alloc())?;
     let ports = configuration.ports();
     assert_eq!(rt; ports.len(), GUIDS.len());
     for (port, (guid, held)) in ports.iter().zip(GUIDS.iter().zip(ONE_PARTITION)) {

@@ -1,19 +1,34 @@
 use example_texts::TWO_SWITCHES;
+use std::alloc::Global;
+use std::process::Abort;
 use std::test::Fail;
-use subnet_core::{RunFault, StepFault, bring_up, run};
+use subnet_core::{RunFault, StepFault, Subnet, bring_up, run};
+use subnet_model::Command;
+
+/// The two-switch fabric without a partition file; a clause on it would have each caller's proof read its text.
+fn two_switch_subnet(alloc: Global) -> Result<Subnet, RunFault> {
+    bring_up(alloc, TWO_SWITCHES.as_bytes(), None)
+}
+
+/// How many events a line leads to, and the port of the first.
+fn heard(subnet: &mut Subnet, line: &[u8]) -> Result<(usize, Option<u64>), Fail> {
+    let command = subnet.parse(1, line)?.ok_or("a command")?;
+    let events = subnet.step(&command)?;
+    Ok((events.len(), events.first().map(|event| event.port_guid)))
+}
+
+/// A line, and the port at which its one event is.
+const STEPS: [(&[u8], u64); 3] = [
+    (b"send h1/1 5 0xffff 7 2:beef\n", 0x121),
+    (b"send h2/1 4 0x7fff 7 0:", 0x121),
+    (b"send h2/1 4 0xffff 7 0: # h1", 0x111),
+];
 
 #[test]
 fn a_step_tells_its_events(rt: HostRuntime) -> Result<(), Fail> {
-    let mut subnet = bring_up(rt.alloc(), TWO_SWITCHES.as_bytes(), None)?;
-    for (line, port) in [
-        (b"send h1/1 5 0xffff 7 2:beef\n".as_slice(), 0x121),
-        (b"send h2/1 4 0x7fff 7 0:".as_slice(), 0x121),
-        (b"send h2/1 4 0xffff 7 0: # h1".as_slice(), 0x111),
-    ] {
-        let command = subnet.parse(1, line)?.ok_or("a command")?;
-        let events = subnet.step(&command)?;
-        assert_eq!(rt; events.len(), 1);
-        assert_eq!(rt; events[0].port_guid, port);
+    let mut subnet = two_switch_subnet(rt.alloc())?;
+    for (line, port) in STEPS {
+        assert_eq!(rt; heard(&mut subnet, line)?, (1, Some(port)));
     }
     Ok(())
 }
@@ -33,30 +48,34 @@ fn a_run_is_told_or_memory_is_refused(rt: HostRuntime) -> Result<(), Fail> {
     Ok(())
 }
 
-#[test]
-fn a_subnet_that_ran_out_of_memory_is_broken(rt: HostRuntime) -> Result<(), Fail> {
-    let mut subnet = match bring_up(rt.alloc(), TWO_SWITCHES.as_bytes(), None) {
-        Ok(subnet) => subnet,
-        Err(fault) => {
-            assert_eq!(rt; fault, RunFault::NoMemory);
-            return Ok(());
-        }
-    };
-    assert!(rt; matches!(subnet.parse(7, b"# nothing\n"), Ok(None)));
-    let command = match subnet.parse(8, b"send h1/1 5 0xffff 7 2:beef\n") {
-        Ok(command) => command.ok_or("a command")?,
-        Err(fault) => {
-            assert_eq!(rt; fault, RunFault::NoMemory);
-            return Ok(());
-        }
-    };
-    match subnet.step(&command) {
+fn is_carried_out(rt: &impl Abort, subnet: &mut Subnet, command: &Command) {
+    match subnet.step(command) {
         Ok(events) => assert_eq!(rt; events.len(), 1),
         Err(fault) => {
             assert_eq!(rt; fault, StepFault::NoMemory);
-            assert!(rt; matches!(subnet.step(&command), Err(StepFault::Broken)));
-            assert!(rt; matches!(subnet.step(&command), Err(StepFault::Broken)));
+            assert!(rt; matches!(subnet.step(command), Err(StepFault::Broken)));
+            assert!(rt; matches!(subnet.step(command), Err(StepFault::Broken)));
         }
     }
+}
+
+/// A step tells its event; where memory is refused the subnet is broken from then on.
+fn steps_or_breaks(rt: &impl Abort, subnet: &mut Subnet) -> Result<(), Fail> {
+    assert!(rt; matches!(subnet.parse(7, b"# nothing\n"), Ok(None)));
+    match subnet.parse(8, b"send h1/1 5 0xffff 7 2:beef\n") {
+        Ok(command) => is_carried_out(rt, subnet, &command.ok_or("a command")?),
+        Err(fault) => assert_eq!(rt; fault, RunFault::NoMemory),
+    }
     Ok(())
+}
+
+#[test]
+fn a_subnet_that_ran_out_of_memory_is_broken(rt: HostRuntime) -> Result<(), Fail> {
+    match two_switch_subnet(rt.alloc()) {
+        Ok(mut subnet) => steps_or_breaks(&rt, &mut subnet),
+        Err(fault) => {
+            assert_eq!(rt; fault, RunFault::NoMemory);
+            Ok(())
+        }
+    }
 }

@@ -60,16 +60,6 @@ fn is_two_switches(topology: &Topology) -> bool {
         && topology.sm() == port(2, 1)
 }
 
-fn have_same_nodes(one: &Topology, other: &Topology) -> bool {
-    one.nodes().len() == other.nodes().len()
-        && one.nodes().iter().zip(other.nodes()).all(|(a, b)| {
-            a.name.as_bytes() == b.name.as_bytes()
-                && a.node_type == b.node_type
-                && a.guid == b.guid
-                && a.ports == b.ports
-        })
-}
-
 #[test]
 fn a_text_is_read_or_memory_is_refused(rt: HostRuntime) {
     match read(rt.alloc(), TWO_SWITCHES.as_bytes()) {
@@ -89,32 +79,23 @@ fn a_text_with_roots_is_read_or_memory_is_refused(rt: HostRuntime) {
     }
 }
 
-#[test]
-fn roots_change_nothing_else_of_a_topology(rt: HostRuntime) -> Result<(), Fail> {
-    let without = read(rt.alloc(), TWO_SWITCHES.as_bytes())?;
-    let with = read(rt.alloc(), TWO_ROOTS.as_bytes())?;
-    assert_eq!(rt; without.roots().len(), 0);
-    assert_eq!(rt; with.roots(), [1, 0].as_slice());
-    assert!(rt; have_same_nodes(&with, &without));
-    assert!(rt; with.cables() == without.cables());
-    assert_eq!(rt; with.sm(), without.sm());
-    Ok(())
-}
+/// Cables of an adapter to both switches.
+const THROUGH_AN_ADAPTER: [Cable; 2] = [
+    Cable {
+        first: PortRef { node: 0, port: 1 },
+        second: PortRef { node: 2, port: 1 },
+    },
+    Cable {
+        first: PortRef { node: 2, port: 2 },
+        second: PortRef { node: 1, port: 1 },
+    },
+];
 
 #[test]
 fn cables_between_switches_alone_join_switches(rt: HostRuntime) -> Result<(), Fail> {
     let topology = read(rt.alloc(), TWO_SWITCHES.as_bytes())?;
-    let through_adapter = [
-        Cable {
-            first: port(0, 1),
-            second: port(2, 1),
-        },
-        Cable {
-            first: port(2, 2),
-            second: port(1, 1),
-        },
-    ];
-    assert!(rt; is_connected(rt.alloc(), topology.nodes(), topology.cables())?);
-    assert!(rt; !is_connected(rt.alloc(), topology.nodes(), &through_adapter)?);
+    let nodes = topology.nodes();
+    assert!(rt; is_connected(rt.alloc(), nodes, topology.cables())?);
+    assert!(rt; !is_connected(rt.alloc(), nodes, &THROUGH_AN_ADAPTER)?);
     Ok(())
 }

@@ -1,6 +1,6 @@
 //! The nodes and the requests of these tests.
 
-ghost use Rattle.std.specs.Prelude.{◌+◌, ◌≤◌, length};
+ghost use Rattle.std.specs.Prelude.{◌+◌, ◌≤◌};
 
 use agent_rules::{LINEAR_TABLE, Link, MULTICAST_TABLE};
 use attr_tables::SmpAttribute;
@@ -71,12 +71,36 @@ pub fn reply(smp: Mad, method: u8, status: u8, attribute_bytes: Option<[u8; 64]>
 }
 
 /// An attribute of zero bytes but for these, from that byte on.
-pub fn attribute_with(first: usize, bytes: &[u8]) -> [u8; 64]
-    requires { first + length bytes.now ≤ 64 }
-{
+pub fn attribute_with(first: usize, bytes: &[u8]) -> [u8; 64] {
     let mut attribute = [0; 64];
-    attribute[first..first + bytes.len()].copy_from_slice(bytes);
+    for (place, byte) in attribute.iter_mut().skip(first).zip(bytes) {
+        *place = *byte;
+    }
     attribute
+}
+
+/// What a new port of an adapter answers, if anything.
+pub fn answer_of_a_port(request: Mad) -> Option<Mad> {
+    let mut port = adapter_port();
+    let mut smp = request;
+    if port.agent(&mut smp) {
+        Some(smp)
+    } else {
+        None
+    }
+}
+
+/// What a new switch answers to a request that comes in at that port, if anything.
+pub fn answer_of_a_switch(in_port: u8, request: Mad) -> Option<Mad>
+    requires { in_port ≤ 4 }
+{
+    let mut node = switch();
+    let mut smp = request;
+    if node.agent(in_port, &mut smp) {
+        Some(smp)
+    } else {
+        None
+    }
 }
 
 /// PortInfo of a cabled port of an adapter of one port at power-up, but for its state.

@@ -1,7 +1,8 @@
 //! What a Set changes, and what comes back.
 
 use crate::agents::fixtures::{
-    adapter_port, adapter_port_info, attribute_with, get, reply, set, switch, with_byte,
+    adapter_port, adapter_port_info, answer_of_a_switch, attribute_with, get, reply, set, switch,
+    with_byte,
 };
 use agent_rules::Link;
 use attr_tables::{NodeInfo, PortInfo, PortState, SmpAttribute, SwitchInfo};
@@ -59,20 +60,28 @@ fn a_port_without_a_cable_stays_down(rt: HostRuntime) {
     assert_eq!(rt; info.port_state(), Some(PortState::Down));
 }
 
-#[test]
-fn a_set_of_port_info_takes_what_it_may(rt: HostRuntime) {
-    let mut node = switch();
-    // every bit is asked for, but for LMC 0, LID 0x1234, NeighborMTU 1 and PortState 3
+/// PortInfo with every bit asked for, but for the LID, LMC 0, NeighborMTU 1 and PortState 3.
+fn all_asked(lid: [u8; 2]) -> [u8; 64] {
     let mut asked = [0xff; 64];
-    asked[16] = 0x12;
-    asked[17] = 0x34;
+    asked[16] = lid[0];
+    asked[17] = lid[1];
     asked[32] = 0xf3;
     asked[34] = 0xf8;
     asked[36] = 0x1f;
-    let mut smp = set(SmpAttribute::PortInfo, 1, asked);
-    assert!(rt; node.agent(4, &mut smp));
-    assert_eq!(rt; Header::read(&smp).status, 0);
-    let info = PortInfo::read(&DrSmp::read(&smp).data);
+    asked
+}
+
+/// What comes of that at port 1, where the switch is asked at port 4.
+fn port_info_after(lid: [u8; 2]) -> Option<(u16, PortInfo)> {
+    let smp = answer_of_a_switch(4, set(SmpAttribute::PortInfo, 1, all_asked(lid)))?;
+    Some((
+        Header::read(&smp).status,
+        PortInfo::read(&DrSmp::read(&smp).data),
+    ))
+}
+
+#[test]
+fn a_set_of_port_info_takes_what_it_may(rt: HostRuntime) {
     let before = agent_rules::port_info_at_power_up(NodeType::Switch, 4, Link::Cabled);
     let after = PortInfo {
         gid_prefix: 0xffffffffffffffff,
@@ -85,15 +94,13 @@ fn a_set_of_port_info_takes_what_it_may(rt: HostRuntime) {
         partition_enforcement_outbound: true,
         ..before
     };
-    assert_eq!(rt; info, after);
-    // LIDs from 0xc000 on are no port's
-    asked[16] = 0xc0;
-    let mut refused = set(SmpAttribute::PortInfo, 2, asked);
-    assert!(rt; node.agent(4, &mut refused));
-    assert_eq!(rt;
-        Header::read(&refused).status(),
-        Some(MadStatus::InvalidField)
-    );
+    assert_eq!(rt; port_info_after([0x12, 0x34]), Some((0, after)));
+}
+
+#[test]
+fn a_port_takes_no_lid_from_0xc000_on(rt: HostRuntime) {
+    let told = port_info_after([0xc0, 0x34]);
+    assert_eq!(rt; told.map(|(status, _)| status), Some(0x1c));
 }
 
 /// A table, the block of it that is set, another, and what that holds.

@@ -1,6 +1,7 @@
 //! Sweeps whose graph is compared with the topology.
 
 use crate::fat_tree::{put, put_line};
+use crate::fixtures::{fabric_over, graph_of};
 use crate::random_fabrics::Chance;
 use attr_tables::{NodeInfo, SmpAttribute};
 use fabric_parts::PortRef;
@@ -8,8 +9,8 @@ use fabric_wire::{Fabric, get_attribute};
 use std::alloc::Global;
 use std::process::Abort;
 use std::test::Fail;
-use sweep::{Graph, sweep};
-use topo_file::{Topology, read};
+use sweep::{Graph, GraphSwitch, Path};
+use topo_file::{Node, Topology, read};
 
 /// A port of a switch of the topology, as the graph names it: the switch by its place there.
 fn placed(graph: &Graph, topology: &Topology, port: PortRef) -> Option<PortRef> {
@@ -87,6 +88,19 @@ fn has_its_cables(rt: &impl Abort, graph: &Graph, topology: &Topology) {
     assert_eq!(rt; met(graph), ends);
 }
 
+/// The GUID of the node at the end of that path.
+fn guid_along(fabric: &mut Fabric, path: &Path) -> Option<u64> {
+    let there = get_attribute(fabric, 1, SmpAttribute::NodeInfo, 0, path.as_slice());
+    Some(NodeInfo::read(&there.ok()?).node_guid)
+}
+
+/// Whether that is the switch that the topology plans.
+fn is_planned(switch: &GraphSwitch, node: &Node) -> bool {
+    switch.guid == node.guid
+        && switch.num_ports == node.ports
+        && switch.name.starts_with(node.name.as_bytes())
+}
+
 /// Each switch is in the graph, and nothing else is; and its path leads there.
 fn has_its_switches(
     rt: &impl Abort,
@@ -97,14 +111,9 @@ fn has_its_switches(
     let mut count = 0usize;
     for node in topology.nodes().iter().filter(|node| node.is_switch()) {
         let mut switches = graph.switches().iter();
-        let found = switches.find(|switch| switch.guid == node.guid);
+        let found = switches.find(|switch| is_planned(switch, node));
         let switch = found.ok_or("a switch")?;
-        assert_eq!(rt; switch.num_ports, node.ports);
-        assert!(rt; switch.name.starts_with(node.name.as_bytes()));
-        let path = switch.path.as_slice();
-        let there = get_attribute(fabric, 1, SmpAttribute::NodeInfo, 0, path);
-        let info = there.or(Err("NodeInfo"))?;
-        assert_eq!(rt; NodeInfo::read(&info).node_guid, node.guid);
+        assert_eq!(rt; guid_along(fabric, &switch.path), Some(node.guid));
         count = count.wrapping_add(1);
     }
     assert_eq!(rt; graph.switches().len(), count);
@@ -112,11 +121,21 @@ fn has_its_switches(
 }
 
 fn is_swept(rt: &impl Abort, alloc: Global, text: &[u8]) -> Result<(), Fail> {
-    let topology = read(alloc, text).ok().ok_or("the topology")?;
-    let mut fabric = Fabric::new(alloc, &topology).ok().ok_or("memory")?;
-    let graph = sweep(alloc, &mut fabric).or(Err("a graph"))?;
-    has_its_cables(rt, &graph, &topology);
-    has_its_switches(rt, &graph, &topology, &mut fabric)
+    let topology = read(alloc, text).or(Err("the topology"))?;
+    let mut fabric = fabric_over(alloc, &topology)?;
+    is_found(rt, alloc, &topology, &mut fabric)
+}
+
+/// A sweep finds the topology of the fabric.
+fn is_found(
+    rt: &impl Abort,
+    alloc: Global,
+    topology: &Topology,
+    fabric: &mut Fabric,
+) -> Result<(), Fail> {
+    let graph = graph_of(alloc, fabric)?;
+    has_its_cables(rt, &graph, topology);
+    has_its_switches(rt, &graph, topology, fabric)
 }
 
 const TEXTS: [&str; 4] = [

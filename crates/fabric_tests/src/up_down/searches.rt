@@ -1,6 +1,6 @@
 //! Routes compared with a plain search over all legal walks.
 
-use crate::fixtures::fabric_of;
+use crate::fixtures::graph_of_text;
 use crate::random_fabrics::Chance;
 use crate::sweeps::graphs::fabric_text;
 use crate::up_down::routes_of;
@@ -8,7 +8,7 @@ use lid_assign::{Lids, assign};
 use std::alloc::Global;
 use std::process::Abort;
 use std::test::Fail;
-use sweep::{Graph, sweep};
+use sweep::Graph;
 use updn_routes::{RouteFault, Routes};
 
 /// A number above every rank.
@@ -243,8 +243,7 @@ fn all_agree(rt: &impl Abort, alloc: Global, graph: &Graph, lids: &Lids) -> Resu
 /// What a sweep of the next fabric finds.
 fn next_graph(alloc: Global, chance: &mut Chance) -> Result<Graph, Fail> {
     let text = fabric_text(alloc, chance)?;
-    let mut fabric = fabric_of(alloc, &text)?;
-    Ok(sweep(alloc, &mut fabric).or(Err("a graph"))?)
+    graph_of_text(alloc, &text)
 }
 
 #[test]

@@ -4,7 +4,7 @@ ghost use Rattle.std.specs.Prelude.{◌≡◌, false, [], ◌∷◌, Some, find,
 ghost use Rattle.std.specs.Str.{bytes_eq};
 ghost use Rattle.fabric_cli.specs.Files.{OpensAll};
 
-use crate::files::Files;
+use fabric_cli::Files;
 use std::alloc::Global;
 use std::io;
 use std::io::{ErrorKind, Read, Write};

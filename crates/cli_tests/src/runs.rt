@@ -1,7 +1,7 @@
 //! A whole call, where memory may be refused.
 
-use crate::tests::calls::told_of;
-use crate::tests::fixtures::{REPORT, SENDS};
+use crate::calls::told_of;
+use crate::fixtures::{REPORT, SENDS};
 use example_texts::TWO_SWITCHES;
 use std::test::Fail;
 

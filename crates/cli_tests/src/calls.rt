@@ -1,7 +1,7 @@
 //! Calls of the program over files and outputs in memory.
 
-use crate::serving::serve;
-use crate::tests::memory::{Manner, Refusal, Shelf, Sink, Source};
+use crate::memory::{Manner, Refusal, Shelf, Sink, Source};
+use fabric_cli::serve;
 use std::alloc::{AllocError, Global};
 use std::process::ExitCode;
 
@@ -79,19 +79,3 @@ pub fn told_of(alloc: Global, topology: &str, script: &str) -> Result<Answer, Al
     let mut out = sink(alloc, 1000, Refusal::Broken, true);
     told(alloc, &RUN, &files, &mut out)
 }
-
-/// What the program answers to these words, over a topology, partitions and a script.
-pub fn told_by(alloc: Global, words: &[&str], texts: [&str; 3]) -> Result<Answer, AllocError> {
-    let [topology, partitions, script] = texts;
-    let files = [
-        ("net.topo", plain(topology.as_bytes())),
-        ("parts", plain(partitions.as_bytes())),
-        ("sends", plain(script.as_bytes())),
-    ];
-    let mut out = sink(alloc, 1000, Refusal::Broken, true);
-    told(alloc, words, &files, &mut out)
-}
-
-pub const CHECK_UNDER_A_FILE: [&str; 4] = ["fabric", "check", "net.topo", "parts"];
-
-pub const RUN_UNDER_A_FILE: [&str; 5] = ["fabric", "run", "net.topo", "parts", "sends"];

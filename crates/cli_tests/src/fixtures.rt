@@ -1,0 +1,13 @@
+//! A script over the two-switch fabric, and its report.
+
+/// To another adapter, to the sender itself, to a switch, to no port and to a multicast LID.
+pub const SENDS: &str = "send h1/1 5 0xffff 7 2:beef
+send h1/1 4 0xffff 7 2:beef
+send h1/1 2 0xffff 7 2:beef
+send h1/1 7 0xffff 7 2:beef
+send h1/1 0xc000 0xffff 7 2:beef
+";
+
+pub const REPORT: &str = "h2/1 recv 0x0004 0x0005 0xffff 0x000007 2:beef
+h1/1 recv 0x0004 0x0004 0xffff 0x000007 2:beef
+";

@@ -1,0 +1,143 @@
+//! Files, outputs and words that are refused.
+
+use crate::calls::{RUN, plain, read_so, sink, told};
+use crate::fixtures::{REPORT, SENDS};
+use crate::memory::{Manner, Refusal};
+use example_texts::TWO_SWITCHES;
+use std::test::Fail;
+
+/// The names of the topology, the partition file and the script; the status, both outputs, and how many files
+/// were opened.
+const READ: [([&str; 3], u8, &str, &str, usize); 12] = [
+    (["net", "-", "sends"], 0, REPORT, "", 2),
+    (["net", "-", "slow"], 0, REPORT, "", 2),
+    (["net", "-", "long"], 0, "", "", 2),
+    (["net", "-", "endless"], 3, "", "fault read endless\n", 2),
+    (["absent", "-", "gone"], 3, "", "fault read absent\n", 1),
+    (["net", "absent", "gone"], 3, "", "fault read absent\n", 2),
+    (["bad", "-", "gone"], 3, "", "fault read gone\n", 2),
+    (["failing", "-", "sends"], 3, "", "fault read failing\n", 1),
+    (
+        ["net", "failing", "sends"],
+        3,
+        "",
+        "fault read failing\n",
+        2,
+    ),
+    (["net", "-", "failing"], 3, "", "fault read failing\n", 2),
+    (
+        ["net", "bad", "sends"],
+        1,
+        "",
+        "fault PF8 partitions line 1\n",
+        3,
+    ),
+    (
+        ["bad", "bad", "sends"],
+        1,
+        "",
+        "fault TF1 topology line 1\n",
+        3,
+    ),
+];
+
+#[test]
+fn files_that_are_not_read(rt: HostRuntime) -> Result<(), Fail> {
+    let comment = vec![in rt.alloc(); b'#'; 1_048_576]?;
+    let files = [
+        ("net", plain(TWO_SWITCHES.as_bytes())),
+        ("sends", plain(SENDS.as_bytes())),
+        ("bad", plain(b"swich")),
+        ("slow", read_so(Manner::Interrupted, SENDS.as_bytes())),
+        ("failing", read_so(Manner::Failing, SENDS.as_bytes())),
+        ("long", read_so(Manner::Dripping, &comment[1..])),
+        ("endless", read_so(Manner::Dripping, &comment)),
+    ];
+    for (names, status, out, err, opened) in READ {
+        let [topology, partitions, script] = names;
+        let words = ["fabric", "run", topology, partitions, script];
+        let mut sink = sink(rt.alloc(), 1000, Refusal::Broken, true);
+        let told = told(rt.alloc(), &words, &files, &mut sink)?;
+        assert_eq!(rt; told.status, status, "at {names:?}");
+        assert_eq!(rt; told.out.as_slice(), out.as_bytes(), "at {names:?}");
+        assert_eq!(rt; told.err.as_slice(), err.as_bytes(), "at {names:?}");
+        assert_eq!(rt;
+            told.opened.ok_or("the names")?.len(),
+            opened,
+            "at {names:?}"
+        );
+    }
+    Ok(())
+}
+
+/// The report is of 94 bytes: eleven writes of eight bytes, and one of the rest.
+const LAST: usize = 11;
+
+/// After how many writes an output refuses, how, whether it can be flushed, and the status.
+const WRITTEN: [(usize, Refusal, bool, u8); 9] = [
+    (0, Refusal::Broken, true, 3),
+    (0, Refusal::Nothing, true, 3),
+    (0, Refusal::Interrupted, true, 3),
+    (1, Refusal::Broken, true, 3),
+    (1, Refusal::Nothing, true, 3),
+    (LAST, Refusal::Broken, true, 3),
+    (LAST, Refusal::Interrupted, true, 3),
+    (LAST + 1, Refusal::Broken, false, 3),
+    (LAST + 1, Refusal::Broken, true, 0),
+];
+
+#[test]
+fn output_that_is_not_written(rt: HostRuntime) -> Result<(), Fail> {
+    let files = [
+        ("net.topo", plain(TWO_SWITCHES.as_bytes())),
+        ("sends", plain(SENDS.as_bytes())),
+    ];
+    for (writes, refusal, flushes, status) in WRITTEN {
+        let mut sink = sink(rt.alloc(), writes, refusal, flushes);
+        let told = told(rt.alloc(), &RUN, &files, &mut sink)?;
+        let line: &str = if status == 0 { "" } else { "fault write\n" };
+        let part = REPORT.as_bytes().get(..REPORT.len().min(8 * writes));
+        assert_eq!(rt; told.status, status, "after {writes} writes");
+        assert_eq!(rt;
+            told.err.as_slice(),
+            line.as_bytes(),
+            "after {writes} writes"
+        );
+        assert_eq!(rt; Some(told.out.as_slice()), part, "after {writes} writes");
+    }
+    Ok(())
+}
+
+/// Words, and a part of the text that tells what is wrong with them.
+const REFUSED: [(&[&str], &str); 13] = [
+    (&["fabric"], "Usage:"),
+    (&["fabric", "run"], "TOPO"),
+    (&["fabric", "run", "a"], "PARTS"),
+    (&["fabric", "run", "a", "-", "b", "c"], "unexpected"),
+    (&["fabric", "check"], "TOPO"),
+    (&["fabric", "check", "a"], "PARTS"),
+    (
+        &["fabric", "compare", "a", "-", "b", "c", "h1/1"],
+        "compare",
+    ),
+    (&["fabric", "run", "--fast", "a", "-", "b"], "--fast"),
+    (&["fabric", "--help"], "Exit statuses:"),
+    (&["fabric", "check", "--help"], "partition NUMBER BASE NAME"),
+    (&["fabric", "run", "--help"], "PORT recv SLID DLID PKEY"),
+    // Usage says `fabric`, whatever name the program's file has.
+    (&["out/other", "--help"], "Usage: fabric <COMMAND>"),
+    (&["out/other", "run", "--help"], "Usage: fabric run <TOPO>"),
+];
+
+#[test]
+fn words_that_are_refused(rt: HostRuntime) -> Result<(), Fail> {
+    for (words, part) in REFUSED {
+        let mut sink = sink(rt.alloc(), 1000, Refusal::Broken, true);
+        let told = told(rt.alloc(), words, &[], &mut sink)?;
+        assert_eq!(rt; told.status, 2, "at {words:?}");
+        assert_eq!(rt; told.out.len(), 0, "at {words:?}");
+        let text = std::str::from_utf8(told.err.as_slice()).ok().ok_or("text")?;
+        assert!(rt; text.contains(part), "at {words:?}: {text}");
+    }
+    Ok(())
+}

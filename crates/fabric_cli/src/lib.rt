@@ -1,0 +1,20 @@
+//! What the program `fabric` does.
+//!
+//! `fabric check TOPO PARTS` brings up the subnet of a topology under a partition file, and lists its
+//! ports and the members of its partitions. `fabric run TOPO PARTS SCRIPT` runs a script of commands
+//! in it, and prints what its ports receive. [`serve`] is the one call: it does all the work, over any words,
+//! any files and any two writers, and its contract says what it answers of the words and the bytes alone.
+#![tactic(auto)]
+
+mod faults;
+mod files;
+mod laws;
+mod reading;
+mod serving;
+mod words;
+mod writing;
+
+pub use crate::files::{Files, MachineFiles, Reader};
+pub use crate::laws::the_numbers;
+pub use crate::serving::serve;
+pub use crate::writing::Output;
