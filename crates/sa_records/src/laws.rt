@@ -1,13 +1,14 @@
 //! What is so of all records.
 
-ghost use Rattle.std.specs.Prelude.{◌≡◌, ◌<◌};
+ghost use Rattle.std.specs.Prelude.{◌≡◌};
+ghost use Rattle.mad_layout.specs.Layout.{Fits};
 ghost use Rattle.sa_records.specs.declared.node_record.TheConstants.{NODE_RECORD_BYTES, NODE_RECORD_OFFSET};
 ghost use Rattle.sa_records.specs.declared.path_record.TheConstants.{PATH_RECORD_BYTES, PATH_RECORD_OFFSET};
 ghost use Rattle.sa_records.specs.declared.mc_member_record.TheConstants.{MC_MEMBER_RECORD_BYTES, MC_MEMBER_RECORD_OFFSET};
 ghost use Rattle.sa_records.specs.declared.service_record.TheConstants.{SERVICE_RECORD_BYTES, SERVICE_RECORD_OFFSET};
-ghost use Rattle.sa_records.specs.NodeRecord.{node_record_bytes};
-ghost use Rattle.sa_records.specs.PathRecord.{path_record_bytes};
-ghost use Rattle.sa_records.specs.McMemberRecord.{mc_member_record_bytes};
+ghost use Rattle.sa_records.specs.NodeRecord.{node_record, node_record_bytes};
+ghost use Rattle.sa_records.specs.PathRecord.{path_record, path_record_bytes};
+ghost use Rattle.sa_records.specs.McMemberRecord.{mc_member_record, mc_member_record_bytes};
 ghost use Rattle.sa_records.specs.ServiceRecord.{service_record_bytes};
 
 use crate::mc_member_record::{MC_MEMBER_RECORD_BYTES, McMemberRecord};
@@ -18,7 +19,7 @@ use mad_layout::known_bytes;
 
 /// A NodeRecord that is written is read again.
 pub fn node_record_reads_back(shown: &NodeRecord, bytes: &mut [u8; NODE_RECORD_BYTES]) -> NodeRecord
-    requires vendor_id { shown.now.vendor_id < 16777216 }
+    requires { Fits (node_record shown.now) }
     ensures read { result ≡ shown.now }
     ensures written { bytes.new ≡ node_record_bytes shown.now }
 {
@@ -31,16 +32,7 @@ pub fn node_record_reads_back(shown: &NodeRecord, bytes: &mut [u8; NODE_RECORD_B
 
 /// A PathRecord that is written is read again.
 pub fn path_record_reads_back(shown: &PathRecord, bytes: &mut [u8; PATH_RECORD_BYTES]) -> PathRecord
-    requires flow_label { shown.now.flow_label < 1048576 }
-    requires numb_path { shown.now.numb_path < 128 }
-    requires qos_class { shown.now.qos_class < 4096 }
-    requires sl { shown.now.sl < 16 }
-    requires mtu_selector { shown.now.mtu_selector < 4 }
-    requires mtu { shown.now.mtu < 64 }
-    requires rate_selector { shown.now.rate_selector < 4 }
-    requires rate { shown.now.rate < 64 }
-    requires packet_life_time_selector { shown.now.packet_life_time_selector < 4 }
-    requires packet_life_time { shown.now.packet_life_time < 64 }
+    requires { Fits (path_record shown.now) }
     ensures read { result ≡ shown.now }
     ensures written { bytes.new ≡ path_record_bytes shown.now }
 {
@@ -54,16 +46,7 @@ pub fn mc_member_record_reads_back(
     shown: &McMemberRecord,
     bytes: &mut [u8; MC_MEMBER_RECORD_BYTES],
 ) -> McMemberRecord
-    requires mtu_selector { shown.now.mtu_selector < 4 }
-    requires mtu { shown.now.mtu < 64 }
-    requires rate_selector { shown.now.rate_selector < 4 }
-    requires rate { shown.now.rate < 64 }
-    requires packet_life_time_selector { shown.now.packet_life_time_selector < 4 }
-    requires packet_life_time { shown.now.packet_life_time < 64 }
-    requires sl { shown.now.sl < 16 }
-    requires flow_label { shown.now.flow_label < 1048576 }
-    requires scope { shown.now.scope < 16 }
-    requires join_state { shown.now.join_state < 16 }
+    requires { Fits (mc_member_record shown.now) }
     ensures read { result ≡ shown.now }
     ensures written { bytes.new ≡ mc_member_record_bytes shown.now }
 {

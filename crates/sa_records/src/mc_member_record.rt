@@ -1,4 +1,4 @@
-ghost use Rattle.std.specs.Prelude.{◌≡◌, ◌<◌, ◌≤◌, length, replicate};
+ghost use Rattle.std.specs.Prelude.{◌≡◌, ◌≤◌, length, replicate};
 ghost use Rattle.mad_layout.specs.Layout.{Holds, Fits, put_all, Spells};
 ghost use Rattle.sa_records.specs.McMemberRecord.{mc_member_record, mc_member_record_bytes, mc_member_record_selected};
 
@@ -85,32 +85,14 @@ impl McMemberRecord {
     pub fn read(bytes: &[u8]) -> McMemberRecord
         requires { 52 ≤ length bytes.now }
         ensures fields { Holds bytes.now (mc_member_record result) }
-        ensures mtu_selector { result.mtu_selector < 4 }
-        ensures mtu { result.mtu < 64 }
-        ensures rate_selector { result.rate_selector < 4 }
-        ensures rate { result.rate < 64 }
-        ensures packet_life_time_selector { result.packet_life_time_selector < 4 }
-        ensures packet_life_time { result.packet_life_time < 64 }
-        ensures sl { result.sl < 16 }
-        ensures flow_label { result.flow_label < 1048576 }
-        ensures scope { result.scope < 16 }
-        ensures join_state { result.join_state < 16 }
+        ensures fits { Fits (mc_member_record result) }
     {
-        mc_member_record_layout!(read_fields!(McMemberRecord bytes))
+        Self::fields_of(bytes)
     }
 
     /// Writes the record; every bit outside its fields is 0.
     pub fn write(&self, bytes: &mut [u8; MC_MEMBER_RECORD_BYTES])
-        requires mtu_selector { self.now.mtu_selector < 4 }
-        requires mtu { self.now.mtu < 64 }
-        requires rate_selector { self.now.rate_selector < 4 }
-        requires rate { self.now.rate < 64 }
-        requires packet_life_time_selector { self.now.packet_life_time_selector < 4 }
-        requires packet_life_time { self.now.packet_life_time < 64 }
-        requires sl { self.now.sl < 16 }
-        requires flow_label { self.now.flow_label < 1048576 }
-        requires scope { self.now.scope < 16 }
-        requires join_state { self.now.join_state < 16 }
+        requires { Fits (mc_member_record self.now) }
         ensures spells { Spells bytes.new (mc_member_record self.now) }
         ensures bytes { bytes.new ≡ mc_member_record_bytes self.now }
     {
@@ -162,19 +144,16 @@ impl McMemberRecord {
             && agrees(mask, 1 << 17, self.proxy_join == asked.proxy_join)
     }
 
+    fn fields_of(bytes: &[u8]) -> McMemberRecord
+        requires { 52 ≤ length bytes.now }
+        ensures { Holds bytes.now (mc_member_record result) }
+    {
+        mc_member_record_layout!(read_fields!(McMemberRecord bytes))
+    }
+
     fn put_over_zeros(&self, bytes: &mut [u8; MC_MEMBER_RECORD_BYTES])
-        requires mtu_selector { self.now.mtu_selector < 4 }
-        requires mtu { self.now.mtu < 64 }
-        requires rate_selector { self.now.rate_selector < 4 }
-        requires rate { self.now.rate < 64 }
-        requires packet_life_time_selector { self.now.packet_life_time_selector < 4 }
-        requires packet_life_time { self.now.packet_life_time < 64 }
-        requires sl { self.now.sl < 16 }
-        requires flow_label { self.now.flow_label < 1048576 }
-        requires scope { self.now.scope < 16 }
-        requires join_state { self.now.join_state < 16 }
-        ensures fields { bytes.new ≡ put_all (replicate 56 0) (mc_member_record self.now) }
-        ensures fits { Fits (mc_member_record self.now) }
+        requires { Fits (mc_member_record self.now) }
+        ensures { bytes.new ≡ put_all (replicate 56 0) (mc_member_record self.now) }
     {
         *bytes = [0; MC_MEMBER_RECORD_BYTES];
         mc_member_record_layout!(write_fields!(self bytes))

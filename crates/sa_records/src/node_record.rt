@@ -1,4 +1,4 @@
-ghost use Rattle.std.specs.Prelude.{◌≡◌, ◌<◌, ◌≤◌, length, replicate};
+ghost use Rattle.std.specs.Prelude.{◌≡◌, ◌≤◌, length, replicate};
 ghost use Rattle.mad_layout.specs.Layout.{Holds, Fits, put_all, Spells};
 ghost use Rattle.sa_records.specs.NodeRecord.{node_record, node_record_bytes, node_record_selected};
 
@@ -73,14 +73,14 @@ impl NodeRecord {
     pub fn read(bytes: &[u8]) -> NodeRecord
         requires { 108 ≤ length bytes.now }
         ensures fields { Holds bytes.now (node_record result) }
-        ensures vendor_id { result.vendor_id < 16777216 }
+        ensures fits { Fits (node_record result) }
     {
-        node_record_layout!(read_fields!(NodeRecord bytes))
+        Self::fields_of(bytes)
     }
 
     /// Writes the record; every bit outside its fields is 0.
     pub fn write(&self, bytes: &mut [u8; NODE_RECORD_BYTES])
-        requires { self.now.vendor_id < 16777216 }
+        requires { Fits (node_record self.now) }
         ensures spells { Spells bytes.new (node_record self.now) }
         ensures bytes { bytes.new ≡ node_record_bytes self.now }
     {
@@ -98,10 +98,16 @@ impl NodeRecord {
             && agrees(mask, 1 << 4, self.node_type == asked.node_type)
     }
 
+    fn fields_of(bytes: &[u8]) -> NodeRecord
+        requires { 108 ≤ length bytes.now }
+        ensures { Holds bytes.now (node_record result) }
+    {
+        node_record_layout!(read_fields!(NodeRecord bytes))
+    }
+
     fn put_over_zeros(&self, bytes: &mut [u8; NODE_RECORD_BYTES])
-        requires { self.now.vendor_id < 16777216 }
-        ensures fields { bytes.new ≡ put_all (replicate 112 0) (node_record self.now) }
-        ensures fits { Fits (node_record self.now) }
+        requires { Fits (node_record self.now) }
+        ensures { bytes.new ≡ put_all (replicate 112 0) (node_record self.now) }
     {
         *bytes = [0; NODE_RECORD_BYTES];
         node_record_layout!(write_fields!(self bytes))

@@ -1,4 +1,4 @@
-ghost use Rattle.std.specs.Prelude.{◌≡◌, ◌<◌, ◌≤◌, length, replicate};
+ghost use Rattle.std.specs.Prelude.{◌≡◌, ◌≤◌, length, replicate};
 ghost use Rattle.mad_layout.specs.Layout.{Holds, Fits, put_all, Spells};
 ghost use Rattle.sa_records.specs.PathRecord.{path_record, path_record_bytes, path_record_selected};
 
@@ -94,32 +94,14 @@ impl PathRecord {
     pub fn read(bytes: &[u8]) -> PathRecord
         requires { 64 ≤ length bytes.now }
         ensures fields { Holds bytes.now (path_record result) }
-        ensures flow_label { result.flow_label < 1048576 }
-        ensures numb_path { result.numb_path < 128 }
-        ensures qos_class { result.qos_class < 4096 }
-        ensures sl { result.sl < 16 }
-        ensures mtu_selector { result.mtu_selector < 4 }
-        ensures mtu { result.mtu < 64 }
-        ensures rate_selector { result.rate_selector < 4 }
-        ensures rate { result.rate < 64 }
-        ensures packet_life_time_selector { result.packet_life_time_selector < 4 }
-        ensures packet_life_time { result.packet_life_time < 64 }
+        ensures fits { Fits (path_record result) }
     {
-        path_record_layout!(read_fields!(PathRecord bytes))
+        Self::fields_of(bytes)
     }
 
     /// Writes the record; every bit outside its fields is 0.
     pub fn write(&self, bytes: &mut [u8; PATH_RECORD_BYTES])
-        requires flow_label { self.now.flow_label < 1048576 }
-        requires numb_path { self.now.numb_path < 128 }
-        requires qos_class { self.now.qos_class < 4096 }
-        requires sl { self.now.sl < 16 }
-        requires mtu_selector { self.now.mtu_selector < 4 }
-        requires mtu { self.now.mtu < 64 }
-        requires rate_selector { self.now.rate_selector < 4 }
-        requires rate { self.now.rate < 64 }
-        requires packet_life_time_selector { self.now.packet_life_time_selector < 4 }
-        requires packet_life_time { self.now.packet_life_time < 64 }
+        requires { Fits (path_record self.now) }
         ensures spells { Spells bytes.new (path_record self.now) }
         ensures bytes { bytes.new ≡ path_record_bytes self.now }
     {
@@ -163,19 +145,16 @@ impl PathRecord {
             )
     }
 
+    fn fields_of(bytes: &[u8]) -> PathRecord
+        requires { 64 ≤ length bytes.now }
+        ensures { Holds bytes.now (path_record result) }
+    {
+        path_record_layout!(read_fields!(PathRecord bytes))
+    }
+
     fn put_over_zeros(&self, bytes: &mut [u8; PATH_RECORD_BYTES])
-        requires flow_label { self.now.flow_label < 1048576 }
-        requires numb_path { self.now.numb_path < 128 }
-        requires qos_class { self.now.qos_class < 4096 }
-        requires sl { self.now.sl < 16 }
-        requires mtu_selector { self.now.mtu_selector < 4 }
-        requires mtu { self.now.mtu < 64 }
-        requires rate_selector { self.now.rate_selector < 4 }
-        requires rate { self.now.rate < 64 }
-        requires packet_life_time_selector { self.now.packet_life_time_selector < 4 }
-        requires packet_life_time { self.now.packet_life_time < 64 }
-        ensures fields { bytes.new ≡ put_all (replicate 64 0) (path_record self.now) }
-        ensures fits { Fits (path_record self.now) }
+        requires { Fits (path_record self.now) }
+        ensures { bytes.new ≡ put_all (replicate 64 0) (path_record self.now) }
     {
         *bytes = [0; PATH_RECORD_BYTES];
         path_record_layout!(write_fields!(self bytes))

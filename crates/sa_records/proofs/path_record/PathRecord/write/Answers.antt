@@ -8,8 +8,8 @@ pub returns-clause-spells : goal.returns-clause-spells
 returns-clause-spells c =
     let layout = path_record c.args.self.now in
     let P : List ℕ → Type 0 = λ bytes. Spells bytes layout in
-    subst P (sym c.put_over_zeros.ensures.fields) (spells_put_all layout 64 refl c.put_over_zeros.ensures.fits)
+    subst P (sym c.put_over_zeros.ensures) (spells_put_all layout 64 refl c.requires)
 
 pub returns-clause-bytes : goal.returns-clause-bytes
 unfolding path_record_bytes
-returns-clause-bytes c = c.put_over_zeros.ensures.fields
+returns-clause-bytes c = c.put_over_zeros.ensures
