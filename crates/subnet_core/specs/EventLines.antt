@@ -3,6 +3,7 @@ use Rattle.std.specs.Prelude.{ℕ, ◌==◌, List, [], ◌∷◌, ◌++◌, drop
 use Rattle.std.specs.List.{list_all, flat_map}
 use Rattle.std.specs.Int.{w16, w32, to_be_bytes}
 use Rattle.hex.specs.Hex.{encode_lower}
+use Rattle.line_parts.specs.Parts.{hex_text, port_text}
 use Rattle.data_packet.specs.declared.packet.Packet.{Packet}
 use Rattle.data_packet.specs.Refusal.{code_of}
 use Rattle.subnet_model.specs.declared.subnet_port.SubnetPort.{SubnetPort}
@@ -11,17 +12,9 @@ use Rattle.subnet_model.specs.declared.event.Outcome.{Outcome}
 use Rattle.subnet_model.specs.declared.event.Outcome.TheVariants.{Received, Refused}
 use Rattle.subnet_model.specs.Delivery.{port_with_guid}
 
--- a port by its node and number, as `h1/1`
-abbrev pub port_text : SubnetPort → List ℕ
-port_text port = port.node_name ++ codes "/" ++ decimal port.number
-
 abbrev pub name_text : Option SubnetPort → List ℕ
 name_text (Some port) = port_text port
 name_text None = []
-
--- bytes as a hexadecimal number, as `0x00ff`
-abbrev pub hex_text : List ℕ → List ℕ
-hex_text bytes = codes "0x" ++ encode_lower bytes
 
 -- the bytes without the zero bytes at their end
 abbrev pub trimmed : List ℕ → List ℕ

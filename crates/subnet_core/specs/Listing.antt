@@ -7,7 +7,7 @@ use Rattle.pkey_rules.specs.KeyTable.{find_base}
 use Rattle.partition_file.specs.declared.heading.Heading.{Heading}
 use Rattle.subnet_model.specs.Configuration.{Configured}
 use Rattle.subnet_model.specs.declared.subnet_port.SubnetPort.{SubnetPort}
-use Rattle.subnet_core.specs.EventLines.{hex_text, port_text}
+use Rattle.line_parts.specs.Parts.{hex_text, port_text}
 
 -- `port LID GUID PORT`
 abbrev pub port_line : SubnetPort → List ℕ

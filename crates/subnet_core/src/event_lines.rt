@@ -1,13 +1,10 @@
-ghost use Rattle.std.specs.Prelude.{◌≡◌, ◌≤◌, ◌*◌, ◌++◌, [], ◌∷◌, length, drop, OnOk, IfOk, decimal};
+ghost use Rattle.std.specs.Prelude.{◌≡◌, ◌≤◌, ◌++◌, [], ◌∷◌, length, OnOk, IfOk};
 ghost use Rattle.data_packet.specs.declared.payload.TheConstants.{PAYLOAD_BYTES};
-ghost use Rattle.std.specs.Int.{w16, w32, to_be_bytes};
 ghost use Rattle.subnet_model.specs.Delivery.{port_with_guid};
-ghost use Rattle.hex.specs.Hex.{encode_lower};
-ghost use Rattle.subnet_core.specs.EventLines.{port_text, name_text, hex_text, trimmed, payload_text, packet_text, outcome_text, line_text, report_text};
+ghost use Rattle.subnet_core.specs.EventLines.{name_text, trimmed, payload_text, packet_text, outcome_text, line_text, report_text};
 
 use data_packet::{PAYLOAD_BYTES, Packet};
-use hex::encode_to_slice;
-use itoa::Buffer;
+use line_parts::{digits_of, push_decimal, push_hex, push_port};
 use std::alloc::{AllocError, Global};
 use subnet_model::{Event, Outcome, SubnetPort, port_with_guid};
 
@@ -44,15 +41,6 @@ fn push_name(text: &mut Vec<u8>, ports: &[SubnetPort], guid: u64) -> Result<(), 
     }
 }
 
-/// `NODE/NUMBER`.
-pub(crate) fn push_port(text: &mut Vec<u8>, port: &SubnetPort) -> Result<(), AllocError>
-    ensures { OnOk result (text.new.items ≡ text.old.items ++ port_text port.now) }
-{
-    text.extend_from_slice(port.node_name.as_slice())?;
-    text.extend_from_slice(b"/")?;
-    push_decimal(text, usize::from(port.number))
-}
-
 fn push_outcome(text: &mut Vec<u8>, what: &Outcome) -> Result<(), AllocError>
     ensures { OnOk result (text.new.items ≡ text.old.items ++ outcome_text what.now) }
 {
@@ -80,16 +68,6 @@ fn push_packet(text: &mut Vec<u8>, packet: &Packet) -> Result<(), AllocError>
     push_payload(text, packet.payload.as_slice())
 }
 
-/// `0x` and two digits a byte, of at most 8 bytes.
-pub(crate) fn push_hex(text: &mut Vec<u8>, bytes: &[u8]) -> Result<(), AllocError>
-    requires { length bytes.now ≤ 8 }
-    ensures { OnOk result (text.new.items ≡ text.old.items ++ hex_text bytes.now) }
-{
-    let mut digits = [0; 16];
-    text.extend_from_slice(b"0x")?;
-    text.extend_from_slice(digits_of(bytes, &mut digits))
-}
-
 fn push_payload(text: &mut Vec<u8>, bytes: &[u8]) -> Result<(), AllocError>
     requires { length bytes.now ≤ PAYLOAD_BYTES }
     ensures { OnOk result (text.new.items ≡ text.old.items ++ payload_text bytes.now) }
@@ -98,24 +76,6 @@ fn push_payload(text: &mut Vec<u8>, bytes: &[u8]) -> Result<(), AllocError>
     push_decimal(text, bytes.len())?;
     text.extend_from_slice(b":")?;
     text.extend_from_slice(digits_of(trimmed(bytes), &mut digits))
-}
-
-/// Two digits a byte, written at the beginning of a room that is long enough.
-fn digits_of<'a>(bytes: &[u8], room: &'a mut [u8]) -> &'a [u8]
-    requires { 2 * length bytes.now ≤ length room.old }
-    ensures { result.now ≡ encode_lower bytes.now }
-{
-    let digits = &mut room[..2 * bytes.len()];
-    let _ = encode_to_slice(bytes, digits);
-    digits
-}
-
-/// A number in decimal digits.
-pub(crate) fn push_decimal(text: &mut Vec<u8>, number: usize) -> Result<(), AllocError>
-    ensures { OnOk result (text.new.items ≡ text.old.items ++ decimal number) }
-{
-    let mut buffer = Buffer::new();
-    text.extend_from_slice(buffer.format(number).as_bytes())
 }
 
 /// The bytes without the zero bytes at their end.

@@ -4,7 +4,7 @@ ghost use Rattle.std.specs.Prelude.{◌≡◌, ◌++◌, [], ◌∷◌, OnOk, If
 ghost use Rattle.std.specs.List.{flat_map, enumerate_from};
 ghost use Rattle.subnet_core.specs.Listing.{heading_line, listing_text, member_line, member_text, partition_text, port_line, shown_name};
 
-use crate::event_lines::{push_decimal, push_hex, push_port};
+use line_parts::{push_decimal, push_hex, push_port};
 use partition_file::Heading;
 use pkey_rules::PKey;
 use std::alloc::{AllocError, Global};
