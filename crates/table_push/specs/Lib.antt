@@ -1,0 +1,4 @@
+pub mod Fault
+pub mod Nodes
+pub mod Linear
+pub mod Pushes
