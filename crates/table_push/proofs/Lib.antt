@@ -4,3 +4,4 @@ pub mod LeadLemmas
 pub mod BlockLemmas
 pub mod GuidLemmas
 pub mod LinearLemmas
+pub mod LawLemmas

@@ -2,3 +2,4 @@ pub mod Fault
 pub mod Nodes
 pub mod Linear
 pub mod Pushes
+pub mod Laws

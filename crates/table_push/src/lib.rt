@@ -6,8 +6,10 @@
 #![tactic(auto)]
 
 mod fault;
+mod laws;
 mod linear;
 mod setting;
 
 pub use crate::fault::PushFault;
+pub use crate::laws::every_switch_has_its_table;
 pub use crate::linear::push_linear;
