@@ -12,6 +12,7 @@ use std::alloc::Global;
 use std::process::Abort;
 use std::test::Fail;
 use sweep::{Graph, sweep};
+use table_push::push_linear;
 use updn_routes::Routes;
 
 pub fn put(text: &mut Vec<u8>, part: &[u8]) -> Result<(), Fail> {
@@ -184,13 +185,12 @@ fn is_routed(rt: &impl Abort, alloc: Global, leaves: u16) -> Result<(), Fail>
 {
     let mut fabric = fat_tree_of(alloc, leaves)?;
     let graph = graph_of(alloc, &mut fabric)?;
-    let routes = routes_below_spines(alloc, &graph)?;
-    leaves_know_the_way(rt, &graph, &routes);
+    leaves_know_the_way(rt, &routes_below_spines(alloc, graph)?);
     Ok(())
 }
 
 /// The routes, with the spines as roots.
-fn routes_below_spines(alloc: Global, graph: &Graph) -> Result<Routes, Fail> {
+fn routes_below_spines(alloc: Global, graph: Graph) -> Result<Routes, Fail> {
     let guids = graph.switches().iter().map(|switch| switch.guid);
     let spines = guids.filter(|guid| *guid >= 2000).collect(alloc);
     let roots: Vec<u64> = spines.or(Err("memory"))?;
@@ -199,9 +199,9 @@ fn routes_below_spines(alloc: Global, graph: &Graph) -> Result<Routes, Fail> {
 
 /// The subnet manager's port hangs on port 1 of the first leaf. Each leaf knows the way there; a spine that has
 /// no cable to that leaf does not.
-fn leaves_know_the_way(rt: &impl Abort, graph: &Graph, routes: &Routes) {
+fn leaves_know_the_way(rt: &impl Abort, routes: &Routes) {
     assert_eq!(rt; routes.next_hop(0, 1), Some(1));
-    for (place, switch) in graph.switches().iter().enumerate() {
+    for (place, switch) in routes.graph().switches().iter().enumerate() {
         assert!(rt; switch.guid >= 2000 || routes.next_hop(place, 1).is_some());
     }
 }
@@ -219,4 +219,36 @@ fn a_fat_tree_of_16_switches_is_routed(rt: HostRuntime) -> Result<(), Fail> {
 #[test]
 fn a_fat_tree_of_64_switches_is_routed(rt: HostRuntime) -> Result<(), Fail> {
     is_routed(&rt, rt.alloc(), 32)
+}
+
+/// A fat tree whose linear tables are pushed takes eight SMPs for each switch, one a block.
+fn has_its_tables(rt: &impl Abort, alloc: Global, leaves: u16) -> Result<(), Fail>
+    requires some { 0 < leaves }
+    requires few { leaves ≤ 32 }
+{
+    let mut fabric = fat_tree_of(alloc, leaves)?;
+    let graph = graph_of(alloc, &mut fabric)?;
+    let routes = routes_below_spines(alloc, graph)?;
+    let mut wire = CountingWire {
+        wire: fabric,
+        count: 0,
+    };
+    push_linear(&mut wire, &routes).or(Err("a push"))?;
+    assert_eq!(rt; wire.count, u64::from(leaves) * 16);
+    Ok(())
+}
+
+#[test]
+fn a_fat_tree_of_8_switches_has_its_tables(rt: HostRuntime) -> Result<(), Fail> {
+    has_its_tables(&rt, rt.alloc(), 4)
+}
+
+#[test]
+fn a_fat_tree_of_16_switches_has_its_tables(rt: HostRuntime) -> Result<(), Fail> {
+    has_its_tables(&rt, rt.alloc(), 8)
+}
+
+#[test]
+fn a_fat_tree_of_64_switches_has_its_tables(rt: HostRuntime) -> Result<(), Fail> {
+    has_its_tables(&rt, rt.alloc(), 32)
 }

@@ -17,6 +17,8 @@ mod hops;
 #[cfg(test)]
 mod lids;
 #[cfg(test)]
+mod pushes;
+#[cfg(test)]
 mod random_fabrics;
 #[cfg(test)]
 mod sending;

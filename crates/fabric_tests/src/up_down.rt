@@ -48,15 +48,15 @@ sm h0/1
 const ROOTS: [u64; 2] = [0x10, 0x20];
 
 /// The routes of a graph, with these roots named.
-pub fn routes_of(alloc: Global, graph: &Graph, roots: &[u64]) -> Result<Routes, RouteFault> {
-    let lids = match assign(alloc, graph) {
+pub fn routes_of(alloc: Global, graph: Graph, roots: &[u64]) -> Result<Routes, RouteFault> {
+    let lids = match assign(alloc, &graph) {
         Ok(lids) => lids,
         Err(_) => return Err(RouteFault::NoMemory),
     };
-    if !graph.is_joined() || !are_switches(graph, roots) {
+    if !graph.is_joined() || !are_switches(&graph, roots) {
         return Err(RouteFault::NoMemory);
     }
-    routes(alloc, graph, &lids, roots)
+    routes(alloc, graph, lids, roots)
 }
 
 /// The ports by which a switch sends what is for LIDs 1, 2 and so on.
@@ -74,7 +74,7 @@ const BY_B: [(u16, u8); 6] = [(1, 3), (2, 3), (3, 0), (4, 3), (5, 1), (6, 2)];
 #[test]
 fn two_switches_send_over_the_cable_between_them(rt: HostRuntime) -> Result<(), Fail> {
     let graph = graph_of_text(rt.alloc(), TWO_SWITCHES.as_bytes())?;
-    let routes = routes_of(rt.alloc(), &graph, &[]).or(Err("routes"))?;
+    let routes = routes_of(rt.alloc(), graph, &[]).or(Err("routes"))?;
     sends(&rt, &routes, 0, &BY_A);
     sends(&rt, &routes, 1, &BY_B);
     are_numbered(&rt, &routes);
@@ -110,7 +110,7 @@ fn are_numbered(rt: &impl Abort, routes: &Routes) {
 #[test]
 fn of_two_equal_ways_the_lesser_port_is_taken(rt: HostRuntime) -> Result<(), Fail> {
     let graph = graph_of_text(rt.alloc(), FOUR_SWITCHES.as_bytes())?;
-    let routes = routes_of(rt.alloc(), &graph, &ROOTS).or(Err("routes"))?;
+    let routes = routes_of(rt.alloc(), graph, &ROOTS).or(Err("routes"))?;
     // L1, on which the subnet manager's port hangs, is found first; h1 has LID 6.
     sends(
         &rt,
@@ -125,7 +125,7 @@ fn of_two_equal_ways_the_lesser_port_is_taken(rt: HostRuntime) -> Result<(), Fai
 fn two_roots_that_switches_below_join_cannot_reach_each_other(rt: HostRuntime) -> Result<(), Fail> {
     let graph = graph_of_text(rt.alloc(), ADAPTERS_ON_ROOTS.as_bytes())?;
     // R1 has LID 2, and h1's port LID 6.
-    let fault = routes_of(rt.alloc(), &graph, &ROOTS).err();
+    let fault = routes_of(rt.alloc(), graph, &ROOTS).err();
     assert_eq!(rt; fault, Some(RouteFault::NoLegalPath { switch: 2, port: 6 }));
     Ok(())
 }
@@ -135,7 +135,7 @@ fn routes_are_computed_or_memory_is_refused(rt: HostRuntime) -> Result<(), Fail>
     let Some(graph) = two_switch_graph(&rt, rt.alloc()) else {
         return Ok(());
     };
-    match routes_of(rt.alloc(), &graph, &[]) {
+    match routes_of(rt.alloc(), graph, &[]) {
         Ok(routes) => sends(&rt, &routes, 0, &BY_A),
         Err(fault) => assert_eq!(rt; fault, RouteFault::NoMemory),
     }

@@ -82,6 +82,14 @@ impl<const CAP: usize> KeyTable<CAP> {
         self.keys.push(key);
     }
 
+    /// The keys, in the order in which they came.
+    pub fn as_slice(&self) -> &[PKey]
+        ensures value { result.now ≡ self.now }
+        ensures fits { length result.now ≤ CAP }
+    {
+        self.keys.as_slice()
+    }
+
     /// Whether the table takes no further key.
     pub fn is_full(&self) -> bool
         ensures full { result ≡ true ↔ (length self.now ≡ CAP) }

@@ -1,10 +1,13 @@
--- What routes are of: the cables between the switches of a graph, their GUIDs, and where each LID hangs.
-use Rattle.std.specs.Prelude.{ℕ, ◌==◌, List, map, find, position, Option, Some, None, option_map}
+-- What routes are of: the cables between the switches of a graph, their GUIDs, and where each LID hangs. And the routes
+-- of a subnet, which keep the graph and the LIDs.
+use Rattle.std.specs.Prelude.{ℕ, ◌≡◌, ◌==◌, true, List, map, find, position, Option, Some, None, option_map}
 use Rattle.fabric_parts.specs.declared.cable.PortRef.{PortRef}
-use Rattle.sweep.specs.Graph.{GraphState}
+use Rattle.lid_assign.specs.Lids.{AreLids, end_ports}
+use Rattle.sweep.specs.Graph.{GraphState, is_joined}
 use Rattle.sweep.specs.declared.graph.GraphPort.{GraphPort}
 use Rattle.sweep.specs.declared.graph.GraphSwitch.{GraphSwitch}
 use Rattle.sweep.specs.declared.graph.Link.{Link as GraphLink}
+use Rattle.updn_routes.specs.Routes.{RoutesState}
 use Rattle.updn_routes.specs.declared.link.Link.{Link}
 
 -- ---- switches, numbered by their places in the graph
@@ -41,3 +44,18 @@ home_in graph guid = home_from (place_of graph.switches guid) (seat_of graph.por
 -- where each LID hangs, from LID 1 on
 abbrev pub homes_of : GraphState → List ℕ → List PortRef
 homes_of graph lids = map (home_in graph) lids
+
+-- ---- the routes of a subnet
+pub record SubnetRoutes : Type 0 where
+  pub graph : GraphState
+  pub lids : List ℕ
+  -- between its switches, by their places in the graph
+  pub between : RoutesState
+
+-- they are of that graph, whose switches are joined, and of its LIDs
+pub record AreOfGraph (routes : SubnetRoutes) : Type 0 where
+  pub joined : is_joined routes.graph.rows ≡ true
+  pub lids_are : AreLids (end_ports routes.graph) routes.lids
+  pub rows_are : routes.between.rows ≡ rows_of routes.graph
+  pub guids_are : routes.between.guids ≡ guids_of routes.graph
+  pub homes_are : routes.between.homes ≡ homes_of routes.graph routes.lids

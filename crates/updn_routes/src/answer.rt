@@ -1,4 +1,4 @@
-//! What routes answer.
+//! What routes between switches answer.
 
 ghost use Rattle.std.specs.Prelude.{ℕ, ◌≡◌, ◌+◌, ◌-◌, ◌<◌, ◌≤◌, ◌==◌, nat_lt, if◌then◌else◌, None, length, get_or, position, IfSome};
 ghost use Rattle.std.specs.List.{list_any};
@@ -13,11 +13,11 @@ use crate::table::{Table, entry_at, table_at};
 use fabric_parts::PortRef;
 use std::marker::Model;
 
-/// The routes of a subnet.
+/// The routes between switches, and where LIDs hang on these.
 ///
 /// Switches are told by their numbers in the rows that the routes were made of.
 #[derive(Debug, Drop)]
-pub struct Routes {
+pub struct SwitchRoutes {
     pub(crate) rows: Vec<Row>,
     pub(crate) guids: Vec<u64>,
     pub(crate) ranks: Vec<usize>,
@@ -27,7 +27,7 @@ pub struct Routes {
     pub(crate) homes: Vec<PortRef>,
 }
 
-impl Model for Routes {
+impl Model for SwitchRoutes {
     ghost use Rattle.updn_routes.specs.Routes.{AreRoutes, RoutesState, routes_with};
 
     ghost Value = { RoutesState };
@@ -37,7 +37,7 @@ impl Model for Routes {
     ghost invariant = { λ r. AreRoutes (routes_with r.rows.items r.guids.items r.ranks.items r.depths.items r.places.items r.tables.items r.homes.items) };
 }
 
-impl Routes {
+impl SwitchRoutes {
     /// The port by which a switch sends what is for a LID: 0 where the LID is its own, the port of the adapter
     /// where one with that LID hangs on it, and else the port chosen towards the switch at which the LID hangs.
     /// None where no port is chosen, and where nobody has the LID.

@@ -1,8 +1,8 @@
 //! Up/down routes between the switches of a subnet: what a route is, what follows from that, and how all of them
 //! are computed.
 //!
-//! [`routes`] is the one call: over a graph and its LIDs it gives the [`Routes`], which tell the port by which a
-//! switch sends what is for a LID, the numbers of channels, and the spanning tree of multicast. The standard leaves
+//! [`routes`] is the one call: over a graph and its LIDs it gives the [`Routes`], which keep both and tell the port by
+//! which a switch sends what is for a LID, the numbers of channels, and the spanning tree of multicast. The standard leaves
 //! the choice of ways to a subnet manager (InfiniBand Architecture Specification, volume 1, chapter 14).
 //!
 //! The cables between switches are rows of [`Link`]s, one row for each switch. `specs/Order.antt` says how far
@@ -22,9 +22,10 @@ mod place;
 mod root;
 mod routing;
 mod row;
+mod subnet;
 mod table;
 
-pub use crate::answer::Routes;
+pub use crate::answer::SwitchRoutes;
 pub use crate::cabling::are_switches;
 pub use crate::fault::RouteFault;
 pub use crate::laws::{
@@ -36,3 +37,4 @@ pub use crate::laws::{
 pub use crate::link::Link;
 pub use crate::routing::{routes, routes_over};
 pub use crate::row::Row;
+pub use crate::subnet::Routes;

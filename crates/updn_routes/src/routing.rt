@@ -11,29 +11,49 @@ ghost use Rattle.updn_routes.specs.Routes.{AllReached, AreRoutesOf, all_hang, or
 ghost use Rattle.updn_routes.specs.Subnet.{guids_of, homes_of, rows_of};
 ghost use Rattle.updn_routes.specs.Tree.{AreDepths};
 
-use crate::answer::Routes;
+use crate::answer::SwitchRoutes;
 use crate::cabling::{guids_of, homes_of, rows_of};
 use crate::distance::distances;
 use crate::fault::RouteFault;
 use crate::place::{all_downs, all_ups, places};
 use crate::root::{marked_first_root, marked_roots};
 use crate::row::Row;
+use crate::subnet::Routes;
 use crate::table::all_tables;
 use fabric_parts::PortRef;
 use lid_assign::Lids;
 use std::alloc::{AllocError, Global};
 use sweep::Graph;
 
-/// The routes of a graph whose switches are joined, by its LIDs. The roots are GUIDs of switches of the graph, in the
-/// order in which they are named; where there are none, the switch of least GUID is the root.
+/// The routes of a graph whose switches are joined, by its LIDs; they keep both. The roots are GUIDs of switches of
+/// the graph, in the order in which they are named; where there are none, the switch of least GUID is the root.
 ///
 /// `NoLegalPath` exactly where some switch that carries adapters' ports has no legal path to one of these.
-pub fn routes(
+pub fn routes(alloc: Global, graph: Graph, lids: Lids, roots: &[u64]) -> Result<Routes, RouteFault>
+    requires joined { is_joined graph.rows ≡ true }
+    requires lids { AreLids (end_ports graph) lids }
+    requires named { list_all (λ root. list_any (λ guid. guid == root) (guids_of graph)) roots.now ≡ true }
+    ensures graph { IfOk result (λ routes. routes.graph ≡ graph) }
+    ensures lids { IfOk result (λ routes. routes.lids ≡ lids) }
+    ensures made { IfOk result (λ routes. AreRoutesOf (rows_of graph) (guids_of graph) roots.now (homes_of graph lids) routes.between) }
+    ensures reached { IfOk result (λ routes. AllReached (rows_of graph) (order_of routes.between) (homes_of graph lids)) }
+    ensures fault { IfErr result (λ fault. IsFaultOf (rows_of graph) (guids_of graph) roots.now (homes_of graph lids) fault) }
+{
+    let between = routes_between(alloc, &graph, &lids, roots)?;
+    Ok(Routes {
+        graph,
+        lids,
+        between,
+    })
+}
+
+/// The routes between the switches of a graph, with its LIDs.
+fn routes_between(
     alloc: Global,
     graph: &Graph,
     lids: &Lids,
     roots: &[u64],
-) -> Result<Routes, RouteFault>
+) -> Result<SwitchRoutes, RouteFault>
     requires joined { is_joined graph.now.rows ≡ true }
     requires lids { AreLids (end_ports graph.now) lids.now }
     requires named { list_all (λ root. list_any (λ guid. guid == root) (guids_of graph.now)) roots.now ≡ true }
@@ -59,7 +79,7 @@ pub fn routes_over(
     guids: Vec<u64>,
     roots: &[u64],
     homes: Vec<PortRef>,
-) -> Result<Routes, RouteFault>
+) -> Result<SwitchRoutes, RouteFault>
     requires fabric { IsFabric rows.items guids.items roots.now }
     requires few { length rows.items ≤ 64 }
     requires hang { all_hang homes.items (length rows.items) ≡ true }
@@ -82,7 +102,7 @@ fn all_routes(
     guids: Vec<u64>,
     roots: &[u64],
     homes: Vec<PortRef>,
-) -> Result<Routes, AllocError>
+) -> Result<SwitchRoutes, AllocError>
     requires fabric { IsFabric rows.items guids.items roots.now }
     requires few { length rows.items ≤ 64 }
     requires hang { all_hang homes.items (length rows.items) ≡ true }
@@ -95,7 +115,7 @@ fn all_routes(
     let downs = all_downs(alloc, &rows, &places)?;
     let ups = all_ups(alloc, &rows, &places)?;
     let tables = all_tables(alloc, &downs, &ups)?;
-    Ok(Routes {
+    Ok(SwitchRoutes {
         rows,
         guids,
         ranks,

@@ -1,9 +1,10 @@
 //! Routes compared with a plain search over all legal walks.
 
-use crate::fixtures::graph_of_text;
+use crate::fixtures::{fabric_of, graph_of};
 use crate::random_fabrics::Chance;
 use crate::sweeps::graphs::fabric_text;
 use crate::up_down::routes_of;
+use fabric_wire::Fabric;
 use lid_assign::{Lids, assign};
 use std::alloc::Global;
 use std::process::Abort;
@@ -207,17 +208,18 @@ fn least_guid(graph: &Graph) -> u64 {
     least.unwrap_or(0)
 }
 
-/// The routes with these roots are those of the search.
+/// The routes with these roots are those of the search. The graph is given twice, since routes keep theirs.
 fn agree(
     rt: &impl Abort,
     alloc: Global,
     graph: &Graph,
+    again: Graph,
     lids: &Lids,
     roots: &[u64],
 ) -> Result<(), Fail> {
     let least = [least_guid(graph)];
     let ranks = ranks_of(alloc, graph, if roots.is_empty() { &least } else { roots })?;
-    let routes = match routes_of(alloc, graph, roots) {
+    let routes = match routes_of(alloc, again, roots) {
         Ok(routes) => routes,
         Err(RouteFault::NoMemory) => return Err("memory")?,
         Err(RouteFault::NoLegalPath { switch, port }) => {
@@ -232,27 +234,35 @@ fn agree(
 }
 
 /// With no root named, with one and with two.
-fn all_agree(rt: &impl Abort, alloc: Global, graph: &Graph, lids: &Lids) -> Result<(), Fail> {
-    let first = guid_at(graph, 0);
-    let last = guid_at(graph, graph.switches().len().saturating_sub(1));
-    agree(rt, alloc, graph, lids, &[])?;
-    agree(rt, alloc, graph, lids, &[first])?;
-    agree(rt, alloc, graph, lids, &[last, first])
+fn all_agree(rt: &impl Abort, alloc: Global, fabric: &mut Fabric) -> Result<(), Fail> {
+    let graph = graph_of(alloc, fabric)?;
+    let lids = assign(alloc, &graph).or(Err("memory"))?;
+    let first = guid_at(&graph, 0);
+    let last = guid_at(&graph, graph.switches().len().saturating_sub(1));
+    agree(rt, alloc, &graph, graph_of(alloc, fabric)?, &lids, &[])?;
+    agree(rt, alloc, &graph, graph_of(alloc, fabric)?, &lids, &[first])?;
+    agree(
+        rt,
+        alloc,
+        &graph,
+        graph_of(alloc, fabric)?,
+        &lids,
+        &[last, first],
+    )
 }
 
-/// What a sweep of the next fabric finds.
-fn next_graph(alloc: Global, chance: &mut Chance) -> Result<Graph, Fail> {
+/// The next fabric.
+fn next_fabric(alloc: Global, chance: &mut Chance) -> Result<Fabric, Fail> {
     let text = fabric_text(alloc, chance)?;
-    graph_of_text(alloc, &text)
+    fabric_of(alloc, &text)
 }
 
 #[test]
 fn by_chance_routes_are_those_of_a_plain_search(rt: HostRuntime) -> Result<(), Fail> {
     let mut chance = Chance { state: 31 };
     for _ in 0..12u8 {
-        let graph = next_graph(rt.alloc(), &mut chance)?;
-        let lids = assign(rt.alloc(), &graph).or(Err("memory"))?;
-        all_agree(&rt, rt.alloc(), &graph, &lids)?;
+        let mut fabric = next_fabric(rt.alloc(), &mut chance)?;
+        all_agree(&rt, rt.alloc(), &mut fabric)?;
     }
     Ok(())
 }

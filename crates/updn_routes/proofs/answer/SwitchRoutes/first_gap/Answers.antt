@@ -2,7 +2,7 @@ use Rattle.std.proofs.Common.{◌≡◌, List, Some, None, position, sym, subst,
 use Rattle.fabric_parts.specs.declared.cable.PortRef.{PortRef}
 use Rattle.updn_routes.specs.Routes.{AreRoutes, RoutesState, is_gap}
 use Rattle.updn_routes.proofs.AnswerLemmas.{all_reached, first_unreached, gap_there}
-use Rattle.updn_routes.proofs.answer.Routes.first_gap.Goals as goal
+use Rattle.updn_routes.proofs.answer.SwitchRoutes.first_gap.Goals as goal
 
 pub returns-in_err-from-clause-none : goal.returns-in_err-from-clause-none
 returns-in_err-from-clause-none c = λ gone.

@@ -3,7 +3,7 @@ use Rattle.updn_routes.specs.declared.link.Link.{Link}
 use Rattle.updn_routes.specs.Cabling.{is_next_to}
 use Rattle.updn_routes.specs.Tables.{place_at}
 use Rattle.updn_routes.proofs.AnswerLemmas.{number_is, place_low}
-use Rattle.updn_routes.proofs.answer.Routes.channel_number.Goals as goal
+use Rattle.updn_routes.proofs.answer.SwitchRoutes.channel_number.Goals as goal
 
 pub number-requires-clause-there : goal.number-requires-clause-there
 number-requires-clause-there c =

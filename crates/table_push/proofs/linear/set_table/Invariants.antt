@@ -1,0 +1,13 @@
+use Rattle.std.proofs.Common.{ℕ, ◌≡◌, ◌*◌, Some}
+use Rattle.smp_wire.specs.FabricState.{FabricState}
+use Rattle.smp_wire.specs.Good.{IsGood}
+use Rattle.table_push.specs.Linear.{linear_to}
+use Rattle.table_push.specs.Nodes.{on_switch, with_switches}
+use Rattle.table_push.specs.Pushes.{LeadsToSwitch, Stands}
+use Rattle.table_push.proofs.linear.set_table.Given as goal
+
+-- the first blocks are written
+abbrev pub invariant-loop-block : goal.invariant-loop-block
+invariant-loop-block g l =
+    (fabric : FabricState) (guid : ℕ) → g.W.SmpWire.fabric l.fn.wire ≡ Some fabric → IsGood fabric → LeadsToSwitch fabric l.fn.path guid
+    → Stands (g.W.SmpWire.fabric l.wire) fabric (with_switches (on_switch guid (linear_to (64 * l.block) l.fn.table)) fabric)

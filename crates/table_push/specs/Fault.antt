@@ -1,0 +1,54 @@
+-- Why a push stops: the codes that are printed, and what the reply to a Set means.
+use Rattle.std.specs.Prelude.{ℕ, ◌==◌, if◌then◌else◌, List, codes, Result, Ok, Err}
+use Rattle.std.specs.Str.{bytes_eq}
+use Rattle.mad_layout.specs.Bits.{field, put_field}
+use Rattle.attr_tables.specs.PortState.{port_state_code}
+use Rattle.attr_tables.specs.declared.port_state.PortState.TheVariants.{NoChange}
+use Rattle.attr_tables.specs.declared.smp_attribute.SmpAttribute.{SmpAttribute}
+use Rattle.attr_tables.specs.declared.smp_attribute.SmpAttribute.TheVariants as attribute
+use Rattle.smp_wire.specs.declared.reply.ReplyFault.{ReplyFault}
+use Rattle.smp_wire.specs.declared.reply.ReplyFault.TheVariants as reply
+use Rattle.table_push.specs.declared.fault.PushFault.{PushFault}
+use Rattle.table_push.specs.declared.fault.PushFault.TheVariants.{NoReply, Refused, NotAsSet}
+
+abbrev pub code_of : PushFault → List ℕ
+code_of NoReply = codes "TP1"
+code_of Refused = codes "TP2"
+code_of NotAsSet = codes "TP3"
+
+-- a reply of another request tells of nothing that was set
+abbrev pub fault_of : ReplyFault → PushFault
+fault_of reply.NoReply = NoReply
+fault_of reply.Refused = Refused
+fault_of reply.WrongReply = NotAsSet
+
+-- what was told, with what a push stops with in place of the fault
+abbrev pub heard : {X : Type 0} → Result X ReplyFault → Result X PushFault
+heard (Ok x) = Ok x
+heard (Err fault) = Err (fault_of fault)
+
+-- PortState of PortInfo (14.2.5.6), 0 where no change of it is asked
+abbrev pub state_of : List ℕ → ℕ
+state_of bytes = field bytes 260 4
+
+abbrev pub without_state : List ℕ → List ℕ
+without_state bytes = put_field bytes 260 4 (port_state_code NoChange)
+
+-- what of the bytes that a reply carries is compared: a state that was not asked for counts for nothing
+unfoldable pub compared : SmpAttribute → List ℕ → List ℕ → List ℕ
+compared attribute.PortInfo wanted told = if state_of wanted == port_state_code NoChange then without_state told else told
+compared attribute.NodeDescription wanted told = told
+compared attribute.NodeInfo wanted told = told
+compared attribute.SwitchInfo wanted told = told
+compared attribute.PKeyTable wanted told = told
+compared attribute.LinearForwardingTable wanted told = told
+compared attribute.MulticastForwardingTable wanted told = told
+
+-- what the reply to a Set to these bytes means: nothing came; a status other than 0; of another request, or not what
+-- was set; or it is set
+abbrev pub as_set : SmpAttribute → List ℕ → List ℕ → Result (Unit {0}) PushFault
+as_set attribute wanted told = if bytes_eq (compared attribute wanted told) wanted then Ok tt else Err NotAsSet
+
+abbrev pub meaning : SmpAttribute → List ℕ → Result (List ℕ) ReplyFault → Result (Unit {0}) PushFault
+meaning attribute wanted (Err fault) = Err (fault_of fault)
+meaning attribute wanted (Ok told) = as_set attribute wanted told

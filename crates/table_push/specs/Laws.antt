@@ -1,0 +1,22 @@
+-- What holds after every push: the statements of the laws of `src/laws.rt`.
+use Rattle.std.specs.Prelude.{ℕ, ◌≡◌, slice_get, Some, option_map}
+use Rattle.smp_wire.specs.FabricState.{FabricState}
+use Rattle.smp_wire.specs.Good.{IsGood}
+use Rattle.smp_wire.specs.declared.node.Node.TheVariants.{Switch}
+use Rattle.switch_model.specs.SwitchState.{SwitchState}
+use Rattle.sweep.specs.Graph.{IsGraph}
+use Rattle.sweep.specs.OfFabric.{IsGraphOf}
+use Rattle.table_push.specs.Linear.{linear_pushed, linear_table}
+use Rattle.updn_routes.specs.Subnet.{SubnetRoutes}
+
+-- the switch is the graph's at that place, and has the table of that place
+pub record HasItsTable (routes : SubnetRoutes) (held : SwitchState) : Type 0 where
+  pub place : ℕ
+  pub guid_is : option_map (λ switch. switch.guid) (slice_get routes.graph.switches place) ≡ Some held.node_guid
+  pub table : held.linear ≡ linear_table routes place
+
+-- after a push over the fabric of the graph no switch is left out
+abbrev pub EverySwitchHasItsTable : Type 0
+EverySwitchHasItsTable =
+    (routes : SubnetRoutes) (fabric : FabricState) (node : ℕ) (held : SwitchState) → IsGraph routes.graph → IsGraphOf routes.graph fabric
+    → IsGood fabric → slice_get (linear_pushed routes fabric).nodes node ≡ Some (Switch held) → HasItsTable routes held

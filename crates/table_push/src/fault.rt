@@ -1,0 +1,84 @@
+//! Why a push stops.
+
+ghost use Rattle.std.specs.Prelude.{◌≡◌};
+ghost use Rattle.table_push.specs.Fault.{as_set, code_of, fault_of, meaning, compared};
+
+use attr_tables::SmpAttribute;
+use mad_layout::{get_bits, put_bits};
+use smp_wire::ReplyFault;
+use thiserror::Error;
+
+/// Why a push stopped: at the first exchange that is at fault.
+#[derive(Clone, Copy, Debug, PartialEq, Eq, Error)]
+pub enum PushFault {
+    /// Nothing came back along a path.
+    #[error("no reply came back")]
+    NoReply,
+    /// A reply has a status other than 0: the agent refuses.
+    #[error("an agent refuses")]
+    Refused,
+    /// A reply is not what was set, or of another request.
+    #[error("a reply is not what was set, or of another request")]
+    NotAsSet,
+}
+
+impl PushFault {
+    /// The code that is printed for the fault.
+    pub fn code(self) -> &'static str
+        ensures { result.now ≡ code_of self }
+    {
+        match self {
+            PushFault::NoReply => "TP1",
+            PushFault::Refused => "TP2",
+            PushFault::NotAsSet => "TP3",
+        }
+    }
+}
+
+/// What a push stops with where a request told nothing.
+pub(crate) fn fault_of(fault: ReplyFault) -> PushFault
+    ensures { result ≡ fault_of fault }
+{
+    match fault {
+        ReplyFault::NoReply => PushFault::NoReply,
+        ReplyFault::Refused => PushFault::Refused,
+        ReplyFault::WrongReply => PushFault::NotAsSet,
+    }
+}
+
+/// What the reply to a Set of an attribute to these bytes means.
+pub(crate) fn meaning(
+    attribute: SmpAttribute,
+    wanted: &[u8; 64],
+    told: Result<[u8; 64], ReplyFault>,
+) -> Result<(), PushFault>
+    ensures { result ≡ meaning attribute wanted.now told }
+{
+    match told {
+        Ok(told) => as_set(attribute, wanted, &told),
+        Err(fault) => Err(fault_of(fault)),
+    }
+}
+
+/// Whether these bytes are what was set.
+fn as_set(attribute: SmpAttribute, wanted: &[u8; 64], told: &[u8; 64]) -> Result<(), PushFault>
+    ensures { result ≡ as_set attribute wanted.now told.now }
+{
+    if compared(attribute, wanted, told) == *wanted {
+        Ok(())
+    } else {
+        Err(PushFault::NotAsSet)
+    }
+}
+
+/// What of the bytes that a reply carries is compared: a PortState that was not asked for counts for nothing.
+#[tactic(auto, unfolding(crate::specs::Fault::compared))]
+fn compared(attribute: SmpAttribute, wanted: &[u8; 64], told: &[u8; 64]) -> [u8; 64]
+    ensures { result ≡ compared attribute wanted.now told.now }
+{
+    let mut bytes = *told;
+    if attribute == SmpAttribute::PortInfo && get_bits::<260, 4>(wanted) == 0 {
+        put_bits::<260, 4>(&mut bytes, 0);
+    }
+    bytes
+}

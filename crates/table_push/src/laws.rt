@@ -1,0 +1,8 @@
+//! What holds after every push. The functions do nothing; their clauses are the theorems.
+
+ghost use Rattle.table_push.specs.Laws.{EverySwitchHasItsTable};
+
+/// After a push over the fabric of its graph every switch has the table of its own routes, and none is left out.
+pub fn every_switch_has_its_table()
+    ensures { EverySwitchHasItsTable }
+{}

@@ -1,0 +1,36 @@
+//! One Set, and what its reply means.
+
+ghost use Rattle.std.specs.Prelude.{◌≡◌, ◌≤◌, length, Some, Ok};
+ghost use Rattle.std.specs.Option.{ForSome};
+ghost use Rattle.smp_wire.specs.FabricState.{FabricState};
+ghost use Rattle.smp_wire.specs.Good.{IsGood};
+ghost use Rattle.smp_wire.specs.Set.{takes_along};
+ghost use Rattle.smp_wire.specs.Shape.{IsSameShape};
+ghost use Rattle.table_push.specs.Pushes.{Gives, Leaves};
+
+use crate::fault::{PushFault, meaning};
+use attr_tables::SmpAttribute;
+use smp_wire::{SmpWire, set_attribute};
+
+/// Sets that part of an attribute of the node at the end of a path to these bytes, under the next TransactionID, so
+/// that a late reply is told from its own.
+///
+/// Where the agent there takes them, and then has what is compared, it is done and the fabric is the one that it leaves.
+pub(crate) fn set<W: SmpWire>(
+    wire: &mut W,
+    transaction_id: &mut u64,
+    attribute: SmpAttribute,
+    modifier: u32,
+    path: &[u8],
+    wanted: &[u8; 64],
+) -> Result<(), PushFault>
+    requires { length path.now ≤ 63 }
+    ensures { ForSome (W.fabric wire.old) (λ fabric. (next : FabricState) → IsGood fabric
+        → takes_along fabric path.now attribute modifier wanted.now ≡ Some (Ok next)
+        → (IsSameShape fabric next → Gives next path.now attribute modifier wanted.now)
+        → Leaves result (W.fabric wire.new) fabric next) }
+{
+    *transaction_id = transaction_id.wrapping_add(1);
+    let told = set_attribute(wire, *transaction_id, attribute, modifier, path, wanted);
+    meaning(attribute, wanted, told)
+}
