@@ -1,0 +1,2 @@
+pub mod WayLemmas
+pub mod DeliveryLemmas
