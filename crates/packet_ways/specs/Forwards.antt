@@ -5,7 +5,7 @@ use Rattle.std.specs.List.{IsDistinct, list_all}
 use Rattle.std.specs.Option.{option_and_then}
 use Rattle.fabric_parts.specs.declared.cable.Cable.{Cable}
 use Rattle.fabric_parts.specs.declared.cable.PortRef.{PortRef}
-use Rattle.fabric_parts.specs.Cable.{far_end, is_cabled, is_same_port}
+use Rattle.fabric_parts.specs.Cable.{far_end, is_same_port}
 use Rattle.pkey_rules.specs.KeyTable.{holds}
 use Rattle.pkey_rules.specs.PKey.{base_of, key_of}
 use Rattle.pkey_rules.specs.StoredKeys.{stored_keys}
@@ -39,10 +39,11 @@ Follows nodes cables lid here [] last = here ≡ last
 Follows nodes cables lid here (next ∷ later) last = Leads nodes cables lid here next × Follows nodes cables lid next later last
 
 -- ---- ports
--- the port of a channel adapter is there, and has a cable
+-- the port of a channel adapter is there, and its cable leads to a port
 pub record IsCabledPort (fabric : FabricState) (at : PortRef) (port : AdapterState) : Type 0 where
   pub there : adapter_at fabric.nodes at ≡ Some port
-  pub cabled : is_cabled fabric.cables at ≡ true
+  pub far : PortRef
+  pub cable : far_end fabric.cables at ≡ Some far
 
 abbrev pub node_switch_port : Node → ℕ → Option SwitchPort
 node_switch_port (Switch held) number = slice_get held.ports number
@@ -64,9 +65,9 @@ pub record ForwardsByLid (fabric : FabricState) : Type 0 where
   -- an entry for a LID that leads to the port of a channel adapter leads to one of this LID
   pub own : (lid : ℕ) (here at : PortRef) (port : AdapterState) → Leads fabric.nodes fabric.cables lid here at
       → adapter_at fabric.nodes at ≡ Some port → port.info.lid ≡ lid
-  -- from the switch of each such port the entries lead to each
-  pub lead : (from at first : PortRef) (sender port : AdapterState) → IsCabledPort fabric from sender → IsCabledPort fabric at port
-      → far_end fabric.cables from ≡ Some first → (way : List PortRef) × Follows fabric.nodes fabric.cables port.info.lid first way at
+  -- from where the cable of each such port leads the entries for the LID of each lead to it
+  pub lead : (from at : PortRef) (sender port : AdapterState) (begin : IsCabledPort fabric from sender) → IsCabledPort fabric at port
+      → (way : List PortRef) × Follows fabric.nodes fabric.cables port.info.lid begin.far way at
   -- the port of a switch that faces one holds the full form of each of its keys
   pub facing : (here at : PortRef) (mine : SwitchPort) (port : AdapterState) (key : ℕ) → switch_port_at fabric.nodes here ≡ Some mine
       → far_end fabric.cables here ≡ Some at → adapter_at fabric.nodes at ≡ Some port

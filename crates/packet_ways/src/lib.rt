@@ -9,4 +9,4 @@
 
 mod laws;
 
-pub use crate::laws::unicast_goes_one_way;
+pub use crate::laws::{packets_go_by_lid, unicast_goes_one_way};
