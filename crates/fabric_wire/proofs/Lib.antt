@@ -15,3 +15,6 @@ pub mod OfTopologyGoodLemmas
 pub mod OfTopologyLinksLemmas
 pub mod OfTopologyWalkLemmas
 pub mod PowerUpLemmas
+pub mod RowLemmas
+pub mod EndPortLemmas
+pub mod KeptPortLemmas

@@ -1,3 +1,5 @@
+pub mod Rows
+pub mod EndPorts
 pub mod Hopping
 pub mod HopByHop
 pub mod OfTopology

@@ -1,12 +1,12 @@
-//! The cables of a fabric, with the other end of the cable at a port looked up in constant time.
+//! The cables of a fabric, with the other end of the cable at a port looked up in a row.
 
-ghost use Rattle.std.specs.Prelude.{◌≡◌, IfOk};
+ghost use Rattle.std.specs.Prelude.{◌≡◌, ◌*◌, length, IfOk};
+ghost use Rattle.fabric_parts.specs.Cable.{far_end};
 ghost use Rattle.fabric_parts.specs.declared.cable.PortRef.{PortRef};
-ghost use Rattle.indexmap.specs.IndexMap.{get};
-ghost use Rattle.fabric_parts.specs.Cable.{is_same_port, far_end};
+ghost use Rattle.fabric_wire.specs.Rows.{far_in};
 
+use crate::rows::Rows;
 use fabric_parts::{Cable, PortRef};
-use indexmap::IndexMap;
 use std::alloc::{AllocError, Global};
 use std::marker::Model;
 
@@ -14,23 +14,21 @@ use std::marker::Model;
 #[derive(Debug, Drop)]
 pub(crate) struct Cabling {
     cables: Vec<Cable>,
-    // For each port with a cable the port at the other end.
-    far_ends: IndexMap<PortRef, PortRef>,
+    far_ends: Rows,
 }
 
 impl Model for Cabling {
     ghost use Rattle.std.specs.Prelude.{◌≡◌, List};
-    ghost use Rattle.indexmap.specs.IndexMap.{get};
     ghost use Rattle.fabric_parts.specs.declared.cable.Cable.{Cable};
     ghost use Rattle.fabric_parts.specs.declared.cable.PortRef.{PortRef};
-    ghost use Rattle.fabric_parts.specs.Cable.{is_same_port};
     ghost use Rattle.fabric_parts.specs.Cable.{far_end};
+    ghost use Rattle.fabric_wire.specs.Rows.{far_in};
 
     ghost Value = { List Cable };
 
     ghost view = { λ cabling. cabling.cables.items };
 
-    ghost invariant = { λ cabling. (port : PortRef) → get is_same_port cabling.far_ends port ≡ far_end cabling.cables.items port };
+    ghost invariant = { λ cabling. (port : PortRef) → far_in cabling.far_ends port ≡ far_end cabling.cables.items port };
 }
 
 impl Cabling {
@@ -48,20 +46,27 @@ impl Cabling {
     pub(crate) fn far_end(&self, here: PortRef) -> Option<PortRef>
         ensures { result ≡ far_end self.now here }
     {
-        self.far_ends.get(&here).copied()
+        self.far_ends.get(here)
+    }
+
+    /// How many ends its cables have.
+    pub(crate) fn count_ends(&self) -> usize
+        ensures { result ≡ 2 * length self.now }
+    {
+        2 * self.cables.len()
     }
 }
 
 /// For each port with a cable the port at the other end. Later cables come first, so that of two at
 /// one port the first counts.
-fn far_ends(alloc: Global, cables: &[Cable]) -> Result<IndexMap<PortRef, PortRef>, AllocError>
-    ensures { IfOk result (λ far_ends. (port : PortRef) → get is_same_port far_ends port ≡ far_end cables.now port) }
+fn far_ends(alloc: Global, cables: &[Cable]) -> Result<Rows, AllocError>
+    ensures { IfOk result (λ far_ends. (port : PortRef) → far_in far_ends port ≡ far_end cables.now port) }
 {
-    let mut far_ends = IndexMap::new(alloc);
+    let mut far_ends = Rows::new(alloc);
     for index in (0..cables.len()).rev() {
         let cable = cables[index];
-        far_ends.insert(cable.second, cable.first)?;
-        far_ends.insert(cable.first, cable.second)?;
+        far_ends.put(cable.second, cable.first)?;
+        far_ends.put(cable.first, cable.second)?;
     }
     Ok(far_ends)
 }

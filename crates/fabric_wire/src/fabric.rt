@@ -1,16 +1,27 @@
 //! The simulated fabric.
 
-ghost use Rattle.std.specs.Prelude.{◌≡◌, Some, IfOk};
+ghost use Rattle.std.specs.Prelude.{◌≡◌, ◌≤◌, length, Some, None, IfOk, IfSome};
+ghost use Rattle.data_packet.specs.declared.payload.TheConstants.{PAYLOAD_BYTES};
+ghost use Rattle.fabric_parts.specs.declared.cable.PortRef.{PortRef};
+ghost use Rattle.packet_ways.specs.Deliveries.{AreDeliveries, HasPort, IsOwn, Numbers, Reaches, adapter_at, guid_at, numbers_of};
+ghost use Rattle.port_model.specs.AdapterState.{AdapterState};
+ghost use Rattle.port_model.specs.Packets.{stamped};
 ghost use Rattle.smp_wire.specs.FabricState.{fabric_with};
 ghost use Rattle.smp_wire.specs.Good.{IsGood, ShowsLinks, SwitchesJoined};
 ghost use Rattle.smp_wire.specs.Walk.{exchange_after, exchange_reply};
 ghost use Rattle.fabric_wire.specs.OfTopology.{fabric_of};
 
 use crate::cabling::Cabling;
+use crate::carrying::receiver;
+use crate::delivery::Delivery;
+use crate::end_ports::{adapter_at, places_by_guid};
 use crate::hopping::{come_home, go_out};
 use crate::power_up::nodes_of;
+use data_packet::{Packet, QueuePair, Refusal};
 use fabric_parts::PortRef;
+use indexmap::IndexMap;
 use mad_layout::{Mad, known_bytes};
+use port_model::AdapterPort;
 use smp_route::turn_round;
 use smp_wire::{Node, SmpWire, agent_at, is_sent};
 use std::alloc::{AllocError, Global};
@@ -22,12 +33,15 @@ use topo_file::Topology;
 pub struct Fabric {
     nodes: Vec<Node>,
     cabling: Cabling,
+    end_ports: IndexMap<u64, PortRef>,
     manager: PortRef,
 }
 
 impl Model for Fabric {
     ghost use Rattle.smp_wire.specs.FabricState.{FabricState};
-    ghost use Rattle.smp_wire.specs.Good.{IsGood};
+    ghost use Rattle.std.specs.Prelude.{nat_eq};
+    ghost use Rattle.indexmap.specs.IndexMap.{get};
+    ghost use Rattle.fabric_wire.specs.EndPorts.{IsKept};
 
     ghost Value = { FabricState };
 
@@ -37,11 +51,11 @@ impl Model for Fabric {
       manager = fabric.manager;
     } };
 
-    ghost invariant = { λ fabric. IsGood (record {
+    ghost invariant = { λ fabric. IsKept (record {
       nodes = fabric.nodes.items;
       cables = fabric.cabling;
       manager = fabric.manager;
-    }) };
+    }) (get nat_eq fabric.end_ports) };
 }
 
 impl Fabric {
@@ -56,11 +70,73 @@ impl Fabric {
         topology.known_sound();
         let nodes = nodes_of(alloc, topology)?;
         let cabling = Cabling::new(alloc, topology.cables())?;
+        let end_ports = places_by_guid(alloc, &nodes)?;
         Ok(Fabric {
             nodes,
             cabling,
+            end_ports,
             manager: topology.sm(),
         })
+    }
+
+    /// What the port of that GUID makes of a packet: its own [`AdapterPort::stamp`].
+    pub fn stamp(
+        &self,
+        port: u64,
+        dlid: u16,
+        p_key: u16,
+        destination_qp: QueuePair,
+        payload: &[u8],
+    ) -> Result<Packet, Refusal>
+        requires there { HasPort self.now.nodes port }
+        requires fits { length payload.now ≤ PAYLOAD_BYTES }
+        ensures { (at : PortRef) (sender : AdapterState) → adapter_at self.now.nodes at ≡ Some sender → sender.port_guid ≡ port
+            → result ≡ stamped sender dlid p_key destination_qp payload.now }
+    {
+        self.sender(port)
+            .stamp(dlid, p_key, destination_qp, payload)
+    }
+
+    /// The port of that GUID.
+    fn sender(&self, guid: u64) -> &AdapterPort
+        requires { HasPort self.now.nodes guid }
+        ensures { (at : PortRef) → guid_at self.now.nodes at ≡ Some guid → adapter_at self.now.nodes at ≡ Some result.now }
+    {
+        let found = self.end_ports.get(&guid);
+        let Some(at) = found else { unreachable!() };
+        let Some(port) = adapter_at(&self.nodes, *at) else {
+            unreachable!()
+        };
+        port
+    }
+
+    /// What becomes of a packet that the port of that GUID sends: who gets it, in order of LID, then of GUID. Where
+    /// no port with a cable has that GUID, nobody does. Memory alone can be refused.
+    ///
+    /// Source: IBA volume 1, chapter 14.
+    pub fn carry(
+        &self,
+        alloc: Global,
+        port: u64,
+        packet: &Packet,
+    ) -> Result<Vec<Delivery>, AllocError>
+        ensures { IfOk result (λ deliveries. AreDeliveries self.now port packet.now deliveries.items) }
+    {
+        let mut deliveries = Vec::new(alloc);
+        if let Some(receiver) = self.receiver(port, packet) {
+            deliveries.push(Delivery::at(receiver.port_guid(), packet)?)?;
+        }
+        Ok(deliveries)
+    }
+
+    /// The port that gets what the port of that GUID sends, if one does.
+    fn receiver(&self, sender: u64, packet: &Packet) -> Option<&AdapterPort>
+        ensures some { IfSome result (λ port. Reaches self.now sender packet.now (numbers_of port.now)) }
+        ensures none { result ≡ None → (receiver : Numbers) → Reaches self.now sender packet.now receiver → ⊥ }
+        ensures own { IsOwn self.now.nodes sender }
+    {
+        let from = *self.end_ports.get(&sender)?;
+        receiver(&self.nodes, &self.cabling, packet, from)
     }
 }
 

@@ -6,11 +6,16 @@
 #![tactic(auto)]
 
 mod cabling;
+mod carrying;
+mod delivery;
+mod end_ports;
 mod fabric;
 mod hopping;
 mod laws;
 mod power_up;
+mod rows;
 
+pub use crate::delivery::Delivery;
 pub use crate::fabric::Fabric;
 pub use crate::laws::{
     exchanges_go_by_hops, the_two_switch_fabric_is_good, topologies_give_good_fabrics,

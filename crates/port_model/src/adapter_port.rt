@@ -186,6 +186,13 @@ impl AdapterPort {
         Ok(())
     }
 
+    /// The GUID of the port.
+    pub fn port_guid(&self) -> u64
+        ensures { result ≡ self.now.port_guid }
+    {
+        self.port_guid
+    }
+
     /// The packet of this payload, at most 256 bytes, for that LID and that queue pair under this key, from the
     /// port's own LID; or the first reason why the port won't send it, in the order of [`Refusal`]. The key may be
     /// any 16 bits; the port has to hold these very ones.

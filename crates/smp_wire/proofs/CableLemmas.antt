@@ -87,7 +87,7 @@ is_among cable a b end rest others false false same is later = rw (later is) (or
     or_both false false = refl
 
 -- the far end of a cable is an end of a cable
-far_is_end : (cables : List Cable) (a b end : PortRef) → is_same_port end b ≡ true → far_end cables a ≡ Some b
+pub far_is_end : (cables : List Cable) (a b end : PortRef) → is_same_port end b ≡ true → far_end cables a ≡ Some b
     → list_any (is_same_port end) (flat_map ends_of cables) ≡ true
 far_is_end [] a b end same is = cc
 far_is_end (cable ∷ cables) a b end same is =

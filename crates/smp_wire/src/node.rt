@@ -2,7 +2,7 @@ ghost use Rattle.std.specs.Prelude.{◌≡◌, is_some, unwrap_or, slice_get};
 ghost use Rattle.smp_wire.specs.FabricState.{adapter_port, adapter_ports_after, node_after, node_reply, port_count};
 ghost use Rattle.agent_rules.specs.Request.{KeepsRest};
 ghost use Rattle.port_model.specs.Agent.{agent_reply};
-ghost use Rattle.std.specs.Option.{option_and_then};
+ghost use Rattle.std.specs.Option.{option_and_then, option_copied};
 
 use agent_rules::{LINEAR_TABLE, MULTICAST_TABLE};
 use mad_layout::Mad;
@@ -31,6 +31,16 @@ impl AdapterPorts {
         ensures { result ≡ ports.items }
     {
         AdapterPorts { ports }
+    }
+
+    /// The port of that number, if there is one.
+    pub fn port(&self, number: u8) -> Option<&AdapterPort>
+        ensures { option_copied result ≡ adapter_port self.now number }
+    {
+        if number == 0 {
+            return None;
+        }
+        self.ports.get(number as usize - 1)
     }
 
     /// Answers an SMP that came in at the port of that number, as its agent does.

@@ -8,8 +8,17 @@ use Rattle.fabric_wire.proofs.fabric.Fabric.new.Goals as goal
 
 pub invariant_of-result : goal.invariant_of-result
 invariant_of-result c =
-    made IsGood c.args.topology.now _ _ _ c.in_ok-nodes.ensures (c.in_ok-cabling.ensures ∙ c.cables.ensures.value)
-    c.sm.ensures.value (good c.args.topology.now c.known_sound.ensures)
+    let is_good = made IsGood c.args.topology.now _ _ _ c.in_ok-nodes.ensures (c.in_ok-cabling.ensures ∙ c.cables.ensures.value)
+    c.sm.ensures.value (good c.args.topology.now c.known_sound.ensures) in
+    record { good = is_good; found = rw (← c.deref.ensures.value) c.in_ok-end_ports.ensures }
+
+pub places_by_guid-requires-clause-counts : goal.places_by_guid-requires-clause-counts
+places_by_guid-requires-clause-counts c =
+    rw (c.deref.ensures.value, c.in_ok-nodes.ensures) (good c.args.topology.now c.known_sound.ensures).counts
+
+pub places_by_guid-requires-clause-own : goal.places_by_guid-requires-clause-own
+places_by_guid-requires-clause-own c =
+    rw (c.deref.ensures.value, c.in_ok-nodes.ensures) (good c.args.topology.now c.known_sound.ensures).end_guids.own
 
 pub returns-clause-good : goal.returns-clause-good
 returns-clause-good c =

@@ -1,0 +1,60 @@
+-- No exchange changes the GUIDs of ports, so what finds a port by its GUID finds it afterwards.
+use Rattle.std.proofs.Common.{ℕ, ◌-◌, ◌≡◌, ◌==◌, ◌∙◌, refl, subst, sym, Bool, true, false, List, map, slice_get, Option, Some, None, option_map, if◌then◌else◌}
+use Rattle.std.specs.Option.{option_and_then}
+use Rattle.std.proofs.lemmas.Option.{same_Some}
+use Rattle.fabric_parts.specs.declared.cable.PortRef.{PortRef}
+use Rattle.data_packet.specs.declared.packet.Packet.{Packet}
+use Rattle.port_model.specs.AdapterState.{AdapterState}
+use Rattle.smp_wire.proofs.KeptLemmas.{shape}
+use Rattle.smp_wire.proofs.ListLemmas.{get_same}
+use Rattle.smp_wire.specs.FabricState.{FabricState, adapter_port, is_switch}
+use Rattle.smp_wire.specs.Good.{end_port_guids}
+use Rattle.smp_wire.specs.Shape.{IsSameShape}
+use Rattle.smp_wire.specs.Walk.{exchange_after}
+use Rattle.smp_wire.specs.declared.node.Node.{Node}
+use Rattle.smp_wire.specs.declared.node.Node.TheVariants.{Switch, Adapter}
+use Rattle.packet_ways.specs.Deliveries.{IsDelivered, Numbers, Reaches, adapter_ports, guid_at}
+use Rattle.fabric_wire.specs.EndPorts.{Finds}
+
+abbrev Guid : Option Node → ℕ → Option ℕ
+Guid found number = option_map (λ port. port.port_guid) (option_and_then (λ node. adapter_port (adapter_ports node) number) found)
+
+by_number : (none : Bool) (old new : List AdapterState) (place : ℕ)
+    → map (λ (port : AdapterState). port.port_guid) new ≡ map (λ (port : AdapterState). port.port_guid) old
+    → option_map (λ (port : AdapterState). port.port_guid) (if none then None else slice_get new place)
+    ≡ option_map (λ (port : AdapterState). port.port_guid) (if none then None else slice_get old place)
+by_number true old new place same = refl
+by_number false old new place same = get_same (λ (port : AdapterState). port.port_guid) old new place same
+
+by_nodes : (old new : Option Node) (number : ℕ) → option_map is_switch new ≡ option_map is_switch old
+    → option_map end_port_guids new ≡ option_map end_port_guids old → Guid new number ≡ Guid old number
+by_nodes None None number kinds guids = refl
+by_nodes None (Some node) number kinds guids = absurd (cc)
+by_nodes (Some node) None number kinds guids = absurd (cc)
+by_nodes (Some (Switch old)) (Some (Switch new)) number kinds guids = refl
+by_nodes (Some (Switch old)) (Some (Adapter new)) number kinds guids = absurd (cc)
+by_nodes (Some (Adapter old)) (Some (Switch new)) number kinds guids = absurd (cc)
+by_nodes (Some (Adapter old)) (Some (Adapter new)) number kinds guids =
+    by_number (number == 0) old new (number - 1) (same_Some _ _ guids)
+
+same_guids : (old new : FabricState) (at : PortRef) → IsSameShape old new → guid_at new.nodes at ≡ guid_at old.nodes at
+same_guids old new at is =
+    by_nodes (slice_get old.nodes at.node) (slice_get new.nodes at.node) at.port
+    (get_same is_switch old.nodes new.nodes at.node is.switches)
+    (get_same end_port_guids old.nodes new.nodes at.node is.end_port_guids)
+
+pub still_finds : (fabric : FabricState) (smp : List ℕ) (place_of : ℕ → Option PortRef) → Finds fabric.nodes place_of
+    → Finds (exchange_after fabric smp).nodes place_of
+still_finds fabric smp place_of finds guid at =
+    let same = same_guids fabric (exchange_after fabric smp) at (shape fabric smp) in
+    (λ found. same ∙ (finds guid at).0 found, λ is. (finds guid at).1 (sym same ∙ is))
+
+-- the port that is found is the one that sends
+pub reaches_nobody : (fabric : FabricState) (place_of : ℕ → Option PortRef) (sender : ℕ) (packet : Packet) (from : PortRef) (receiver : Numbers)
+    → Finds fabric.nodes place_of → place_of sender ≡ Some from
+    → ((at : PortRef) (port : AdapterState) → IsDelivered fabric.nodes fabric.cables from packet at port → ⊥)
+    → Reaches fabric sender packet receiver → ⊥
+reaches_nobody fabric place_of sender packet from receiver finds found none reaches =
+    let same : reaches.from ≡ from = same_Some reaches.from from (sym ((finds sender reaches.from).1 reaches.sends) ∙ found) in
+    none reaches.at reaches.port
+    (subst (λ (p : PortRef). IsDelivered fabric.nodes fabric.cables p packet reaches.at reaches.port) same reaches.delivered)

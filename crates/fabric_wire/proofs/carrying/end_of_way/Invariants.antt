@@ -1,0 +1,5 @@
+use Rattle.packet_ways.proofs.WayLemmas.{IsOnWay}
+use Rattle.fabric_wire.proofs.carrying.end_of_way.Given as goal
+
+abbrev pub invariant-loop-hops : goal.invariant-loop-hops
+invariant-loop-hops l = IsOnWay l.nodes l.cabling l.packet l.fn.first l._hops l.here

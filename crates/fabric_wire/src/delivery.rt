@@ -1,0 +1,55 @@
+ghost use Rattle.std.specs.Prelude.{◌≡◌, IfOk};
+ghost use Rattle.packet_ways.specs.Deliveries.{Delivered};
+
+use data_packet::Packet;
+use std::alloc::AllocError;
+use std::marker::Model;
+
+/// A packet at the port of a channel adapter that gets it. [`Fabric::carry`](crate::Fabric::carry) alone makes one.
+#[derive(Debug, Drop, PartialEq, Eq)]
+pub struct Delivery {
+    port: u64,
+    packet: Packet,
+}
+
+impl Model for Delivery {
+    ghost use Rattle.packet_ways.specs.Deliveries.{Delivered};
+
+    ghost Value = { Delivered };
+
+    ghost view = { λ delivery. record { port = delivery.port; packet = delivery.packet } };
+
+    ghost inverse = { λ delivered. record { port = delivered.port; packet = delivered.packet } };
+}
+
+impl Delivery {
+    /// A copy of the packet, at the port of that GUID.
+    pub(crate) fn at(port: u64, packet: &Packet) -> Result<Delivery, AllocError>
+        ensures { IfOk result (λ delivery. delivery ≡ record { port = port; packet = packet.now }) }
+    {
+        Ok(Delivery {
+            port,
+            packet: Packet {
+                slid: packet.slid,
+                dlid: packet.dlid,
+                p_key: packet.p_key,
+                destination_qp: packet.destination_qp,
+                payload: packet.payload.clone()?,
+            },
+        })
+    }
+
+    /// The GUID of the port.
+    pub fn port(&self) -> u64
+        ensures { result ≡ self.now.port }
+    {
+        self.port
+    }
+
+    /// The packet.
+    pub fn packet(&self) -> &Packet
+        ensures { result.now ≡ self.now.packet }
+    {
+        &self.packet
+    }
+}

@@ -1,0 +1,4 @@
+pub mod WayLemmas
+pub mod DeliveryLemmas
+pub mod KeyLemmas
+pub mod ByLidLemmas

@@ -1,0 +1,4 @@
+pub mod Deliveries
+pub mod Unicast
+pub mod Forwards
+pub mod Laws

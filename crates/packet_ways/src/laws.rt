@@ -1,0 +1,17 @@
+//! The laws of ways and deliveries. Each function's contract is its law; it does nothing.
+
+ghost use Rattle.packet_ways.specs.Laws.{OtherLidsReachNobody, PacketsGoByLid, UnicastGoesOneWay, UnicastReachesOnePort};
+
+/// A unicast packet goes on from a port to one port at most, and so reaches at most one port of a channel adapter.
+pub fn unicast_goes_one_way()
+    ensures way { UnicastGoesOneWay }
+    ensures port { UnicastReachesOnePort }
+{}
+
+/// Where the tables of a fabric forward by LID (`ForwardsByLid`), a packet that a port stamps for a LID is delivered
+/// at the port of a channel adapter that has this LID, if that accepts the packet's key, and nowhere else: so to
+/// nobody, where the LID is a switch's or nobody's, or over the LIDs that tables count.
+pub fn packets_go_by_lid()
+    ensures assigned { PacketsGoByLid }
+    ensures others { OtherLidsReachNobody }
+{}

@@ -1,0 +1,12 @@
+//! Whom data packets reach, by the tables that a fabric holds: definitions, and the laws over them.
+//!
+//! `specs/Deliveries.antt` says which ports of channel adapters a packet reaches, whatever stands in the
+//! tables: those to which some walk leads by what switches hold, and that accept its key. `specs/Forwards.antt`
+//! says what tables have to hold, so that a packet goes by its LID; that it does then is [`packets_go_by_lid`].
+//! Forwarding by LID and enforcement are those of the InfiniBand Architecture Specification, volume 1,
+//! chapter 14.
+#![tactic(auto)]
+
+mod laws;
+
+pub use crate::laws::{packets_go_by_lid, unicast_goes_one_way};
