@@ -1,11 +1,11 @@
 //! Data packets over the two-switch fabric, by the tables that SMPs wrote.
 
 mod by_chance;
-mod fixtures;
 mod fat_trees;
+mod fixtures;
 
 use crate::carrying::fixtures::{
-    H0, H1, H2, H3, TO_A, TO_B, brought_up, receiver, put_entries, put_keys,
+    H0, H1, H2, H3, TO_A, TO_B, brought_up, put_entries, put_keys, receiver,
 };
 use crate::sending::packet;
 use data_packet::{QueuePair, Refusal};
@@ -131,7 +131,10 @@ fn who_is_no_port_of_an_adapter_sends_nothing(rt: HostRuntime) -> Result<(), Fai
     // the GUIDs of A, of adapter h1 and of h4, whose port has no cable; and one that nobody has
     for (guid, there) in [(0x10, false), (0x110, false), (0x141, true), (0x999, false)] {
         assert_eq!(rt; fabric.has_port(guid), there);
-        let deliveries = fabric.carry(rt.alloc(), guid, &packet(4, 5, 0xffff, 7)?).ok().ok_or("memory")?;
+        let deliveries = fabric
+            .carry(rt.alloc(), guid, &packet(4, 5, 0xffff, 7)?)
+            .ok()
+            .ok_or("memory")?;
         assert!(rt; deliveries.is_empty());
     }
     Ok(())

@@ -32,7 +32,9 @@ pub fn put(
 ) -> Result<(), Fail>
     requires { length path.now ≤ 63 }
 {
-    set_attribute(fabric, 1, attribute, modifier, path, wanted).ok().ok_or("a Set")?;
+    set_attribute(fabric, 1, attribute, modifier, path, wanted)
+        .ok()
+        .ok_or("a Set")?;
     Ok(())
 }
 
@@ -51,7 +53,13 @@ pub fn put_lid(fabric: &mut Fabric, path: &[u8], lid: u8) -> Result<(), Fail>
     requires { length path.now ≤ 63 }
 {
     for port_state in [3, 4] {
-        put(fabric, path, SmpAttribute::PortInfo, 0, &port_info(lid, port_state, 0))?;
+        put(
+            fabric,
+            path,
+            SmpAttribute::PortInfo,
+            0,
+            &port_info(lid, port_state, 0),
+        )?;
     }
     Ok(())
 }
@@ -60,7 +68,13 @@ pub fn put_lid(fabric: &mut Fabric, path: &[u8], lid: u8) -> Result<(), Fail>
 pub fn put_enforcement(fabric: &mut Fabric, path: &[u8], number: u32, bits: u8) -> Result<(), Fail>
     requires { length path.now ≤ 63 }
 {
-    put(fabric, path, SmpAttribute::PortInfo, number, &port_info(0, 0, bits))
+    put(
+        fabric,
+        path,
+        SmpAttribute::PortInfo,
+        number,
+        &port_info(0, 0, bits),
+    )
 }
 
 /// PartitionEnforcementInbound and PartitionEnforcementOutbound.
@@ -73,7 +87,13 @@ pub fn put_entries(fabric: &mut Fabric, path: &[u8], entries: &[u8; 7]) -> Resul
     let mut block = [0xff; 64];
     block[..7].copy_from_slice(entries);
     put(fabric, path, SmpAttribute::LinearForwardingTable, 0, &block)?;
-    put(fabric, path, SmpAttribute::SwitchInfo, 0, &attribute_with(6, &[0, 6]))
+    put(
+        fabric,
+        path,
+        SmpAttribute::SwitchInfo,
+        0,
+        &attribute_with(6, &[0, 6]),
+    )
 }
 
 /// Gives a port these keys, from the first place of its table on: that of this number of a switch, or an adapter's
@@ -82,7 +102,13 @@ pub fn put_keys(fabric: &mut Fabric, path: &[u8], number: u32, keys: &[u8]) -> R
     requires path { length path.now ≤ 63 }
     requires keys { length keys.now ≤ 64 }
 {
-    put(fabric, path, SmpAttribute::PKeyTable, number << 16, &attribute_with(0, keys))
+    put(
+        fabric,
+        path,
+        SmpAttribute::PKeyTable,
+        number << 16,
+        &attribute_with(0, keys),
+    )
 }
 
 /// The two-switch fabric, whose tables lead to each LID, with the keys of power-up, which are those that hold
