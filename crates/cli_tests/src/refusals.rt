@@ -2,8 +2,10 @@
 
 use crate::calls::{RUN, plain, read_so, sink, told};
 use crate::fixtures::{REPORT, SENDS};
-use crate::memory::{Manner, Refusal};
+use crate::memory::{Manner, Refusal, Source};
 use example_texts::TWO_SWITCHES;
+use std::alloc::Global;
+use std::process::Abort;
 use std::test::Fail;
 
 /// The names of the topology, the partition file and the script; the status, both outputs, and how many files
@@ -53,20 +55,30 @@ fn files_that_are_not_read(rt: HostRuntime) -> Result<(), Fail> {
         ("long", read_so(Manner::Dripping, &comment[1..])),
         ("endless", read_so(Manner::Dripping, &comment)),
     ];
-    for (names, status, out, err, opened) in READ {
-        let [topology, partitions, script] = names;
-        let words = ["fabric", "run", topology, partitions, script];
-        let mut sink = sink(rt.alloc(), 1000, Refusal::Broken, true);
-        let told = told(rt.alloc(), &words, &files, &mut sink)?;
-        assert_eq!(rt; told.status, status, "at {names:?}");
-        assert_eq!(rt; told.out.as_slice(), out.as_bytes(), "at {names:?}");
-        assert_eq!(rt; told.err.as_slice(), err.as_bytes(), "at {names:?}");
-        assert_eq!(rt;
-            told.opened.ok_or("the names")?.len(),
-            opened,
-            "at {names:?}"
-        );
+    for row in READ {
+        is_answered(&rt, rt.alloc(), &files, row)?;
     }
+    Ok(())
+}
+
+fn is_answered(
+    rt: &impl Abort,
+    alloc: Global,
+    files: &[(&str, Source<'_>)],
+    row: ([&str; 3], u8, &str, &str, usize),
+) -> Result<(), Fail> {
+    let ([topology, partitions, script], status, out, err, opened) = row;
+    let words = ["fabric", "run", topology, partitions, script];
+    let mut sink = sink(alloc, 1000, Refusal::Broken, true);
+    let told = told(alloc, &words, files, &mut sink)?;
+    assert_eq!(rt; told.status, status, "at {words:?}");
+    assert_eq!(rt; told.out.as_slice(), out.as_bytes(), "at {words:?}");
+    assert_eq!(rt; told.err.as_slice(), err.as_bytes(), "at {words:?}");
+    assert_eq!(rt;
+        told.opened.ok_or("the names")?.len(),
+        opened,
+        "at {words:?}"
+    );
     Ok(())
 }
 
