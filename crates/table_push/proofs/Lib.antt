@@ -5,3 +5,4 @@ pub mod BlockLemmas
 pub mod GuidLemmas
 pub mod LinearLemmas
 pub mod LawLemmas
+pub mod KeptLemmas

@@ -1,5 +1,7 @@
 -- What holds after every push: the statements of the laws of `src/laws.rt`.
 use Rattle.std.specs.Prelude.{ℕ, ◌≡◌, slice_get, Some, option_map}
+use Rattle.smp_wire.specs.Shape.{IsSameShape}
+use Rattle.sweep.specs.Graph.{GraphState}
 use Rattle.smp_wire.specs.FabricState.{FabricState}
 use Rattle.smp_wire.specs.Good.{IsGood}
 use Rattle.smp_wire.specs.declared.node.Node.TheVariants.{Switch}
@@ -20,3 +22,9 @@ abbrev pub EverySwitchHasItsTable : Type 0
 EverySwitchHasItsTable =
     (routes : SubnetRoutes) (fabric : FabricState) (node : ℕ) (held : SwitchState) → IsGraph routes.graph → IsGraphOf routes.graph fabric
     → IsGood fabric → slice_get (linear_pushed routes fabric).nodes node ≡ Some (Switch held) → HasItsTable routes held
+
+-- what a graph is of is still the same fabric, so that another push finds its way
+abbrev pub PushesKeepTheGraph : Type 0
+PushesKeepTheGraph =
+    (routes : SubnetRoutes) (fabric : FabricState) (graph : GraphState) → IsSameShape fabric (linear_pushed routes fabric)
+    → IsGraphOf graph fabric → IsGraphOf graph (linear_pushed routes fabric)

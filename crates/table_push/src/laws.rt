@@ -1,8 +1,13 @@
 //! What holds after every push. The functions do nothing; their clauses are the theorems.
 
-ghost use Rattle.table_push.specs.Laws.{EverySwitchHasItsTable};
+ghost use Rattle.table_push.specs.Laws.{EverySwitchHasItsTable, PushesKeepTheGraph};
 
 /// After a push over the fabric of its graph every switch has the table of its own routes, and none is left out.
 pub fn every_switch_has_its_table()
     ensures { EverySwitchHasItsTable }
+{}
+
+/// The graph of a fabric is its graph after a push, so that a further push finds its way.
+pub fn pushes_keep_the_graph()
+    ensures { PushesKeepTheGraph }
 {}

@@ -11,5 +11,5 @@ mod linear;
 mod setting;
 
 pub use crate::fault::PushFault;
-pub use crate::laws::every_switch_has_its_table;
+pub use crate::laws::{every_switch_has_its_table, pushes_keep_the_graph};
 pub use crate::linear::push_linear;
