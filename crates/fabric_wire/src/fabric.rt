@@ -1,6 +1,6 @@
 //! The simulated fabric.
 
-ghost use Rattle.std.specs.Prelude.{◌≡◌, ◌≤◌, length, Some, None, IfOk, IfSome};
+ghost use Rattle.std.specs.Prelude.{◌≡◌, ◌≤◌, ◌↔◌, true, length, Some, None, IfOk, IfSome};
 ghost use Rattle.data_packet.specs.declared.payload.TheConstants.{PAYLOAD_BYTES};
 ghost use Rattle.fabric_parts.specs.declared.cable.PortRef.{PortRef};
 ghost use Rattle.packet_ways.specs.Deliveries.{AreDeliveries, HasPort, IsOwn, Numbers, Reaches, adapter_at, guid_at, numbers_of};
@@ -77,6 +77,16 @@ impl Fabric {
             end_ports,
             manager: topology.sm(),
         })
+    }
+
+    /// Whether a port of a channel adapter has that GUID.
+    pub fn has_port(&self, guid: u64) -> bool
+        ensures { (result ≡ true) ↔ HasPort self.now.nodes guid }
+    {
+        match self.end_ports.get(&guid) {
+            Some(_) => true,
+            None => false,
+        }
     }
 
     /// What the port of that GUID makes of a packet: its own [`AdapterPort::stamp`].
