@@ -77,20 +77,21 @@ fn switch_port() -> NodeRecord {
     }
 }
 
-fn written_node(record: &NodeRecord) -> [u8; 112] {
-    let mut bytes = [0xff; 112];
-    record.write(&mut bytes);
-    bytes
+/// The bytes of the record that is read there.
+fn written_again(bytes: &[u8; 112]) -> [u8; 112] {
+    let mut written = [0xff; 112];
+    NodeRecord::read(bytes).write(&mut written);
+    written
 }
 
 #[test]
 fn nodes_read_and_write(rt: HostRuntime) {
     let adapter = filled(&ADAPTER_PORT);
     assert_eq!(rt; NodeRecord::read(&adapter), adapter_port());
-    assert_eq!(rt; written_node(&adapter_port()), adapter);
+    assert_eq!(rt; written_again(&adapter), adapter);
     let switch = filled(&SWITCH_PORT);
     assert_eq!(rt; NodeRecord::read(&switch), switch_port());
-    assert_eq!(rt; written_node(&switch_port()), switch);
+    assert_eq!(rt; written_again(&switch), switch);
 }
 
 #[test]

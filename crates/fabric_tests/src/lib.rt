@@ -1,27 +1,19 @@
-//! Tests of the simulated fabric, through its public calls alone.
+//! Tests of the simulated fabric and of the subnet manager on it, through public calls alone.
 //!
 //! They say what no clause says: that the definitions mean what users were told, by byte vectors and
 //! worked requests.
 #![tactic(auto)]
 
 #[cfg(test)]
-mod agents;
-#[cfg(test)]
 mod fat_tree;
 #[cfg(test)]
 mod fixtures;
-#[cfg(test)]
-mod forwarding;
-#[cfg(test)]
-mod hops;
 #[cfg(test)]
 mod lids;
 #[cfg(test)]
 mod pushes;
 #[cfg(test)]
 mod random_fabrics;
-#[cfg(test)]
-mod sending;
 #[cfg(test)]
 mod sweeps;
 #[cfg(test)]

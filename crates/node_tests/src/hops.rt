@@ -3,8 +3,8 @@
 use attr_tables::SmpAttribute;
 use fabric_parts::NodeType;
 use fabric_parts::NodeType::{ChannelAdapter, Switch};
-use fabric_wire::get_request;
 use smp_route::{Hop, back, outward, pointer_of, return_port_of};
+use smp_wire::get_request;
 
 /// The node, the port by which the SMP came, what it does with it, and the pointer then: at h0, A and B.
 const OUT: [(NodeType, u8, Hop, u8); 3] = [

@@ -1,0 +1,14 @@
+//! Tests of single nodes, through public calls alone: agents, packets at a port and in a switch, and the hops of SMPs.
+//!
+//! They say what no clause says: that the definitions mean what users were told, by byte vectors and
+//! worked requests.
+#![tactic(auto)]
+
+#[cfg(test)]
+mod agents;
+#[cfg(test)]
+mod forwarding;
+#[cfg(test)]
+mod hops;
+#[cfg(test)]
+mod sending;
