@@ -2,3 +2,4 @@ pub mod Deliveries
 pub mod Unicast
 pub mod Forwards
 pub mod Laws
+pub mod Examples

@@ -1,5 +1,7 @@
 //! The laws of ways and deliveries. Each function's contract is its law; it does nothing.
 
+ghost use Rattle.packet_ways.specs.Examples.{two_switches};
+ghost use Rattle.packet_ways.specs.Forwards.{ForwardsByLid};
 ghost use Rattle.packet_ways.specs.Laws.{OtherLidsReachNobody, PacketsGoByLid, UnicastGoesOneWay, UnicastReachesOnePort};
 
 /// A unicast packet goes on from a port to one port at most, and so reaches at most one port of a channel adapter.
@@ -14,4 +16,9 @@ pub fn unicast_goes_one_way()
 pub fn packets_go_by_lid()
     ensures assigned { PacketsGoByLid }
     ensures others { OtherLidsReachNobody }
+{}
+
+/// The two-switch fabric of our examples forwards by LID: so this is not said of nothing.
+pub fn the_two_switch_fabric_forwards_by_lid()
+    ensures { ForwardsByLid two_switches }
 {}

@@ -9,4 +9,6 @@
 
 mod laws;
 
-pub use crate::laws::{packets_go_by_lid, unicast_goes_one_way};
+pub use crate::laws::{
+    packets_go_by_lid, the_two_switch_fabric_forwards_by_lid, unicast_goes_one_way,
+};
