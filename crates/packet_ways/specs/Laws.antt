@@ -9,7 +9,7 @@ use Rattle.port_model.specs.AdapterState.{AdapterState}
 use Rattle.port_model.specs.Packets.{stamped}
 use Rattle.smp_wire.specs.declared.node.Node.{Node}
 use Rattle.smp_wire.specs.FabricState.{FabricState}
-use Rattle.packet_ways.specs.Deliveries.{IsDelivered, Passes}
+use Rattle.packet_ways.specs.Deliveries.{AreDeliveries, Delivered, IsDelivered, Passes}
 use Rattle.packet_ways.specs.Forwards.{ForwardsByLid, IsCabledPort}
 use Rattle.packet_ways.specs.Unicast.{next_port}
 
@@ -46,3 +46,9 @@ OtherLidsReachNobody =
     → ForwardsByLid fabric → IsCabledPort fabric from sender → stamped sender dlid p_key destination_qp payload ≡ Ok packet
     → ((other : PortRef) (held : AdapterState) → IsCabledPort fabric other held → held.info.lid ≡ dlid → ⊥)
     → IsDelivered fabric.nodes fabric.cables from packet at port → ⊥
+
+-- a packet's deliveries are one list
+abbrev pub DeliveriesAreOneList : Type 0
+DeliveriesAreOneList =
+    (fabric : FabricState) (sender : ℕ) (packet : Packet) (one other : List Delivered)
+    → AreDeliveries fabric sender packet one → AreDeliveries fabric sender packet other → one ≡ other

@@ -2,12 +2,17 @@
 
 ghost use Rattle.packet_ways.specs.Examples.{two_switches};
 ghost use Rattle.packet_ways.specs.Forwards.{ForwardsByLid};
-ghost use Rattle.packet_ways.specs.Laws.{OtherLidsReachNobody, PacketsGoByLid, UnicastGoesOneWay, UnicastReachesOnePort};
+ghost use Rattle.packet_ways.specs.Laws.{DeliveriesAreOneList, OtherLidsReachNobody, PacketsGoByLid, UnicastGoesOneWay, UnicastReachesOnePort};
 
 /// A unicast packet goes on from a port to one port at most, and so reaches at most one port of a channel adapter.
 pub fn unicast_goes_one_way()
     ensures way { UnicastGoesOneWay }
     ensures port { UnicastReachesOnePort }
+{}
+
+/// Whatever tables hold, who gets a packet is one list: so what `AreDeliveries` asks for leaves one answer.
+pub fn deliveries_are_one_list()
+    ensures { DeliveriesAreOneList }
 {}
 
 /// Where the tables of a fabric forward by LID (`ForwardsByLid`), a packet that a port stamps for a LID is delivered

@@ -10,5 +10,6 @@
 mod laws;
 
 pub use crate::laws::{
-    packets_go_by_lid, the_two_switch_fabric_forwards_by_lid, unicast_goes_one_way,
+    deliveries_are_one_list, packets_go_by_lid, the_two_switch_fabric_forwards_by_lid,
+    unicast_goes_one_way,
 };
