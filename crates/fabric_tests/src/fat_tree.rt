@@ -3,7 +3,7 @@
 
 ghost use Rattle.std.specs.Prelude.{◌≤◌, ◌<◌, length};
 
-use crate::fixtures::{fabric_of, graph_of};
+use crate::fixtures::graph_of;
 use crate::up_down::routes_of;
 use attr_tables::SmpAttribute;
 use fabric_wire::{CountingWire, Fabric, get_attribute};
@@ -13,30 +13,8 @@ use std::process::Abort;
 use std::test::Fail;
 use sweep::{Graph, sweep};
 use table_push::push_linear;
+use test_fabrics::{fabric_of, put, put_line};
 use updn_routes::Routes;
-
-pub fn put(text: &mut Vec<u8>, part: &[u8]) -> Result<(), Fail> {
-    text.extend_from_slice(part).ok().ok_or("memory")?;
-    Ok(())
-}
-
-/// Adds a number of three digits.
-fn put_number(text: &mut Vec<u8>, number: u16) -> Result<(), Fail> {
-    for unit in [100, 10, 1] {
-        let digit = (number / unit % 10) as u8;
-        text.push(b'0' + digit).ok().ok_or("memory")?;
-    }
-    Ok(())
-}
-
-/// Adds a line of such parts, each with a number.
-pub fn put_line(text: &mut Vec<u8>, parts: &[(&[u8], u16)], end: &[u8]) -> Result<(), Fail> {
-    for (part, number) in parts {
-        put(text, *part)?;
-        put_number(text, *number)?;
-    }
-    put(text, end)
-}
 
 fn text_of_a_fat_tree(alloc: Global, leaves: u16) -> Result<Vec<u8>, Fail>
     requires some { 0 < leaves }

@@ -1,4 +1,4 @@
-//! Tests of the simulated fabric and of the subnet manager on it, through public calls alone.
+//! Tests of the subnet manager on the simulated fabric, through public calls alone: sweeps, LIDs, routes and pushes.
 //!
 //! They say what no clause says: that the definitions mean what users were told, by byte vectors and
 //! worked requests.
@@ -13,10 +13,6 @@ mod lids;
 #[cfg(test)]
 mod pushes;
 #[cfg(test)]
-mod random_fabrics;
-#[cfg(test)]
 mod sweeps;
 #[cfg(test)]
 mod up_down;
-#[cfg(test)]
-mod wires;

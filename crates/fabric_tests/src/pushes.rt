@@ -2,6 +2,7 @@
 
 mod faults;
 mod fixtures;
+mod keys;
 
 ghost use Rattle.std.specs.Prelude.{◌≤◌, length};
 

@@ -4,8 +4,7 @@ mod contradictions;
 mod fault_texts;
 pub mod graphs;
 
-use crate::fat_tree::{put, put_line};
-use crate::fixtures::{fabric_of, graph_of_text, two_switch_graph, two_switch_wire};
+use crate::fixtures::{graph_of_text, two_switch_graph};
 use example_texts::TWO_SWITCHES;
 use fabric_parts::PortRef;
 use fabric_wire::{CountingWire, SilencedWire};
@@ -14,6 +13,7 @@ use std::alloc::Global;
 use std::process::Abort;
 use std::test::Fail;
 use sweep::{Graph, Link, SweepFault, sweep};
+use test_fabrics::{fabric_of, put, put_line, two_switch_wire};
 
 /// The switches of the two-switch fabric as they are found from h0: GUID, ports, and the path.
 const SWITCHES: [(u64, u8, &[u8]); 2] = [(0x10, 4, &[1]), (0x20, 4, &[1, 3])];

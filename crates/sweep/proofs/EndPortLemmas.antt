@@ -69,13 +69,13 @@ in_all f a (suc n) k x from to has = by (a == k) refl (λ later. in_all f (a + 1
         after : (a == k) ≡ false → a + 1 ≤ k
         after h = grind (arith, nat_tests, h, from)
 
-record MadeOf {X : Type 0} (f : ℕ → List X) (a n : ℕ) (x : X) : Type 0 where
-  number : ℕ
-  from : a ≤ number
-  to : number < a + n
-  has : Contains (f number) x
+pub record MadeOf {X : Type 0} (f : ℕ → List X) (a n : ℕ) (x : X) : Type 0 where
+  pub number : ℕ
+  pub from : a ≤ number
+  pub to : number < a + n
+  pub has : Contains (f number) x
 
-of_one : {X : Type 0} (f : ℕ → List X) (a n : ℕ) (x : X) → Contains (flat_map f (range_with_len a n)) x → MadeOf f a n x
+pub of_one : {X : Type 0} (f : ℕ → List X) (a n : ℕ) (x : X) → Contains (flat_map f (range_with_len a n)) x → MadeOf f a n x
 of_one f a zero x has = absurd (none has)
   where
     none : Contains [] x → ⊥
@@ -89,7 +89,7 @@ of_one f a (suc n) x has = by (Contains-append_cases (f a) (flat_map f (range_wi
         let rest = later after in
         record { number = rest.number; from = omega (arith, rest.from); to = omega (arith, rest.to); has = rest.has }
 
-one_of : {X : Type 0} (x y : X) → Contains (x ∷ []) y → x ≡ y
+pub one_of : {X : Type 0} (x y : X) → Contains (x ∷ []) y → x ≡ y
 one_of x y (zero, within, is) = is
 one_of x y (suc k, within, is) = absurd (omega (arith, within))
 

@@ -1,26 +1,27 @@
 -- The ports in the graph of a good fabric: they agree with one another, and no two ends of packets have one GUID.
-use Rattle.std.proofs.Common.{ℕ, zero, suc, ◌-◌, ◌<◌, ◌≤◌, ◌≡◌, ◌∙◌, ◌==◌, ◌&&◌, ◌||◌, not, nat_le, ap, refl, sym, subst, Bool, true, false, List, []}
+use Rattle.std.proofs.Common.{ℕ, zero, suc, ◌-◌, ◌<◌, ◌≤◌, ◌≡◌, ◌∙◌, ◌==◌, ◌&&◌, ◌||◌, not, nat_le, nat_lt, ap, refl, sym, subst, Bool, true, false, List, []}
 use Rattle.std.proofs.Common.{◌∷◌, map, get_or, length, slice_get, Option, Some, None, option_map, ◌⊎◌, inl, inr, arith}
 use Rattle.std.specs.List.{AllByRecursion, IsDistinct, list_all, list_any}
 use Rattle.std.specs.Option.{option_map_or}
 use Rattle.std.proofs.lemmas.Bool.{and_from, and_parts, false≢true, le-leb}
-use Rattle.std.proofs.lemmas.Bool.Decides.{Decides-eqb}
+use Rattle.std.proofs.lemmas.Bool.Decides.{Decides-eqb, nat_tests}
 use Rattle.std.proofs.lemmas.List.Folds.{list_all-map}
 use Rattle.std.proofs.lemmas.Map.Keys.{IsDistinct-cons, IsDistinct-head, IsDistinct-tail}
 use Rattle.std.proofs.lemmas.Option.{same_Some, slice_get_cases, slice_get-map}
 use Rattle.result_words.proofs.ListLemmas.{IsDistinct-nil, all_have, all_there}
-use Rattle.fabric_parts.specs.Cable.{is_same_port}
+use Rattle.fabric_parts.specs.Cable.{far_end, is_same_port}
 use Rattle.fabric_parts.specs.NodeType.{most_ports}
 use Rattle.fabric_parts.specs.declared.node_type.NodeType.TheVariants as node_type
 use Rattle.smp_wire.specs.FabricState.{FabricState, is_switch, is_switch_at, port_count}
 use Rattle.smp_wire.specs.Good.{IsGood, has_a_right_count, node_guid}
 use Rattle.smp_wire.specs.declared.node.Node.{Node}
 use Rattle.smp_wire.specs.declared.node.Node.TheVariants.{Switch, Adapter}
-use Rattle.sweep.specs.Graph.{agree, all_agree, end_guids, is_no_switch, is_right_port}
+use Rattle.sweep.specs.Graph.{agree, all_agree, end_guids, hops_to, is_no_switch, is_right_port, port}
 use Rattle.sweep.specs.OfFabric.{Found, guid_at, is_among, node_at, nodes_of, ports_at, switch_of}
-use Rattle.sweep.specs.Progress.{AreMet, IsDiscovery, IsShownAt, Met, WasMet, ends_met}
+use Rattle.sweep.specs.Progress.{AreMet, IsDiscovery, IsKnownBehind, IsShownAt, Met, WasMet, ends_met}
 use Rattle.sweep.specs.declared.graph.GraphPort.{GraphPort}
 use Rattle.sweep.specs.declared.graph.GraphSwitch.{GraphSwitch}
+use Rattle.sweep.specs.declared.path.TheConstants.{PATH_HOPS}
 use Rattle.sweep.proofs.FoundLemmas.{all_by, among_place, any_at}
 use Rattle.sweep.proofs.LeastLemmas.{in_range}
 use Rattle.sweep.proofs.OwnLemmas.{EndAt, adapter_seen, joined_parts, own_end, own_node, switch_end}
@@ -90,9 +91,36 @@ no_switch fabric found met good so_far known = by (list_any (λ switch. switch.g
         let at = any_at (λ switch. switch.guid == met.port.node_guid) (map (switch_of fabric) found) is in
         absurd (clash at.place at.one (slice_get found at.place) refl (sym (slice_get-map (switch_of fabric) found at.place) ∙ at.there) at.passes)
 
-right_port : (fabric : FabricState) (found : List Found) (i count : ℕ) (met : Met) → IsGood fabric → IsDiscovery fabric found
+hops_found : (fabric : FabricState) (found : List Found) (place : ℕ) (one : Found) → slice_get found place ≡ Some one
+    → hops_to (map (switch_of fabric) found) place ≡ length one.path
+hops_found fabric found place one there =
+    ap (λ (o : Option GraphSwitch). option_map_or (λ (switch : GraphSwitch). length switch.path) o 0)
+    (slice_get-map (switch_of fabric) found place ∙ ap (option_map (switch_of fabric)) there)
+
+-- each switch that was found was asked
+abbrev AllAsked : FabricState → List Found → Type 0
+AllAsked fabric found = (k : ℕ) (one : Found) → slice_get found k ≡ Some one → IsKnownBehind fabric found one (ports_at fabric one.node)
+
+-- what is further than an SMP goes is no adapter
+near_enough : (fabric : FabricState) (found : List Found) (i count : ℕ) (met : Met) (one : Found) → AllAsked fabric found → IsKnownPort fabric met
+    → WasMet fabric found i count met → slice_get found met.port.at.node ≡ Some one → nat_lt (length one.path) PATH_HOPS ≡ true
+near_enough fabric found i count met one all known was stood = by (nat_lt (length one.path) PATH_HOPS) refl
+  where
+    deep : (n : ℕ) → nat_lt n PATH_HOPS ≡ false → PATH_HOPS ≤ n
+    deep n h = grind (arith, nat_tests, h)
+
+    by : (b : Bool) → nat_lt (length one.path) PATH_HOPS ≡ b → b ≡ true
+    by true is = refl
+    by false is =
+        let node = node_of found met.port.at.node one stood in
+        let behind = (all met.port.at.node one stood).near_behind met.port.at.port met.end was.asked.1.0
+        (omega (arith, was.within, ap (ports_at fabric) node))
+        (ap (λ (n : ℕ). far_end fabric.cables (port n met.port.at.port)) (sym node) ∙ was.cable) (deep (length one.path) is) in
+        absurd (false≢true (sym known.adapter ∙ behind.switch))
+
+right_port : (fabric : FabricState) (found : List Found) (i count : ℕ) (met : Met) → IsGood fabric → IsDiscovery fabric found → AllAsked fabric found
     → IsKnownPort fabric met → WasMet fabric found i count met → is_right_port (map (switch_of fabric) found) met.port ≡ true
-right_port fabric found i count met good so_far known was = by (slice_get_cases found met.port.at.node).1
+right_port fabric found i count met good so_far all known was = by (slice_get_cases found met.port.at.node).1
   where
     adapter : is_switch known.held ≡ false
     adapter = sym (ap (λ (o : Option Node). option_map_or is_switch o false) known.there) ∙ known.adapter
@@ -114,17 +142,19 @@ right_port fabric found i count met good so_far known was = by (slice_get_cases 
     by (inl here) =
         let counted = count_found fabric found (map (switch_of fabric) found) met.port.at.node here.0 refl here.2 in
         let node = node_of found met.port.at.node here.0 here.2 in
+        let near = ap (λ (n : ℕ). nat_lt n PATH_HOPS) (hops_found fabric found met.port.at.node here.0 here.2)
+        ∙ near_enough fabric found i count met here.0 all known was here.2 in
         and_from _ _ (and_from (nat_le 1 met.port.at.port) _ (le-leb 1 met.port.at.port was.asked.1.0)
         (ap (nat_le met.port.at.port) (counted ∙ ap (ports_at fabric) (sym node)) ∙ le-leb met.port.at.port (ports_at fabric (node_at found met.port.at.node)) was.within))
-        (and_from _ _ (and_from _ _ first last) (and_from _ _ few (no_switch fabric found met good so_far known)))
+        (and_from _ _ (and_from _ _ first last) (and_from _ _ few (and_from _ _ (no_switch fabric found met good so_far known) near)))
 
 pub graph_ports : (fabric : FabricState) (found : List Found) (i count : ℕ) (ports : List GraphPort) → IsGood fabric → IsDiscovery fabric found
-    → AreMet fabric found i count ports → list_all (is_right_port (map (switch_of fabric) found)) ports ≡ true
-graph_ports fabric found i count ports good so_far are =
+    → AllAsked fabric found → AreMet fabric found i count ports → list_all (is_right_port (map (switch_of fabric) found)) ports ≡ true
+graph_ports fabric found i count ports good so_far all are =
     ap (list_all (is_right_port (map (switch_of fabric) found))) are.ports_are
     ∙ list_all-map (is_right_port (map (switch_of fabric) found)) (λ (one : Met). one.port) are.met
     ∙ all_by (λ one. is_right_port (map (switch_of fabric) found) one.port) are.met
-    (λ k one there. right_port fabric found i count one good so_far (known_port fabric one (all_have (IsShownAt fabric) are.met k one are.shown there))
+    (λ k one there. right_port fabric found i count one good so_far all (known_port fabric one (all_have (IsShownAt fabric) are.met k one are.shown there))
     (all_have (WasMet fabric found i count) are.met k one are.asked there))
 
 -- ---- two ports of one adapter

@@ -324,7 +324,8 @@ graph_is_whole fabric found survey manager sweepable is all =
       switches = graph_switches fabric some good so_far;
       a_row_each = length-map some (λ (one : Found). row_of fabric (nodes_of some) one.node) ∙ sym (length-map some (switch_of fabric));
       rows = graph_rows fabric some survey good all.progress;
-      ports = graph_ports fabric some (length some) 0 survey.ports good so_far ports;
+      ports = graph_ports fabric some (length some) 0 survey.ports good so_far
+          (λ k one there. all.progress.asked.before k one (slice_get_within some k one there) there) ports;
       agree = graph_agrees fabric some (length some) 0 survey.ports good ports;
       guids = graph_guids fabric some (length some) 0 survey.ports good so_far ports;
       manager_there = ap (list_any (λ port. port.port_guid == manager)) (ports_are fabric some survey all.progress) ∙ graph_manager fabric some manager good so_far is;

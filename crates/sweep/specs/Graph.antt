@@ -77,12 +77,17 @@ is_joined rows = list_all (λ place. (place == 0) || is_near rows place) (range_
 abbrev pub is_no_switch : List GraphSwitch → ℕ → Bool
 is_no_switch switches guid = not (list_any (λ switch. switch.guid == guid) switches)
 
--- at a port of a switch, of an adapter of 1 to 8 ports
+-- how many hops the path has by which the switch at that place was found
+abbrev pub hops_to : List GraphSwitch → ℕ → ℕ
+hops_to switches place = option_map_or (λ switch. length switch.path) (slice_get switches place) 0
+
+-- at a port of a switch, of an adapter of 1 to 8 ports; and a path goes on from that switch, to the adapter
 abbrev pub is_right_port : List GraphSwitch → GraphPort → Bool
 is_right_port switches port =
     is_switch_port switches port.at
     && ((nat_le 1 port.number && nat_le port.number port.num_ports)
-    && (nat_le port.num_ports (most_ports node_type.ChannelAdapter) && is_no_switch switches port.node_guid))
+    && (nat_le port.num_ports (most_ports node_type.ChannelAdapter)
+    && (is_no_switch switches port.node_guid && nat_lt (hops_to switches port.at.node) PATH_HOPS)))
 
 -- two ports of one adapter have two numbers, and tell one number of ports
 abbrev pub agree : GraphPort → GraphPort → Bool

@@ -3,7 +3,7 @@
 ghost use Rattle.std.specs.Prelude.{◌≡◌, ◌==◌, ◌&&◌, nat_le, [], length, get_or, IfOk};
 ghost use Rattle.std.specs.Bool.{Decides};
 ghost use Rattle.std.specs.List.{IsDistinct, list_all, list_any, range_with_len};
-ghost use Rattle.sweep.specs.Graph.{IsGraph, count_at, end_guids, graph_with, is_joined, is_linked, is_near, is_right_link, is_right_port, is_right_row, is_right_switch, is_switch_port, rise_above};
+ghost use Rattle.sweep.specs.Graph.{IsGraph, count_at, end_guids, graph_with, hops_to, is_joined, is_linked, is_near, is_right_link, is_right_port, is_right_row, is_right_switch, is_switch_port, rise_above};
 ghost use Rattle.sweep.specs.declared.graph.TheConstants.{MAX_ADAPTER_PORTS, MAX_SWITCHES};
 
 use crate::adapters::all_agree;
@@ -178,7 +178,17 @@ fn is_switch_port(switches: &[GraphSwitch], at: PortRef) -> bool
     1 <= at.port && at.port <= count_at(switches, at.node)
 }
 
-/// Whether it hangs on a port of a switch, and is one of an adapter of 1 to 8 ports.
+/// How many hops the path to the switch at that place has; none, where there is no switch.
+fn hops_to(switches: &[GraphSwitch], place: usize) -> usize
+    ensures { result ≡ hops_to switches.now place }
+{
+    match switches.get(place) {
+        Some(switch) => switch.path.len(),
+        None => 0,
+    }
+}
+
+/// Whether it hangs on a port of a switch that a path goes on from, and is one of an adapter of 1 to 8 ports.
 fn is_right_port(switches: &SwitchList, port: &GraphPort) -> bool
     ensures { result ≡ is_right_port switches.now port.now }
 {
@@ -187,6 +197,7 @@ fn is_right_port(switches: &SwitchList, port: &GraphPort) -> bool
         && port.number <= port.num_ports
         && port.num_ports <= NodeType::ChannelAdapter.most_ports()
         && !switches.has(port.node_guid)
+        && hops_to(switches.as_slice(), port.at.node) < PATH_HOPS
 }
 
 /// Whether one of these ports has the GUID.

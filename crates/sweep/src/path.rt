@@ -53,7 +53,7 @@ impl Path {
     }
 
     /// The path that goes on by that port.
-    pub(crate) fn then(&self, number: u8) -> Path
+    pub fn then(&self, number: u8) -> Path
         requires { length self.now < PATH_HOPS }
         ensures { result ≡ self.now ++ number ∷ [] }
     {

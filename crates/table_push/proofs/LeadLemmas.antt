@@ -129,7 +129,7 @@ switch_gives_then fabric path guid change attribute modifier bytes good here giv
     (ends_on fabric next path here.at same here.ends) there gives
 
 -- ---- the switches of a graph
-found_at_place : (fabric : FabricState) (found : List Found) (place : ℕ) (switch : GraphSwitch)
+pub found_at_place : (fabric : FabricState) (found : List Found) (place : ℕ) (switch : GraphSwitch)
     → slice_get (map (switch_of fabric) found) place ≡ Some switch → (one : Found) × (slice_get found place ≡ Some one) × (switch ≡ switch_of fabric one)
 found_at_place fabric [] place switch there = absurd (cc)
 found_at_place fabric (one ∷ found) zero switch there = (one, refl, cc)

@@ -1,8 +1,16 @@
 pub mod SettingLemmas
 pub mod NodeLemmas
 pub mod LeadLemmas
+pub mod HangLemmas
 pub mod BlockLemmas
 pub mod GuidLemmas
 pub mod LinearLemmas
+pub mod KeyNodeLemmas
+pub mod PortLemmas
+pub mod KeyLemmas
 pub mod LawLemmas
+pub mod WordLemmas
+pub mod WantedLemmas
+pub mod CableLemmas
+pub mod SightLemmas
 pub mod KeptLemmas

@@ -1,5 +1,5 @@
 -- What holds after every push: the statements of the laws of `src/laws.rt`.
-use Rattle.std.specs.Prelude.{ℕ, ◌≡◌, slice_get, Some, option_map}
+use Rattle.std.specs.Prelude.{ℕ, ◌≡◌, List, slice_get, Some, option_map}
 use Rattle.smp_wire.specs.Shape.{IsSameShape}
 use Rattle.sweep.specs.Graph.{GraphState}
 use Rattle.smp_wire.specs.FabricState.{FabricState}
@@ -8,6 +8,7 @@ use Rattle.smp_wire.specs.declared.node.Node.TheVariants.{Switch}
 use Rattle.switch_model.specs.SwitchState.{SwitchState}
 use Rattle.sweep.specs.Graph.{IsGraph}
 use Rattle.sweep.specs.OfFabric.{IsGraphOf}
+use Rattle.table_push.specs.Keys.{keys_pushed}
 use Rattle.table_push.specs.Linear.{linear_pushed, linear_table}
 use Rattle.updn_routes.specs.Subnet.{SubnetRoutes}
 
@@ -26,5 +27,6 @@ EverySwitchHasItsTable =
 -- what a graph is of is still the same fabric, so that another push finds its way
 abbrev pub PushesKeepTheGraph : Type 0
 PushesKeepTheGraph =
-    (routes : SubnetRoutes) (fabric : FabricState) (graph : GraphState) → IsSameShape fabric (linear_pushed routes fabric)
-    → IsGraphOf graph fabric → IsGraphOf graph (linear_pushed routes fabric)
+    (routes : SubnetRoutes) (keys : List (List ℕ)) (fabric : FabricState) (graph : GraphState) → IsGraphOf graph fabric
+    → (IsSameShape fabric (linear_pushed routes fabric) → IsGraphOf graph (linear_pushed routes fabric))
+    × (IsSameShape fabric (keys_pushed routes keys fabric) → IsGraphOf graph (keys_pushed routes keys fabric))

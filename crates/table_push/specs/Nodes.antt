@@ -1,6 +1,7 @@
 -- Changes of a fabric: of each node by itself, wherever it stands. A switch is named by its GUID.
-use Rattle.std.specs.Prelude.{ℕ, ◌==◌, if◌then◌else◌, map}
+use Rattle.std.specs.Prelude.{ℕ, ◌+◌, ◌==◌, ◌&&◌, if◌then◌else◌, List, [], ◌∷◌, map}
 use Rattle.smp_wire.specs.FabricState.{FabricState}
+use Rattle.smp_wire.specs.Good.{node_guid}
 use Rattle.smp_wire.specs.declared.node.Node.{Node}
 use Rattle.smp_wire.specs.declared.node.Node.TheVariants.{Switch, Adapter}
 use Rattle.switch_model.specs.SwitchState.{SwitchState}
@@ -20,3 +21,23 @@ with_switches change fabric = with_nodes (switch_by change) fabric
 -- the switch of that GUID alone
 abbrev pub on_switch : ℕ → (SwitchState → SwitchState) → ℕ → SwitchState → SwitchState
 on_switch guid change other held = if guid == other then change held else held
+
+-- ---- ports, by the GUID of their node and their number there
+-- each element by its number, the first of which is this
+abbrev pub numbered : {X : Type 0} → (ℕ → X → X) → ℕ → List X → List X
+numbered change number [] = []
+numbered change number (x ∷ xs) = change number x ∷ numbered change (number + 1) xs
+
+-- each key table changes by what its port says
+abbrev pub keys_by : (ℕ → ℕ → List ℕ → List ℕ) → Node → Node
+keys_by change (Switch held) =
+    Switch (record held { ports = numbered (λ number port. record port { keys = change held.node_guid number port.keys }) 0 held.ports })
+keys_by change (Adapter ports) =
+    Adapter (numbered (λ number port. record port { keys = change (node_guid (Adapter ports)) number port.keys }) 1 ports)
+
+abbrev pub with_keys : (ℕ → ℕ → List ℕ → List ℕ) → FabricState → FabricState
+with_keys change fabric = with_nodes (keys_by change) fabric
+
+-- that port alone
+abbrev pub on_port : {X : Type 0} → ℕ → ℕ → (X → X) → ℕ → ℕ → X → X
+on_port guid number change of_guid of_number held = if (guid == of_guid) && (number == of_number) then change held else held

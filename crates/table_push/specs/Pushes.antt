@@ -1,5 +1,5 @@
 -- What a push is over, and what it leaves.
-use Rattle.std.specs.Prelude.{ℕ, ◌≡◌, true, List, Option, Some, Result, Ok}
+use Rattle.std.specs.Prelude.{ℕ, ◌≡◌, ◌≤◌, Bool, true, false, List, Option, Some, Result, Ok}
 use Rattle.std.specs.Result.{IsOk}
 use Rattle.attr_tables.specs.declared.smp_attribute.SmpAttribute.{SmpAttribute}
 use Rattle.fabric_parts.specs.declared.cable.PortRef.{PortRef}
@@ -8,7 +8,7 @@ use Rattle.smp_wire.specs.Get.{gives_along}
 use Rattle.smp_wire.specs.Good.{IsGood}
 use Rattle.smp_wire.specs.Shape.{IsSameShape}
 use Rattle.smp_wire.specs.Walk.{end_of}
-use Rattle.sweep.specs.OfFabric.{guid_at}
+use Rattle.sweep.specs.OfFabric.{guid_at, ports_at}
 use Rattle.table_push.specs.Fault.{compared}
 use Rattle.table_push.specs.declared.fault.PushFault.{PushFault}
 
@@ -35,3 +35,16 @@ pub record Gives (fabric : FabricState) (path : List ℕ) (attribute : SmpAttrib
   pub bytes : List ℕ
   pub given : gives_along fabric path attribute modifier ≡ Some (Ok bytes)
   pub same : compared attribute wanted bytes ≡ wanted
+
+-- a port of that number is asked for at a node of so many, by an SMP that comes in at `in_port`: a switch is asked for any
+-- of its ports, a port of an adapter for itself
+abbrev pub IsAskedFor : Bool → (count in_port asked number : ℕ) → Type 0
+IsAskedFor true count in_port asked number = (asked ≡ number) × (number ≤ count)
+IsAskedFor false count in_port asked number = (asked ≡ 0) × (in_port ≡ number) × (1 ≤ number) × (number ≤ count)
+
+-- a path leads to the node with that GUID, and there that port is asked for
+pub record LeadsToPort (fabric : FabricState) (path : List ℕ) (asked guid number : ℕ) : Type 0 where
+  pub at : PortRef
+  pub ends : end_of fabric path ≡ Some at
+  pub guid_is : guid_at fabric at.node ≡ guid
+  pub there : IsAskedFor (is_switch_at fabric.nodes at.node) (ports_at fabric at.node) at.port asked number

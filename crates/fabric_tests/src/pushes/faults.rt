@@ -3,13 +3,17 @@
 ghost use Rattle.std.specs.Prelude.{None};
 
 use crate::pushes::fixtures::found;
+use crate::pushes::keys::keys;
 use fabric_wire::{Fabric, SilencedWire, SmpWire};
 use mad_layout::Mad;
 use std::test::Fail;
-use table_push::{PushFault, push_linear};
+use table_push::{PushFault, push_keys, push_linear};
 
 /// How many SMPs the linear tables of two switches take: eight blocks each.
 const LINEAR_SMPS: u64 = 16;
+
+/// How many the key tables take: one block each of two ports 0, and of both ends of four cables.
+const KEY_SMPS: u64 = 10;
 
 /// Where the status stands in a reply, and the first byte of its attribute.
 const STATUS: usize = 5;
@@ -84,6 +88,51 @@ fn a_reply_at_fault_stops_a_push(rt: HostRuntime) -> Result<(), Fail> {
             };
             let pushed = push_linear(&mut faulty, &routes);
             assert_eq!(rt; pushed, Err(fault));
+        }
+    }
+    Ok(())
+}
+
+#[test]
+fn a_silent_wire_stops_a_push_of_keys(rt: HostRuntime) -> Result<(), Fail> {
+    for left in 0..KEY_SMPS {
+        let (wire, routes) = found(rt.alloc())?;
+        let keys = keys(rt.alloc())?;
+        let mut silent = SilencedWire { wire, left };
+        assert_eq!(rt;
+            push_keys(&mut silent, &routes, &keys),
+            Err(PushFault::NoReply)
+        );
+    }
+    Ok(())
+}
+
+#[test]
+fn a_push_of_keys_asks_no_more_than_each_table(rt: HostRuntime) -> Result<(), Fail> {
+    let (wire, routes) = found(rt.alloc())?;
+    let keys = keys(rt.alloc())?;
+    let mut silent = SilencedWire {
+        wire,
+        left: KEY_SMPS,
+    };
+    assert_eq!(rt; push_keys(&mut silent, &routes, &keys), Ok(()));
+    assert_eq!(rt; silent.left, 0);
+    Ok(())
+}
+
+#[test]
+fn a_reply_at_fault_stops_a_push_of_keys(rt: HostRuntime) -> Result<(), Fail> {
+    for (place, value, fault) in FAULTS {
+        for left in 0..KEY_SMPS {
+            let (wire, routes) = found(rt.alloc())?;
+            let keys = keys(rt.alloc())?;
+            let mut faulty = FaultyWire {
+                wire,
+                left,
+                place,
+                value,
+            };
+            assert_eq!(rt; push_keys(&mut faulty, &routes, &keys), Err(fault));
         }
     }
     Ok(())

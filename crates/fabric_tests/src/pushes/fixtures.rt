@@ -2,13 +2,13 @@
 
 ghost use Rattle.std.specs.Prelude.{◌≤◌, length};
 
-use crate::fixtures::two_switch_fabric;
 use crate::up_down::routes_of;
 use attr_tables::SmpAttribute;
 use fabric_wire::{Fabric, SmpWire, get_attribute};
 use std::alloc::Global;
 use std::test::Fail;
 use sweep::sweep;
+use test_fabrics::two_switch_fabric;
 use updn_routes::Routes;
 
 /// The two-switch fabric and its routes.

@@ -2,11 +2,11 @@
 
 ghost use Rattle.std.specs.Prelude.{None};
 
-use crate::fixtures::two_switch_wire;
 use fabric_wire::{CountingWire, PlainWire, SmpWire};
 use mad_layout::Mad;
 use std::test::Fail;
 use sweep::{SweepFault, sweep};
+use test_fabrics::two_switch_wire;
 
 /// The place of an SMP's method; of what is longer than one byte these are the places of the last.
 const METHOD: usize = 3;

@@ -1,8 +1,6 @@
 //! Sweeps whose graph is compared with the topology.
 
-use crate::fat_tree::{put, put_line};
-use crate::fixtures::{fabric_over, graph_of};
-use crate::random_fabrics::Chance;
+use crate::fixtures::graph_of;
 use attr_tables::{NodeInfo, SmpAttribute};
 use fabric_parts::PortRef;
 use fabric_wire::{Fabric, get_attribute};
@@ -10,6 +8,7 @@ use std::alloc::Global;
 use std::process::Abort;
 use std::test::Fail;
 use sweep::{Graph, GraphSwitch, Path};
+use test_fabrics::{Chance, fabric_over, put, put_line};
 use topo_file::{Node, Topology, read};
 
 /// A port of a switch of the topology, as the graph names it: the switch by its place there.

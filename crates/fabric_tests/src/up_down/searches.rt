@@ -1,7 +1,6 @@
 //! Routes compared with a plain search over all legal walks.
 
-use crate::fixtures::{fabric_of, graph_of};
-use crate::random_fabrics::Chance;
+use crate::fixtures::graph_of;
 use crate::sweeps::graphs::fabric_text;
 use crate::up_down::routes_of;
 use fabric_wire::Fabric;
@@ -10,6 +9,7 @@ use std::alloc::Global;
 use std::process::Abort;
 use std::test::Fail;
 use sweep::Graph;
+use test_fabrics::{Chance, fabric_of};
 use updn_routes::{RouteFault, Routes};
 
 /// A number above every rank.

@@ -27,8 +27,7 @@ returns-in-Err g c x stands of good =
     let path : c.as_slice.result.now ≡ switch.path = c.as_slice.ensures.value ∙ ap (λ (one : GraphSwitch). one.path) (sym c.index-switches-place.is) in
     let own : IsDistinct (λ a b. a == b) (map (λ one. one.guid) c.args.routes.now.graph.switches) =
     left_part _ _ (subst (λ (graph : GraphState). IsDistinct (λ a b. a == b) (end_guids graph.switches graph.ports)) c.graph-graph.ensures c.is_whole.ensures.guids) in
-    absurd (no_fault c.in-Err.fault _ x _ (subst
-    (λ (result : Result (Unit {0}) PushFault). Leaves result (g.W.SmpWire.fabric c.set_table.new.wire) x (with_switches (linear_before c.args.routes.now (c.loop-place.place + 1)) x)) c.in-Err.is
+    absurd (no_fault c.in-Err.fault _ x _ (subst (λ (result : Result (Unit {0}) PushFault). Leaves result (g.W.SmpWire.fabric c.set_table.new.wire) x (with_switches (linear_before c.args.routes.now (c.loop-place.place + 1)) x)) c.in-Err.is
     (push_more _ _ _ x c.args.routes.now c.loop-place.place switch c.linear_table-table.result
     (omega (arith, c.loop-place-test.true, long)) there own c.linear_table-table.ensures
     (graph_leads x c.args.routes.now.graph c.loop-place.place switch of there) (c.loop-place.invariant x stands of good)

@@ -1,35 +1,13 @@
 //! Fabrics and SMPs by chance: the fabric that moves SMPs hop by hop answers as the plain wire does.
 
-ghost use Rattle.std.specs.Prelude.{◌<◌};
-
-use crate::fixtures::{fabric_over, plain_wire_of};
 use attr_tables::SmpAttribute;
 use fabric_wire::{Fabric, PlainWire, SmpWire, get_request, set_request};
 use mad_layout::Mad;
 use std::alloc::Global;
 use std::process::Abort;
 use std::test::Fail;
+use test_fabrics::{Chance, fabric_over, plain_wire_of};
 use topo_file::read;
-
-/// Numbers that look like chance, the same in each run.
-#[derive(Drop)]
-pub struct Chance {
-    pub state: u64,
-}
-
-impl Chance {
-    /// One of 0 to `count` - 1.
-    pub fn below(&mut self, count: u8) -> u8
-        requires { 0 < count }
-        ensures { result < count }
-    {
-        self.state = self
-            .state
-            .wrapping_mul(6364136223846793005)
-            .wrapping_add(1442695040888963407);
-        (self.state >> 56) as u8 % count
-    }
-}
 
 /// Adds a name or a number of which the last digit is that one.
 fn put(text: &mut Vec<u8>, start: &[u8], digit: u8) -> Result<(), Fail> {

@@ -2,7 +2,6 @@
 
 ghost use Rattle.std.specs.Prelude.{None};
 
-use crate::fixtures::{two_switch_fabric, two_switch_wire};
 use attr_tables::{NodeInfo, SmpAttribute};
 use example_texts::TWO_SWITCHES;
 use fabric_wire::{
@@ -13,6 +12,7 @@ use mad_layout::{DrSmp, Header, Mad};
 use std::alloc::AllocError;
 use std::process::Abort;
 use std::test::Fail;
+use test_fabrics::{two_switch_fabric, two_switch_wire};
 use topo_file::read;
 
 /// A path from h0, and the name and the GUID of the node at its end.

@@ -1,0 +1,14 @@
+use Rattle.std.proofs.Common.{ℕ, ◌≡◌, ◌*◌, Some}
+use Rattle.smp_wire.specs.FabricState.{FabricState}
+use Rattle.smp_wire.specs.Good.{IsGood}
+use Rattle.table_push.specs.Nodes.{on_port, with_keys}
+use Rattle.table_push.specs.Pushes.{LeadsToPort, Stands}
+use Rattle.table_push.proofs.KeyLemmas.{keys_to}
+use Rattle.table_push.proofs.keys.set_table.Given as goal
+
+-- the first blocks are written
+abbrev pub invariant-loop-block : goal.invariant-loop-block
+invariant-loop-block g l =
+    (fabric : FabricState) (guid number : ℕ) → g.W.SmpWire.fabric l.fn.wire ≡ Some fabric → IsGood fabric
+    → LeadsToPort fabric l.fn.path l.fn.asked guid number
+    → Stands (g.W.SmpWire.fabric l.wire) fabric (with_keys (on_port guid number (keys_to (32 * l.block) l.fn.table)) fabric)

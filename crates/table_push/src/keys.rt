@@ -1,0 +1,225 @@
+//! Key tables.
+
+ghost use Rattle.std.specs.Prelude.{ℕ, ◌≡◌, ◌≤◌, ◌<◌, ◌||◌, Bool, length, option_map, slice_get, Some, true, unwrap_or};
+ghost use Rattle.std.specs.Option.{ForSome};
+ghost use Rattle.attr_tables.specs.Blocks.{block_of, has_block, word_bytes};
+ghost use Rattle.smp_wire.specs.FabricState.{FabricState};
+ghost use Rattle.smp_wire.specs.Good.{IsGood};
+ghost use Rattle.sweep.specs.OfFabric.{IsGraphOf};
+ghost use Rattle.sweep.specs.declared.graph.GraphPort.{GraphPort};
+ghost use Rattle.table_push.specs.Keys.{at_cable, at_switches, held_as, key_table, keys_of, keys_pushed, keys_where};
+ghost use Rattle.table_push.specs.Nodes.{on_port, with_keys};
+ghost use Rattle.table_push.specs.Pushes.{LeadsToPort, Leaves, Stands};
+
+use crate::fault::PushFault;
+use crate::setting::set;
+use attr_tables::{SmpAttribute, WORDS_PER_BLOCK, WordBlock};
+use pkey_rules::{KeyTable, PARTITIONS, PKey, base_of, key_of};
+use smp_wire::SmpWire;
+use updn_routes::Routes;
+
+/// Writes the key tables: of each end port its own keys, which stand in `keys` in order of LID, and of each port of a
+/// switch that a port of a channel adapter hangs on the full form of each of that port's keys, so that the switch lets
+/// in and out what that port may send and take. Behind them the table is empty.
+///
+/// Over a wire that stands for the graph's fabric these tables stand there then, and all else is as it was.
+pub fn push_keys<W: SmpWire>(
+    wire: &mut W,
+    routes: &Routes,
+    keys: &[KeyTable<PARTITIONS>],
+) -> Result<(), PushFault>
+    ensures { ForSome (W.fabric wire.old) (λ fabric. IsGraphOf routes.now.graph fabric → IsGood fabric
+        → Leaves result (W.fabric wire.new) fabric (keys_pushed routes.now keys.now fabric)) }
+{
+    let mut transaction_id = 0;
+    match to_switches(wire, &mut transaction_id, routes, keys) {
+        Ok(()) => {}
+        Err(fault) => return Err(fault),
+    }
+    to_cables(wire, &mut transaction_id, routes, keys)
+}
+
+/// Sets the key table of port 0 of each switch.
+fn to_switches<W: SmpWire>(
+    wire: &mut W,
+    transaction_id: &mut u64,
+    routes: &Routes,
+    keys: &[KeyTable<PARTITIONS>],
+) -> Result<(), PushFault>
+    ensures { ForSome (W.fabric wire.old) (λ fabric. IsGraphOf routes.now.graph fabric → IsGood fabric
+        → Leaves result (W.fabric wire.new) fabric (with_keys (keys_where (at_switches routes.now.graph.switches) routes.now keys.now) fabric)) }
+{
+    let graph = routes.graph();
+    graph.is_whole();
+    let switches = graph.switches();
+    for place in 0..switches.len() {
+        let switch = &switches[place];
+        let table = table_of(routes, keys, switch.guid, false);
+        match set_some(wire, transaction_id, switch.path.as_slice(), 0, table) {
+            Ok(()) => {}
+            Err(fault) => return Err(fault),
+        }
+    }
+    Ok(())
+}
+
+/// Sets the key tables at both ends of each cable between a switch and a channel adapter.
+fn to_cables<W: SmpWire>(
+    wire: &mut W,
+    transaction_id: &mut u64,
+    routes: &Routes,
+    keys: &[KeyTable<PARTITIONS>],
+) -> Result<(), PushFault>
+    ensures { (fabric : FabricState) → IsGraphOf routes.now.graph fabric → IsGood fabric
+        → Stands (W.fabric wire.old) fabric (with_keys (keys_where (at_switches routes.now.graph.switches) routes.now keys.now) fabric)
+        → Leaves result (W.fabric wire.new) fabric (keys_pushed routes.now keys.now fabric) }
+{
+    let graph = routes.graph();
+    graph.is_whole();
+    for place in 0..graph.ports().len() {
+        match to_cable(wire, transaction_id, routes, keys, place) {
+            Ok(()) => {}
+            Err(fault) => return Err(fault),
+        }
+    }
+    Ok(())
+}
+
+/// Sets the key tables of a port of a channel adapter, and of the port of a switch that it hangs on.
+fn to_cable<W: SmpWire>(
+    wire: &mut W,
+    transaction_id: &mut u64,
+    routes: &Routes,
+    keys: &[KeyTable<PARTITIONS>],
+    place: usize,
+) -> Result<(), PushFault>
+    requires { place < length routes.now.graph.ports }
+    ensures { (fabric : FabricState) (there : ℕ → ℕ → Bool) (port : GraphPort) → IsGraphOf routes.now.graph fabric → IsGood fabric
+        → slice_get routes.now.graph.ports place ≡ Some port
+        → Stands (W.fabric wire.old) fabric (with_keys (keys_where there routes.now keys.now) fabric)
+        → Leaves result (W.fabric wire.new) fabric
+        (with_keys (keys_where (λ guid number. there guid number || at_cable routes.now.graph.switches guid number port) routes.now keys.now) fabric) }
+{
+    let graph = routes.graph();
+    graph.is_whole();
+    let port = &graph.ports()[place];
+    let switch = &graph.switches()[port.at.node];
+    let full = table_of(routes, keys, port.port_guid, true);
+    match set_some(
+        wire,
+        transaction_id,
+        switch.path.as_slice(),
+        port.at.port,
+        full,
+    ) {
+        Ok(()) => {}
+        Err(fault) => return Err(fault),
+    }
+    let own = table_of(routes, keys, port.port_guid, false);
+    let path = switch.path.then(port.at.port);
+    set_some(wire, transaction_id, path.as_slice(), 0, own)
+}
+
+/// Sets the key table of a port, if there is one to set.
+fn set_some<W: SmpWire>(
+    wire: &mut W,
+    transaction_id: &mut u64,
+    path: &[u8],
+    asked: u8,
+    table: Option<[u16; PARTITIONS]>,
+) -> Result<(), PushFault>
+    requires { length path.now ≤ 63 }
+    ensures { ForSome (W.fabric wire.old) (λ fabric. (guid number : ℕ) → IsGood fabric → LeadsToPort fabric path.now asked guid number
+        → Leaves result (W.fabric wire.new) fabric (with_keys (on_port guid number (λ held. unwrap_or table held)) fabric)) }
+{
+    match table {
+        Some(table) => set_table(wire, transaction_id, path, asked, &table),
+        None => Ok(()),
+    }
+}
+
+/// The table of the end port with that GUID, or the full form of its keys; none, if there are no keys for its LID.
+fn table_of(
+    routes: &Routes,
+    keys: &[KeyTable<PARTITIONS>],
+    guid: u64,
+    full: bool,
+) -> Option<[u16; PARTITIONS]>
+    ensures { result ≡ option_map (key_table full) (keys_of routes.now keys.now guid) }
+{
+    match routes.lids().lid_of(guid) {
+        Some(lid) => match keys.get(lid as usize - 1) {
+            Some(keys) => Some(words_of(keys, full)),
+            None => None,
+        },
+        None => None,
+    }
+}
+
+/// Sets the key table of a port of the node at the end of a path, block by block. A switch is asked for its port of
+/// that number; a port of a channel adapter is asked for port 0, itself.
+fn set_table<W: SmpWire>(
+    wire: &mut W,
+    transaction_id: &mut u64,
+    path: &[u8],
+    asked: u8,
+    table: &[u16; PARTITIONS],
+) -> Result<(), PushFault>
+    requires { length path.now ≤ 63 }
+    ensures { ForSome (W.fabric wire.old) (λ fabric. (guid number : ℕ) → IsGood fabric → LeadsToPort fabric path.now asked guid number
+        → Leaves result (W.fabric wire.new) fabric (with_keys (on_port guid number (λ held. table.now)) fabric)) }
+{
+    for block in 0..PARTITIONS / WORDS_PER_BLOCK {
+        let bytes = block_at(table, block);
+        let modifier = asked as u32 * 65536 + block as u32;
+        match set(
+            wire,
+            transaction_id,
+            SmpAttribute::PKeyTable,
+            modifier,
+            path,
+            &bytes,
+        ) {
+            Ok(()) => {}
+            Err(fault) => return Err(fault),
+        }
+    }
+    Ok(())
+}
+
+/// The keys of that block, as an attribute.
+#[tactic(auto, unfolding(attr_tables::specs::Blocks::block_of))]
+fn block_at(table: &[u16; PARTITIONS], block: usize) -> [u8; 64]
+    requires { has_block 32 block table.now ≡ true }
+    ensures { result ≡ word_bytes (block_of 32 block table.now) }
+{
+    let mut words = [0; WORDS_PER_BLOCK];
+    let first = WORDS_PER_BLOCK * block;
+    words.copy_from_slice(&table[first..first + WORDS_PER_BLOCK]);
+    let mut bytes = [0; 64];
+    WordBlock { words }.write(&mut bytes);
+    bytes
+}
+
+/// A key table as words: these keys, or their full forms, and empty places behind them.
+fn words_of(keys: &KeyTable<PARTITIONS>, full: bool) -> [u16; PARTITIONS]
+    ensures { result ≡ key_table full keys.now }
+{
+    let mut words = [0; PARTITIONS];
+    let held = keys.as_slice();
+    for place in 0..held.len() {
+        words[place] = held_as(full, held[place]);
+    }
+    words
+}
+
+/// A key as it is, or as a full member of its partition holds it.
+fn held_as(full: bool, key: PKey) -> u16
+    ensures { result ≡ held_as full key }
+{
+    if full {
+        key_of(base_of(key.bits()), true)
+    } else {
+        key.bits()
+    }
+}

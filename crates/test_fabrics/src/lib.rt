@@ -1,0 +1,14 @@
+//! Fabrics that tests of several crates share, over either wire, and what texts of fabrics are made of.
+//!
+//! A value that cannot be made is a failure of the test that asks for it.
+#![tactic(auto)]
+
+mod chance;
+mod fabrics;
+mod lines;
+mod plain;
+
+pub use crate::chance::Chance;
+pub use crate::fabrics::{fabric_of, fabric_over, two_switch_fabric};
+pub use crate::lines::{put, put_line};
+pub use crate::plain::{plain_wire_of, two_switch_wire};

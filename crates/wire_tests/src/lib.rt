@@ -1,0 +1,12 @@
+//! Tests of the simulated fabric, through its public calls alone: SMPs over its wires, and packets that it carries.
+//!
+//! They say what no clause says: that the definitions mean what users were told, by byte vectors and
+//! worked requests.
+#![tactic(auto)]
+
+#[cfg(test)]
+mod carrying;
+#[cfg(test)]
+mod random_fabrics;
+#[cfg(test)]
+mod wires;
