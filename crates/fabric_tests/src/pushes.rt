@@ -3,6 +3,7 @@
 mod faults;
 mod fixtures;
 mod keys;
+mod ports;
 
 ghost use Rattle.std.specs.Prelude.{◌≤◌, length};
 

@@ -111,7 +111,7 @@ puts_along stood left result one other asked table same puts = subst (λ (path :
 pub fits : (n count : ℕ) → n < count → count ≤ 64 → Fits w64 (n * 152)
 fits n count below few = omega (arith, below, few)
 
-own_guids : (graph : GraphState) → IsGraph graph → IsDistinct (λ a b. a == b) (map (λ one. one.guid) graph.switches)
+pub own_guids : (graph : GraphState) → IsGraph graph → IsDistinct (λ a b. a == b) (map (λ one. one.guid) graph.switches)
 own_guids graph is = left_part (map (λ (one : GraphSwitch). one.guid) graph.switches) (map (λ (one : GraphPort). one.port_guid) graph.ports) is.guids
 
 -- ---- the two tables of a cable

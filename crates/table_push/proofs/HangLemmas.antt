@@ -108,6 +108,23 @@ hung : (fabric : FabricState) (graph : GraphState) (k : ℕ) (one : GraphPort) �
 hung fabric graph k one of there =
     hangs fabric of.found one (there_is (all_ports fabric of.found) k one (ap (λ (ports : List GraphPort). slice_get ports k) (sym of.ports) ∙ there))
 
+-- what is at the other end of the cable that it hangs on
+pub record IsHung (fabric : FabricState) (found : List Found) (one : GraphPort) : Type 0 where
+  pub there : PortRef
+  pub cable : far_end fabric.cables (port (node_at found one.at.node) one.at.port) ≡ Some there
+  pub adapter : is_switch_at fabric.nodes there.node ≡ false
+
+pub is_hung : (fabric : FabricState) (graph : GraphState) (k : ℕ) (one : GraphPort) → (of : IsGraphOf graph fabric) → slice_get graph.ports k ≡ Some one
+    → IsHung fabric of.found one
+is_hung fabric graph k one of there =
+    let a = hung fabric graph k one of there in
+    let at : one.at ≡ port a.place a.number = ap (λ (p : GraphPort). p.at) a.behind.is in
+    record {
+      there = a.behind.there;
+      cable = ap (λ (p : PortRef). far_end fabric.cables (port (node_at of.found p.node) p.port)) at ∙ a.behind.cable;
+      adapter = a.behind.adapter;
+    }
+
 -- at one port of a switch there is one
 pub one_hangs : (fabric : FabricState) (graph : GraphState) (j k : ℕ) (one other : GraphPort) → IsGraphOf graph fabric → slice_get graph.ports j ≡ Some one
     → slice_get graph.ports k ≡ Some other → one.at ≡ other.at → one ≡ other

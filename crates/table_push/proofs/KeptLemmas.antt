@@ -16,9 +16,11 @@ use Rattle.sweep.specs.declared.seen.Seen.{Seen}
 use Rattle.table_push.specs.Keys.{keys_wanted}
 use Rattle.table_push.specs.Laws.{PushesKeepTheGraph}
 use Rattle.table_push.specs.Linear.{with_linear}
-use Rattle.table_push.specs.Nodes.{keys_by, switch_by, with_nodes}
+use Rattle.table_push.specs.Nodes.{infos_by, keys_by, switch_by, with_infos, with_nodes}
+use Rattle.table_push.specs.Ports.{change_wanted, changed, with_top}
 use Rattle.table_push.proofs.LeadLemmas.{ends_on}
-use Rattle.table_push.proofs.SightLemmas.{IsUnseen, keys_unseen, linear_unseen}
+use Rattle.updn_routes.specs.Subnet.{SubnetRoutes}
+use Rattle.table_push.proofs.SightLemmas.{IsUnseen, infos_unseen, keys_unseen, linear_unseen}
 
 module _ (change : Node → Node) (unseen : IsUnseen change) (fabric : FabricState) where
   or_stays : {Y : Type 0} (f : Node → Y) (d : Y) → ((node : Node) → f (change node) ≡ f node) → (k : ℕ)
@@ -95,9 +97,19 @@ module _ (change : Node → Node) (unseen : IsUnseen change) (fabric : FabricSta
     ports = of.ports ∙ sym (ports_same of.found);
   }
 
+-- the PortInfo of all ports is set up
+pub infos_keep_the_graph : (routes : SubnetRoutes) (fabric : FabricState) (graph : GraphState)
+    → IsSameShape fabric (with_infos (λ guid number. changed (change_wanted routes guid number)) fabric) → IsGraphOf graph fabric
+    → IsGraphOf graph (with_infos (λ guid number. changed (change_wanted routes guid number)) fabric)
+infos_keep_the_graph routes fabric graph same of =
+    graph_stays (infos_by (λ guid number. changed (change_wanted routes guid number)) (λ info. info))
+    (infos_unseen (λ guid number. changed (change_wanted routes guid number)) (λ info. info)) fabric graph same of
+
 pub pushes_keep_the_graph : PushesKeepTheGraph
 pushes_keep_the_graph routes keys fabric graph of = (
   λ same. graph_stays (switch_by (with_linear routes)) (linear_unseen (with_linear routes) (λ guid held. (_, refl))) fabric graph same of,
   λ same. graph_stays (keys_by (λ guid number held. unwrap_or (keys_wanted routes keys guid number) held))
       (keys_unseen (λ guid number held. unwrap_or (keys_wanted routes keys guid number) held)) fabric graph same of,
+  λ same. graph_stays (infos_by (λ guid number. changed (change_wanted routes guid number)) (with_top (length routes.lids)))
+      (infos_unseen (λ guid number. changed (change_wanted routes guid number)) (with_top (length routes.lids))) fabric graph same of,
 )

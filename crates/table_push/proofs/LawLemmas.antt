@@ -39,12 +39,12 @@ was_switch routes (one ∷ nodes) (suc node) held there =
     let rest = was_switch routes nodes node held there in
     record { was = rest.was; there = rest.there; is = rest.is }
 
-found_there : (found : List Found) (k node : ℕ) → slice_get (nodes_of found) k ≡ Some node → (one : Found) × (slice_get found k ≡ Some one) × (one.node ≡ node)
+pub found_there : (found : List Found) (k node : ℕ) → slice_get (nodes_of found) k ≡ Some node → (one : Found) × (slice_get found k ≡ Some one) × (one.node ≡ node)
 found_there [] k node there = absurd (cc)
 found_there (one ∷ found) zero node there = (one, refl, same_Some one.node node there)
 found_there (one ∷ found) (suc k) node there = found_there found k node there
 
-switch_at : (fabric : FabricState) (found : List Found) (k : ℕ) (one : Found) → slice_get found k ≡ Some one
+pub switch_at : (fabric : FabricState) (found : List Found) (k : ℕ) (one : Found) → slice_get found k ≡ Some one
     → slice_get (map (switch_of fabric) found) k ≡ Some (switch_of fabric one)
 switch_at fabric [] k one there = absurd (cc)
 switch_at fabric (other ∷ found) zero one there = ap (λ (some : Found). Some (switch_of fabric some)) (same_Some other one there)

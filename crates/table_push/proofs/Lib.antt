@@ -14,3 +14,12 @@ pub mod WantedLemmas
 pub mod CableLemmas
 pub mod SightLemmas
 pub mod KeptLemmas
+pub mod InfoLemmas
+pub mod InfoNodeLemmas
+pub mod InfoPortLemmas
+pub mod ChangeLemmas
+pub mod SiteLemmas
+pub mod WantedChangeLemmas
+pub mod PortCableLemmas
+pub mod TopLemmas
+pub mod BringUpLemmas

@@ -124,7 +124,7 @@ pub record PortThere (fabric : FabricState) (path : List ℕ) (asked guid number
   pub long : length keys ≡ 32
   pub sets : KeysSet guid number asked at.port node keys
 
-element : {X : Type 0} (xs : List X) (k : ℕ) → k < length xs → (x : X) × (slice_get xs k ≡ Some x)
+pub element : {X : Type 0} (xs : List X) (k : ℕ) → k < length xs → (x : X) × (slice_get xs k ≡ Some x)
 element {X = X} xs k within = by (slice_get_cases xs k).1
   where
     by : ((x : X) × (k < length xs) × (slice_get xs k ≡ Some x) × (get_or xs k x ≡ x)) ⊎ ((length xs ≤ k) × (slice_get xs k ≡ None))
@@ -132,7 +132,7 @@ element {X = X} xs k within = by (slice_get_cases xs k).1
     by (inl there) = (there.0, there.2)
     by (inr past) = absurd (omega (arith, within, past.0))
 
-pub port_on : (old new : FabricState) (path : List ℕ) (asked guid number : ℕ) → IsSameShape old new → LeadsToPort old path asked guid number
+abbrev pub port_on : (old new : FabricState) (path : List ℕ) (asked guid number : ℕ) → IsSameShape old new → LeadsToPort old path asked guid number
     → LeadsToPort new path asked guid number
 port_on old new path asked guid number same leads = record {
   at = leads.at;
@@ -142,13 +142,13 @@ port_on old new path asked guid number same leads = record {
       (subst (λ (count : ℕ). IsAskedFor (is_switch_at old.nodes leads.at.node) count leads.at.port asked number) (sym (or_same port_count 0 old.nodes new.nodes leads.at.node same.port_counts)) leads.there);
 }
 
-count_is : (node : Node) (count : ℕ) → (nat_le 1 (port_count node) && nat_le (port_count node) (most_ports_of node)) ≡ true → 1 ≤ port_count node
+pub count_is : (node : Node) (count : ℕ) → (nat_le 1 (port_count node) && nat_le (port_count node) (most_ports_of node)) ≡ true → 1 ≤ port_count node
 count_is node count right = le_from (and_parts (nat_le 1 (port_count node)) _ right).0
   where
     le_from : nat_le 1 (port_count node) ≡ true → 1 ≤ port_count node
     le_from h = grind (arith, nat_tests, h)
 
-good_ports : (fabric : FabricState) (place : ℕ) (node : Node) → IsGood fabric → slice_get fabric.nodes place ≡ Some node → IsGoodNode node
+pub good_ports : (fabric : FabricState) (place : ℕ) (node : Node) → IsGood fabric → slice_get fabric.nodes place ≡ Some node → IsGoodNode node
 good_ports fabric place node good there = all_have IsGoodNode fabric.nodes place node good.holdings there
 
 at_switch : (fabric : FabricState) (path : List ℕ) (asked guid number : ℕ) (at : PortRef) (held : SwitchState) → IsGood fabric → end_of fabric path ≡ Some at

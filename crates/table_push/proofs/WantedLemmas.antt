@@ -146,7 +146,7 @@ none_put stood fabric guid number table is stands good =
     ends_as stood fabric _ _ (begins_as stood fabric _ stands good same) refl
 
 -- ---- all are written
-guid_there : (switches : List GraphSwitch) (place : ℕ) (switch : GraphSwitch) → slice_get switches place ≡ Some switch → guid_of switches place ≡ switch.guid
+pub guid_there : (switches : List GraphSwitch) (place : ℕ) (switch : GraphSwitch) → slice_get switches place ≡ Some switch → guid_of switches place ≡ switch.guid
 guid_there switches place switch there = ap (λ (o : Option GraphSwitch). option_map_or (λ (s : GraphSwitch). s.guid) o 0) there
 
 pub none_wanted : (routes : SubnetRoutes) (keys : List (List ℕ)) (guid number : ℕ) → at_switches routes.graph.switches guid number ≡ false

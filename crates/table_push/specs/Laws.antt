@@ -10,6 +10,7 @@ use Rattle.sweep.specs.Graph.{IsGraph}
 use Rattle.sweep.specs.OfFabric.{IsGraphOf}
 use Rattle.table_push.specs.Keys.{keys_pushed}
 use Rattle.table_push.specs.Linear.{linear_pushed, linear_table}
+use Rattle.table_push.specs.Ports.{ports_pushed}
 use Rattle.updn_routes.specs.Subnet.{SubnetRoutes}
 
 -- the switch is the graph's at that place, and has the table of that place
@@ -30,3 +31,4 @@ PushesKeepTheGraph =
     (routes : SubnetRoutes) (keys : List (List ℕ)) (fabric : FabricState) (graph : GraphState) → IsGraphOf graph fabric
     → (IsSameShape fabric (linear_pushed routes fabric) → IsGraphOf graph (linear_pushed routes fabric))
     × (IsSameShape fabric (keys_pushed routes keys fabric) → IsGraphOf graph (keys_pushed routes keys fabric))
+    × (IsSameShape fabric (ports_pushed routes fabric) → IsGraphOf graph (ports_pushed routes fabric))

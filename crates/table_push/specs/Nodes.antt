@@ -4,6 +4,8 @@ use Rattle.smp_wire.specs.FabricState.{FabricState}
 use Rattle.smp_wire.specs.Good.{node_guid}
 use Rattle.smp_wire.specs.declared.node.Node.{Node}
 use Rattle.smp_wire.specs.declared.node.Node.TheVariants.{Switch, Adapter}
+use Rattle.attr_tables.specs.declared.port_info.PortInfo.{PortInfo}
+use Rattle.attr_tables.specs.declared.switch_info.SwitchInfo.{SwitchInfo}
 use Rattle.switch_model.specs.SwitchState.{SwitchState}
 
 abbrev pub with_nodes : (Node → Node) → FabricState → FabricState
@@ -37,6 +39,19 @@ keys_by change (Adapter ports) =
 
 abbrev pub with_keys : (ℕ → ℕ → List ℕ → List ℕ) → FabricState → FabricState
 with_keys change fabric = with_nodes (keys_by change) fabric
+
+-- the information of each port changes by what its port says, and that of each switch
+abbrev pub infos_by : (ℕ → ℕ → PortInfo → PortInfo) → (SwitchInfo → SwitchInfo) → Node → Node
+infos_by change switch_change (Switch held) =
+    Switch (record held {
+      info = switch_change held.info;
+      ports = numbered (λ number port. record port { info = change held.node_guid number port.info }) 0 held.ports;
+    })
+infos_by change switch_change (Adapter ports) =
+    Adapter (numbered (λ number port. record port { info = change (node_guid (Adapter ports)) number port.info }) 1 ports)
+
+abbrev pub with_infos : (ℕ → ℕ → PortInfo → PortInfo) → FabricState → FabricState
+with_infos change fabric = with_nodes (infos_by change (λ info. info)) fabric
 
 -- that port alone
 abbrev pub on_port : {X : Type 0} → ℕ → ℕ → (X → X) → ℕ → ℕ → X → X

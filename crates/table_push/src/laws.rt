@@ -1,5 +1,6 @@
 //! What holds after every push. The functions do nothing; their clauses are the theorems.
 
+ghost use Rattle.table_push.specs.BringUp.{EachPortIsServed, EachSwitchIsSetUp};
 ghost use Rattle.table_push.specs.Laws.{EverySwitchHasItsTable, PushesKeepTheGraph};
 
 /// After a push over the fabric of its graph every switch has the table of its own routes, and none is left out.
@@ -10,4 +11,12 @@ pub fn every_switch_has_its_table()
 /// The graph of a fabric is its graph after a push, so that a further push finds its way.
 pub fn pushes_keep_the_graph()
     ensures { PushesKeepTheGraph }
+{}
+
+/// Once ports, key tables and linear tables are pushed in turn, each port of a channel adapter has its LID and the keys
+/// that are given for it, the port that it hangs on lets in and out what these keys tell, and each switch forwards each
+/// LID along the chosen way.
+pub fn brought_up_is_as_routed()
+    ensures ports { EachPortIsServed }
+    ensures switches { EachSwitchIsSetUp }
 {}

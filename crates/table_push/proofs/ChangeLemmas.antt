@@ -1,0 +1,347 @@
+-- A port that a path leads to, and whose PortInfo is read, changed and set.
+use Rattle.std.proofs.Common.{ℕ, ◌≡◌, ◌==◌, ◌&&◌, ◌||◌, nat_le, nat_lt, ◌∙◌, ap, refl, sym, subst, Bool, true, false, if◌then◌else◌, List, Option, Some, None, Result, Ok, Err, option_map, arith}
+use Rattle.std.specs.Option.{is_some, option_map_or}
+use Rattle.std.proofs.lemmas.Bool.{eq-eqb}
+use Rattle.std.proofs.lemmas.Option.{same_Some}
+use Rattle.std.proofs.lemmas.Bool.Decides.{nat_tests}
+use Rattle.agent_rules.specs.Agent.{shown_at}
+use Rattle.agent_rules.specs.PortSetting.{may_follow, port_info_after, port_setting}
+use Rattle.agent_rules.proofs.CarriedLemmas.{spelled_is_read}
+use Rattle.agent_rules.proofs.PortSettingLemmas.{shown_fits}
+use Rattle.attr_tables.specs.PortInfo.{port_info, port_info_bytes}
+use Rattle.attr_tables.specs.PortState.{port_state_code}
+use Rattle.attr_tables.specs.declared.port_info.PortInfo.{PortInfo}
+use Rattle.attr_tables.specs.declared.port_state.PortState.{PortState}
+use Rattle.attr_tables.specs.declared.port_state.PortState.TheVariants.{NoChange, Down, Initialize, Armed, Active}
+use Rattle.attr_tables.specs.declared.smp_attribute.SmpAttribute.TheVariants.{PortInfo as PortInfoAsked}
+use Rattle.fabric_parts.specs.declared.cable.PortRef.{PortRef}
+use Rattle.fabric_parts.specs.declared.lid.TheConstants.{LAST_UNICAST_LID}
+use Rattle.mad_layout.specs.Bits.{field}
+use Rattle.mad_layout.specs.Layout.{Fits}
+use Rattle.smp_wire.specs.FabricState.{FabricState, is_switch}
+use Rattle.smp_wire.specs.Get.{gives_along}
+use Rattle.smp_wire.proofs.ListLemmas.{or_same}
+use Rattle.smp_wire.specs.Good.{IsGood, info_at, is_up}
+use Rattle.sweep.specs.Graph.{port}
+use Rattle.sweep.specs.OfFabric.{guid_at}
+use Rattle.table_push.specs.Fault.{compared, without_state}
+use Rattle.table_push.specs.Nodes.{on_port, with_infos}
+use Rattle.table_push.specs.Ports.{TakesChange, changed, end_told, enforces, state_asked, told, with_state}
+use Rattle.table_push.specs.Pushes.{Leaves}
+use Rattle.table_push.specs.declared.fault.PushFault.{PushFault}
+use Rattle.table_push.specs.declared.ports.PortChange.{PortChange}
+use Rattle.table_push.proofs.InfoLemmas.{as_held, setting_taken, state_fits, state_is, state_put}
+use Rattle.table_push.proofs.InfoNodeLemmas.{infos_twice}
+use Rattle.table_push.proofs.InfoPortLemmas.{InfoThere, info_after, info_alike, info_gives, info_given, info_takes, info_there}
+use Rattle.table_push.proofs.LeadLemmas.{SetsAt, goes_on}
+use Rattle.table_push.proofs.PortLemmas.{port_on}
+
+-- ---- a change, in whatever order its parts come
+abbrev change_of : Option ℕ → Option Bool → PortInfo → PortInfo
+change_of lid enforcement info = enforces enforcement (end_told lid info)
+
+shown_first : (lid : Option ℕ) (enforcement : Option Bool) (shown code : ℕ) (info : PortInfo)
+    → ◌≡◌ {A = PortInfo} (record (change_of lid enforcement (shown_at shown info)) { port_state = code })
+    (shown_at shown (change_of lid enforcement (record info { port_state = code })))
+shown_first None None shown code info = refl
+shown_first None (Some on) shown code info = refl
+shown_first (Some lid) None shown code info = refl
+shown_first (Some lid) (Some on) shown code info = refl
+
+shown_same : (lid : Option ℕ) (enforcement : Option Bool) (shown : ℕ) (info : PortInfo)
+    → change_of lid enforcement (shown_at shown info) ≡ shown_at shown (change_of lid enforcement info)
+shown_same None None shown info = refl
+shown_same None (Some on) shown info = refl
+shown_same (Some lid) None shown info = refl
+shown_same (Some lid) (Some on) shown info = refl
+
+state_last : (lid : Option ℕ) (enforcement : Option Bool) (shown code was : ℕ) (info : PortInfo)
+    → ◌≡◌ {A = PortInfo} (record (shown_at shown (change_of lid enforcement (record info { port_state = was }))) { port_state = code })
+    (record (change_of lid enforcement (shown_at shown info)) { port_state = code })
+state_last None None shown code was info = refl
+state_last None (Some on) shown code was info = refl
+state_last (Some lid) None shown code was info = refl
+state_last (Some lid) (Some on) shown code was info = refl
+
+-- the state that is asked for is there then
+state_then : (lid : Option ℕ) (enforcement : Option Bool) (code : ℕ) (info : PortInfo)
+    → (change_of lid enforcement (record info { port_state = code })).port_state ≡ code
+state_then None None code info = refl
+state_then None (Some on) code info = refl
+state_then (Some lid) None code info = refl
+state_then (Some lid) (Some on) code info = refl
+
+-- a change with one state, and then with another
+again : (lid : Option ℕ) (enforcement : Option Bool) (one other : ℕ) (info : PortInfo)
+    → change_of lid enforcement (record (change_of lid enforcement (record info { port_state = one })) { port_state = other })
+    ≡ change_of lid enforcement (record info { port_state = other })
+again None None one other info = refl
+again None (Some on) one other info = refl
+again (Some lid) None one other info = refl
+again (Some lid) (Some on) one other info = refl
+
+with_it : (lid : Option ℕ) (enforcement : Option Bool) (code : ℕ) (info : PortInfo)
+    → ◌≡◌ {A = PortInfo} (change_of lid enforcement (record info { port_state = code })) (record (change_of lid enforcement info) { port_state = code })
+with_it None None code info = refl
+with_it None (Some on) code info = refl
+with_it (Some lid) None code info = refl
+with_it (Some lid) (Some on) code info = refl
+
+shown_again : (lid : Option ℕ) (enforcement : Option Bool) (shown code was : ℕ) (info : PortInfo)
+    → ◌≡◌ {A = PortInfo} (record (change_of lid enforcement (shown_at shown (change_of lid enforcement (record info { port_state = was })))) { port_state = code })
+    (record (change_of lid enforcement (shown_at shown info)) { port_state = code })
+shown_again None None shown code was info = refl
+shown_again None (Some on) shown code was info = refl
+shown_again (Some lid) None shown code was info = refl
+shown_again (Some lid) (Some on) shown code was info = refl
+
+shown_told : (lid : Option ℕ) (enforcement : Option Bool) (shown was : ℕ) (info : PortInfo)
+    → ◌≡◌ {A = PortInfo} (change_of lid enforcement (shown_at shown (change_of lid enforcement (record info { port_state = was }))))
+    (record (change_of lid enforcement (shown_at shown info)) { port_state = was })
+shown_told None None shown was info = refl
+shown_told None (Some on) shown was info = refl
+shown_told (Some lid) None shown was info = refl
+shown_told (Some lid) (Some on) shown was info = refl
+
+-- ---- one Set
+-- what a port has after a Set with that state
+abbrev pub stepped : PortChange → PortState → PortInfo → PortInfo
+stepped change state info = told change (as_held (port_state_code state) info)
+
+-- what is compared of the reply is what was set
+compares : (change : PortChange) (state : PortState) (shown : ℕ) (info : PortInfo) → Fits (port_info (told change (shown_at shown info)))
+    → compared PortInfoAsked (port_info_bytes (with_state state (told change (shown_at shown info)))) (port_info_bytes (shown_at shown (stepped change state info)))
+    ≡ port_info_bytes (with_state state (told change (shown_at shown info)))
+unfolding compared
+compares change state shown info fits = by state
+  where
+    asked : PortState → PortInfo
+    asked state = with_state state (told change (shown_at shown info))
+
+    is : (state : PortState) → field (port_info_bytes (asked state)) 260 4 ≡ port_state_code state
+    is state = state_is (asked state) (state_fits state (told change (shown_at shown info)) fits)
+
+    bytes : (code : ℕ) → port_info_bytes (shown_at shown (told change (record info { port_state = code }))) ≡ port_info_bytes (record (told change (shown_at shown info)) { port_state = code })
+    bytes code = ap port_info_bytes (sym (shown_first change.lid change.enforcement shown code info))
+
+    narrow : Fits (port_info (shown_at shown (told change (as_held 0 info))))
+    narrow = subst (λ (one : PortInfo). Fits (port_info one)) (shown_same change.lid change.enforcement shown info) fits
+
+    by : (state : PortState)
+        → (if field (port_info_bytes (asked state)) 260 4 == 0 then without_state (port_info_bytes (shown_at shown (stepped change state info)))
+        else port_info_bytes (shown_at shown (stepped change state info)))
+        ≡ port_info_bytes (asked state)
+    by NoChange = rw (is NoChange) (state_put (shown_at shown (told change (as_held 0 info))) 0 narrow (omega arith)
+        ∙ ap port_info_bytes (state_last change.lid change.enforcement shown 0 info.port_state info))
+    by Down = rw (is Down) (bytes 1)
+    by Initialize = rw (is Initialize) (bytes 2)
+    by Armed = rw (is Armed) (bytes 3)
+    by Active = rw (is Active) (bytes 4)
+
+-- the states that may be asked for
+abbrev MayAsk : PortInfo → PortState → Type 0
+MayAsk info state = ((port_state_code state == 0) || may_follow info.port_state (port_state_code state)) ≡ true
+
+-- what a port can be told
+record CanBeTold (change : PortChange) (on : Bool) : Type 0 where
+  lid : option_map_or (λ lid. nat_le lid LAST_UNICAST_LID) change.lid true ≡ true
+  enforces : is_some change.enforcement ≡ true → on ≡ true
+
+is_set : (fabric : FabricState) (stood left : Option FabricState) (result : Result (Unit {0}) PushFault) (path : List ℕ) (asked guid number : ℕ) (at : PortRef)
+    (change : PortChange) (state : PortState) → IsGood fabric → stood ≡ Some fabric → (here : InfoThere fabric path asked guid number at)
+    → CanBeTold change here.on → MayAsk here.info state → Fits (port_info (told change (shown_at at.port here.info)))
+    → SetsAt stood left result path PortInfoAsked asked (port_info_bytes (with_state state (told change (shown_at at.port here.info))))
+    → Leaves result left fabric (with_infos (on_port guid number (stepped change state)) fabric)
+is_set fabric stood left result path asked guid number at change state good stands here can may fits sets =
+    let info = here.info in
+    let wanted = with_state state (told change (shown_at at.port info)) in
+    let taken : port_info_after here.on info (port_setting (port_info_bytes wanted)) ≡ Ok (stepped change state info) =
+    ap (port_info_after here.on info) (spelled_is_read.setting wanted (state_fits state (told change (shown_at at.port info)) fits))
+    ∙ setting_taken here.on change.lid change.enforcement (port_state_code state) at.port info here.good can.lid can.enforces may in
+    sets fabric stands (with_infos (on_port guid number (stepped change state)) fabric) good
+    (info_takes fabric path asked guid number at good here (stepped change state) (port_info_bytes wanted) taken)
+    (λ same. record {
+      bytes = port_info_bytes (shown_at at.port (stepped change state info));
+      given = info_gives fabric path asked guid number at good here (stepped change state) same;
+      same = compares change state at.port info fits;
+    })
+
+-- ---- the state that is asked for first
+may_ask : (active : Bool) (info : PortInfo) → MayAsk info (state_asked active info.port_state)
+may_ask false info = refl
+may_ask true info = by (info.port_state == 2) (info.port_state == 3) refl refl
+  where
+    by : (a b : Bool) → (info.port_state == 2) ≡ a → (info.port_state == 3) ≡ b
+        → MayAsk info (if a then Armed else (if b then Active else NoChange))
+    by true b first second = rw first refl
+    by false true first second = rw second refl
+    by false false first second = refl
+
+active_four : (state : ℕ) → nat_le 2 state && nat_le state 4 ≡ true → (state == 2) ≡ false → (state == 3) ≡ false → state ≡ 4
+active_four state up first second = grind (arith, nat_tests, up, first, second)
+
+-- one Set is enough
+is_enough : (change : PortChange) (info : PortInfo) → (change.active ≡ true → is_up info ≡ true) → (state_asked change.active info.port_state ≡ Armed → ⊥)
+    → stepped change (state_asked change.active info.port_state) info ≡ changed change info
+is_enough change info up other = by change.active (info.port_state == 2) (info.port_state == 3) refl refl refl
+  where
+    result : Bool → PortInfo
+    result active = if active then with_state Active (told change info) else told change info
+
+    by : (active a b : Bool) → change.active ≡ active → (info.port_state == 2) ≡ a → (info.port_state == 3) ≡ b
+        → stepped change (state_asked change.active info.port_state) info ≡ result change.active
+    by false a b is first second = rw is refl
+    by true true b is first second = absurd (other (rw (is, first) refl))
+    by true false true is first second = rw (is, first, second) (with_it change.lid change.enforcement 4 info)
+    by true false false is first second =
+        let four = active_four info.port_state (up is) first second in
+        rw (is, first, second) (with_it change.lid change.enforcement info.port_state info
+        ∙ ap (λ (n : ℕ). record (told change info) { port_state = n }) four)
+
+-- ---- what is known of the port
+can_be_told : (fabric : FabricState) (path : List ℕ) (asked guid number : ℕ) (change : PortChange) (takes : TakesChange fabric path asked guid number change)
+    → (here : InfoThere fabric path asked guid number takes.leads.at) → CanBeTold change here.on
+can_be_told fabric path asked guid number change takes here = record {
+  lid = takes.lid;
+  enforces = λ some. sym here.on_is ∙ takes.enforces some;
+}
+
+-- what a Get is known to tell
+abbrev Reads : FabricState → List ℕ → ℕ → Result PortInfo PushFault → Type 0
+Reads fabric path asked told =
+    (info : PortInfo) → Fits (port_info info) → gives_along fabric path PortInfoAsked asked ≡ Some (Ok (port_info_bytes info)) → told ≡ Ok info
+
+same_Ok : (one other : PortInfo) → ◌≡◌ {A = Result PortInfo PushFault} (Ok one) (Ok other) → one ≡ other
+same_Ok one other h = cc
+
+-- it is told, and no fault
+pub no_refusal : (fabric : FabricState) (path : List ℕ) (asked guid number : ℕ) (change : PortChange) (fault : PushFault) → IsGood fabric
+    → TakesChange fabric path asked guid number change → Reads fabric path asked (Err fault) → ⊥
+no_refusal fabric path asked guid number change fault good takes reads =
+    let at = takes.leads.at in
+    let here = info_there fabric path asked guid number good takes.leads in
+    let same = reads (shown_at at.port here.info) (shown_fits at.port here.info here.good.fits here.small) (info_given fabric path asked guid number at good here) in
+    absurd (cc)
+
+-- what is read, and what is asked then
+pub record Asks (fabric : FabricState) (path : List ℕ) (asked guid number : ℕ) (at : PortRef) (change : PortChange) (held wanted : PortInfo) (state : PortState) : Type 0 where
+  pub here : InfoThere fabric path asked guid number at
+  pub held_is : held ≡ shown_at at.port here.info
+  pub wanted_is : wanted ≡ told change (shown_at at.port here.info)
+  pub state_is : state ≡ state_asked change.active here.info.port_state
+  pub fits : Fits (port_info (told change (shown_at at.port here.info)))
+
+pub asks : (fabric : FabricState) (path : List ℕ) (asked guid number : ℕ) (change : PortChange) (held wanted : PortInfo) (state : PortState) → IsGood fabric
+    → (takes : TakesChange fabric path asked guid number change)
+    → Reads fabric path asked (Ok held)
+    → wanted ≡ told change held → Fits (port_info wanted) → state ≡ state_asked change.active held.port_state
+    → Asks fabric path asked guid number takes.leads.at change held wanted state
+asks fabric path asked guid number change held wanted state good takes reads told_is fits state_is =
+    let at = takes.leads.at in
+    let here = info_there fabric path asked guid number good takes.leads in
+    let same : held ≡ shown_at at.port here.info =
+    same_Ok held (shown_at at.port here.info)
+    (reads (shown_at at.port here.info) (shown_fits at.port here.info here.good.fits here.small) (info_given fabric path asked guid number at good here)) in
+    let wanted_is = told_is ∙ ap (told change) same in
+    record {
+      here = here;
+      held_is = same;
+      wanted_is = wanted_is;
+      state_is = state_is ∙ ap (λ (info : PortInfo). state_asked change.active info.port_state) same;
+      fits = subst (λ (info : PortInfo). Fits (port_info info)) wanted_is fits;
+    }
+
+pub set_first : (fabric : FabricState) (stood left : Option FabricState) (result : Result (Unit {0}) PushFault) (path : List ℕ) (asked guid number : ℕ)
+    (change : PortChange) (held wanted : PortInfo) (state : PortState) → IsGood fabric → stood ≡ Some fabric
+    → (takes : TakesChange fabric path asked guid number change) → (does : Asks fabric path asked guid number takes.leads.at change held wanted state)
+    → SetsAt stood left result path PortInfoAsked asked (port_info_bytes (with_state state wanted))
+    → Leaves result left fabric (with_infos (on_port guid number (stepped change (state_asked change.active does.here.info.port_state))) fabric)
+set_first fabric stood left result path asked guid number change held wanted state good stands takes does sets =
+    let at = takes.leads.at in
+    let here = does.here in
+    let asks_for = state_asked change.active here.info.port_state in
+    is_set fabric stood left result path asked guid number at change asks_for good stands here (can_be_told fabric path asked guid number change takes here)
+    (may_ask change.active here.info) does.fits
+    (subst (λ (info : PortInfo). SetsAt stood left result path PortInfoAsked asked (port_info_bytes info))
+    (λ i. with_state (does.state_is i) (does.wanted_is i)) sets)
+
+pub set_once : (fabric : FabricState) (stood left : Option FabricState) (result : Result (Unit {0}) PushFault) (path : List ℕ) (asked guid number : ℕ)
+    (change : PortChange) (held wanted : PortInfo) (state : PortState) → IsGood fabric → stood ≡ Some fabric
+    → (takes : TakesChange fabric path asked guid number change) → (does : Asks fabric path asked guid number takes.leads.at change held wanted state)
+    → (state ≡ Armed → ⊥) → SetsAt stood left result path PortInfoAsked asked (port_info_bytes (with_state state wanted))
+    → Leaves result left fabric (with_infos (on_port guid number (changed change)) fabric)
+set_once fabric stood left result path asked guid number change held wanted state good stands takes does other sets =
+    let here = does.here in
+    let leaves = set_first fabric stood left result path asked guid number change held wanted state good stands takes does sets in
+    subst (Leaves result left fabric)
+    (info_alike fabric path asked guid number takes.leads.at good here (stepped change (state_asked change.active here.info.port_state)) (changed change)
+    (is_enough change here.info (λ active. takes.up active here.info here.held) (λ armed. other (does.state_is ∙ armed)))) leaves
+
+-- ---- two Sets
+own_port : {X : Type 0} (guid number : ℕ) (f : X → X) (x : X) → on_port guid number f guid number x ≡ f x
+own_port guid number f x = rw (eq-eqb guid guid refl, eq-eqb number number refl) refl
+
+on_twice : {X : Type 0} (guid number : ℕ) (f g h : X → X) → ((x : X) → f (g x) ≡ h x) → (of_guid of_number : ℕ) (x : X)
+    → on_port guid number f of_guid of_number (on_port guid number g of_guid of_number x) ≡ on_port guid number h of_guid of_number x
+on_twice guid number f g h each of_guid of_number x = by ((guid == of_guid) && (number == of_number))
+  where
+    by : (b : Bool) → (if b then f (if b then g x else x) else (if b then g x else x)) ≡ (if b then h x else x)
+    by true = each x
+    by false = refl
+
+-- what the port has after the first
+info_then : (fabric : FabricState) (path : List ℕ) (asked guid number : ℕ) (at : PortRef) (f : PortInfo → PortInfo) (here : InfoThere fabric path asked guid number at)
+    (then_here : InfoThere (with_infos (on_port guid number f) fabric) path asked guid number at) → guid_at fabric at.node ≡ guid
+    → then_here.info ≡ f here.info
+info_then fabric path asked guid number at f here then_here is =
+    same_Some _ _
+    (sym then_here.held ∙ info_after (on_port guid number f) fabric (port at.node number)
+    ∙ ap (λ (g : ℕ). option_map (on_port guid number f g number) (info_at fabric (port at.node number))) is
+    ∙ ap (option_map (on_port guid number f guid number)) here.held
+    ∙ ap (λ (info : PortInfo). Some info) (own_port guid number f here.info))
+
+when_armed : (active : Bool) (state : ℕ) → state_asked active state ≡ Armed → active ≡ true
+when_armed true state is = refl
+when_armed false state is = absurd (cc)
+
+pub set_twice : (fabric : FabricState) (stood mid left : Option FabricState) (first result : Result (Unit {0}) PushFault) (path : List ℕ) (asked guid number : ℕ)
+    (change : PortChange) (held wanted : PortInfo) (state : PortState) → IsGood fabric → stood ≡ Some fabric
+    → (takes : TakesChange fabric path asked guid number change) → (does : Asks fabric path asked guid number takes.leads.at change held wanted state)
+    → state ≡ Armed → SetsAt stood mid first path PortInfoAsked asked (port_info_bytes (with_state state wanted))
+    → SetsAt mid left result path PortInfoAsked asked (port_info_bytes (with_state Active wanted))
+    → Leaves result left fabric (with_infos (on_port guid number (changed change)) fabric)
+set_twice fabric stood mid left first result path asked guid number change held wanted state good stands takes does armed sets later =
+    let at = takes.leads.at in
+    let here = does.here in
+    let lid = change.lid in
+    let enforcement = change.enforcement in
+    let asked_first : state_asked change.active here.info.port_state ≡ Armed = sym does.state_is ∙ armed in
+    let leaves : Leaves first mid fabric (with_infos (on_port guid number (stepped change Armed)) fabric) =
+    subst (λ (one : PortState). Leaves first mid fabric (with_infos (on_port guid number (stepped change one)) fabric)) asked_first
+    (set_first fabric stood mid first path asked guid number change held wanted state good stands takes does sets) in
+    let now = with_infos (on_port guid number (stepped change Armed)) fabric in
+    let leads = port_on fabric now path asked guid number leaves.stands.shape takes.leads in
+    let next = info_there now path asked guid number leaves.stands.good leads in
+    let info : next.info ≡ stepped change Armed here.info = info_then fabric path asked guid number at (stepped change Armed) here next takes.leads.guid_is in
+    let can : CanBeTold change next.on = record {
+      lid = takes.lid;
+      enforces = λ some. sym next.on_is
+          ∙ ap (λ (b : Bool). b && nat_lt 0 number) (or_same is_switch false fabric.nodes now.nodes at.node leaves.stands.shape.switches) ∙ takes.enforces some;
+    } in
+    let code : next.info.port_state ≡ 3 = ap (λ (one : PortInfo). one.port_state) info ∙ state_then lid enforcement 3 here.info in
+    let may : MayAsk next.info Active = rw code refl in
+    let fits : Fits (port_info (told change (shown_at at.port next.info))) =
+    subst (λ (one : PortInfo). Fits (port_info one))
+    (sym (ap (λ (one : PortInfo). told change (shown_at at.port one)) info ∙ shown_told lid enforcement at.port 3 here.info))
+    (state_fits Armed (told change (shown_at at.port here.info)) does.fits) in
+    let same : with_state Active wanted ≡ with_state Active (told change (shown_at at.port next.info)) =
+    ap (with_state Active) does.wanted_is ∙ sym (shown_again lid enforcement at.port 4 3 here.info)
+    ∙ ap (λ (one : PortInfo). with_state Active (told change (shown_at at.port one))) (sym info) in
+    let second = is_set now mid left result path asked guid number at change Active leaves.stands.good leaves.stands.is next can may fits
+    (subst (λ (one : PortInfo). SetsAt mid left result path PortInfoAsked asked (port_info_bytes one)) same later) in
+    let active : change.active ≡ true = when_armed change.active here.info.port_state asked_first in
+    let both : (one : PortInfo) → stepped change Active (stepped change Armed one) ≡ changed change one =
+    λ one. again lid enforcement 3 4 one ∙ with_it lid enforcement 4 one ∙ (rw active refl) in
+    goes_on result mid left fabric now _ _ leaves.stands second
+    (infos_twice (on_port guid number (stepped change Active)) (on_port guid number (stepped change Armed)) (on_port guid number (changed change)) fabric
+    (on_twice guid number (stepped change Active) (stepped change Armed) (changed change) both))

@@ -1,0 +1,7 @@
+use Rattle.table_push.proofs.InfoLemmas.{sets_state}
+use Rattle.table_push.proofs.ports.set_info.Goals as goal
+
+pub returns : goal.returns
+returns g c x stands next good takes gives =
+    sets_state _ _ _ c.args.path.now c.args.asked c.args.info.now c.args.state c.code.result c.to_bytes-bytes.result c.code.ensures c.to_bytes-bytes.ensures c.set.ensures
+    x stands next good takes gives

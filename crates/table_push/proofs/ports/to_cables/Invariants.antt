@@ -1,0 +1,17 @@
+use Rattle.std.proofs.Common.{length}
+use Rattle.smp_wire.specs.FabricState.{FabricState}
+use Rattle.smp_wire.specs.Good.{IsGood, ShowsLinks}
+use Rattle.sweep.specs.OfFabric.{IsGraphOf}
+use Rattle.table_push.specs.Nodes.{with_infos}
+use Rattle.table_push.specs.Ports.{at_switches_before, changed_where}
+use Rattle.table_push.specs.Pushes.{Stands}
+use Rattle.table_push.proofs.PortCableLemmas.{at_first}
+use Rattle.table_push.proofs.ports.to_cables.Given as goal
+
+-- the ports at the first cables are set up, after the switches
+abbrev pub invariant-loop-place : goal.invariant-loop-place
+invariant-loop-place g l =
+    (fabric : FabricState) → IsGraphOf l.fn.routes.graph fabric → IsGood fabric → ShowsLinks fabric
+    → Stands (g.W.SmpWire.fabric l.fn.wire) fabric
+    (with_infos (changed_where (at_switches_before l.fn.routes.graph (length l.fn.routes.graph.switches)) l.fn.routes) fabric)
+    → Stands (g.W.SmpWire.fabric l.wire) fabric (with_infos (changed_where (at_first l.fn.routes l.place) l.fn.routes) fabric)

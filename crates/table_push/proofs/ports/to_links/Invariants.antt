@@ -1,0 +1,18 @@
+use Rattle.std.proofs.Common.{ℕ, Bool, take}
+use Rattle.smp_wire.specs.FabricState.{FabricState}
+use Rattle.smp_wire.specs.Good.{IsGood, ShowsLinks}
+use Rattle.sweep.specs.OfFabric.{IsGraphOf}
+use Rattle.table_push.specs.Keys.{guid_of}
+use Rattle.table_push.specs.Nodes.{with_infos}
+use Rattle.table_push.specs.Ports.{changed_where}
+use Rattle.table_push.specs.Pushes.{Stands}
+use Rattle.table_push.proofs.PortCableLemmas.{with_links}
+use Rattle.table_push.proofs.ports.to_links.Given as goal
+
+-- the ports with the first links are set up
+abbrev pub invariant-loop-index : goal.invariant-loop-index
+invariant-loop-index g l =
+    (fabric : FabricState) (there : ℕ → ℕ → Bool) → IsGraphOf l.fn.routes.graph fabric → IsGood fabric → ShowsLinks fabric
+    → Stands (g.W.SmpWire.fabric l.fn.wire) fabric (with_infos (changed_where there l.fn.routes) fabric)
+    → Stands (g.W.SmpWire.fabric l.wire) fabric
+    (with_infos (changed_where (with_links there (guid_of l.fn.routes.graph.switches l.fn.place) (take l.index l.links)) l.fn.routes) fabric)

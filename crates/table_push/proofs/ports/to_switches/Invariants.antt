@@ -1,0 +1,14 @@
+use Rattle.std.proofs.Common.{◌≡◌, Some}
+use Rattle.smp_wire.specs.FabricState.{FabricState}
+use Rattle.smp_wire.specs.Good.{IsGood, ShowsLinks}
+use Rattle.sweep.specs.OfFabric.{IsGraphOf}
+use Rattle.table_push.specs.Nodes.{with_infos}
+use Rattle.table_push.specs.Ports.{at_switches_before, changed_where}
+use Rattle.table_push.specs.Pushes.{Stands}
+use Rattle.table_push.proofs.ports.to_switches.Given as goal
+
+-- the first switches are set up
+abbrev pub invariant-loop-place : goal.invariant-loop-place
+invariant-loop-place g l =
+    (fabric : FabricState) → g.W.SmpWire.fabric l.fn.wire ≡ Some fabric → IsGraphOf l.fn.routes.graph fabric → IsGood fabric → ShowsLinks fabric
+    → Stands (g.W.SmpWire.fabric l.wire) fabric (with_infos (changed_where (at_switches_before l.fn.routes.graph l.place) l.fn.routes) fabric)

@@ -1,0 +1,359 @@
+//! PortInfo of all ports.
+
+ghost use Rattle.std.specs.Prelude.{ℕ, ◌≡◌, ◌≤◌, ◌<◌, ◌==◌, ◌&&◌, ◌||◌, Bool, IfOk, length, slice_get, Some, Ok};
+ghost use Rattle.std.specs.Option.{ForSome};
+ghost use Rattle.attr_tables.specs.PortInfo.{port_info, port_info_bytes};
+ghost use Rattle.attr_tables.specs.declared.port_info.PortInfo.{PortInfo};
+ghost use Rattle.attr_tables.specs.declared.smp_attribute.SmpAttribute.TheVariants as attribute;
+ghost use Rattle.mad_layout.specs.Layout.{Fits};
+ghost use Rattle.smp_wire.specs.FabricState.{FabricState};
+ghost use Rattle.smp_wire.specs.Get.{gives_along};
+ghost use Rattle.smp_wire.specs.Good.{IsGood, ShowsLinks};
+ghost use Rattle.smp_wire.specs.Set.{takes_along};
+ghost use Rattle.smp_wire.specs.Shape.{IsSameShape};
+ghost use Rattle.sweep.specs.Graph.{GraphState};
+ghost use Rattle.sweep.specs.OfFabric.{IsGraphOf};
+ghost use Rattle.sweep.specs.declared.graph.GraphPort.{GraphPort};
+ghost use Rattle.table_push.specs.Keys.{at_cable, guid_of};
+ghost use Rattle.table_push.specs.Nodes.{on_port, with_infos};
+ghost use Rattle.table_push.specs.Ports.{TakesChange, at_switch, at_switches_before, change_wanted, changed, changed_where, end_told, enforces, has_link, ports_pushed, state_asked, told, with_state};
+ghost use Rattle.table_push.specs.Pushes.{Gives, Leaves, Stands};
+
+use crate::fault::{PushFault, fault_of};
+use crate::setting::set;
+use crate::tops::set_tops;
+use attr_tables::{PortInfo, PortState, SmpAttribute};
+use smp_wire::{SmpWire, get_attribute};
+use updn_routes::Routes;
+
+/// The first half of the GIDs of all ports: the link-local prefix.
+const GID_PREFIX: u64 = 0xfe80_0000_0000_0000;
+
+/// The subnet manager's LID.
+const MANAGER_LID: u16 = 1;
+
+/// What is changed of a port; what is none stays.
+#[derive(Clone, Copy, Debug)]
+pub struct PortChange {
+    /// The LID of an end port, with which go its prefix and the subnet manager's LID.
+    lid: Option<u16>,
+    /// Whether a port of a switch enforces partitions.
+    enforcement: Option<bool>,
+    /// Whether it becomes Active, because it has a cable.
+    active: bool,
+}
+
+/// Sets up all ports: each end port has its prefix, its LID and the subnet manager's, each port with a cable becomes
+/// Active, the ports of switches that channel adapters hang on enforce partitions and those between switches do not, and
+/// LinearFDBTop of each switch is the greatest LID.
+///
+/// Over a wire that stands for the graph's fabric, whose links show, that stands there then, and all else is as it was.
+pub fn push_ports<W: SmpWire>(wire: &mut W, routes: &Routes) -> Result<(), PushFault>
+    ensures { ForSome (W.fabric wire.old) (λ fabric. IsGraphOf routes.now.graph fabric → IsGood fabric → ShowsLinks fabric
+        → Leaves result (W.fabric wire.new) fabric (ports_pushed routes.now fabric)) }
+{
+    let mut transaction_id = 0;
+    match to_switches(wire, &mut transaction_id, routes) {
+        Ok(()) => {}
+        Err(fault) => return Err(fault),
+    }
+    match to_cables(wire, &mut transaction_id, routes) {
+        Ok(()) => {}
+        Err(fault) => return Err(fault),
+    }
+    set_tops(wire, &mut transaction_id, routes)
+}
+
+/// Sets up port 0 of each switch, and its ports with cables to other switches.
+fn to_switches<W: SmpWire>(
+    wire: &mut W,
+    transaction_id: &mut u64,
+    routes: &Routes,
+) -> Result<(), PushFault>
+    ensures { ForSome (W.fabric wire.old) (λ fabric. IsGraphOf routes.now.graph fabric → IsGood fabric → ShowsLinks fabric
+        → Leaves result (W.fabric wire.new) fabric
+        (with_infos (changed_where (at_switches_before routes.now.graph (length routes.now.graph.switches)) routes.now) fabric)) }
+{
+    let graph = routes.graph();
+    graph.is_whole();
+    for place in 0..graph.switches().len() {
+        match to_switch(wire, transaction_id, routes, place) {
+            Ok(()) => {}
+            Err(fault) => return Err(fault),
+        }
+    }
+    Ok(())
+}
+
+/// Sets up port 0 of a switch, and its ports with cables to other switches.
+fn to_switch<W: SmpWire>(
+    wire: &mut W,
+    transaction_id: &mut u64,
+    routes: &Routes,
+    place: usize,
+) -> Result<(), PushFault>
+    requires { place < length routes.now.graph.switches }
+    ensures { (fabric : FabricState) (there : ℕ → ℕ → Bool) → IsGraphOf routes.now.graph fabric → IsGood fabric → ShowsLinks fabric
+        → Stands (W.fabric wire.old) fabric (with_infos (changed_where there routes.now) fabric)
+        → Leaves result (W.fabric wire.new) fabric
+        (with_infos (changed_where (λ guid number. there guid number || at_switch routes.now.graph guid number place) routes.now) fabric) }
+{
+    let graph = routes.graph();
+    graph.is_whole();
+    let lids = routes.lids();
+    lids.are_own();
+    let switch = &graph.switches()[place];
+    let change = PortChange {
+        lid: lids.lid_of(switch.guid),
+        enforcement: None,
+        active: false,
+    };
+    match set_port(wire, transaction_id, switch.path.as_slice(), 0, &change) {
+        Ok(()) => {}
+        Err(fault) => return Err(fault),
+    }
+    to_links(wire, transaction_id, routes, place)
+}
+
+/// Sets up the ports of a switch with cables to other switches.
+fn to_links<W: SmpWire>(
+    wire: &mut W,
+    transaction_id: &mut u64,
+    routes: &Routes,
+    place: usize,
+) -> Result<(), PushFault>
+    requires { place < length routes.now.graph.switches }
+    ensures { (fabric : FabricState) (there : ℕ → ℕ → Bool) → IsGraphOf routes.now.graph fabric → IsGood fabric → ShowsLinks fabric
+        → Stands (W.fabric wire.old) fabric (with_infos (changed_where there routes.now) fabric)
+        → Leaves result (W.fabric wire.new) fabric
+        (with_infos (changed_where (λ guid number. there guid number
+        || ((guid_of routes.now.graph.switches place == guid) && has_link routes.now.graph place number)) routes.now) fabric) }
+{
+    let graph = routes.graph();
+    graph.is_whole();
+    let path = graph.switches()[place].path.as_slice();
+    let links = graph.rows()[place].as_slice();
+    let change = PortChange {
+        lid: None,
+        enforcement: Some(false),
+        active: true,
+    };
+    for index in 0..links.len() {
+        match set_port(wire, transaction_id, path, links[index].port, &change) {
+            Ok(()) => {}
+            Err(fault) => return Err(fault),
+        }
+    }
+    Ok(())
+}
+
+/// Sets up the ports at both ends of each cable between a switch and a channel adapter.
+fn to_cables<W: SmpWire>(
+    wire: &mut W,
+    transaction_id: &mut u64,
+    routes: &Routes,
+) -> Result<(), PushFault>
+    ensures { (fabric : FabricState) → IsGraphOf routes.now.graph fabric → IsGood fabric → ShowsLinks fabric
+        → Stands (W.fabric wire.old) fabric
+        (with_infos (changed_where (at_switches_before routes.now.graph (length routes.now.graph.switches)) routes.now) fabric)
+        → Leaves result (W.fabric wire.new) fabric (with_infos (λ guid number. changed (change_wanted routes.now guid number)) fabric) }
+{
+    let graph = routes.graph();
+    graph.is_whole();
+    for place in 0..graph.ports().len() {
+        match to_cable(wire, transaction_id, routes, place) {
+            Ok(()) => {}
+            Err(fault) => return Err(fault),
+        }
+    }
+    Ok(())
+}
+
+/// Sets up a port of a channel adapter, and the port of a switch that it hangs on.
+fn to_cable<W: SmpWire>(
+    wire: &mut W,
+    transaction_id: &mut u64,
+    routes: &Routes,
+    place: usize,
+) -> Result<(), PushFault>
+    requires { place < length routes.now.graph.ports }
+    ensures { (fabric : FabricState) (there : ℕ → ℕ → Bool) (port : GraphPort) → IsGraphOf routes.now.graph fabric → IsGood fabric → ShowsLinks fabric
+        → slice_get routes.now.graph.ports place ≡ Some port
+        → Stands (W.fabric wire.old) fabric (with_infos (changed_where there routes.now) fabric)
+        → Leaves result (W.fabric wire.new) fabric
+        (with_infos (changed_where (λ guid number. there guid number || at_cable routes.now.graph.switches guid number port) routes.now) fabric) }
+{
+    let graph = routes.graph();
+    graph.is_whole();
+    let lids = routes.lids();
+    lids.are_own();
+    let port = &graph.ports()[place];
+    let switch = &graph.switches()[port.at.node];
+    let before = PortChange {
+        lid: None,
+        enforcement: Some(true),
+        active: true,
+    };
+    match set_port(
+        wire,
+        transaction_id,
+        switch.path.as_slice(),
+        port.at.port,
+        &before,
+    ) {
+        Ok(()) => {}
+        Err(fault) => return Err(fault),
+    }
+    let own = PortChange {
+        lid: lids.lid_of(port.port_guid),
+        enforcement: None,
+        active: true,
+    };
+    let path = switch.path.then(port.at.port);
+    set_port(wire, transaction_id, path.as_slice(), 0, &own)
+}
+
+/// Changes PortInfo of a port of the node at the end of a path. A switch is asked for its port of that number; a port of
+/// a channel adapter is asked for port 0, itself.
+fn set_port<W: SmpWire>(
+    wire: &mut W,
+    transaction_id: &mut u64,
+    path: &[u8],
+    asked: u8,
+    change: &PortChange,
+) -> Result<(), PushFault>
+    requires { length path.now ≤ 63 }
+    ensures { ForSome (W.fabric wire.old) (λ fabric. (guid number : ℕ) → IsGood fabric → TakesChange fabric path.now asked guid number change.now
+        → Leaves result (W.fabric wire.new) fabric (with_infos (on_port guid number (changed change.now)) fabric)) }
+{
+    let held = match held_info(wire, transaction_id, path, asked) {
+        Ok(held) => held,
+        Err(fault) => return Err(fault),
+    };
+    let info = change.told(&held);
+    let state = state_asked(change.active, held.port_state);
+    match set_info(wire, transaction_id, path, asked, &info, state) {
+        Ok(()) => {}
+        Err(fault) => return Err(fault),
+    }
+    match state {
+        PortState::Armed => set_info(wire, transaction_id, path, asked, &info, PortState::Active),
+        _ => Ok(()),
+    }
+}
+
+/// PortInfo of a port, as it is now.
+fn held_info<W: SmpWire>(
+    wire: &mut W,
+    transaction_id: &mut u64,
+    path: &[u8],
+    asked: u8,
+) -> Result<PortInfo, PushFault>
+    requires { length path.now ≤ 63 }
+    ensures told { ForSome (W.fabric wire.old) (λ fabric. (info : PortInfo) → IsGood fabric → Fits (port_info info)
+        → gives_along fabric path.now attribute.PortInfo asked ≡ Some (Ok (port_info_bytes info)) → result ≡ Ok info) }
+    ensures left { ForSome (W.fabric wire.old) (λ fabric. IsGood fabric → W.fabric wire.new ≡ Some fabric) }
+    ensures fits { IfOk result (λ info. Fits (port_info info)) }
+{
+    *transaction_id = transaction_id.wrapping_add(1);
+    match get_attribute(
+        wire,
+        *transaction_id,
+        SmpAttribute::PortInfo,
+        asked as u32,
+        path,
+    ) {
+        Ok(bytes) => Ok(PortInfo::read(&bytes)),
+        Err(fault) => Err(fault_of(fault)),
+    }
+}
+
+/// Sets PortInfo of a port to this, with that state.
+fn set_info<W: SmpWire>(
+    wire: &mut W,
+    transaction_id: &mut u64,
+    path: &[u8],
+    asked: u8,
+    info: &PortInfo,
+    state: PortState,
+) -> Result<(), PushFault>
+    requires path { length path.now ≤ 63 }
+    requires fits { Fits (port_info info.now) }
+    ensures { ForSome (W.fabric wire.old) (λ fabric. (next : FabricState) → IsGood fabric
+        → takes_along fabric path.now attribute.PortInfo asked (port_info_bytes (with_state state info.now)) ≡ Some (Ok next)
+        → (IsSameShape fabric next → Gives next path.now attribute.PortInfo asked (port_info_bytes (with_state state info.now)))
+        → Leaves result (W.fabric wire.new) fabric next) }
+{
+    let wanted = PortInfo {
+        port_state: state.code(),
+        ..*info
+    };
+    let bytes = wanted.to_bytes();
+    set(
+        wire,
+        transaction_id,
+        SmpAttribute::PortInfo,
+        asked as u32,
+        path,
+        &bytes,
+    )
+}
+
+impl PortChange {
+    /// What a port is told, in all but its state.
+    fn told(&self, info: &PortInfo) -> PortInfo
+        requires { Fits (port_info info.now) }
+        ensures told { result ≡ told self.now info.now }
+        ensures fits { Fits (port_info result) }
+    {
+        enforces(self.enforcement, &end_told(self.lid, info))
+    }
+}
+
+/// What an end port of that LID is told of itself.
+fn end_told(lid: Option<u16>, info: &PortInfo) -> PortInfo
+    requires { Fits (port_info info.now) }
+    ensures told { result ≡ end_told lid info.now }
+    ensures fits { Fits (port_info result) }
+{
+    match lid {
+        Some(lid) => PortInfo {
+            gid_prefix: GID_PREFIX,
+            lid,
+            master_sm_lid: MANAGER_LID,
+            ..*info
+        },
+        None => *info,
+    }
+}
+
+/// Whether a port of a switch enforces partitions, both ways.
+fn enforces(enforcement: Option<bool>, info: &PortInfo) -> PortInfo
+    requires { Fits (port_info info.now) }
+    ensures told { result ≡ enforces enforcement info.now }
+    ensures fits { Fits (port_info result) }
+{
+    match enforcement {
+        Some(on) => PortInfo {
+            partition_enforcement_inbound: on,
+            partition_enforcement_outbound: on,
+            ..*info
+        },
+        None => *info,
+    }
+}
+
+/// The state that a port of this state is asked for first, if it is to become Active, or is to keep its state.
+fn state_asked(active: bool, state: u8) -> PortState
+    ensures { result ≡ state_asked active state }
+{
+    if !active {
+        PortState::NoChange
+    } else if state == PortState::Initialize.code() {
+        PortState::Armed
+    } else if state == PortState::Armed.code() {
+        PortState::Active
+    } else {
+        PortState::NoChange
+    }
+}

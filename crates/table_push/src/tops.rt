@@ -1,0 +1,71 @@
+//! SwitchInfo: how far linear forwarding tables reach.
+
+ghost use Rattle.std.specs.Prelude.{ℕ, ◌≤◌, ◌<◌, length};
+ghost use Rattle.std.specs.Option.{ForSome};
+ghost use Rattle.smp_wire.specs.Good.{IsGood};
+ghost use Rattle.sweep.specs.OfFabric.{IsGraphOf};
+ghost use Rattle.table_push.specs.Nodes.{on_switch, with_switches};
+ghost use Rattle.table_push.specs.Ports.{set_top};
+ghost use Rattle.table_push.specs.Pushes.{LeadsToSwitch, Leaves};
+
+use crate::fault::{PushFault, fault_of};
+use crate::setting::set;
+use attr_tables::{SmpAttribute, SwitchInfo};
+use smp_wire::{SmpWire, get_attribute};
+use updn_routes::Routes;
+
+/// Sets LinearFDBTop of each switch to the greatest LID: LIDs count from 1, and there are as many as end ports.
+pub(crate) fn set_tops<W: SmpWire>(
+    wire: &mut W,
+    transaction_id: &mut u64,
+    routes: &Routes,
+) -> Result<(), PushFault>
+    ensures { ForSome (W.fabric wire.old) (λ fabric. IsGraphOf routes.now.graph fabric → IsGood fabric
+        → Leaves result (W.fabric wire.new) fabric (with_switches (λ guid. set_top (length routes.now.lids)) fabric)) }
+{
+    routes.are_of_graph();
+    let graph = routes.graph();
+    graph.is_whole();
+    let switches = graph.switches();
+    let greatest = (switches.len() + graph.ports().len()) as u16;
+    for place in 0..switches.len() {
+        let path = switches[place].path.as_slice();
+        match set_top(wire, transaction_id, path, greatest) {
+            Ok(()) => {}
+            Err(fault) => return Err(fault),
+        }
+    }
+    Ok(())
+}
+
+/// Sets LinearFDBTop of the switch at the end of a path.
+fn set_top<W: SmpWire>(
+    wire: &mut W,
+    transaction_id: &mut u64,
+    path: &[u8],
+    lid: u16,
+) -> Result<(), PushFault>
+    requires path { length path.now ≤ 63 }
+    requires lid { lid < 512 }
+    ensures { ForSome (W.fabric wire.old) (λ fabric. (guid : ℕ) → IsGood fabric → LeadsToSwitch fabric path.now guid
+        → Leaves result (W.fabric wire.new) fabric (with_switches (on_switch guid (set_top lid)) fabric)) }
+{
+    *transaction_id = transaction_id.wrapping_add(1);
+    let bytes = match get_attribute(wire, *transaction_id, SmpAttribute::SwitchInfo, 0, path) {
+        Ok(bytes) => bytes,
+        Err(fault) => return Err(fault_of(fault)),
+    };
+    let wanted = SwitchInfo {
+        linear_fdb_top: lid,
+        ..SwitchInfo::read(&bytes)
+    };
+    let wanted = wanted.to_bytes();
+    set(
+        wire,
+        transaction_id,
+        SmpAttribute::SwitchInfo,
+        0,
+        path,
+        &wanted,
+    )
+}
