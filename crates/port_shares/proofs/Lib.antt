@@ -1,2 +1,3 @@
 pub mod BaseLemmas
+pub mod NearLemmas
 pub mod ShareLemmas

@@ -1,17 +1,21 @@
--- What is found by the bases of all partitions is what key tables share.
+-- What is found by the bases of a port's keys is what key tables share.
 use Rattle.std.proofs.Common.{◌≡◌, ◌≢◌, ℕ, zero, suc, ◌+◌, ◌<◌, ◌≤◌, length, not, Bool, true, false, ◌==◌, ◌&&◌, if◌then◌else◌}
-use Rattle.std.proofs.Common.{List, [], ◌∷◌, ◌++◌, filter, refl, sym, ap, append_assoc, append-nil, subst, ◌||◌, ◌∙◌, inl, inr, arith}
-use Rattle.std.specs.List.{flat_map, list_all, list_any, range_with_len, slice_index}
+use Rattle.std.proofs.Common.{List, [], ◌∷◌, ◌++◌, Option, filter, map, refl, sym, ap, append_assoc, append-nil, subst, ◌||◌, ◌∙◌, inl, inr, arith}
+use Rattle.std.specs.List.{flat_map, list_any, range_with_len, slice_index}
 use Rattle.std.specs.List.Sorted.{IsStrictlyIncreasing}
 use Rattle.std.proofs.lemmas.Bool.{and_parts, cases_Bool, eqb-true, false≢true, or_cases}
 use Rattle.std.proofs.lemmas.Bool.Decides.{nat_tests}
+use Rattle.std.proofs.lemmas.Grind.{flat_map-append}
+use Rattle.std.proofs.lemmas.List.Elements.{filter-append}
+use Rattle.std.proofs.lemmas.List.Folds.{flat_map-map}
 use Rattle.std.proofs.lemmas.List.Kept.{IsStrictlyIncreasing-filter}
+use Rattle.result_words.proofs.ListLemmas.{list_any_weaker}
 use Rattle.lid_assign.proofs.RisingLemmas.{rises, same_rising}
-use Rattle.partition_file.specs.declared.heading.Heading.{Heading}
 use Rattle.pkey_rules.specs.KeyTable.{shares_base}
 use Rattle.pkey_rules.specs.PKey.{base_of, is_full, matches}
 use Rattle.subnet_model.specs.declared.subnet_port.SubnetPort.{SubnetPort}
-use Rattle.port_shares.specs.Shares.{base_text, found_text, hold_keys_of, is_named, pair_text, share_line, shared_bases, shares_text}
+use Rattle.port_shares.specs.Found.{AreBases, asked_text, base_text, found_text, has_match, pair_text, share_of}
+use Rattle.port_shares.specs.Shares.{Share, is_asked, pair_shares, share_line, shared_bases, shares, shares_text}
 
 -- a text for those that pass is the text of those
 pub flat_kept : (f : ℕ → List ℕ) (p : ℕ → Bool) (xs : List ℕ) → flat_map (λ x. if p x then f x else []) xs ≡ flat_map f (filter p xs)
@@ -21,20 +25,7 @@ flat_kept f p (x ∷ xs) = elim (cases_Bool (p x)) [
   | inr other ↦ rw (other, flat_kept f p xs) refl
 ]
 
--- ---- the bases of a port's keys are among those of all partitions
-pub among : (headings : List Heading) (base : ℕ) (p : ℕ → Bool) (keys : List ℕ) → list_all (is_named headings) keys ≡ true
-    → list_any (λ key. (base_of key == base) && p key) keys ≡ true → list_any (λ heading. heading.base == base) headings ≡ true
-among headings base p [] named h = absurd (cc)
-among headings base p (key ∷ keys) named h =
-    let both = and_parts (is_named headings key) (list_all (is_named headings) keys) named in
-    elim (or_cases ((base_of key == base) && p key) (list_any (λ k. (base_of k == base) && p k) keys) h) [
-      | inl here ↦
-          let same : base_of key ≡ base = eqb-true (base_of key) base (and_parts (base_of key == base) (p key) here).0 in
-          subst (λ (b : ℕ). list_any (λ heading. heading.base == b) headings ≡ true) same both.0
-      | inr later ↦ among headings base p keys both.1 later
-    ]
-
-any_kept : (p : ℕ → Bool) (n : ℕ) (xs : List ℕ) → p n ≡ true → list_any (λ x. x == n) (filter p xs) ≡ list_any (λ x. x == n) xs
+pub any_kept : (p : ℕ → Bool) (n : ℕ) (xs : List ℕ) → p n ≡ true → list_any (λ x. x == n) (filter p xs) ≡ list_any (λ x. x == n) xs
 any_kept p n [] e = refl
 any_kept p n (x ∷ xs) e = elim (cases_Bool (p x)) [
   | inl here ↦ rw (here, any_kept p n xs e) refl
@@ -116,44 +107,68 @@ is_shared_base base (p ∷ ps) qs h =
     ]
 
 -- ---- texts
-pair_alike : (headings : List Heading) (bases : List ℕ) (p q : SubnetPort) → IsStrictlyIncreasing bases
-    → ((base : ℕ) → list_any (λ one. one == base) bases ≡ list_any (λ heading. heading.base == base) headings)
-    → list_all (is_named headings) p.keys ≡ true → flat_map (base_text p q) bases ≡ pair_text p q
+-- who may talk under a base has a key of it
+has_base : (base : ℕ) (ps qs : List ℕ) → shares_base base ps qs ≡ true → list_any (λ key. base_of key == base) ps ≡ true
+has_base base ps qs h =
+    list_any_weaker (λ key. (base_of key == base) && has_match base key qs) (λ key. base_of key == base)
+    (λ key both. (and_parts (base_of key == base) (has_match base key qs) both).0) ps h
+
+pub pair_alike : (bases : List ℕ) (p q : SubnetPort) → AreBases p.keys bases → flat_map (base_text p q) bases ≡ pair_text p q
 unfolding shared_bases
-pair_alike headings bases p q rising same named =
-    flat_kept (share_line p q) (λ base. shares_base base p.keys q.keys) bases
-    ∙ ap (flat_map (share_line p q)) (kept_alike (λ base. shares_base base p.keys q.keys) bases (range_with_len 1 32767) rising (range_rises 1 32767)
+pair_alike bases p q are =
+    flat_kept (λ base. share_line (share_of p q base)) (λ base. shares_base base p.keys q.keys) bases
+    ∙ ap (flat_map (λ base. share_line (share_of p q base))) (kept_alike (λ base. shares_base base p.keys q.keys) bases (range_with_len 1 32767) are.rising (range_rises 1 32767)
     (λ n h. let fits = is_shared_base n p.keys q.keys h in
-    same n ∙ among headings n (λ key. list_any (λ other. (base_of other == n) && matches other key) q.keys) p.keys named h
-    ∙ sym (in_range 1 32767 n fits.0 (omega (arith, fits.1)))))
+    are.same n ∙ has_base n p.keys q.keys h ∙ sym (in_range 1 32767 n fits.0 (omega (arith, fits.1)))))
+    ∙ sym (flat_map-map share_line (share_of p q) (filter (λ base. shares_base base p.keys q.keys) (range_with_len 1 32767)))
 
-others_alike : (headings : List Heading) (bases : List ℕ) (p : SubnetPort) (others : List SubnetPort) → IsStrictlyIncreasing bases
-    → ((base : ℕ) → list_any (λ one. one == base) bases ≡ list_any (λ heading. heading.base == base) headings)
-    → list_all (is_named headings) p.keys ≡ true → flat_map (λ other. flat_map (base_text p other) bases) others ≡ flat_map (pair_text p) others
-others_alike headings bases p [] rising same named = refl
-others_alike headings bases p (q ∷ others) rising same named =
-    ap (λ text. text ++ flat_map (λ other. flat_map (base_text p other) bases) others) (pair_alike headings bases p q rising same named)
-    ∙ ap (λ text. pair_text p q ++ text) (others_alike headings bases p others rising same named)
+-- a test that says the same of all
+kept_by : {X Y : Type 0} (b : Bool) (f : X → Y) (p : Y → Bool) → ((x : X) → p (f x) ≡ b) → (xs : List X) → filter p (map f xs) ≡ (if b then map f xs else [])
+kept_by true f p same [] = refl
+kept_by false f p same [] = refl
+kept_by true f p same (x ∷ xs) = rw (same x, kept_by true f p same xs) refl
+kept_by false f p same (x ∷ xs) = rw (same x, kept_by false f p same xs) refl
 
-pub all_alike : (headings : List Heading) (bases : List ℕ) (ports : List SubnetPort) → IsStrictlyIncreasing bases
-    → ((base : ℕ) → list_any (λ one. one == base) bases ≡ list_any (λ heading. heading.base == base) headings)
-    → hold_keys_of headings ports ≡ true → found_text bases ports ≡ shares_text ports
-all_alike headings bases [] rising same named = refl
-all_alike headings bases (p ∷ ports) rising same named =
-    let both = and_parts (list_all (is_named headings) p.keys) (hold_keys_of headings ports) named in
-    ap (λ text. text ++ found_text bases ports) (others_alike headings bases p ports rising same both.0)
-    ∙ ap (λ text. flat_map (pair_text p) ports ++ text) (all_alike headings bases ports rising same both.1)
+abbrev is_told : Option ℕ → Share → Bool
+is_told asked share = is_asked asked share.first share.second
+
+lines_if : (b : Bool) (all : List Share) → (if b then flat_map share_line all else []) ≡ flat_map share_line (if b then all else [])
+lines_if true all = refl
+lines_if false all = refl
+
+asked_alike : (asked : Option ℕ) (p q : SubnetPort) → asked_text asked p q ≡ flat_map share_line (filter (is_told asked) (pair_shares p q))
+asked_alike asked p q =
+    lines_if (is_asked asked p q) (pair_shares p q)
+    ∙ ap (flat_map share_line) (sym (kept_by (is_asked asked p q) (share_of p q) (is_told asked) (λ base. refl) (shared_bases p.keys q.keys)))
+
+others_alike : (asked : Option ℕ) (p : SubnetPort) (others : List SubnetPort)
+    → flat_map (asked_text asked p) others ≡ flat_map share_line (filter (is_told asked) (flat_map (pair_shares p) others))
+others_alike asked p [] = refl
+others_alike asked p (q ∷ others) =
+    let rest = flat_map (pair_shares p) others in
+    ap (λ text. text ++ flat_map (asked_text asked p) others) (asked_alike asked p q)
+    ∙ ap (λ text. flat_map share_line (filter (is_told asked) (pair_shares p q)) ++ text) (others_alike asked p others)
+    ∙ sym (flat_map-append share_line (filter (is_told asked) (pair_shares p q)) (filter (is_told asked) rest))
+    ∙ ap (flat_map share_line) (sym (filter-append (is_told asked) (pair_shares p q) rest))
+
+pub all_alike : (asked : Option ℕ) (ports : List SubnetPort) → found_text asked ports ≡ shares_text asked ports
+all_alike asked [] = refl
+all_alike asked (p ∷ ports) =
+    let here = flat_map (pair_shares p) ports in
+    ap (λ text. text ++ found_text asked ports) (others_alike asked p ports)
+    ∙ ap (λ text. flat_map share_line (filter (is_told asked) here) ++ text) (all_alike asked ports)
+    ∙ sym (flat_map-append share_line (filter (is_told asked) here) (filter (is_told asked) (shares ports)))
+    ∙ ap (flat_map share_line) (sym (filter-append (is_told asked) here (shares ports)))
 
 -- ---- the loop over the ports
-pub text_more : (old new whole bases : List ℕ) (rest others : List SubnetPort) (p : SubnetPort) → rest ≡ p ∷ others
-    → new ≡ old ++ flat_map (λ other. flat_map (base_text p other) bases) others → old ++ found_text bases rest ≡ whole
-    → new ++ found_text bases others ≡ whole
-text_more old new whole bases rest others p split grown so_far =
-    let before : old ++ (flat_map (λ other. flat_map (base_text p other) bases) others ++ found_text bases others) ≡ whole =
-    subst (λ (ports : List SubnetPort). old ++ found_text bases ports ≡ whole) split so_far in
-    ap (λ text. text ++ found_text bases others) grown
-    ∙ append_assoc old (flat_map (λ other. flat_map (base_text p other) bases) others) (found_text bases others) ∙ before
+pub text_more : (asked : Option ℕ) (old new whole : List ℕ) (rest others : List SubnetPort) (p : SubnetPort) → rest ≡ p ∷ others
+    → new ≡ old ++ flat_map (asked_text asked p) others → old ++ found_text asked rest ≡ whole → new ++ found_text asked others ≡ whole
+text_more asked old new whole rest others p split grown so_far =
+    let before : old ++ (flat_map (asked_text asked p) others ++ found_text asked others) ≡ whole =
+    subst (λ (ports : List SubnetPort). old ++ found_text asked ports ≡ whole) split so_far in
+    ap (λ text. text ++ found_text asked others) grown
+    ∙ append_assoc old (flat_map (asked_text asked p) others) (found_text asked others) ∙ before
 
-pub text_ends : (text whole bases : List ℕ) (rest : List SubnetPort) → length rest ≡ 0 → text ++ found_text bases rest ≡ whole → text ≡ whole
-text_ends text whole bases [] ended so_far = sym (append-nil text) ∙ so_far
-text_ends text whole bases (p ∷ rest) ended so_far = absurd (omega (arith, ended))
+pub text_ends : (asked : Option ℕ) (text whole : List ℕ) (rest : List SubnetPort) → length rest ≡ 0 → text ++ found_text asked rest ≡ whole → text ≡ whole
+text_ends asked text whole [] ended so_far = sym (append-nil text) ∙ so_far
+text_ends asked text whole (p ∷ rest) ended so_far = absurd (omega (arith, ended))

@@ -1,26 +1,25 @@
-//! The bases of all partitions, rising.
+//! The bases of a port's keys, rising.
 
-ghost use Rattle.std.specs.Prelude.{◌≡◌, ◌==◌, ℕ, map, IfOk};
-ghost use Rattle.std.specs.List.{list_any};
-ghost use Rattle.std.specs.List.Sorted.{IsStrictlyIncreasing};
+ghost use Rattle.std.specs.Prelude.{◌≡◌, map, IfOk};
+ghost use Rattle.pkey_rules.specs.PKey.{base_of};
+ghost use Rattle.port_shares.specs.Found.{AreBases};
 
-use partition_file::Heading;
+use pkey_rules::PKey;
 use std::alloc::{AllocError, Global};
 
-/// The bases of these partitions, each once, rising. Memory alone can be refused.
-pub(crate) fn bases_of(alloc: Global, headings: &[Heading]) -> Result<Vec<u16>, AllocError>
-    ensures rising { IfOk result (λ bases. IsStrictlyIncreasing bases.items) }
-    ensures same { IfOk result (λ bases. (base : ℕ) → list_any (λ one. one == base) bases.items ≡ list_any (λ heading. heading.base == base) headings.now) }
+/// The bases of these keys, each once, rising. Memory alone can be refused.
+pub(crate) fn bases_of(alloc: Global, keys: &[PKey]) -> Result<Vec<u16>, AllocError>
+    ensures { IfOk result (λ bases. AreBases keys.now bases.items) }
 {
-    let mut bases = named(alloc, headings)?;
+    let mut bases = in_turn(alloc, keys)?;
     bases.sort_unstable();
     bases.dedup();
     Ok(bases)
 }
 
-/// The bases of these partitions, in their order.
-fn named(alloc: Global, headings: &[Heading]) -> Result<Vec<u16>, AllocError>
-    ensures { IfOk result (λ bases. bases.items ≡ map (λ heading. heading.base) headings.now) }
+/// The bases of these keys, in their order.
+fn in_turn(alloc: Global, keys: &[PKey]) -> Result<Vec<u16>, AllocError>
+    ensures { IfOk result (λ bases. bases.items ≡ map base_of keys.now) }
 {
-    headings.iter().map(|heading| heading.base).collect(alloc)
+    keys.iter().map(|key| key.base()).collect(alloc)
 }

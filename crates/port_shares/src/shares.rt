@@ -1,28 +1,31 @@
 //! The lines of shares.
 
-ghost use Rattle.std.specs.Prelude.{◌≡◌, ◌==◌, ◌&&◌, ◌++◌, true, IfOk, OnOk};
+ghost use Rattle.std.specs.Prelude.{◌≡◌, ◌==◌, ◌&&◌, ◌++◌, IfOk, OnOk};
 ghost use Rattle.pkey_rules.specs.PKey.{base_of};
 ghost use Rattle.std.specs.List.{flat_map};
 ghost use Rattle.pkey_rules.specs.KeyTable.{shares_base};
-ghost use Rattle.port_shares.specs.Shares.{base_text, has_match, hold_keys_of, share_line, shares_text};
+ghost use Rattle.port_shares.specs.Found.{AreBases, asked_text, base_text, has_match, pair_text, share_of};
+ghost use Rattle.port_shares.specs.Shares.{is_asked, share_line, shares_text};
 
 use crate::bases::bases_of;
 use line_parts::{push_hex, push_port};
 use pkey_rules::PKey;
 use std::alloc::{AllocError, Global};
-use subnet_model::{Configuration, SubnetPort};
+use subnet_model::SubnetPort;
 
-/// A line for each two end ports, in order of their LIDs, and each partition in which their keys match, by rising base.
-/// Memory alone can be refused.
-pub fn shares_text(alloc: Global, configuration: &Configuration) -> Result<Vec<u8>, AllocError>
-    requires { hold_keys_of configuration.now.partitions configuration.now.ports ≡ true }
-    ensures { IfOk result (λ text. text.items ≡ shares_text configuration.now.ports) }
+/// A line for each two of these ports, in their order, and each partition in which their keys match, by rising base; where
+/// a GUID is asked for, only those that name its port. Memory alone can be refused.
+pub fn shares_text(
+    alloc: Global,
+    ports: &[SubnetPort],
+    asked: Option<u64>,
+) -> Result<Vec<u8>, AllocError>
+    ensures { IfOk result (λ text. text.items ≡ shares_text asked ports.now) }
 {
-    let bases = bases_of(alloc, configuration.partitions())?;
     let mut text = Vec::new(alloc);
-    let mut rest = configuration.ports();
+    let mut rest = ports;
     while let Some((port, others)) = rest.split_first() {
-        push_others(&mut text, port, others, &bases)?;
+        push_others(alloc, &mut text, asked, port, others)?;
         rest = others;
     }
     Ok(text)
@@ -30,27 +33,57 @@ pub fn shares_text(alloc: Global, configuration: &Configuration) -> Result<Vec<u
 
 /// The lines of a port with each of the others.
 fn push_others(
+    alloc: Global,
     text: &mut Vec<u8>,
+    asked: Option<u64>,
     port: &SubnetPort,
     others: &[SubnetPort],
-    bases: &[u16],
 ) -> Result<(), AllocError>
-    ensures { OnOk result (text.new.items ≡ text.old.items ++ flat_map (λ other. flat_map (base_text port.now other) bases.now) others.now) }
+    ensures { OnOk result (text.new.items ≡ text.old.items ++ flat_map (asked_text asked port.now) others.now) }
 {
+    let bases = bases_of(alloc, port.keys.as_slice())?;
     for other in others {
-        push_pair(text, port, other, bases)?;
+        push_if_asked(text, asked, port, other, &bases)?;
     }
     Ok(())
 }
 
-/// The lines of two ports.
+/// The lines of two ports, if they are asked for.
+fn push_if_asked(
+    text: &mut Vec<u8>,
+    asked: Option<u64>,
+    port: &SubnetPort,
+    other: &SubnetPort,
+    bases: &[u16],
+) -> Result<(), AllocError>
+    requires { AreBases port.now.keys bases.now }
+    ensures { OnOk result (text.new.items ≡ text.old.items ++ asked_text asked port.now other.now) }
+{
+    if is_asked(asked, port, other) {
+        push_pair(text, port, other, bases)
+    } else {
+        Ok(())
+    }
+}
+
+fn is_asked(asked: Option<u64>, port: &SubnetPort, other: &SubnetPort) -> bool
+    ensures { result ≡ is_asked asked port.now other.now }
+{
+    match asked {
+        Some(guid) => port.guid == guid || other.guid == guid,
+        None => true,
+    }
+}
+
+/// The lines of two ports, by the bases of the first one's keys.
 fn push_pair(
     text: &mut Vec<u8>,
     port: &SubnetPort,
     other: &SubnetPort,
     bases: &[u16],
 ) -> Result<(), AllocError>
-    ensures { OnOk result (text.new.items ≡ text.old.items ++ flat_map (base_text port.now other.now) bases.now) }
+    requires { AreBases port.now.keys bases.now }
+    ensures { OnOk result (text.new.items ≡ text.old.items ++ pair_text port.now other.now) }
 {
     for base in bases {
         push_base(text, port, other, *base)?;
@@ -101,7 +134,7 @@ fn push_line(
     other: &SubnetPort,
     base: u16,
 ) -> Result<(), AllocError>
-    ensures { OnOk result (text.new.items ≡ text.old.items ++ share_line port.now other.now base) }
+    ensures { OnOk result (text.new.items ≡ text.old.items ++ share_line (share_of port.now other.now base)) }
 {
     text.extend_from_slice(b"share ")?;
     push_port(text, port)?;

@@ -1,6 +1,6 @@
 use Rattle.std.proofs.Common.{◌≡◌, ◌++◌, take}
 use Rattle.std.specs.List.{flat_map}
-use Rattle.port_shares.specs.Shares.{base_text}
+use Rattle.port_shares.specs.Found.{base_text}
 use Rattle.port_shares.proofs.shares.push_pair.Given as goal
 
 abbrev pub invariant-loop-base : goal.invariant-loop-base
