@@ -3,6 +3,7 @@ pub mod Ports
 pub mod EndPorts
 pub mod FabricPorts
 pub mod Script
+pub mod NamedPort
 pub mod Seen
 pub mod Run
 pub mod EventLines

@@ -209,7 +209,7 @@ fn name_at(nodes: &[Node], place: usize) -> NodeName
     }
 }
 
-fn guid_at(nodes: &[Node], place: usize) -> u64
+pub(crate) fn guid_at(nodes: &[Node], place: usize) -> u64
     ensures { result ≡ guid_at nodes.now place }
 {
     match nodes.get(place) {

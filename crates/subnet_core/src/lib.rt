@@ -13,6 +13,7 @@ mod event_lines;
 mod fault;
 mod laws;
 mod listing;
+mod named_port;
 mod report;
 mod running;
 mod script;

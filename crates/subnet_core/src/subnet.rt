@@ -4,11 +4,13 @@ ghost use Rattle.topo_file.specs.Topology.{topology_of};
 ghost use Rattle.subnet_model.specs.Report.{step};
 ghost use Rattle.subnet_core.specs.EndPorts.{HaveLidsInOrder};
 ghost use Rattle.subnet_core.specs.Listing.{listing_text};
+ghost use Rattle.subnet_core.specs.NamedPort.{named_port};
 ghost use Rattle.subnet_core.specs.Run.{RunGives, of_text, parsed, partitions_for, report_after, subnet_of};
 ghost use Rattle.subnet_core.specs.declared.fault.RunFault.TheVariants as run;
 
 use crate::end_ports::configuration_of;
-use crate::fault::{RunFault, StepFault};
+use crate::fault::{RunFault, ScriptCause, StepFault};
+use crate::named_port::named_port;
 use crate::report::Report;
 use crate::{listing, script};
 use partition_file::{PartFault, Partitions, no_file};
@@ -88,6 +90,21 @@ fn partitions_for(alloc: Global, text: Option<&[u8]>) -> Result<Partitions, RunF
 }
 
 impl Subnet {
+    /// What the subnet was brought up as: its end ports and its partitions.
+    pub fn configuration(&self) -> &Configuration
+        ensures { result.now ≡ self.now.configuration }
+    {
+        &self.configuration
+    }
+
+    /// The GUID of the end port that a word names as the listing prints it: a port of a channel adapter that has a
+    /// cable, or port 0 of a switch.
+    pub fn named_port(&self, word: &[u8]) -> Result<u64, ScriptCause>
+        ensures { result ≡ named_port self.now.plan word.now }
+    {
+        named_port(&self.topology, word)
+    }
+
     /// Who is in the subnet, as it is printed in ASCII: a line for each end port by LID, then for each
     /// partition its line, and a line for each of its members by LID, with the key that it holds.
     pub fn listing(&self) -> Result<Vec<u8>, AllocError>

@@ -1,0 +1,30 @@
+-- The end port that a word names: its GUID, or why there is none.
+use Rattle.std.specs.Prelude.{ℕ, ◌==◌, List, Result, Ok, Err, if◌then◌else◌}
+use Rattle.std.specs.Option.{ok_or}
+use Rattle.text_words.specs.Words.{port_in}
+use Rattle.fabric_parts.specs.declared.cable.PortRef.{PortRef}
+use Rattle.fabric_parts.specs.Cable.{is_cabled}
+use Rattle.result_words.specs.Steps.{◌>>=◌}
+use Rattle.topo_file.specs.Cable.{port_at}
+use Rattle.topo_file.specs.Node.{is_switch_at, place_of, port_guid_at}
+use Rattle.topo_file.specs.Topology.{Plan}
+use Rattle.subnet_core.specs.Ports.{guid_at}
+use Rattle.subnet_core.specs.declared.fault.ScriptCause.{ScriptCause}
+use Rattle.subnet_core.specs.declared.fault.ScriptCause.TheVariants.{UnknownPort, UncabledPort}
+
+-- of a switch port 0 alone
+abbrev pub switch_port : Plan → ℕ → ℕ → Result ℕ ScriptCause
+switch_port plan place number = if number == 0 then Ok (guid_at plan.nodes place) else Err UnknownPort
+
+-- of a channel adapter each port that has a cable
+abbrev pub cabled_port : Plan → PortRef → Result ℕ ScriptCause
+cabled_port plan at = if is_cabled plan.cables at then Ok (port_guid_at plan.nodes at) else Err UncabledPort
+
+abbrev pub adapter_port : Plan → ℕ → ℕ → Result ℕ ScriptCause
+adapter_port plan place number = ok_or (port_at plan.nodes place number) UnknownPort >>= λ at. cabled_port plan at
+
+unfoldable pub named_port : Plan → List ℕ → Result ℕ ScriptCause
+named_port plan word = do
+  port ← ok_or (port_in word) UnknownPort
+  place ← ok_or (place_of port.name plan.nodes) UnknownPort
+  if is_switch_at plan.nodes place then switch_port plan place port.number else adapter_port plan place port.number

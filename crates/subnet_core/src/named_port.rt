@@ -1,0 +1,61 @@
+//! The end port that a word names.
+
+ghost use Rattle.std.specs.Prelude.{◌≡◌, ◌≤◌, false};
+ghost use Rattle.topo_file.specs.Node.{is_switch_at, ports_at};
+ghost use Rattle.subnet_core.specs.NamedPort.{adapter_port, cabled_port, named_port, switch_port};
+
+use crate::end_ports::guid_at;
+use crate::fault::ScriptCause;
+use fabric_parts::PortRef;
+use text_words::port_in;
+use topo_file::Topology;
+
+/// The GUID of the end port that a word names, if there is one.
+#[tactic(auto, unfolding(crate::specs::NamedPort::named_port))]
+pub(crate) fn named_port(topology: &Topology, word: &[u8]) -> Result<u64, ScriptCause>
+    ensures { result ≡ named_port topology.now word.now }
+{
+    let port = port_in(word).ok_or(ScriptCause::UnknownPort)?;
+    let place = topology
+        .index_of(port.name)
+        .ok_or(ScriptCause::UnknownPort)?;
+    if topology.is_switch_at(place) {
+        switch_port(topology, place, port.number)
+    } else {
+        adapter_port(topology, place, port.number)
+    }
+}
+
+/// Port 0 of a switch.
+fn switch_port(topology: &Topology, place: usize, number: u128) -> Result<u64, ScriptCause>
+    ensures { result ≡ switch_port topology.now place number }
+{
+    if number == 0 {
+        Ok(guid_at(topology.nodes(), place))
+    } else {
+        Err(ScriptCause::UnknownPort)
+    }
+}
+
+/// A port of a channel adapter.
+fn adapter_port(topology: &Topology, place: usize, number: u128) -> Result<u64, ScriptCause>
+    requires { is_switch_at topology.now.nodes place ≡ false }
+    ensures { result ≡ adapter_port topology.now place number }
+{
+    let at = topology
+        .port_at(place, number)
+        .ok_or(ScriptCause::UnknownPort)?;
+    cabled_port(topology, at)
+}
+
+fn cabled_port(topology: &Topology, at: PortRef) -> Result<u64, ScriptCause>
+    requires adapter { is_switch_at topology.now.nodes at.node ≡ false }
+    requires within { at.port ≤ ports_at topology.now.nodes at.node }
+    ensures { result ≡ cabled_port topology.now at }
+{
+    if topology.is_cabled(at) {
+        Ok(topology.guid_of(at))
+    } else {
+        Err(ScriptCause::UncabledPort)
+    }
+}
