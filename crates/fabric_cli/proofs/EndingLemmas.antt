@@ -6,7 +6,7 @@ use Rattle.std.specs.declared.io.Error.{Error}
 use Rattle.std.specs.declared.vec.IntoIter.{IntoIter}
 use Rattle.subnet_core.specs.declared.fault.RunFault.TheVariants as run
 use Rattle.fabric_cli.specs.declared.faults.Stop.{Stop}
-use Rattle.fabric_cli.specs.declared.faults.Stop.TheVariants.{Words, NoMemory, Unread, Unwritten, Run}
+use Rattle.fabric_cli.specs.declared.faults.Stop.TheVariants.{Words, NoMemory, Unread, Unwritten, Run, Port}
 use Rattle.fabric_cli.specs.Faults.{line_of, memory_line, not_text_line, status_of, IsOfGiven}
 use Rattle.fabric_cli.specs.Files.{Contents, OpensAll, OpensInOrder}
 use Rattle.fabric_cli.specs.Serving.{Ending, complete, ending_of, not_text, ending_with, refused, EndsForSomeBytes, Ends, ForSomeBytes, IsRefused, IsTold, Stops, TellsStop}
@@ -34,6 +34,7 @@ stop_ends ending (Run run.NoMemory) answer out err err' is other told = absurd (
 stop_ends ending (Run (run.Topology line cause)) answer out err err' is other told = rw is (told.0, kept out, told.1)
 stop_ends ending (Run (run.Partitions line cause)) answer out err err' is other told = rw is (told.0, kept out, told.1)
 stop_ends ending (Run (run.Script line cause)) answer out err err' is other told = rw is (told.0, kept out, told.1)
+stop_ends ending (Port cause) answer out err err' is other told = rw is (told.0, kept out, told.1)
 
 -- it is told of files that were read
 pub is_told : (X : Type 0) (stop : Stop) (answer : ℕ) → answer ≢ 3 → answer ≡ status_of stop → let result : Result X Stop = Err stop in IsTold result
@@ -42,6 +43,7 @@ is_told X NoMemory answer other is = absurd (other is)
 is_told X (Unread name) answer other is = absurd (other is)
 is_told X Unwritten answer other is = absurd (other is)
 is_told X (Run fault) answer other is = tt
+is_told X (Port cause) answer other is = tt
 
 pub for_some_told : {A B : Contents → Type 0} (told : Option Contents) → ((file : Contents) → A file → B file) → IfSome told A → IfSome told B
 for_some_told None f a = tt
@@ -74,6 +76,8 @@ not_text_ends given (Unread name) answer out err err' is other told = absurd (ot
 not_text_ends given Unwritten answer out err err' is other told = absurd (other told.0)
 not_text_ends (Ok words) (Run fault) answer out err err' is other told = absurd is
 not_text_ends (Err error) (Run fault) answer out err err' is other told = absurd is
+not_text_ends (Ok words) (Port cause) answer out err err' is other told = absurd is
+not_text_ends (Err error) (Port cause) answer out err err' is other told = absurd is
 
 pub not_given_ends : (told : Option Contents) (given : Result (IntoIter (String Global) Global) Error) (stop : Stop) (answer : ℕ) (out err err' : Option (List ℕ))
     → IsOfGiven given stop → answer ≢ 3 → (answer ≡ status_of stop) × Appends err err' (line_of stop)
@@ -102,6 +106,8 @@ not_text_refused file reads opened (Ok words) Unwritten answer a b err err' thre
 not_text_refused file reads opened (Err error) Unwritten answer a b err err' three is (inl told) = absurd is
 not_text_refused file reads opened (Ok words) (Run fault) answer a b err err' three is (inl told) = absurd is
 not_text_refused file reads opened (Err error) (Run fault) answer a b err err' three is (inl told) = absurd is
+not_text_refused file reads opened (Ok words) (Port cause) answer a b err err' three is (inl told) = absurd is
+not_text_refused file reads opened (Err error) (Port cause) answer a b err err' three is (inl told) = absurd is
 
 pub not_given_refused : (told : Option Contents) (reads : Bool) (opened : Option (List (List ℕ))) (given : Result (IntoIter (String Global) Global) Error) (stop : Stop) (answer : ℕ) (a b : Bool) (err err' : Option (List ℕ))
     → answer ≡ 3 → IsOfGiven given stop → TellsStop stop answer b err err' ⊎ Writes b err err' memory_line

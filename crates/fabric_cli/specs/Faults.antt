@@ -13,7 +13,7 @@ use Rattle.subnet_core.specs.declared.fault.RunFault.{RunFault}
 use Rattle.subnet_core.specs.declared.fault.RunFault.TheVariants as run
 use Rattle.fabric_cli.specs.Files.{Contents, StopsAt}
 use Rattle.fabric_cli.specs.declared.faults.Stop.{Stop}
-use Rattle.fabric_cli.specs.declared.faults.Stop.TheVariants.{Words, NoMemory, Unread, Unwritten, Run}
+use Rattle.fabric_cli.specs.declared.faults.Stop.TheVariants.{Words, NoMemory, Unread, Unwritten, Run, Port}
 
 -- `fault CODE topology line L` and LF
 abbrev pub topology_line : List ℕ → ℕ → List ℕ
@@ -24,6 +24,10 @@ partitions_line code number = codes "fault " ++ (code ++ (codes " partitions lin
 
 abbrev pub script_line : List ℕ → ℕ → List ℕ
 script_line code number = codes "fault " ++ (code ++ (codes " script line " ++ (decimal number ++ codes "\n")))
+
+-- `fault CODE port`, of a word
+abbrev pub port_line : List ℕ → List ℕ
+port_line code = codes "fault " ++ (code ++ codes " port\n")
 
 abbrev pub memory_line : List ℕ
 memory_line = codes "fault memory\n"
@@ -51,6 +55,7 @@ line_of NoMemory = memory_line
 line_of (Unread name) = unread_line name.now
 line_of Unwritten = unwritten_line
 line_of (Run fault) = run_line fault
+line_of (Port cause) = port_line (script_code cause)
 
 abbrev pub status_of : Stop → ℕ
 status_of (Words text) = 2
@@ -58,6 +63,7 @@ status_of NoMemory = 3
 status_of (Unread name) = 3
 status_of Unwritten = 3
 status_of (Run fault) = run_status fault
+status_of (Port cause) = 1
 
 -- the words are refused with a text, unless memory was refused
 abbrev pub IsRefusalOf : Error → Stop → Type 0
@@ -96,6 +102,7 @@ IsOfFiles _ = ⊥
 abbrev pub IsOfRun : Stop → Type 0
 IsOfRun NoMemory = Unit {0}
 IsOfRun (Run fault) = Unit {0}
+IsOfRun (Port cause) = Unit {0}
 IsOfRun _ = ⊥
 
 -- a stop for a file that is not read names the file at which reading stopped

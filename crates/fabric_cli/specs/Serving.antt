@@ -1,19 +1,26 @@
 -- What a call answers, from its words and the bytes of its files alone.
-use Rattle.std.specs.Prelude.{ℕ, ◌≡◌, ◌≢◌, ◌⊎◌, Bool, true, false, List, [], Option, Some, None, is_some, option_map, Result, Ok, Err, Vec}
+use Rattle.std.specs.Prelude.{ℕ, ◌≡◌, ◌≢◌, ◌⊎◌, Bool, true, List, [], Option, Some, None, is_some, option_map, Result, Ok, Err, Vec}
+use Rattle.std.specs.Borrow.{Bor}
 use Rattle.std.specs.Global.{Global}
 use Rattle.std.specs.Io.KnownBytes.{Appends, Keeps}
 use Rattle.subnet_core.specs.declared.fault.RunFault.{RunFault}
 use Rattle.subnet_core.specs.declared.fault.RunFault.TheVariants as run
+use Rattle.port_shares.specs.Shares.{shares_text}
+use Rattle.subnet_model.specs.declared.subnet_port.SubnetPort.{SubnetPort}
+use Rattle.subnet_core.specs.declared.fault.ScriptCause.{ScriptCause}
+use Rattle.subnet_core.specs.Fault.{code_of as script_code}
 use Rattle.subnet_core.specs.Listing.{listing_text}
-use Rattle.subnet_core.specs.Run.{report_of, subnet_of}
+use Rattle.subnet_core.specs.NamedPort.{named_port}
+use Rattle.subnet_core.specs.Run.{Running, report_of, subnet_of}
+use Rattle.topo_file.specs.Topology.{Plan}
 use Rattle.result_words.specs.Steps.{◌>>=◌}
 use Rattle.subnet_core.specs.EventLines.{report_text}
 use Rattle.fabric_cli.specs.declared.faults.Stop.{Stop}
 use Rattle.fabric_cli.specs.declared.serving.Texts.{Texts}
 use Rattle.fabric_cli.specs.declared.words.Work.{Work}
 use Rattle.fabric_cli.specs.declared.words.Work.TheVariants as work
-use Rattle.fabric_cli.specs.declared.faults.Stop.TheVariants.{Words, NoMemory, Unread, Unwritten, Run}
-use Rattle.fabric_cli.specs.Faults.{line_of, status_of, memory_line, not_text_line, run_line, run_status, unread_line, unwritten_line}
+use Rattle.fabric_cli.specs.declared.faults.Stop.TheVariants.{Words, NoMemory, Unread, Unwritten, Run, Port}
+use Rattle.fabric_cli.specs.Faults.{line_of, status_of, memory_line, not_text_line, port_line, run_line, run_status, unread_line, unwritten_line}
 use Rattle.fabric_cli.specs.Files.{Contents, StopsAt}
 use Rattle.fabric_cli.specs.Words.{Names, asked_of}
 use Rattle.fabric_cli.specs.Writing.{Writes}
@@ -28,10 +35,11 @@ pub data Ending : Type 0 where
 pub record Bytes : Type 0 where
   pub topology : List ℕ
   pub partitions : Option (List ℕ)
-  pub work : Work (List ℕ)
+  pub work : Work (List ℕ) (List ℕ)
 
-abbrev pub work_bytes : Work (Vec ℕ Global) → Work (List ℕ)
+abbrev pub work_bytes : Work (Bor (List ℕ)) (Vec ℕ Global) → Work (List ℕ) (List ℕ)
 work_bytes work.Check = work.Check
+work_bytes (work.Shares port) = work.Shares (option_map (λ word. word.now) port)
 work_bytes (work.Run script) = work.Run script.items
 
 abbrev pub texts_in : Texts → Bytes
@@ -53,8 +61,9 @@ abbrev pub bytes_if_named : Contents → Option (List ℕ) → Result (Option (L
 bytes_if_named file None = Ok None
 bytes_if_named file (Some name) = bytes_of file name >>= λ bytes. Ok (Some bytes)
 
-abbrev pub work_of : Contents → Work (List ℕ) → Result (Work (List ℕ)) Ending
+abbrev pub work_of : Contents → Work (List ℕ) (List ℕ) → Result (Work (List ℕ) (List ℕ)) Ending
 work_of file work.Check = Ok work.Check
+work_of file (work.Shares port) = Ok (work.Shares port)
 work_of file (work.Run name) = bytes_of file name >>= λ bytes. Ok (work.Run bytes)
 
 -- all files are read before any of them is judged
@@ -74,17 +83,32 @@ abbrev pub reported : List ℕ → Option (List ℕ) → List ℕ → Result (Li
 reported topology partitions script =
     report_of topology partitions script >>= λ told. Ok (report_text told.ports told.events)
 
-abbrev pub output_of : List ℕ → Option (List ℕ) → Work (List ℕ) → Result (List ℕ) RunFault
-output_of topology partitions work.Check = listed topology partitions
-output_of topology partitions (work.Run script) = reported topology partitions script
-
 -- a fault is told by its line alone, and an output comes whole
 abbrev pub ending_by : Result (List ℕ) RunFault → Ending
 ending_by (Ok output) = complete output
 ending_by (Err fault) = faulted (run_status fault) (run_line fault)
 
+-- the GUID of the port that a word names, if there is a word
+abbrev pub asked_port : Plan → Option (List ℕ) → Result (Option ℕ) ScriptCause
+asked_port plan None = Ok None
+asked_port plan (Some word) = named_port plan word >>= λ guid. Ok (Some guid)
+
+abbrev pub shares_told : List SubnetPort → Result (Option ℕ) ScriptCause → Ending
+shares_told ports (Ok asked) = complete (shares_text asked ports)
+shares_told ports (Err cause) = faulted 1 (port_line (script_code cause))
+
+-- the shares in a subnet: the texts are judged before the word for a port
+abbrev pub shares_in : Result Running RunFault → Option (List ℕ) → Ending
+shares_in (Ok subnet) port = shares_told subnet.configuration.ports (asked_port subnet.plan port)
+shares_in (Err fault) port = faulted (run_status fault) (run_line fault)
+
+abbrev pub ending_over : List ℕ → Option (List ℕ) → Work (List ℕ) (List ℕ) → Ending
+ending_over topology partitions work.Check = ending_by (listed topology partitions)
+ending_over topology partitions (work.Shares port) = shares_in (subnet_of topology partitions) port
+ending_over topology partitions (work.Run script) = ending_by (reported topology partitions script)
+
 abbrev pub ending_with : Result Bytes Ending → Ending
-ending_with (Ok texts) = ending_by (output_of texts.topology texts.partitions texts.work)
+ending_with (Ok texts) = ending_over texts.topology texts.partitions texts.work
 ending_with (Err ending) = ending
 
 abbrev pub ending_for : Contents → Option Names → Ending
@@ -100,13 +124,15 @@ abbrev pub ending_of : Contents → Option (List (List ℕ)) → Ending
 ending_of file None = not_text
 ending_of file (Some words) = ending_for file (asked_of words)
 
-abbrev pub is_run : {X : Type 0} → Work X → Bool
-is_run work.Check = false
-is_run (work.Run script) = true
+-- what is to be done, whatever its files
+abbrev pub without_files : {W S : Type 0} → Work W S → Work W (Unit {0})
+without_files work.Check = work.Check
+without_files (work.Shares port) = work.Shares port
+without_files (work.Run script) = work.Run tt
 
 -- bytes for each of the files that are asked for, and for no other
 abbrev pub AreFor : Names → Bytes → Type 0
-AreFor names texts = (is_some texts.partitions ≡ is_some names.partitions) × (is_run texts.work ≡ is_run names.work)
+AreFor names texts = (is_some texts.partitions ≡ is_some names.partitions) × (without_files texts.work ≡ without_files names.work)
 
 -- it ends so where each file that is asked for had some bytes; one name that is asked for twice may have had two
 abbrev pub ForSomeBytes : Option Names → (Ending → Type 0) → Type 0
@@ -161,6 +187,7 @@ Stops ending NoMemory = Unit {0}
 Stops ending (Unread name) = Unit {0}
 Stops ending Unwritten = ⊥
 Stops ending (Run fault) = RunStops ending fault
+Stops ending (Port cause) = ending ≡ faulted 1 (port_line (script_code cause))
 
 -- a stop is told by its line, and with its status where the line can go out
 pub record TellsStop (stop : Stop) (answer : ℕ) (is_sure : Bool) (err err' : Option (List ℕ)) : Type 0 where
@@ -172,6 +199,7 @@ abbrev pub IsTold : {X : Type 0} → Result X Stop → Type 0
 IsTold (Ok output) = Unit {0}
 IsTold (Err (Words text)) = Unit {0}
 IsTold (Err (Run fault)) = Unit {0}
+IsTold (Err (Port cause)) = Unit {0}
 IsTold _ = ⊥
 
 -- an output comes as it is, and a stop by its line

@@ -9,12 +9,16 @@ use Rattle.std.specs.Vec.Iter.{into_iter_items}
 use Rattle.std.specs.declared.vec.IntoIter.{IntoIter}
 use Rattle.fabric_cli.specs.declared.words.Asked.{Asked}
 use Rattle.fabric_cli.specs.declared.words.Work.{Work}
-use Rattle.fabric_cli.specs.declared.words.Work.TheVariants.{Check, Run}
+use Rattle.fabric_cli.specs.declared.words.Work.TheVariants.{Check, Run, Shares}
 use Rattle.clap.specs.declared.builder.ArgAction.TheVariants.{Set}
 
 -- an argument that has to be given
 abbrev pub wanted : Text → Rule
 wanted name = record (new_rule name) { action = Some Set; required = true }
+
+-- an argument that may be given
+abbrev pub optional : Text → Rule
+optional name = record (new_rule name) { action = Some Set }
 
 -- a command that names a subnet by its topology and its partitions
 abbrev pub subnet_command : Text → App
@@ -22,6 +26,9 @@ subnet_command name = with_rule (with_rule (new_app name) (wanted (codes "TOPO")
 
 abbrev pub check_command : App
 check_command = subnet_command (codes "check")
+
+abbrev pub shares_command : App
+shares_command = with_rule (subnet_command (codes "shares")) (optional (codes "PORT"))
 
 abbrev pub run_command : App
 run_command = with_rule (subnet_command (codes "run")) (wanted (codes "SCRIPT"))
@@ -31,7 +38,7 @@ abbrev pub fabric_top : App
 fabric_top = let app = new_app (codes "fabric") in record app { top = record app.top { has_version = true; subcommand_required = true } }
 
 abbrev pub fabric_command : App
-fabric_command = with_subcommand (with_subcommand fabric_top check_command.top) run_command.top
+fabric_command = with_subcommand (with_subcommand (with_subcommand fabric_top check_command.top) shares_command.top) run_command.top
 
 -- the words that a program is given, where all of them are text
 abbrev pub given_items : {E : Type 0} → Result (IntoIter (String Global) Global) E → Option (List (String Global))
@@ -45,10 +52,11 @@ given_texts given = option_map (λ words. map string_bytes words) (given_items g
 pub record Names : Type 0 where
   pub topology : Text
   pub partitions : Option Text
-  pub work : Work Text
+  pub work : Work Text Text
 
-abbrev pub named_work : Work (Bor Text) → Work Text
+abbrev pub named_work : Work (Bor Text) (Bor Text) → Work Text Text
 named_work Check = Check
+named_work (Shares port) = Shares (option_map (λ word. word.now) port)
 named_work (Run script) = Run script.now
 
 abbrev pub names : Asked → Names
@@ -62,12 +70,14 @@ names asked = record {
 abbrev pub file_in : Text → Option Text
 file_in word = if bytes_eq word (codes "-") then None else Some word
 
--- `check` needs no script, and `run` does
-abbrev pub work_in : Text → Option Text → Option (Work Text)
-work_in command script =
-    if bytes_eq command (codes "check") then Some Check else option_map (λ name. Run name) script
+-- `check` needs no more words, `shares` takes a port, and `run` needs a script
+abbrev pub work_in : Text → Option Text → Option Text → Option (Work Text Text)
+work_in command port script =
+    if bytes_eq command (codes "check") then Some Check
+    else if bytes_eq command (codes "shares") then Some (Shares port)
+    else option_map (λ name. Run name) script
 
-abbrev pub asked_by : Option Text → Option Text → Option (Work Text) → Option Names
+abbrev pub asked_by : Option Text → Option Text → Option (Work Text Text) → Option Names
 asked_by (Some topology) (Some partitions) (Some work) =
     Some (record { topology = topology; partitions = file_in partitions; work = work })
 asked_by _ _ _ = None
@@ -76,7 +86,7 @@ abbrev pub asked_in : Option (Text × List Row) → Option Names
 asked_in None = None
 asked_in (Some found) =
     asked_by (first_of (codes "TOPO") found.1) (first_of (codes "PARTS") found.1)
-    (work_in found.0 (first_of (codes "SCRIPT") found.1))
+    (work_in found.0 (first_of (codes "PORT") found.1) (first_of (codes "SCRIPT") found.1))
 
 abbrev pub unless_refused : Kinds → Option Names → Option Names
 unless_refused [] asked = asked
@@ -92,8 +102,9 @@ abbrev pub asked_by_given : Option (List Text) → Option Names
 asked_by_given None = None
 asked_by_given (Some words) = asked_of words
 
-abbrev pub script_names : Work Text → List Text
+abbrev pub script_names : Work Text Text → List Text
 script_names Check = []
+script_names (Shares port) = []
 script_names (Run script) = script ∷ []
 
 -- the names that are opened, in order

@@ -1,11 +1,12 @@
 //! Why a call does not complete, and how that is told.
 
 ghost use Rattle.std.specs.Prelude.{◌≡◌, IfOk, string_bytes};
-ghost use Rattle.fabric_cli.specs.Faults.{line_of, run_line, run_status, status_of};
+ghost use Rattle.fabric_cli.specs.Faults.{line_of, port_line, run_line, run_status, status_of};
 ghost use Rattle.fabric_cli.specs.declared.faults.Stop.TheVariants.{NoMemory};
+ghost use Rattle.subnet_core.specs.Fault.{code_of as script_code};
 
 use std::alloc::{AllocError, AllocFailed, Global};
-use subnet_core::RunFault;
+use subnet_core::{RunFault, ScriptCause};
 
 /// The exit status of a call that completes.
 pub const COMPLETE: u8 = 0;
@@ -32,6 +33,8 @@ pub enum Stop<'a> {
     Unwritten,
     /// A text faults.
     Run(RunFault),
+    /// The word for a port names no end port.
+    Port(ScriptCause),
 }
 
 impl<'a> Stop<'a> {
@@ -43,6 +46,7 @@ impl<'a> Stop<'a> {
             Stop::Words(_) => WORDS_REFUSED,
             Stop::NoMemory | Stop::Unread(_) | Stop::Unwritten => REFUSED,
             Stop::Run(fault) => run_status(*fault),
+            Stop::Port(_) => FAULT,
         }
     }
 
@@ -56,6 +60,7 @@ impl<'a> Stop<'a> {
             Stop::Unread(name) => format!(in alloc; "fault read {name}\n"),
             Stop::Unwritten => String::from_str(alloc, "fault write\n"),
             Stop::Run(fault) => run_line(alloc, *fault),
+            Stop::Port(cause) => port_line(alloc, *cause),
         }
     }
 }
@@ -87,6 +92,13 @@ fn run_line(alloc: Global, fault: RunFault) -> Result<String, AllocError>
             format!(in alloc; "fault {code} script line {line}\n")
         }
     }
+}
+
+fn port_line(alloc: Global, cause: ScriptCause) -> Result<String, AllocError>
+    ensures { IfOk result (λ text. string_bytes text ≡ port_line (script_code cause)) }
+{
+    let code = cause.code();
+    format!(in alloc; "fault {code} port\n")
 }
 
 impl<'a> From<AllocError> for Stop<'a> {

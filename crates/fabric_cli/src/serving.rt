@@ -4,29 +4,31 @@ ghost use Rattle.std.specs.Prelude.{ℕ, ◌≡◌, ◌≢◌, ◌⊎◌, Result
 ghost use Rattle.std.specs.Io.KnownBytes.{Appends};
 ghost use Rattle.fabric_cli.specs.Faults.{line_of, memory_line, status_of, IsOfFiles, IsOfRun, NamesUnread};
 ghost use Rattle.fabric_cli.specs.Files.{OpensAll, OpensInOrder};
-ghost use Rattle.fabric_cli.specs.Serving.{bytes_if_named, ending_by, ending_for, ending_of, ending_with, is_run, listed, output_in, reported, texts_in, texts_of, work_bytes, work_of, AreFor, Ends, EndsForSomeBytes, ForSomeBytes, ComesTo, IsRefused, IsTold, TellsStop};
+ghost use Rattle.fabric_cli.specs.Serving.{bytes_if_named, ending_by, asked_port, ending_for, ending_of, ending_with, listed, output_in, reported, shares_in, texts_in, texts_of, without_files, work_bytes, work_of, AreFor, Ends, EndsForSomeBytes, ForSomeBytes, ComesTo, IsRefused, IsTold, TellsStop};
 ghost use Rattle.std.specs.Option.{option_to_list};
 ghost use Rattle.std.specs.Process.{exit_status};
 ghost use Rattle.fabric_cli.specs.Words.{asked_by_given, asked_of, given_texts, named_work, names, opened_for, script_names};
 ghost use Rattle.fabric_cli.specs.Writing.{AppendsPart, Writes};
+ghost use Rattle.subnet_core.specs.Run.{subnet_of};
 
 use crate::faults::{COMPLETE, MEMORY_LINE, REFUSED, Stop};
 use crate::files::Files;
 use crate::reading::read_file;
 use crate::words::{Asked, Work, given_words, read_words};
 use crate::writing::{Output, write_whole};
+use port_shares::shares_text;
 use std::alloc::Global;
 use std::env::Args;
 use std::io;
 use std::process::ExitCode;
-use subnet_core::{bring_up, run};
+use subnet_core::{ScriptCause, Subnet, bring_up, run};
 
 /// The bytes of the files, and what to do with them.
 #[derive(Drop)]
-struct Texts {
+struct Texts<'a> {
     topology: Vec<u8>,
     partitions: Option<Vec<u8>>,
-    work: Work<Vec<u8>>,
+    work: Work<&'a str, Vec<u8>>,
 }
 
 /// Does what the words ask for, the first of them the program's own name, and answers the exit
@@ -159,7 +161,7 @@ fn output_of_files<'a, F: Files>(
 }
 
 /// The output over these texts.
-fn output_of_texts<'a>(alloc: Global, texts: &Texts) -> Result<Vec<u8>, Stop<'a>>
+fn output_of_texts<'a>(alloc: Global, texts: &Texts<'_>) -> Result<Vec<u8>, Stop<'a>>
     ensures exact { ComesTo (λ text. text.items) (ending_with (Ok (texts_in texts.now))) result }
     ensures fault { IfErr result IsOfRun }
 {
@@ -167,6 +169,7 @@ fn output_of_texts<'a>(alloc: Global, texts: &Texts) -> Result<Vec<u8>, Stop<'a>
     let partitions = slice_of(&texts.partitions);
     match &texts.work {
         Work::Check => listed(alloc, topology, partitions),
+        Work::Shares(port) => shared(alloc, topology, partitions, *port),
         Work::Run(script) => reported(alloc, topology, partitions, script.as_slice()),
     }
 }
@@ -187,6 +190,46 @@ fn listed<'a>(
             Err(_) => Err(Stop::NoMemory),
         },
         Err(fault) => Err(Stop::Run(fault)),
+    }
+}
+
+/// The shares in a subnet, of one port alone where a word names it.
+fn shared<'a>(
+    alloc: Global,
+    topology: &[u8],
+    partitions: Option<&[u8]>,
+    port: Option<&str>,
+) -> Result<Vec<u8>, Stop<'a>>
+    ensures exact { ComesTo (λ text. text.items)
+        (shares_in (subnet_of topology.now (option_copied partitions.entry)) (option_map (λ word. word.now) port.entry)) result }
+    ensures fault { IfErr result IsOfRun }
+{
+    match bring_up(alloc, topology, partitions) {
+        Ok(subnet) => shares_in(alloc, &subnet, port),
+        Err(fault) => Err(Stop::Run(fault)),
+    }
+}
+
+fn shares_in<'a>(alloc: Global, subnet: &Subnet, port: Option<&str>) -> Result<Vec<u8>, Stop<'a>>
+    ensures exact { ComesTo (λ text. text.items) (shares_in (Ok subnet.now) (option_map (λ word. word.now) port.entry)) result }
+    ensures fault { IfErr result IsOfRun }
+{
+    match asked_port(subnet, port) {
+        Ok(asked) => match shares_text(alloc, subnet.configuration().ports(), asked) {
+            Ok(text) => Ok(text),
+            Err(_) => Err(Stop::NoMemory),
+        },
+        Err(cause) => Err(Stop::Port(cause)),
+    }
+}
+
+/// The GUID of the port that a word names, if there is a word.
+fn asked_port(subnet: &Subnet, port: Option<&str>) -> Result<Option<u64>, ScriptCause>
+    ensures { result ≡ asked_port subnet.now.plan (option_map (λ word. word.now) port.entry) }
+{
+    match port {
+        Some(word) => Ok(Some(subnet.named_port(word.as_bytes())?)),
+        None => Ok(None),
     }
 }
 
@@ -225,7 +268,7 @@ fn read_texts<'a, F: Files>(
     alloc: Global,
     asked: &Asked<'a>,
     files: &mut F,
-) -> Result<Texts, Stop<'a>>
+) -> Result<Texts<'a>, Stop<'a>>
     ensures order { OpensInOrder (F.opened files.old) (F.opened files.new) (opened_for (Some (names asked.now))) }
     ensures all { OnOk result (OpensAll (F.opened files.old) (F.opened files.new) (opened_for (Some (names asked.now)))) }
     ensures texts { IfOk result (λ texts. IfSome (F.told files.old) (λ file.
@@ -270,19 +313,20 @@ fn read_if_named<'a, F: Files>(
 fn read_work<'a, F: Files>(
     alloc: Global,
     files: &mut F,
-    work: &Work<&'a str>,
-) -> Result<Work<Vec<u8>>, Stop<'a>>
+    work: &Work<&'a str, &'a str>,
+) -> Result<Work<&'a str, Vec<u8>>, Stop<'a>>
     ensures opened { OpensAll (F.opened files.old) (F.opened files.new) (script_names (named_work work.now)) }
     ensures same { F.told files.new ≡ F.told files.old }
     ensures stays { F.reads files.new ≡ F.reads files.old }
     ensures bytes { IfOk result (λ bytes. IfSome (F.told files.old) (λ file.
         work_of file (named_work work.now) ≡ Ok (work_bytes bytes))) }
-    ensures shape { IfOk result (λ bytes. is_run (work_bytes bytes) ≡ is_run (named_work work.now)) }
+    ensures shape { IfOk result (λ bytes. without_files (work_bytes bytes) ≡ without_files (named_work work.now)) }
     ensures fault { IfErr result IsOfFiles }
     ensures unread { IfErr result (NamesUnread (F.told files.old) (F.reads files.old) (F.opened files.old) (F.opened files.new) (script_names (named_work work.now))) }
 {
     match work {
         Work::Check => Ok(Work::Check),
+        Work::Shares(port) => Ok(Work::Shares(*port)),
         Work::Run(script) => Ok(Work::Run(read_file(alloc, files, *script)?)),
     }
 }

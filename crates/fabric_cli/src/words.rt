@@ -4,9 +4,9 @@ ghost use Rattle.std.specs.Prelude.{◌≡◌, false, Some, codes, map, string_b
 ghost use Rattle.clap.specs.Words.{app_of, rule_of, subcommand_rows_of};
 ghost use Rattle.clap.specs.declared.builder.command.Command.TheViews.{out-Command as fields_of};
 ghost use Rattle.fabric_cli.specs.Faults.{IsOfGiven, IsOfWords, IsRefusalOf, TellsAll};
-ghost use Rattle.fabric_cli.specs.Help.{about_check, about_program, about_run, help_of_partitions, help_of_script, help_of_topology, program_name, program_version, text_in};
-ghost use Rattle.fabric_cli.specs.Words.{asked_by, asked_in, asked_of, check_command, fabric_command, file_in, given_items, named_work, names, run_command, subnet_command, wanted, work_in};
-ghost use Rattle.fabric_cli.specs.declared.words.TheConstants.{LISTING, REPORT, STATUSES};
+ghost use Rattle.fabric_cli.specs.Help.{about_check, about_program, about_run, about_shares, help_of_partitions, help_of_port, help_of_script, help_of_topology, program_name, program_version, text_in};
+ghost use Rattle.fabric_cli.specs.Words.{asked_by, asked_in, asked_of, check_command, fabric_command, file_in, given_items, named_work, names, optional, run_command, shares_command, subnet_command, wanted, work_in};
+ghost use Rattle.fabric_cli.specs.declared.words.TheConstants.{LISTING, REPORT, SHARES, STATUSES};
 
 use crate::faults::Stop;
 use clap::error::ErrorKind;
@@ -18,9 +18,11 @@ use std::io;
 
 /// What to do in a subnet.
 #[derive(Drop)]
-pub enum Work<S> {
+pub enum Work<W, S> {
     /// List its ports and the members of its partitions.
     Check,
+    /// List which two ports may talk to one another; of one port alone, where a word names it.
+    Shares(Option<W>),
     /// Run a script.
     Run(S),
 }
@@ -33,13 +35,15 @@ pub struct Asked<'a> {
     /// The partitions, or none where the word is `-`.
     pub partitions: Option<&'a str>,
     /// What to do in the subnet of these.
-    pub work: Work<&'a str>,
+    pub work: Work<&'a str, &'a str>,
 }
 
 const ABOUT: &str = "An InfiniBand subnet manager over a simulated fabric";
 
 const ABOUT_CHECK: &str =
     "Lists the ports of a subnet by LID, and the members of each partition with their keys";
+
+const ABOUT_SHARES: &str = "Lists which two ports may talk to one another, and in which partitions";
 
 const ABOUT_RUN: &str = "Runs a script in a subnet, and prints what its ports receive";
 
@@ -51,7 +55,7 @@ macro_rules! with_statuses {
             $before,
             "Exit statuses:
   0  complete
-  1  a fault in a file, told on standard error by one line
+  1  a fault in what is given, told on standard error by one line
   2  the words are refused, or ",
             $asked,
             " is asked for
@@ -67,7 +71,8 @@ const STATUSES: &str = with_statuses!(
     "
 
 A fault is told as `fault CODE topology line L`, `fault CODE partitions line L`,
-`fault CODE script line L`, `fault memory`, `fault read NAME` or `fault write`."
+`fault CODE script line L`, `fault CODE port`, `fault memory`, `fault read NAME` or
+`fault write`."
 );
 
 const NOT_TEXT: &str = "error: a word is not text\n";
@@ -86,6 +91,22 @@ For example, for `P1=0x0001: 0x111=full, 0x121;` in PARTS:
   partition 1 0x0001 P1
   member 0x8001 h1/1
   member 0x0001 h2/1
+
+",
+    "help",
+    ""
+);
+
+const SHARES: &str = with_statuses!(
+    "There is a line for each two end ports, by LID, and for each partition, by rising base, in which
+their keys match; the ports of switches and the subnet manager's count:
+  share PORT PORT BASE    both have a key of this base, and one of them is a full member
+
+With PORT there are only the lines that name it.
+
+For example, for `P1=0x0001: 0x111=full, 0x121, 0x131;` in PARTS:
+  share h1/1 h2/1 0x0001
+  share h1/1 h3/1 0x0001
 
 ",
     "help",
@@ -151,6 +172,16 @@ fn wanted_script<'a>(alloc: Global) -> Arg<'a>
     wanted(alloc, "SCRIPT", "The script: what ports send")
 }
 
+fn optional_port<'a>(alloc: Global) -> Arg<'a>
+    ensures global { result.global ≡ false }
+    ensures rule { rule_of result ≡ optional (codes "PORT") }
+    ensures help { text_in result.help ≡ Some help_of_port }
+{
+    Arg::new(alloc, "PORT").action(ArgAction::Set).help(
+        "An end port as `check` lists it: `h1/1`, or `A/0` for port 0 of switch A",
+    )
+}
+
 /// A command that names a subnet by its topology and its partitions.
 fn subnet_command<'a>(alloc: Global, name: &'a str) -> Result<Command<'a>, AllocError>
     ensures { IfOk result (λ command. app_of command ≡ subnet_command name.entry.now) }
@@ -169,6 +200,16 @@ fn check_command<'a>(alloc: Global) -> Result<Command<'a>, AllocError>
 {
     let command = subnet_command(alloc, "check")?;
     Ok(command.about(ABOUT_CHECK).after_help(LISTING))
+}
+
+/// The command that lists who may talk to whom in a subnet.
+fn shares_command<'a>(alloc: Global) -> Result<Command<'a>, AllocError>
+    ensures words { IfOk result (λ command. app_of command ≡ shares_command) }
+    ensures about { IfOk result (λ command. text_in (fields_of command).about ≡ Some about_shares) }
+    ensures help { IfOk result (λ command. text_in (fields_of command).after_help ≡ Some SHARES.now) }
+{
+    let command = subnet_command(alloc, "shares")?.arg(optional_port(alloc))?;
+    Ok(command.about(ABOUT_SHARES).after_help(SHARES))
 }
 
 /// The command that runs a script in a subnet.
@@ -192,6 +233,7 @@ fn fabric_command<'a>(alloc: Global) -> Result<Command<'a>, AllocError>
     let command = Command::new(alloc, "fabric")
         .subcommand_required(true)
         .subcommand(check_command(alloc)?)?
+        .subcommand(shares_command(alloc)?)?
         .subcommand(run_command(alloc)?)?
         .bin_name("fabric")?;
     Ok(command.version("0.1.0").about(ABOUT).after_help(STATUSES))
@@ -231,17 +273,24 @@ fn names_in<'a>(matches: &ArgMatches<'a>) -> Option<Asked<'a>>
     let (command, found) = matches.subcommand()?;
     let topology = found.get_str("TOPO");
     let partitions = found.get_str("PARTS");
-    let work = work_in(command, found.get_str("SCRIPT"));
+    let work = work_in(command, found.get_str("PORT"), found.get_str("SCRIPT"));
     asked_by(topology, partitions, work)
 }
 
-/// What a command does, with its script if it has one.
-fn work_in<'a>(command: &str, script: Option<&'a str>) -> Option<Work<&'a str>>
-    ensures { option_map named_work result
-        ≡ work_in command.now (option_map (λ word. word.now) script.entry) }
+/// What a command does, with its port or its script if it has one.
+fn work_in<'a>(
+    command: &str,
+    port: Option<&'a str>,
+    script: Option<&'a str>,
+) -> Option<Work<&'a str, &'a str>>
+    ensures { option_map named_work result ≡ work_in command.now
+        (option_map (λ word. word.now) port.entry) (option_map (λ word. word.now) script.entry) }
 {
     if command == "check" {
         return Some(Work::Check);
+    }
+    if command == "shares" {
+        return Some(Work::Shares(port));
     }
     match script {
         Some(script) => Some(Work::Run(script)),
@@ -253,7 +302,7 @@ fn work_in<'a>(command: &str, script: Option<&'a str>) -> Option<Work<&'a str>>
 fn asked_by<'a>(
     topology: Option<&'a str>,
     partitions: Option<&'a str>,
-    work: Option<Work<&'a str>>,
+    work: Option<Work<&'a str, &'a str>>,
 ) -> Option<Asked<'a>>
     ensures { option_map names result ≡ asked_by (option_map (λ word. word.now) topology.entry)
         (option_map (λ word. word.now) partitions.entry) (option_map named_work work.entry) }
