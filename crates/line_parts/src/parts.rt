@@ -18,12 +18,12 @@ pub fn push_port(text: &mut Vec<u8>, port: &SubnetPort) -> Result<(), AllocError
     push_decimal(text, usize::from(port.number))
 }
 
-/// Adds `0x` and two digits a byte, of at most 8 bytes.
+/// Adds `0x` and two digits a byte, of at most 16 bytes.
 pub fn push_hex(text: &mut Vec<u8>, bytes: &[u8]) -> Result<(), AllocError>
-    requires { length bytes.now ≤ 8 }
+    requires { length bytes.now ≤ 16 }
     ensures { OnOk result (text.new.items ≡ text.old.items ++ hex_text bytes.now) }
 {
-    let mut digits = [0; 16];
+    let mut digits = [0; 32];
     text.extend_from_slice(b"0x")?;
     text.extend_from_slice(digits_of(bytes, &mut digits))
 }

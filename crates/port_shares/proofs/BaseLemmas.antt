@@ -1,5 +1,5 @@
 -- Lists of bases: what is kept when they are sorted and doubles are left out.
-use Rattle.std.proofs.Common.{◌≡◌, ℕ, Bool, true, false, ◌==◌, List, [], ◌∷◌, map, refl, sym, ◌∙◌, arith}
+use Rattle.std.proofs.Common.{◌≡◌, ℕ, Bool, true, false, ◌==◌, List, [], ◌∷◌, ◌++◌, map, refl, sym, ◌∙◌, arith}
 use Rattle.std.specs.List.{dedup, list_any}
 use Rattle.std.specs.List.Sorted.{IsPermutation}
 use Rattle.std.proofs.lemmas.Bool.{eqb-true}
@@ -35,3 +35,8 @@ same_numbers xs ys zs b moved left =
 pub any_mapped : {X : Type 0} (f : X → ℕ) (p : ℕ → Bool) (xs : List X) → list_any p (map f xs) ≡ list_any (λ x. p (f x)) xs
 any_mapped f p [] = refl
 any_mapped f p (x ∷ xs) = rw (any_mapped f p xs) refl
+
+-- of two lists, one behind the other
+pub any_mapped_both : {X : Type 0} (f : X → ℕ) (p : ℕ → Bool) (xs ys : List X) → list_any p (map f xs ++ map f ys) ≡ list_any (λ x. p (f x)) (xs ++ ys)
+any_mapped_both f p [] ys = any_mapped f p ys
+any_mapped_both f p (x ∷ xs) ys = rw (any_mapped_both f p xs ys) refl

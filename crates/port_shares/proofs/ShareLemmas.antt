@@ -108,7 +108,7 @@ is_shared_base base (p ∷ ps) qs h =
 
 -- ---- texts
 -- who may talk under a base has a key of it
-has_base : (base : ℕ) (ps qs : List ℕ) → shares_base base ps qs ≡ true → list_any (λ key. base_of key == base) ps ≡ true
+pub has_base : (base : ℕ) (ps qs : List ℕ) → shares_base base ps qs ≡ true → list_any (λ key. base_of key == base) ps ≡ true
 has_base base ps qs h =
     list_any_weaker (λ key. (base_of key == base) && has_match base key qs) (λ key. base_of key == base)
     (λ key both. (and_parts (base_of key == base) (has_match base key qs) both).0) ps h

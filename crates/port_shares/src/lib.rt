@@ -1,6 +1,6 @@
 //! Who may talk to whom: the lines that `fabric shares` prints.
 //!
-//! [`shares_text`] is the one call: for each two end ports of a subnet, and for each partition in which their keys
+//! [`shares_text`] is the call that a command makes: for each two end ports of a subnet, and for each partition in which their keys
 //! match, a line; or only those that name one port. Two keys match where they name one partition and at least one of
 //! them is a full member's (InfiniBand Architecture Specification, volume 1, 14.2.5.7). `specs/Shares.antt` says it
 //! over key tables alone, and `specs/Laws.antt` that two ports have a line exactly where they are near each other.
@@ -10,5 +10,6 @@ mod bases;
 mod laws;
 mod shares;
 
+pub use crate::bases::{bases_of_both, rising};
 pub use crate::laws::near_is_to_share;
-pub use crate::shares::shares_text;
+pub use crate::shares::{may_talk, push_share_line, shares_text};

@@ -100,15 +100,15 @@ fn push_base(
 ) -> Result<(), AllocError>
     ensures { OnOk result (text.new.items ≡ text.old.items ++ base_text port.now other.now base) }
 {
-    if share(port, other, base) {
-        push_line(text, port, other, base)
+    if may_talk(port, other, base) {
+        push_share_line(text, port, other, base)
     } else {
         Ok(())
     }
 }
 
 /// Whether the keys of two ports match in the partition of that base.
-fn share(port: &SubnetPort, other: &SubnetPort, base: u16) -> bool
+pub fn may_talk(port: &SubnetPort, other: &SubnetPort, base: u16) -> bool
     ensures { result ≡ shares_base base port.now.keys other.now.keys }
 {
     port.keys.as_slice().iter().any(
@@ -128,7 +128,8 @@ fn has_match(base: u16, key: PKey, port: &SubnetPort) -> bool
         .any(|held| held.base() == base && held.matches(key))
 }
 
-fn push_line(
+/// Adds `share PORT PORT BASE`.
+pub fn push_share_line(
     text: &mut Vec<u8>,
     port: &SubnetPort,
     other: &SubnetPort,

@@ -7,6 +7,7 @@ use Rattle.pkey_rules.specs.KeyTable.{find_base}
 use Rattle.partition_file.specs.declared.heading.Heading.{Heading}
 use Rattle.subnet_model.specs.Configuration.{Configured}
 use Rattle.subnet_model.specs.declared.subnet_port.SubnetPort.{SubnetPort}
+use Rattle.line_parts.specs.Lines.{heading_line, member_line}
 use Rattle.line_parts.specs.Parts.{hex_text, port_text}
 
 -- `port LID GUID PORT`
@@ -15,22 +16,6 @@ port_line port =
     codes "port " ++ hex_text (to_be_bytes w16 port.lid)
     ++ codes " " ++ hex_text (to_be_bytes w64 port.guid)
     ++ codes " " ++ port_text port ++ 10 ∷ []
-
--- an empty name is shown as `-`
-abbrev pub shown_name : List ℕ → List ℕ
-shown_name [] = codes "-"
-shown_name (first ∷ rest) = first ∷ rest
-
--- `partition NUMBER BASE NAME`
-abbrev pub heading_line : ℕ → Heading → List ℕ
-heading_line number heading =
-    codes "partition " ++ decimal number
-    ++ codes " " ++ hex_text (to_be_bytes w16 heading.base)
-    ++ codes " " ++ shown_name heading.name ++ 10 ∷ []
-
--- `member KEY PORT`
-abbrev pub member_line : SubnetPort → ℕ → List ℕ
-member_line port key = codes "member " ++ hex_text (to_be_bytes w16 key) ++ codes " " ++ port_text port ++ 10 ∷ []
 
 -- the line of a port that holds a key of this base
 abbrev pub member_text : ℕ → SubnetPort → List ℕ

@@ -2,11 +2,10 @@
 
 ghost use Rattle.std.specs.Prelude.{◌≡◌, ◌++◌, [], ◌∷◌, OnOk, IfOk};
 ghost use Rattle.std.specs.List.{flat_map, enumerate_from};
-ghost use Rattle.subnet_core.specs.Listing.{heading_line, listing_text, member_line, member_text, partition_text, port_line, shown_name};
+ghost use Rattle.subnet_core.specs.Listing.{listing_text, member_text, partition_text, port_line};
 
-use line_parts::{push_decimal, push_hex, push_port};
+use line_parts::{push_heading_line, push_hex, push_member_line, push_port};
 use partition_file::Heading;
-use pkey_rules::PKey;
 use std::alloc::{AllocError, Global};
 use subnet_model::{Configuration, SubnetPort};
 
@@ -72,26 +71,6 @@ fn push_partition(
     push_members(text, heading.base, ports)
 }
 
-fn push_heading_line(text: &mut Vec<u8>, number: usize, heading: &Heading) -> Result<(), AllocError>
-    ensures { OnOk result (text.new.items ≡ text.old.items ++ heading_line number heading.now) }
-{
-    text.extend_from_slice(b"partition ")?;
-    push_decimal(text, number)?;
-    text.extend_from_slice(b" ")?;
-    push_hex(text, &heading.base.to_be_bytes())?;
-    text.extend_from_slice(b" ")?;
-    text.extend_from_slice(shown_name(heading.name.as_bytes()))?;
-    text.push(b'\n')?;
-    Ok(())
-}
-
-/// A name, or `-` for an empty one.
-fn shown_name(name: &[u8]) -> &[u8]
-    ensures { result.now ≡ shown_name name.now }
-{
-    if name.is_empty() { b"-" } else { name }
-}
-
 fn push_members(text: &mut Vec<u8>, base: u16, ports: &[SubnetPort]) -> Result<(), AllocError>
     ensures { OnOk result (text.new.items ≡ text.old.items ++ flat_map (member_text base) ports.now) }
 {
@@ -108,15 +87,4 @@ fn push_member(text: &mut Vec<u8>, base: u16, port: &SubnetPort) -> Result<(), A
         Some(key) => push_member_line(text, port, key),
         None => Ok(()),
     }
-}
-
-fn push_member_line(text: &mut Vec<u8>, port: &SubnetPort, key: PKey) -> Result<(), AllocError>
-    ensures { OnOk result (text.new.items ≡ text.old.items ++ member_line port.now key) }
-{
-    text.extend_from_slice(b"member ")?;
-    push_hex(text, &key.bits().to_be_bytes())?;
-    text.extend_from_slice(b" ")?;
-    push_port(text, port)?;
-    text.push(b'\n')?;
-    Ok(())
 }

@@ -1,0 +1,2 @@
+pub mod BaseLemmas
+pub mod ChangeLemmas

@@ -1,0 +1,14 @@
+//! What a partition file in place of another changes in a subnet: the lines that `fabric diff` prints.
+//!
+//! [`changes_text`] is the one call: partitions, groups, members and shares that go, each behind `-`, or come, each
+//! behind `+`. `specs/Changes.antt` says it over two configurations of one topology.
+#![tactic(auto)]
+
+mod bases;
+mod changes;
+mod headings;
+mod members;
+mod ports;
+mod shares;
+
+pub use crate::changes::changes_text;
