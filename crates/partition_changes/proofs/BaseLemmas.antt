@@ -58,11 +58,11 @@ there_with base (first ∷ rest) n = elim (cases_Bool (nat_lt base first)) [
   ])
 ]
 
-rising_rises : (headings : List Heading) → Rises (rising_bases headings)
+pub rising_rises : (headings : List Heading) → Rises (rising_bases headings)
 rising_rises [] = tt
 rising_rises (heading ∷ headings) = rises_with heading.base (rising_bases headings) (rising_rises headings)
 
-rising_there : (headings : List Heading) (n : ℕ) → list_any (λ one. one == n) (rising_bases headings) ≡ list_any (λ heading. heading.base == n) headings
+pub rising_there : (headings : List Heading) (n : ℕ) → list_any (λ one. one == n) (rising_bases headings) ≡ list_any (λ heading. heading.base == n) headings
 rising_there [] n = refl
 rising_there (heading ∷ headings) n =
     there_with heading.base (rising_bases headings) n ∙ ap (λ b. (heading.base == n) || b) (rising_there headings n)

@@ -1,2 +1,5 @@
 pub mod BaseLemmas
 pub mod ChangeLemmas
+pub mod KindLemmas
+pub mod MemberLemmas
+pub mod ToldLemmas

@@ -7,8 +7,10 @@
 mod bases;
 mod changes;
 mod headings;
+mod laws;
 mod members;
 mod ports;
 mod shares;
 
 pub use crate::changes::changes_text;
+pub use crate::laws::{groups_are_told, members_are_told, partitions_are_told};

@@ -16,7 +16,7 @@ use Rattle.port_shares.specs.Laws.{NearIsToShare, is_of_both}
 use Rattle.port_shares.specs.Shares.{pair_shares, shared_bases, shares}
 
 -- ---- some of a list
-same_any : {X : Type 0} (f g : X → Bool) → ((x : X) → f x ≡ g x) → (xs : List X) → list_any f xs ≡ list_any g xs
+pub same_any : {X : Type 0} (f g : X → Bool) → ((x : X) → f x ≡ g x) → (xs : List X) → list_any f xs ≡ list_any g xs
 same_any f g same [] = refl
 same_any f g same (x ∷ xs) = rw (same x, same_any f g same xs) refl
 
@@ -43,7 +43,7 @@ any_turned r [] ys = sym (any_none ys)
 any_turned r (x ∷ xs) ys =
     rw (any_turned r xs ys) (sym (any_or (λ y. r x y) (λ y. list_any (λ x. r x y) xs) ys))
 
-any_flat : {X Y : Type 0} (p : Y → Bool) (f : X → List Y) (xs : List X) → list_any p (flat_map f xs) ≡ list_any (λ x. list_any p (f x)) xs
+pub any_flat : {X Y : Type 0} (p : Y → Bool) (f : X → List Y) (xs : List X) → list_any p (flat_map f xs) ≡ list_any (λ x. list_any p (f x)) xs
 any_flat p f [] = refl
 any_flat p f (x ∷ xs) = list_any-append p (f x) (flat_map f xs) ∙ ap (λ b. list_any p (f x) || b) (any_flat p f xs)
 

@@ -1,0 +1,63 @@
+-- What goes is what was said and is said no more; what comes is what was not said before.
+use Rattle.std.specs.Prelude.{ℕ, ◌≡◌, Bool, false, not, ◌==◌, ◌&&◌, List, Option, map}
+use Rattle.std.specs.List.{IsDistinct, list_any, zip}
+use Rattle.std.specs.Option.{option_map_or}
+use Rattle.partition_changes.specs.Changes.{Change, bases_named, group_changes, grouped, member_changes, member_of, partition_changes, partition_of, same_group, same_member, same_partition}
+use Rattle.partition_file.specs.declared.heading.Heading.{Heading}
+use Rattle.pkey_rules.specs.PKey.{base_of}
+use Rattle.subnet_model.specs.declared.subnet_port.SubnetPort.{SubnetPort}
+
+-- this is what is said
+abbrev pub says : {X : Type 0} → (X → X → Bool) → X → Option X → Bool
+says same x said = option_map_or (same x) said false
+
+-- it goes, or it comes, by these changes
+abbrev pub goes : {X : Type 0} → (X → X → Bool) → X → List (Change X) → Bool
+goes same x changes = list_any (λ change. not change.comes && same x change.what) changes
+
+abbrev pub comes : {X : Type 0} → (X → X → Bool) → X → List (Change X) → Bool
+comes same x changes = list_any (λ change. change.comes && same x change.what) changes
+
+-- changes tell exactly what of two files one has and the other has not
+pub record TellWhatChanges {X : Type 0} (same : X → X → Bool) (before after : X → Bool) (changes : List (Change X)) : Type 0 where
+  pub gone : (x : X) → goes same x changes ≡ (before x && not (after x))
+  pub come : (x : X) → comes same x changes ≡ (after x && not (before x))
+
+-- ---- partitions, by base, number and name
+abbrev pub has_partition : List Heading → ℕ × Heading → Bool
+has_partition headings x = says same_partition x (partition_of headings x.1.base)
+
+abbrev pub PartitionsAreTold : Type 0
+PartitionsAreTold =
+    (before after : List Heading) → TellWhatChanges same_partition (has_partition before) (has_partition after) (partition_changes before after)
+
+-- ---- groups, by base and all that their lines tell
+abbrev pub has_group : List Heading → Heading → Bool
+has_group headings x = says same_group x (grouped headings x.base)
+
+abbrev pub GroupsAreTold : Type 0
+GroupsAreTold =
+    (before after : List Heading) → TellWhatChanges same_group (has_group before) (has_group after) (group_changes before after)
+
+-- ---- members, by port and key
+abbrev pub same_guid : SubnetPort → SubnetPort → Bool
+same_guid a b = a.guid == b.guid
+
+-- the ports are the same, in the same order, and each has a GUID of its own
+pub record AreSamePorts (before after : List SubnetPort) : Type 0 where
+  pub same : map (λ port. port.guid) before ≡ map (λ port. port.guid) after
+  pub own : IsDistinct same_guid before
+
+abbrev pub has_member : List SubnetPort → SubnetPort × ℕ → Bool
+has_member ports x = list_any (λ port. says same_member x (member_of (base_of x.1) port)) ports
+
+-- of members of these partitions
+abbrev pub is_of : List ℕ → SubnetPort × ℕ → Bool
+is_of bases x = list_any (λ base. base == base_of x.1) bases
+
+abbrev pub MembersAreTold : Type 0
+MembersAreTold =
+    (before after : List SubnetPort) (headings others : List Heading) → AreSamePorts before after
+    → TellWhatChanges same_member (λ x. is_of (bases_named headings others) x && has_member before x)
+    (λ x. is_of (bases_named headings others) x && has_member after x)
+    (member_changes (bases_named headings others) (zip before after))

@@ -1,0 +1,19 @@
+//! What changes tell, over the definitions alone. The functions do nothing: their contracts are the laws.
+
+ghost use Rattle.partition_changes.specs.Laws.{GroupsAreTold, MembersAreTold, PartitionsAreTold};
+
+/// A partition with its number and name goes exactly where it was there before and is not after, and comes the other way
+/// round.
+pub fn partitions_are_told()
+    ensures { PartitionsAreTold }
+{}
+
+/// So does a group.
+pub fn groups_are_told()
+    ensures { GroupsAreTold }
+{}
+
+/// So does the key of a port in one of the partitions, where the ports are the same before and after.
+pub fn members_are_told()
+    ensures { MembersAreTold }
+{}
