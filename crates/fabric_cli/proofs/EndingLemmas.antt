@@ -1,15 +1,15 @@
 -- How a call ends, from what was written and told.
 use Rattle.std.proofs.Common.{ℕ, ◌≡◌, ◌≢◌, ◌∙◌, ◌⊎◌, inl, inr, refl, sym, append-nil, arith, ap, Bool, true, List, [], Option, Some, None, IfSome}
-use Rattle.std.proofs.Common.{Result, Ok, Err, option_map, map, string_bytes, String, Global}
+use Rattle.std.proofs.Common.{Result, Ok, Err, option_map, map, string_bytes, String, Global, Vec, subst}
 use Rattle.std.specs.Io.KnownBytes.{Appends, Keeps}
 use Rattle.std.specs.declared.io.Error.{Error}
 use Rattle.std.specs.declared.vec.IntoIter.{IntoIter}
 use Rattle.subnet_core.specs.declared.fault.RunFault.TheVariants as run
 use Rattle.fabric_cli.specs.declared.faults.Stop.{Stop}
-use Rattle.fabric_cli.specs.declared.faults.Stop.TheVariants.{Words, NoMemory, Unread, Unwritten, Run, Port}
+use Rattle.fabric_cli.specs.declared.faults.Stop.TheVariants.{Words, NoMemory, Unread, Unwritten, Run, Port, Second}
 use Rattle.fabric_cli.specs.Faults.{line_of, memory_line, not_text_line, status_of, IsOfGiven}
 use Rattle.fabric_cli.specs.Files.{Contents, OpensAll, OpensInOrder}
-use Rattle.fabric_cli.specs.Serving.{Ending, complete, ending_of, not_text, ending_with, refused, EndsForSomeBytes, Ends, ForSomeBytes, IsRefused, IsTold, Stops, TellsStop}
+use Rattle.fabric_cli.specs.Serving.{Bytes, ComesTo, Ending, complete, ending_of, not_text, ending_with, refused, EndsForSomeBytes, Ends, ForSomeBytes, IsRefused, IsTold, Stops, TellsStop, texts_of}
 use Rattle.fabric_cli.specs.Words.{Names, asked_by_given, given_items, given_texts, opened_for}
 use Rattle.fabric_cli.specs.Writing.{Writes}
 use Rattle.fabric_cli.proofs.ServingLemmas.{of_memory, other_status}
@@ -35,6 +35,7 @@ stop_ends ending (Run (run.Topology line cause)) answer out err err' is other to
 stop_ends ending (Run (run.Partitions line cause)) answer out err err' is other told = rw is (told.0, kept out, told.1)
 stop_ends ending (Run (run.Script line cause)) answer out err err' is other told = rw is (told.0, kept out, told.1)
 stop_ends ending (Port cause) answer out err err' is other told = rw is (told.0, kept out, told.1)
+stop_ends ending (Second line cause) answer out err err' is other told = rw is (told.0, kept out, told.1)
 
 -- it is told of files that were read
 pub is_told : (X : Type 0) (stop : Stop) (answer : ℕ) → answer ≢ 3 → answer ≡ status_of stop → let result : Result X Stop = Err stop in IsTold result
@@ -44,10 +45,18 @@ is_told X (Unread name) answer other is = absurd (other is)
 is_told X Unwritten answer other is = absurd (other is)
 is_told X (Run fault) answer other is = tt
 is_told X (Port cause) answer other is = tt
+is_told X (Second line cause) answer other is = tt
 
 pub for_some_told : {A B : Contents → Type 0} (told : Option Contents) → ((file : Contents) → A file → B file) → IfSome told A → IfSome told B
 for_some_told None f a = tt
 for_some_told (Some file) f a = f file a
+
+-- the ending over texts that were read is that over the files
+pub of_texts : (told : Option Contents) (names : Names) (texts : Bytes) (result : Result (Vec ℕ Global) Stop) → IfSome told (λ file. texts_of file names ≡ Ok texts)
+    → ComesTo (λ text. text.items) (ending_with (Ok texts)) result → IfSome told (λ file. ComesTo (λ text. text.items) (ending_with (texts_of file names)) result)
+of_texts None names texts result are comes = tt
+of_texts (Some file) names texts result are comes =
+    subst (λ (read : Result Bytes Ending). ComesTo (λ (text : Vec ℕ Global). text.items) (ending_with read) result) (sym are) comes
 
 pub for_some_bytes : (asked : Option Names) (P Q : Ending → Type 0) → ((ending : Ending) → P ending → Q ending) → ForSomeBytes asked P → ForSomeBytes asked Q
 for_some_bytes None P Q f some = f refused some
@@ -78,6 +87,8 @@ not_text_ends (Ok words) (Run fault) answer out err err' is other told = absurd 
 not_text_ends (Err error) (Run fault) answer out err err' is other told = absurd is
 not_text_ends (Ok words) (Port cause) answer out err err' is other told = absurd is
 not_text_ends (Err error) (Port cause) answer out err err' is other told = absurd is
+not_text_ends (Ok words) (Second line cause) answer out err err' is other told = absurd is
+not_text_ends (Err error) (Second line cause) answer out err err' is other told = absurd is
 
 pub not_given_ends : (told : Option Contents) (given : Result (IntoIter (String Global) Global) Error) (stop : Stop) (answer : ℕ) (out err err' : Option (List ℕ))
     → IsOfGiven given stop → answer ≢ 3 → (answer ≡ status_of stop) × Appends err err' (line_of stop)
@@ -108,6 +119,8 @@ not_text_refused file reads opened (Ok words) (Run fault) answer a b err err' th
 not_text_refused file reads opened (Err error) (Run fault) answer a b err err' three is (inl told) = absurd is
 not_text_refused file reads opened (Ok words) (Port cause) answer a b err err' three is (inl told) = absurd is
 not_text_refused file reads opened (Err error) (Port cause) answer a b err err' three is (inl told) = absurd is
+not_text_refused file reads opened (Ok words) (Second line cause) answer a b err err' three is (inl told) = absurd is
+not_text_refused file reads opened (Err error) (Second line cause) answer a b err err' three is (inl told) = absurd is
 
 pub not_given_refused : (told : Option Contents) (reads : Bool) (opened : Option (List (List ℕ))) (given : Result (IntoIter (String Global) Global) Error) (stop : Stop) (answer : ℕ) (a b : Bool) (err err' : Option (List ℕ))
     → answer ≡ 3 → IsOfGiven given stop → TellsStop stop answer b err err' ⊎ Writes b err err' memory_line

@@ -7,7 +7,7 @@ use Rattle.std.specs.Borrow.{Bor}
 use Rattle.std.specs.Option.{option_to_list}
 use Rattle.result_words.specs.Steps.{◌>>=◌}
 use Rattle.fabric_cli.specs.declared.faults.Stop.{Stop}
-use Rattle.fabric_cli.specs.declared.faults.Stop.TheVariants.{Words, NoMemory, Unread, Unwritten, Run, Port}
+use Rattle.fabric_cli.specs.declared.faults.Stop.TheVariants.{Words, NoMemory, Unread, Unwritten, Run, Port, Second}
 use Rattle.fabric_cli.specs.Faults.{NamesUnread}
 use Rattle.fabric_cli.specs.Files.{Contents, OpensAll, IsEndless, OpensInOrder, StopsAt, all_open}
 use Rattle.fabric_cli.specs.Serving.{bytes_if_named, opened_bytes}
@@ -58,6 +58,7 @@ unread_first (Some file) reads old new names more NoMemory unread = tt
 unread_first (Some file) reads old new names more Unwritten unread = tt
 unread_first (Some file) reads old new names more (Run fault) unread = tt
 unread_first (Some file) reads old new names more (Port cause) unread = tt
+unread_first (Some file) reads old new names more (Second line cause) unread = tt
 
 -- where some names opened to bytes, reading stopped after them
 stops_after : (file : Contents) (reads : Bool) (first before after : Option (List (List ℕ))) (names more : List (List ℕ)) (name : List ℕ)
@@ -84,6 +85,7 @@ unread_after (Some file) now reads reading first before after names more NoMemor
 unread_after (Some file) now reads reading first before after names more Unwritten same stays opened read unread = tt
 unread_after (Some file) now reads reading first before after names more (Run fault) same stays opened read unread = tt
 unread_after (Some file) now reads reading first before after names more (Port cause) same stays opened read unread = tt
+unread_after (Some file) now reads reading first before after names more (Second line cause) same stays opened read unread = tt
 
 -- a name with bytes behind it opens to them
 pub one_open : (told : Option Contents) (name bytes : List ℕ) → IfSome told (λ file. file name ≡ Some bytes)

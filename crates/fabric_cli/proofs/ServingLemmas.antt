@@ -3,7 +3,7 @@ use Rattle.std.proofs.Common.{ℕ, ◌≡◌, ◌≢◌, ◌⊎◌, ◌∙◌, i
 use Rattle.subnet_core.specs.declared.fault.RunFault.{RunFault}
 use Rattle.subnet_core.specs.declared.fault.RunFault.TheVariants as run
 use Rattle.fabric_cli.specs.declared.faults.Stop.{Stop}
-use Rattle.fabric_cli.specs.declared.faults.Stop.TheVariants.{Words, NoMemory, Unread, Unwritten, Run, Port}
+use Rattle.fabric_cli.specs.declared.faults.Stop.TheVariants.{Words, NoMemory, Unread, Unwritten, Run, Port, Second}
 use Rattle.fabric_cli.specs.Faults.{NamesUnread, line_of, memory_line, run_line, unwritten_line}
 use Rattle.fabric_cli.specs.Files.{Contents}
 use Rattle.fabric_cli.specs.Serving.{Ending, complete, IsRefused, Stops, TellsStop}
@@ -67,6 +67,8 @@ of_stop file reads old new names ending Unwritten answer a b err err' three is u
 of_stop file reads old new names ending (Run fault) answer a b err err' three is unread (inl part) = of_run file reads old new names ending fault answer a b err err' three is part
 of_stop file reads old new names ending (Port cause) answer a b err err' three is unread (inl part) =
     record { line = line_of (Port cause); is = rw is (inr (inr (refl, other_status 1 answer b three part.status (λ e. omega (arith, e))))); told = part.told }
+of_stop file reads old new names ending (Second line cause) answer a b err err' three is unread (inl part) =
+    record { line = line_of (Second line cause); is = rw is (inr (inr (refl, other_status 1 answer b three part.status (λ e. omega (arith, e))))); told = part.told }
 
 -- a call that stops
 pub stop_is_refused : (told : Option Contents) (reads : Bool) (old new : Option (List (List ℕ))) (names : List (List ℕ)) (ending : Contents → Ending) (stop : Stop) (answer : ℕ) (a b : Bool) (err err' : Option (List ℕ))

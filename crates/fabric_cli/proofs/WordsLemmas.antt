@@ -10,7 +10,7 @@ use Rattle.clap.specs.declared.parser.matches.Found.{Found}
 use Rattle.clap.proofs.OnLiterals.{clap_on_literals}
 use Rattle.clap.proofs.WalkLemmas.{first_value-rows}
 use Rattle.fabric_cli.specs.declared.faults.Stop.{Stop}
-use Rattle.fabric_cli.specs.declared.faults.Stop.TheVariants.{Words, NoMemory, Unread, Unwritten, Run, Port}
+use Rattle.fabric_cli.specs.declared.faults.Stop.TheVariants.{Words, NoMemory, Unread, Unwritten, Run, Port, Second}
 use Rattle.fabric_cli.specs.Faults.{IsOfWords, IsRefusalOf, TellsAll}
 use Rattle.fabric_cli.specs.Words.{Names, asked_by, asked_in, asked_of, fabric_command, work_in}
 
@@ -19,7 +19,7 @@ same_some x y e = cc
 
 in_rows : (given : Option (Text × List Row)) (name : Text) (rows : List Row) → Some name ≡ option_map (λ found. found.0) given
     → Some rows ≡ option_map (λ found. found.1) given
-    → asked_in given ≡ asked_by (first_of (codes "TOPO") rows) (first_of (codes "PARTS") rows) (work_in name (first_of (codes "PORT") rows) (first_of (codes "SCRIPT") rows))
+    → asked_in given ≡ asked_by (first_of (codes "TOPO") rows) (first_of (codes "PARTS") rows) (work_in name (first_of (codes "PORT") rows) (first_of (codes "PARTS2") rows) (first_of (codes "SCRIPT") rows))
 in_rows None name rows e f = cc
 in_rows (Some found) name rows e f =
     rw (same_some name found.0 e, same_some rows found.1 f) refl
@@ -36,9 +36,9 @@ name_beside_rows m = first_of_both _ _ _
 -- the names are the first values of the arguments
 pub in_found : (m : ArgMatches) (name : Text) (found : Found) → Some name ≡ subcommand_name_of m
     → Some (rows_of found) ≡ option_map (λ run. run.1) (subcommand_rows_of m)
-    → asked_in (subcommand_rows_of m) ≡ asked_by (first_value found (codes "TOPO")) (first_value found (codes "PARTS")) (work_in name (first_value found (codes "PORT")) (first_value found (codes "SCRIPT")))
+    → asked_in (subcommand_rows_of m) ≡ asked_by (first_value found (codes "TOPO")) (first_value found (codes "PARTS")) (work_in name (first_value found (codes "PORT")) (first_value found (codes "PARTS2")) (first_value found (codes "SCRIPT")))
 in_found m name found e f = in_rows (subcommand_rows_of m) name (rows_of found) (e ∙ name_beside_rows m) f
-    ∙ rw (← first_value-rows found (codes "TOPO"), ← first_value-rows found (codes "PARTS"), ← first_value-rows found (codes "PORT"), ← first_value-rows found (codes "SCRIPT")) refl
+    ∙ rw (← first_value-rows found (codes "TOPO"), ← first_value-rows found (codes "PARTS"), ← first_value-rows found (codes "PORT"), ← first_value-rows found (codes "PARTS2"), ← first_value-rows found (codes "SCRIPT")) refl
 
 fabric_is_simple : is_simple fabric_command ≡ true
 unfolding clap_on_literals
@@ -88,6 +88,7 @@ told_is_refusal error shown (Unread name) other is = absurd is
 told_is_refusal error shown Unwritten other is = absurd is
 told_is_refusal error shown (Run fault) other is = absurd is
 told_is_refusal error shown (Port cause) other is = absurd is
+told_is_refusal error shown (Second line cause) other is = absurd is
 
 pub refusal_is : (error : Error) (asked : Option Names) (stop : Stop) → ((kind_of error ≢ OutOfMemory) → asked ≡ None)
     → IsRefusalOf error stop → IsOfWords asked stop
@@ -97,6 +98,7 @@ refusal_is error asked (Unread name) none is = absurd is
 refusal_is error asked Unwritten none is = absurd is
 refusal_is error asked (Run fault) none is = absurd is
 refusal_is error asked (Port cause) none is = absurd is
+refusal_is error asked (Second line cause) none is = absurd is
 
 -- ---- a plain command has no global argument
 third_of : (a b g rest : Bool) → a && (not b && (not g && rest)) ≡ true → g ≡ false

@@ -13,7 +13,7 @@ use Rattle.subnet_core.specs.declared.fault.RunFault.{RunFault}
 use Rattle.subnet_core.specs.declared.fault.RunFault.TheVariants as run
 use Rattle.fabric_cli.specs.Files.{Contents, StopsAt}
 use Rattle.fabric_cli.specs.declared.faults.Stop.{Stop}
-use Rattle.fabric_cli.specs.declared.faults.Stop.TheVariants.{Words, NoMemory, Unread, Unwritten, Run, Port}
+use Rattle.fabric_cli.specs.declared.faults.Stop.TheVariants.{Words, NoMemory, Unread, Unwritten, Run, Port, Second}
 
 -- `fault CODE topology line L` and LF
 abbrev pub topology_line : List ℕ → ℕ → List ℕ
@@ -21,6 +21,10 @@ topology_line code number = codes "fault " ++ (code ++ (codes " topology line " 
 
 abbrev pub partitions_line : List ℕ → ℕ → List ℕ
 partitions_line code number = codes "fault " ++ (code ++ (codes " partitions line " ++ (decimal number ++ codes "\n")))
+
+-- of the second partition file
+abbrev pub second_line : List ℕ → ℕ → List ℕ
+second_line code number = codes "fault " ++ (code ++ (codes " partitions2 line " ++ (decimal number ++ codes "\n")))
 
 abbrev pub script_line : List ℕ → ℕ → List ℕ
 script_line code number = codes "fault " ++ (code ++ (codes " script line " ++ (decimal number ++ codes "\n")))
@@ -56,6 +60,7 @@ line_of (Unread name) = unread_line name.now
 line_of Unwritten = unwritten_line
 line_of (Run fault) = run_line fault
 line_of (Port cause) = port_line (script_code cause)
+line_of (Second line cause) = second_line (partitions_code cause) line
 
 abbrev pub status_of : Stop → ℕ
 status_of (Words text) = 2
@@ -64,6 +69,7 @@ status_of (Unread name) = 3
 status_of Unwritten = 3
 status_of (Run fault) = run_status fault
 status_of (Port cause) = 1
+status_of (Second line cause) = 1
 
 -- the words are refused with a text, unless memory was refused
 abbrev pub IsRefusalOf : Error → Stop → Type 0
@@ -103,6 +109,7 @@ abbrev pub IsOfRun : Stop → Type 0
 IsOfRun NoMemory = Unit {0}
 IsOfRun (Run fault) = Unit {0}
 IsOfRun (Port cause) = Unit {0}
+IsOfRun (Second line cause) = Unit {0}
 IsOfRun _ = ⊥
 
 -- a stop for a file that is not read names the file at which reading stopped

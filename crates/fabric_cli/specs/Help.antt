@@ -22,6 +22,9 @@ about_check = codes "Lists the ports of a subnet by LID, and the members of each
 abbrev pub about_shares : List ℕ
 about_shares = codes "Lists which two ports may talk to one another, and in which partitions"
 
+abbrev pub about_diff : List ℕ
+about_diff = codes "Lists what a second partition file in place of the first changes"
+
 abbrev pub about_run : List ℕ
 about_run = codes "Runs a script in a subnet, and prints what its ports receive"
 
@@ -33,6 +36,9 @@ help_of_partitions = codes "The partitions and their members, or `-` for the def
 
 abbrev pub help_of_port : List ℕ
 help_of_port = codes "An end port as `check` lists it: `h1/1`, or `A/0` for port 0 of switch A"
+
+abbrev pub help_of_second_partitions : List ℕ
+help_of_second_partitions = codes "The partitions in place of those, or `-` for the default one alone"
 
 abbrev pub help_of_script : List ℕ
 help_of_script = codes "The script: what ports send"

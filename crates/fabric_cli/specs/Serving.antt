@@ -9,6 +9,8 @@ use Rattle.port_shares.specs.Shares.{shares_text}
 use Rattle.subnet_model.specs.declared.subnet_port.SubnetPort.{SubnetPort}
 use Rattle.subnet_core.specs.declared.fault.ScriptCause.{ScriptCause}
 use Rattle.subnet_core.specs.Fault.{code_of as script_code}
+use Rattle.partition_file.specs.Fault.{code_of as partitions_code}
+use Rattle.partition_changes.specs.Changes.{text_of_changes}
 use Rattle.subnet_core.specs.Listing.{listing_text}
 use Rattle.subnet_core.specs.NamedPort.{named_port}
 use Rattle.subnet_core.specs.Run.{Running, report_of, subnet_of}
@@ -19,8 +21,8 @@ use Rattle.fabric_cli.specs.declared.faults.Stop.{Stop}
 use Rattle.fabric_cli.specs.declared.serving.Texts.{Texts}
 use Rattle.fabric_cli.specs.declared.words.Work.{Work}
 use Rattle.fabric_cli.specs.declared.words.Work.TheVariants as work
-use Rattle.fabric_cli.specs.declared.faults.Stop.TheVariants.{Words, NoMemory, Unread, Unwritten, Run, Port}
-use Rattle.fabric_cli.specs.Faults.{line_of, status_of, memory_line, not_text_line, port_line, run_line, run_status, unread_line, unwritten_line}
+use Rattle.fabric_cli.specs.declared.faults.Stop.TheVariants.{Words, NoMemory, Unread, Unwritten, Run, Port, Second}
+use Rattle.fabric_cli.specs.Faults.{line_of, status_of, memory_line, not_text_line, port_line, run_line, second_line, run_status, unread_line, unwritten_line}
 use Rattle.fabric_cli.specs.Files.{Contents, StopsAt}
 use Rattle.fabric_cli.specs.Words.{Names, asked_of}
 use Rattle.fabric_cli.specs.Writing.{Writes}
@@ -40,6 +42,7 @@ pub record Bytes : Type 0 where
 abbrev pub work_bytes : Work (Bor (List ℕ)) (Vec ℕ Global) → Work (List ℕ) (List ℕ)
 work_bytes work.Check = work.Check
 work_bytes (work.Shares port) = work.Shares (option_map (λ word. word.now) port)
+work_bytes (work.Diff second) = work.Diff (option_map (λ bytes. bytes.items) second)
 work_bytes (work.Run script) = work.Run script.items
 
 abbrev pub texts_in : Texts → Bytes
@@ -64,6 +67,7 @@ bytes_if_named file (Some name) = bytes_of file name >>= λ bytes. Ok (Some byte
 abbrev pub work_of : Contents → Work (List ℕ) (List ℕ) → Result (Work (List ℕ) (List ℕ)) Ending
 work_of file work.Check = Ok work.Check
 work_of file (work.Shares port) = Ok (work.Shares port)
+work_of file (work.Diff name) = bytes_if_named file name >>= λ bytes. Ok (work.Diff bytes)
 work_of file (work.Run name) = bytes_of file name >>= λ bytes. Ok (work.Run bytes)
 
 -- all files are read before any of them is judged
@@ -102,9 +106,20 @@ abbrev pub shares_in : Result Running RunFault → Option (List ℕ) → Ending
 shares_in (Ok subnet) port = shares_told subnet.configuration.ports (asked_port subnet.plan port)
 shares_in (Err fault) port = faulted (run_status fault) (run_line fault)
 
+-- what changes from one subnet to the other: the second partition file is judged after the first
+abbrev pub second_told : RunFault → Ending
+second_told (run.Partitions line cause) = faulted 1 (second_line (partitions_code cause) line)
+second_told fault = faulted (run_status fault) (run_line fault)
+
+abbrev pub changes_in : Result Running RunFault → Result Running RunFault → Ending
+changes_in (Ok before) (Ok after) = complete (text_of_changes before.configuration after.configuration)
+changes_in (Ok before) (Err fault) = second_told fault
+changes_in (Err fault) after = faulted (run_status fault) (run_line fault)
+
 abbrev pub ending_over : List ℕ → Option (List ℕ) → Work (List ℕ) (List ℕ) → Ending
 ending_over topology partitions work.Check = ending_by (listed topology partitions)
 ending_over topology partitions (work.Shares port) = shares_in (subnet_of topology partitions) port
+ending_over topology partitions (work.Diff second) = changes_in (subnet_of topology partitions) (subnet_of topology second)
 ending_over topology partitions (work.Run script) = ending_by (reported topology partitions script)
 
 abbrev pub ending_with : Result Bytes Ending → Ending
@@ -124,10 +139,11 @@ abbrev pub ending_of : Contents → Option (List (List ℕ)) → Ending
 ending_of file None = not_text
 ending_of file (Some words) = ending_for file (asked_of words)
 
--- what is to be done, whatever its files
+-- what is to be done, whatever stands in its files
 abbrev pub without_files : {W S : Type 0} → Work W S → Work W (Unit {0})
 without_files work.Check = work.Check
 without_files (work.Shares port) = work.Shares port
+without_files (work.Diff second) = work.Diff (option_map (λ file. tt) second)
 without_files (work.Run script) = work.Run tt
 
 -- bytes for each of the files that are asked for, and for no other
@@ -188,6 +204,7 @@ Stops ending (Unread name) = Unit {0}
 Stops ending Unwritten = ⊥
 Stops ending (Run fault) = RunStops ending fault
 Stops ending (Port cause) = ending ≡ faulted 1 (port_line (script_code cause))
+Stops ending (Second line cause) = ending ≡ faulted 1 (second_line (partitions_code cause) line)
 
 -- a stop is told by its line, and with its status where the line can go out
 pub record TellsStop (stop : Stop) (answer : ℕ) (is_sure : Bool) (err err' : Option (List ℕ)) : Type 0 where
@@ -200,6 +217,7 @@ IsTold (Ok output) = Unit {0}
 IsTold (Err (Words text)) = Unit {0}
 IsTold (Err (Run fault)) = Unit {0}
 IsTold (Err (Port cause)) = Unit {0}
+IsTold (Err (Second line cause)) = Unit {0}
 IsTold _ = ⊥
 
 -- an output comes as it is, and a stop by its line

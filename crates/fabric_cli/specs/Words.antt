@@ -9,7 +9,7 @@ use Rattle.std.specs.Vec.Iter.{into_iter_items}
 use Rattle.std.specs.declared.vec.IntoIter.{IntoIter}
 use Rattle.fabric_cli.specs.declared.words.Asked.{Asked}
 use Rattle.fabric_cli.specs.declared.words.Work.{Work}
-use Rattle.fabric_cli.specs.declared.words.Work.TheVariants.{Check, Run, Shares}
+use Rattle.fabric_cli.specs.declared.words.Work.TheVariants.{Check, Diff, Run, Shares}
 use Rattle.clap.specs.declared.builder.ArgAction.TheVariants.{Set}
 
 -- an argument that has to be given
@@ -30,6 +30,9 @@ check_command = subnet_command (codes "check")
 abbrev pub shares_command : App
 shares_command = with_rule (subnet_command (codes "shares")) (optional (codes "PORT"))
 
+abbrev pub diff_command : App
+diff_command = with_rule (subnet_command (codes "diff")) (wanted (codes "PARTS2"))
+
 abbrev pub run_command : App
 run_command = with_rule (subnet_command (codes "run")) (wanted (codes "SCRIPT"))
 
@@ -38,7 +41,8 @@ abbrev pub fabric_top : App
 fabric_top = let app = new_app (codes "fabric") in record app { top = record app.top { has_version = true; subcommand_required = true } }
 
 abbrev pub fabric_command : App
-fabric_command = with_subcommand (with_subcommand (with_subcommand fabric_top check_command.top) shares_command.top) run_command.top
+fabric_command =
+    with_subcommand (with_subcommand (with_subcommand (with_subcommand fabric_top check_command.top) shares_command.top) diff_command.top) run_command.top
 
 -- the words that a program is given, where all of them are text
 abbrev pub given_items : {E : Type 0} → Result (IntoIter (String Global) Global) E → Option (List (String Global))
@@ -57,6 +61,7 @@ pub record Names : Type 0 where
 abbrev pub named_work : Work (Bor Text) (Bor Text) → Work Text Text
 named_work Check = Check
 named_work (Shares port) = Shares (option_map (λ word. word.now) port)
+named_work (Diff second) = Diff (option_map (λ word. word.now) second)
 named_work (Run script) = Run script.now
 
 abbrev pub names : Asked → Names
@@ -70,11 +75,15 @@ names asked = record {
 abbrev pub file_in : Text → Option Text
 file_in word = if bytes_eq word (codes "-") then None else Some word
 
--- `check` needs no more words, `shares` takes a port, and `run` needs a script
-abbrev pub work_in : Text → Option Text → Option Text → Option (Work Text Text)
-work_in command port script =
+abbrev pub diff_by : Option Text → Option (Work Text Text)
+diff_by second = option_map (λ word. Diff (file_in word)) second
+
+-- `check` needs no more words, `shares` takes a port, `diff` needs other partitions, and `run` needs a script
+abbrev pub work_in : Text → Option Text → Option Text → Option Text → Option (Work Text Text)
+work_in command port second script =
     if bytes_eq command (codes "check") then Some Check
     else if bytes_eq command (codes "shares") then Some (Shares port)
+    else if bytes_eq command (codes "diff") then diff_by second
     else option_map (λ name. Run name) script
 
 abbrev pub asked_by : Option Text → Option Text → Option (Work Text Text) → Option Names
@@ -86,7 +95,7 @@ abbrev pub asked_in : Option (Text × List Row) → Option Names
 asked_in None = None
 asked_in (Some found) =
     asked_by (first_of (codes "TOPO") found.1) (first_of (codes "PARTS") found.1)
-    (work_in found.0 (first_of (codes "PORT") found.1) (first_of (codes "SCRIPT") found.1))
+    (work_in found.0 (first_of (codes "PORT") found.1) (first_of (codes "PARTS2") found.1) (first_of (codes "SCRIPT") found.1))
 
 abbrev pub unless_refused : Kinds → Option Names → Option Names
 unless_refused [] asked = asked
@@ -102,12 +111,13 @@ abbrev pub asked_by_given : Option (List Text) → Option Names
 asked_by_given None = None
 asked_by_given (Some words) = asked_of words
 
-abbrev pub script_names : Work Text Text → List Text
-script_names Check = []
-script_names (Shares port) = []
-script_names (Run script) = script ∷ []
+abbrev pub work_names : Work Text Text → List Text
+work_names Check = []
+work_names (Shares port) = []
+work_names (Diff second) = option_to_list second
+work_names (Run script) = script ∷ []
 
 -- the names that are opened, in order
 abbrev pub opened_for : Option Names → List Text
 opened_for None = []
-opened_for (Some asked) = asked.topology ∷ (option_to_list asked.partitions ++ script_names asked.work)
+opened_for (Some asked) = asked.topology ∷ (option_to_list asked.partitions ++ work_names asked.work)

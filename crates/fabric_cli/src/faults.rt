@@ -1,10 +1,12 @@
 //! Why a call does not complete, and how that is told.
 
 ghost use Rattle.std.specs.Prelude.{◌≡◌, IfOk, string_bytes};
-ghost use Rattle.fabric_cli.specs.Faults.{line_of, port_line, run_line, run_status, status_of};
+ghost use Rattle.fabric_cli.specs.Faults.{line_of, port_line, run_line, run_status, second_line, status_of};
 ghost use Rattle.fabric_cli.specs.declared.faults.Stop.TheVariants.{NoMemory};
 ghost use Rattle.subnet_core.specs.Fault.{code_of as script_code};
+ghost use Rattle.partition_file.specs.Fault.{code_of as partitions_code};
 
+use partition_file::PartitionCause;
 use std::alloc::{AllocError, AllocFailed, Global};
 use subnet_core::{RunFault, ScriptCause};
 
@@ -35,6 +37,13 @@ pub enum Stop<'a> {
     Run(RunFault),
     /// The word for a port names no end port.
     Port(ScriptCause),
+    /// The second partition file has a fault.
+    Second {
+        /// The line of the fault's place, counted from 1.
+        line: usize,
+        /// What is wrong there.
+        cause: PartitionCause,
+    },
 }
 
 impl<'a> Stop<'a> {
@@ -46,7 +55,7 @@ impl<'a> Stop<'a> {
             Stop::Words(_) => WORDS_REFUSED,
             Stop::NoMemory | Stop::Unread(_) | Stop::Unwritten => REFUSED,
             Stop::Run(fault) => run_status(*fault),
-            Stop::Port(_) => FAULT,
+            Stop::Port(_) | Stop::Second { .. } => FAULT,
         }
     }
 
@@ -61,6 +70,7 @@ impl<'a> Stop<'a> {
             Stop::Unwritten => String::from_str(alloc, "fault write\n"),
             Stop::Run(fault) => run_line(alloc, *fault),
             Stop::Port(cause) => port_line(alloc, *cause),
+            Stop::Second { line, cause } => second_line(alloc, *line, *cause),
         }
     }
 }
@@ -99,6 +109,13 @@ fn port_line(alloc: Global, cause: ScriptCause) -> Result<String, AllocError>
 {
     let code = cause.code();
     format!(in alloc; "fault {code} port\n")
+}
+
+fn second_line(alloc: Global, line: usize, cause: PartitionCause) -> Result<String, AllocError>
+    ensures { IfOk result (λ text. string_bytes text ≡ second_line (partitions_code cause) line) }
+{
+    let code = cause.code();
+    format!(in alloc; "fault {code} partitions2 line {line}\n")
 }
 
 impl<'a> From<AllocError> for Stop<'a> {

@@ -1,7 +1,8 @@
 //! What the program `fabric` does.
 //!
 //! `fabric check TOPO PARTS` brings up the subnet of a topology under a partition file, and lists its
-//! ports and the members of its partitions. `fabric run TOPO PARTS SCRIPT` runs a script of commands
+//! ports and the members of its partitions. `fabric shares TOPO PARTS [PORT]` lists who may talk to whom in
+//! it, and `fabric diff TOPO PARTS PARTS2` what another partition file changes. `fabric run TOPO PARTS SCRIPT` runs a script of commands
 //! in it, and prints what its ports receive. [`serve`] is the one call: it does all the work, over any words,
 //! any files and any two writers, and its contract says what it answers of the words and the bytes alone.
 #![tactic(auto)]

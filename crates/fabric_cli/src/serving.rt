@@ -4,10 +4,10 @@ ghost use Rattle.std.specs.Prelude.{ℕ, ◌≡◌, ◌≢◌, ◌⊎◌, Result
 ghost use Rattle.std.specs.Io.KnownBytes.{Appends};
 ghost use Rattle.fabric_cli.specs.Faults.{line_of, memory_line, status_of, IsOfFiles, IsOfRun, NamesUnread};
 ghost use Rattle.fabric_cli.specs.Files.{OpensAll, OpensInOrder};
-ghost use Rattle.fabric_cli.specs.Serving.{bytes_if_named, ending_by, asked_port, ending_for, ending_of, ending_with, listed, output_in, reported, shares_in, texts_in, texts_of, without_files, work_bytes, work_of, AreFor, Ends, EndsForSomeBytes, ForSomeBytes, ComesTo, IsRefused, IsTold, TellsStop};
+ghost use Rattle.fabric_cli.specs.Serving.{bytes_if_named, ending_by, asked_port, changes_in, ending_for, ending_of, ending_with, listed, output_in, reported, second_told, shares_in, texts_in, texts_of, without_files, work_bytes, work_of, AreFor, Ends, EndsForSomeBytes, ForSomeBytes, ComesTo, IsRefused, IsTold, Stops, TellsStop};
 ghost use Rattle.std.specs.Option.{option_to_list};
 ghost use Rattle.std.specs.Process.{exit_status};
-ghost use Rattle.fabric_cli.specs.Words.{asked_by_given, asked_of, given_texts, named_work, names, opened_for, script_names};
+ghost use Rattle.fabric_cli.specs.Words.{asked_by_given, asked_of, given_texts, named_work, names, opened_for, work_names};
 ghost use Rattle.fabric_cli.specs.Writing.{AppendsPart, Writes};
 ghost use Rattle.subnet_core.specs.Run.{subnet_of};
 
@@ -16,12 +16,13 @@ use crate::files::Files;
 use crate::reading::read_file;
 use crate::words::{Asked, Work, given_words, read_words};
 use crate::writing::{Output, write_whole};
+use partition_changes::changes_text;
 use port_shares::shares_text;
 use std::alloc::Global;
 use std::env::Args;
 use std::io;
 use std::process::ExitCode;
-use subnet_core::{ScriptCause, Subnet, bring_up, run};
+use subnet_core::{RunFault, ScriptCause, Subnet, bring_up, run};
 
 /// The bytes of the files, and what to do with them.
 #[derive(Drop)]
@@ -170,6 +171,7 @@ fn output_of_texts<'a>(alloc: Global, texts: &Texts<'_>) -> Result<Vec<u8>, Stop
     match &texts.work {
         Work::Check => listed(alloc, topology, partitions),
         Work::Shares(port) => shared(alloc, topology, partitions, *port),
+        Work::Diff(second) => changed(alloc, topology, partitions, slice_of(second)),
         Work::Run(script) => reported(alloc, topology, partitions, script.as_slice()),
     }
 }
@@ -230,6 +232,53 @@ fn asked_port(subnet: &Subnet, port: Option<&str>) -> Result<Option<u64>, Script
     match port {
         Some(word) => Ok(Some(subnet.named_port(word.as_bytes())?)),
         None => Ok(None),
+    }
+}
+
+/// What the second partitions in place of the first change.
+fn changed<'a>(
+    alloc: Global,
+    topology: &[u8],
+    partitions: Option<&[u8]>,
+    second: Option<&[u8]>,
+) -> Result<Vec<u8>, Stop<'a>>
+    ensures exact { ComesTo (λ text. text.items)
+        (changes_in (subnet_of topology.now (option_copied partitions.entry)) (subnet_of topology.now (option_copied second.entry))) result }
+    ensures fault { IfErr result IsOfRun }
+{
+    match bring_up(alloc, topology, partitions) {
+        Ok(before) => changes_from(alloc, &before, topology, second),
+        Err(fault) => Err(Stop::Run(fault)),
+    }
+}
+
+fn changes_from<'a>(
+    alloc: Global,
+    before: &Subnet,
+    topology: &[u8],
+    second: Option<&[u8]>,
+) -> Result<Vec<u8>, Stop<'a>>
+    ensures exact { ComesTo (λ text. text.items)
+        (changes_in (Ok before.now) (subnet_of topology.now (option_copied second.entry))) result }
+    ensures fault { IfErr result IsOfRun }
+{
+    match bring_up(alloc, topology, second) {
+        Ok(after) => match changes_text(alloc, before.configuration(), after.configuration()) {
+            Ok(text) => Ok(text),
+            Err(_) => Err(Stop::NoMemory),
+        },
+        Err(fault) => Err(second_stop(fault)),
+    }
+}
+
+/// The stop for a fault of a subnet with the second partitions: the topology is the same.
+fn second_stop<'a>(fault: RunFault) -> Stop<'a>
+    ensures told { Stops (second_told fault) result }
+    ensures fault { IsOfRun result }
+{
+    match fault {
+        RunFault::Partitions { line, cause } => Stop::Second { line, cause },
+        other => Stop::Run(other),
     }
 }
 
@@ -309,24 +358,25 @@ fn read_if_named<'a, F: Files>(
     }
 }
 
-/// The work with the bytes of its script, if it has one.
+/// The work with the bytes of its file, if it has one.
 fn read_work<'a, F: Files>(
     alloc: Global,
     files: &mut F,
     work: &Work<&'a str, &'a str>,
 ) -> Result<Work<&'a str, Vec<u8>>, Stop<'a>>
-    ensures opened { OpensAll (F.opened files.old) (F.opened files.new) (script_names (named_work work.now)) }
+    ensures opened { OpensAll (F.opened files.old) (F.opened files.new) (work_names (named_work work.now)) }
     ensures same { F.told files.new ≡ F.told files.old }
     ensures stays { F.reads files.new ≡ F.reads files.old }
     ensures bytes { IfOk result (λ bytes. IfSome (F.told files.old) (λ file.
         work_of file (named_work work.now) ≡ Ok (work_bytes bytes))) }
     ensures shape { IfOk result (λ bytes. without_files (work_bytes bytes) ≡ without_files (named_work work.now)) }
     ensures fault { IfErr result IsOfFiles }
-    ensures unread { IfErr result (NamesUnread (F.told files.old) (F.reads files.old) (F.opened files.old) (F.opened files.new) (script_names (named_work work.now))) }
+    ensures unread { IfErr result (NamesUnread (F.told files.old) (F.reads files.old) (F.opened files.old) (F.opened files.new) (work_names (named_work work.now))) }
 {
     match work {
         Work::Check => Ok(Work::Check),
         Work::Shares(port) => Ok(Work::Shares(*port)),
+        Work::Diff(second) => Ok(Work::Diff(read_if_named(alloc, files, *second)?)),
         Work::Run(script) => Ok(Work::Run(read_file(alloc, files, *script)?)),
     }
 }

@@ -4,9 +4,9 @@ ghost use Rattle.std.specs.Prelude.{◌≡◌, false, Some, codes, map, string_b
 ghost use Rattle.clap.specs.Words.{app_of, rule_of, subcommand_rows_of};
 ghost use Rattle.clap.specs.declared.builder.command.Command.TheViews.{out-Command as fields_of};
 ghost use Rattle.fabric_cli.specs.Faults.{IsOfGiven, IsOfWords, IsRefusalOf, TellsAll};
-ghost use Rattle.fabric_cli.specs.Help.{about_check, about_program, about_run, about_shares, help_of_partitions, help_of_port, help_of_script, help_of_topology, program_name, program_version, text_in};
-ghost use Rattle.fabric_cli.specs.Words.{asked_by, asked_in, asked_of, check_command, fabric_command, file_in, given_items, named_work, names, optional, run_command, shares_command, subnet_command, wanted, work_in};
-ghost use Rattle.fabric_cli.specs.declared.words.TheConstants.{LISTING, REPORT, SHARES, STATUSES};
+ghost use Rattle.fabric_cli.specs.Help.{about_check, about_diff, about_program, about_run, about_shares, help_of_partitions, help_of_port, help_of_script, help_of_second_partitions, help_of_topology, program_name, program_version, text_in};
+ghost use Rattle.fabric_cli.specs.Words.{asked_by, asked_in, asked_of, check_command, diff_by, diff_command, fabric_command, file_in, given_items, named_work, names, optional, run_command, shares_command, subnet_command, wanted, work_in};
+ghost use Rattle.fabric_cli.specs.declared.words.TheConstants.{CHANGES, LISTING, REPORT, SHARES, STATUSES};
 
 use crate::faults::Stop;
 use clap::error::ErrorKind;
@@ -23,6 +23,8 @@ pub enum Work<W, S> {
     Check,
     /// List which two ports may talk to one another; of one port alone, where a word names it.
     Shares(Option<W>),
+    /// List what another partition file changes, or none where the word is `-`.
+    Diff(Option<S>),
     /// Run a script.
     Run(S),
 }
@@ -44,6 +46,8 @@ const ABOUT_CHECK: &str =
     "Lists the ports of a subnet by LID, and the members of each partition with their keys";
 
 const ABOUT_SHARES: &str = "Lists which two ports may talk to one another, and in which partitions";
+
+const ABOUT_DIFF: &str = "Lists what a second partition file in place of the first changes";
 
 const ABOUT_RUN: &str = "Runs a script in a subnet, and prints what its ports receive";
 
@@ -71,8 +75,8 @@ const STATUSES: &str = with_statuses!(
     "
 
 A fault is told as `fault CODE topology line L`, `fault CODE partitions line L`,
-`fault CODE script line L`, `fault CODE port`, `fault memory`, `fault read NAME` or
-`fault write`."
+`fault CODE partitions2 line L`, `fault CODE script line L`, `fault CODE port`,
+`fault memory`, `fault read NAME` or `fault write`."
 );
 
 const NOT_TEXT: &str = "error: a word is not text\n";
@@ -107,6 +111,23 @@ With PORT there are only the lines that name it.
 For example, for `P1=0x0001: 0x111=full, 0x121, 0x131;` in PARTS:
   share h1/1 h2/1 0x0001
   share h1/1 h3/1 0x0001
+
+",
+    "help",
+    ""
+);
+
+const CHANGES: &str = with_statuses!(
+    "A line tells what goes, behind -, or what comes, behind +, in four parts:
+  partition NUMBER BASE NAME          a partition, by base; - stands for an empty name
+  group BASE MGID QKEY MTU RATE SL    the group of a partition, by base
+  member KEY PORT                     a member, by base, then by LID
+  share PORT PORT BASE                two ports that may talk, as `shares` lists them
+
+For example, where `P1=0x0001: 0x111=full, 0x121, 0x131;` gets `0x121=full`:
+  - member 0x0001 h2/1
+  + member 0x8001 h2/1
+  + share h2/1 h3/1 0x0001
 
 ",
     "help",
@@ -182,6 +203,18 @@ fn optional_port<'a>(alloc: Global) -> Arg<'a>
     )
 }
 
+fn wanted_second_partitions<'a>(alloc: Global) -> Arg<'a>
+    ensures global { result.global ≡ false }
+    ensures rule { rule_of result ≡ wanted (codes "PARTS2") }
+    ensures help { text_in result.help ≡ Some help_of_second_partitions }
+{
+    wanted(
+        alloc,
+        "PARTS2",
+        "The partitions in place of those, or `-` for the default one alone",
+    )
+}
+
 /// A command that names a subnet by its topology and its partitions.
 fn subnet_command<'a>(alloc: Global, name: &'a str) -> Result<Command<'a>, AllocError>
     ensures { IfOk result (λ command. app_of command ≡ subnet_command name.entry.now) }
@@ -212,6 +245,16 @@ fn shares_command<'a>(alloc: Global) -> Result<Command<'a>, AllocError>
     Ok(command.about(ABOUT_SHARES).after_help(SHARES))
 }
 
+/// The command that lists what another partition file changes.
+fn diff_command<'a>(alloc: Global) -> Result<Command<'a>, AllocError>
+    ensures words { IfOk result (λ command. app_of command ≡ diff_command) }
+    ensures about { IfOk result (λ command. text_in (fields_of command).about ≡ Some about_diff) }
+    ensures help { IfOk result (λ command. text_in (fields_of command).after_help ≡ Some CHANGES.now) }
+{
+    let command = subnet_command(alloc, "diff")?.arg(wanted_second_partitions(alloc))?;
+    Ok(command.about(ABOUT_DIFF).after_help(CHANGES))
+}
+
 /// The command that runs a script in a subnet.
 fn run_command<'a>(alloc: Global) -> Result<Command<'a>, AllocError>
     ensures words { IfOk result (λ command. app_of command ≡ run_command) }
@@ -234,6 +277,7 @@ fn fabric_command<'a>(alloc: Global) -> Result<Command<'a>, AllocError>
         .subcommand_required(true)
         .subcommand(check_command(alloc)?)?
         .subcommand(shares_command(alloc)?)?
+        .subcommand(diff_command(alloc)?)?
         .subcommand(run_command(alloc)?)?
         .bin_name("fabric")?;
     Ok(command.version("0.1.0").about(ABOUT).after_help(STATUSES))
@@ -273,18 +317,21 @@ fn names_in<'a>(matches: &ArgMatches<'a>) -> Option<Asked<'a>>
     let (command, found) = matches.subcommand()?;
     let topology = found.get_str("TOPO");
     let partitions = found.get_str("PARTS");
-    let work = work_in(command, found.get_str("PORT"), found.get_str("SCRIPT"));
-    asked_by(topology, partitions, work)
+    let port = found.get_str("PORT");
+    let second = found.get_str("PARTS2");
+    let script = found.get_str("SCRIPT");
+    asked_by(topology, partitions, work_in(command, port, second, script))
 }
 
-/// What a command does, with its port or its script if it has one.
+/// What a command does, with its port, its second partition file or its script if it has one.
 fn work_in<'a>(
     command: &str,
     port: Option<&'a str>,
+    second: Option<&'a str>,
     script: Option<&'a str>,
 ) -> Option<Work<&'a str, &'a str>>
-    ensures { option_map named_work result ≡ work_in command.now
-        (option_map (λ word. word.now) port.entry) (option_map (λ word. word.now) script.entry) }
+    ensures { option_map named_work result ≡ work_in command.now (option_map (λ word. word.now) port.entry)
+        (option_map (λ word. word.now) second.entry) (option_map (λ word. word.now) script.entry) }
 {
     if command == "check" {
         return Some(Work::Check);
@@ -292,8 +339,20 @@ fn work_in<'a>(
     if command == "shares" {
         return Some(Work::Shares(port));
     }
+    if command == "diff" {
+        return diff_by(second);
+    }
     match script {
         Some(script) => Some(Work::Run(script)),
+        None => None,
+    }
+}
+
+fn diff_by(second: Option<&str>) -> Option<Work<&str, &str>>
+    ensures { option_map named_work result ≡ diff_by (option_map (λ word. word.now) second.entry) }
+{
+    match second {
+        Some(word) => Some(Work::Diff(file_in(word))),
         None => None,
     }
 }
