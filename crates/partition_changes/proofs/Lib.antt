@@ -2,4 +2,5 @@ pub mod BaseLemmas
 pub mod ChangeLemmas
 pub mod KindLemmas
 pub mod MemberLemmas
+pub mod ShareToldLemmas
 pub mod ToldLemmas

@@ -40,10 +40,10 @@ member_says base port x (key ∷ keys) h = elim (cases_Bool (base_of key == base
 ]
 
 -- ---- ports side by side
-abbrev own : ℕ → SubnetPort × SubnetPort → Bool
+abbrev pub own : ℕ → SubnetPort × SubnetPort → Bool
 own guid both = both.0.guid == guid
 
-none_after : (guid : ℕ) (ports others : List SubnetPort) → AllByRecursion (λ port. (guid == port.guid) ≡ false) ports → list_any (own guid) (zip ports others) ≡ false
+pub none_after : (guid : ℕ) (ports others : List SubnetPort) → AllByRecursion (λ port. (guid == port.guid) ≡ false) ports → list_any (own guid) (zip ports others) ≡ false
 none_after guid [] others all = refl
 none_after guid (port ∷ ports) [] all = refl
 none_after guid (port ∷ ports) (other ∷ others) all =
@@ -53,10 +53,10 @@ none_after guid (port ∷ ports) (other ∷ others) all =
     turned : (a b : ℕ) → (b == a) ≡ false → (a == b) ≡ false
     turned a b e = grind (arith, nat_tests)
 
-abbrev guids : List SubnetPort → List ℕ
+abbrev pub guids : List SubnetPort → List ℕ
 guids ports = map (λ port. port.guid) ports
 
-first_same : (a b : ℕ) (ms ns : List ℕ) → a ∷ ms ≡ b ∷ ns → (a ≡ b) × (ms ≡ ns)
+pub first_same : (a b : ℕ) (ms ns : List ℕ) → a ∷ ms ≡ b ∷ ns → (a ≡ b) × (ms ≡ ns)
 first_same a b ms ns e = (cc, cc)
 
 apart_ports : (x : Member) (base : ℕ) (before after : List SubnetPort) → guids before ≡ guids after → IsDistinct same_guid before
@@ -76,12 +76,12 @@ apart_ports x base (port ∷ before) (other ∷ after) same distinct =
       apart_ports x base before after parts.1 distinct.1,
     )
 
-any_first : (f : SubnetPort → Bool) (before after : List SubnetPort) → guids before ≡ guids after → list_any (λ both. f both.0) (zip before after) ≡ list_any f before
+pub any_first : (f : SubnetPort → Bool) (before after : List SubnetPort) → guids before ≡ guids after → list_any (λ both. f both.0) (zip before after) ≡ list_any f before
 any_first f [] after same = refl
 any_first f (port ∷ before) [] same = absurd (cc)
 any_first f (port ∷ before) (other ∷ after) same = ap (λ b. f port || b) (any_first f before after (first_same port.guid other.guid (guids before) (guids after) same).1)
 
-any_second : (f : SubnetPort → Bool) (before after : List SubnetPort) → guids before ≡ guids after → list_any (λ both. f both.1) (zip before after) ≡ list_any f after
+pub any_second : (f : SubnetPort → Bool) (before after : List SubnetPort) → guids before ≡ guids after → list_any (λ both. f both.1) (zip before after) ≡ list_any f after
 any_second f [] [] same = refl
 any_second f [] (other ∷ after) same = absurd (cc)
 any_second f (port ∷ before) [] same = absurd (cc)

@@ -70,7 +70,7 @@ Apart own P Q [] = Unit {0}
 Apart own P Q (z ∷ zs) =
     ((own z ≡ true → list_any own zs ≡ false) × ((P z ≡ true → own z ≡ true) × (Q z ≡ true → own z ≡ true))) × Apart own P Q zs
 
-weaker_none : (a b : Bool) → (a ≡ true → b ≡ true) → b ≡ false → a ≡ false
+pub weaker_none : (a b : Bool) → (a ≡ true → b ≡ true) → b ≡ false → a ≡ false
 weaker_none true b f none = absurd (false≢true (sym none ∙ f refl))
 weaker_none false b f none = refl
 
@@ -89,7 +89,7 @@ none_of own P Q (z ∷ zs) are none =
     let second : Q z ≡ false = weaker_none (Q z) (own z) are.0.1.1 parts.0 in
     (rw (first, rest.0) refl, rw (second, rest.1) refl)
 
-alone : (a b : Bool) → ((a && not b) || (false && not false)) ≡ ((a || false) && not (b || false))
+pub alone : (a b : Bool) → ((a && not b) || (false && not false)) ≡ ((a || false) && not (b || false))
 alone true true = refl
 alone true false = refl
 alone false b = refl

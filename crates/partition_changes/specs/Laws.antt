@@ -2,9 +2,10 @@
 use Rattle.std.specs.Prelude.{ℕ, ◌≡◌, Bool, false, not, ◌==◌, ◌&&◌, List, Option, map}
 use Rattle.std.specs.List.{IsDistinct, list_any, zip}
 use Rattle.std.specs.Option.{option_map_or}
-use Rattle.partition_changes.specs.Changes.{Change, bases_named, group_changes, grouped, member_changes, member_of, partition_changes, partition_of, same_group, same_member, same_partition}
+use Rattle.partition_changes.specs.Changes.{Change, bases_named, group_changes, grouped, member_changes, member_of, partition_changes, partition_of, same_group, same_member, same_partition, same_share, share_changes}
 use Rattle.partition_file.specs.declared.heading.Heading.{Heading}
 use Rattle.pkey_rules.specs.PKey.{base_of}
+use Rattle.port_shares.specs.Shares.{Share, shares}
 use Rattle.subnet_model.specs.declared.subnet_port.SubnetPort.{SubnetPort}
 
 -- this is what is said
@@ -61,3 +62,12 @@ MembersAreTold =
     → TellWhatChanges same_member (λ x. is_of (bases_named headings others) x && has_member before x)
     (λ x. is_of (bases_named headings others) x && has_member after x)
     (member_changes (bases_named headings others) (zip before after))
+
+-- ---- shares, by both ports and base
+abbrev pub has_share : List SubnetPort → Share → Bool
+has_share ports x = list_any (same_share x) (shares ports)
+
+abbrev pub SharesAreTold : Type 0
+SharesAreTold =
+    (before after : List SubnetPort) → AreSamePorts before after
+    → TellWhatChanges same_share (has_share before) (has_share after) (share_changes (zip before after))

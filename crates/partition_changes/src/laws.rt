@@ -1,6 +1,6 @@
 //! What changes tell, over the definitions alone. The functions do nothing: their contracts are the laws.
 
-ghost use Rattle.partition_changes.specs.Laws.{GroupsAreTold, MembersAreTold, PartitionsAreTold};
+ghost use Rattle.partition_changes.specs.Laws.{GroupsAreTold, MembersAreTold, PartitionsAreTold, SharesAreTold};
 
 /// A partition with its number and name goes exactly where it was there before and is not after, and comes the other way
 /// round.
@@ -16,4 +16,9 @@ pub fn groups_are_told()
 /// So does the key of a port in one of the partitions, where the ports are the same before and after.
 pub fn members_are_told()
     ensures { MembersAreTold }
+{}
+
+/// So does a share of two ports under a base, where the ports are the same before and after.
+pub fn shares_are_told()
+    ensures { SharesAreTold }
 {}

@@ -13,4 +13,4 @@ mod ports;
 mod shares;
 
 pub use crate::changes::changes_text;
-pub use crate::laws::{groups_are_told, members_are_told, partitions_are_told};
+pub use crate::laws::{groups_are_told, members_are_told, partitions_are_told, shares_are_told};
