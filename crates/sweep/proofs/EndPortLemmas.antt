@@ -55,7 +55,7 @@ makes : {X Y : Type 0} (f : X → Y) (xs : List X) (k : ℕ) (x : X) → slice_g
 makes f xs k x there = there_is (map f xs) k (f x) (slice_get-map f xs k ∙ ap (option_map f) there)
 
 -- what is made of the numbers of a range
-in_all : {X : Type 0} (f : ℕ → List X) (a n k : ℕ) (x : X) → a ≤ k → k < a + n → Contains (f k) x → Contains (flat_map f (range_with_len a n)) x
+pub in_all : {X : Type 0} (f : ℕ → List X) (a n k : ℕ) (x : X) → a ≤ k → k < a + n → Contains (f k) x → Contains (flat_map f (range_with_len a n)) x
 in_all f a zero k x from to has = absurd (omega (arith, from, to))
 in_all f a (suc n) k x from to has = by (a == k) refl (λ later. in_all f (a + 1) n k x later (omega (arith, to)) has)
   where
@@ -180,7 +180,7 @@ switch_there fabric found end all has =
     let switch : is_switch_at fabric.nodes one.node ≡ true = sym (all one.node) ∙ among_at (nodes_of found) inner.0 one.node (node_there found inner.0 one inner.2) in
     (port one.node 0, switch_held fabric one switch ∙ ap (λ (s : GraphSwitch). Some (end_of_switch s)) inner.3 ∙ ap (λ (e : FabricPort). Some e) outer.3)
 
-is_an_end : (fabric : FabricState) (near there : PortRef) → IsGood fabric → is_switch_at fabric.nodes there.node ≡ false
+pub is_an_end : (fabric : FabricState) (near there : PortRef) → IsGood fabric → is_switch_at fabric.nodes there.node ≡ false
     → far_end fabric.cables near ≡ Some there → is_end_port_of fabric there ≡ true
 is_an_end fabric near there good adapter far =
     ap (λ (b : Bool). if b then there.port == 0 else is_port fabric.nodes there && is_cabled fabric.cables there) adapter
@@ -238,7 +238,7 @@ switch_has fabric found at end among switch zero_port is =
     (slice_get-map (switch_of fabric) found place.0 ∙ ap (option_map (switch_of fabric)) one.1))
 
 -- a cable of an adapter leads to a switch
-to_switch : (fabric : FabricState) (at back : PortRef) → IsGood fabric → is_switch_at fabric.nodes at.node ≡ false → far_end fabric.cables at ≡ Some back
+pub to_switch : (fabric : FabricState) (at back : PortRef) → IsGood fabric → is_switch_at fabric.nodes at.node ≡ false → far_end fabric.cables at ≡ Some back
     → is_switch_at fabric.nodes back.node ≡ true
 to_switch fabric at back good adapter far =
     ap (λ (b : Bool). b || is_switch_at fabric.nodes back.node) (sym adapter)

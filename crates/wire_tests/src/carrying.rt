@@ -208,25 +208,28 @@ fn who_is_no_port_of_an_adapter_sends_nothing(rt: HostRuntime) -> Result<(), Fai
     Ok(())
 }
 
-#[test]
-fn a_packet_is_delivered_or_memory_is_refused(rt: HostRuntime) -> Result<(), Fail> {
-    let Ok(topology) = read(rt.alloc(), TWO_SWITCHES.as_bytes()) else {
-        return Ok(());
-    };
-    let Ok(mut fabric) = Fabric::new(rt.alloc(), &topology) else {
-        return Ok(());
-    };
-    set_up(&mut fabric)?;
+/// The two-switch fabric; nothing where memory is refused.
+fn fabric_or_none(alloc: Global) -> Option<Fabric> {
+    let topology = read(alloc, TWO_SWITCHES.as_bytes()).ok()?;
+    Fabric::new(alloc, &topology).ok()
+}
+
+fn is_delivered_or_refused(rt: &impl Abort, alloc: Global, fabric: &Fabric) -> Result<(), Fail> {
     let sent = packet(4, 5, 0xffff, 7)?;
-    match fabric.carry(rt.alloc(), H1, &sent) {
+    match fabric.carry(alloc, H1, &sent) {
         Ok(deliveries) => {
-            assert_eq!(rt; deliveries.len(), 1);
-            for delivery in &deliveries {
-                assert_eq!(rt; delivery.port(), H2);
-                assert!(rt; *delivery.packet() == sent);
-            }
+            assert!(rt; matches!(deliveries.as_slice(), [one] if one.port() == H2));
             Ok(())
         }
         Err(AllocError) => Ok(()),
     }
+}
+
+#[test]
+fn a_packet_is_delivered_or_memory_is_refused(rt: HostRuntime) -> Result<(), Fail> {
+    let Some(mut fabric) = fabric_or_none(rt.alloc()) else {
+        return Ok(());
+    };
+    set_up(&mut fabric)?;
+    is_delivered_or_refused(&rt, rt.alloc(), &fabric)
 }

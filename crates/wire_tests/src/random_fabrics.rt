@@ -7,7 +7,7 @@ use std::alloc::Global;
 use std::process::Abort;
 use std::test::Fail;
 use test_fabrics::{Chance, fabric_over, plain_wire_of};
-use topo_file::read;
+use topo_file::{Topology, read};
 
 /// Adds a name or a number of which the last digit is that one.
 fn put(text: &mut Vec<u8>, start: &[u8], digit: u8) -> Result<(), Fail> {
@@ -109,13 +109,27 @@ fn answers_of(
     answers
 }
 
+fn topology_by_chance(alloc: Global, chance: &mut Chance) -> Result<Topology, Fail> {
+    let text = fabric_text(alloc, chance)?;
+    Ok(read(alloc, &text).or(Err("the topology"))?)
+}
+
+/// The same over both wires of a topology.
+fn answers_over(
+    rt: &impl Abort,
+    alloc: Global,
+    topology: &Topology,
+    chance: &mut Chance,
+) -> Result<u32, Fail> {
+    let mut plain = plain_wire_of(alloc, topology)?;
+    let mut fabric = fabric_over(alloc, topology)?;
+    Ok(answers_of(rt, &mut fabric, &mut plain, chance))
+}
+
 /// The same of a fabric by chance.
 fn answers_by_chance(rt: &impl Abort, alloc: Global, chance: &mut Chance) -> Result<u32, Fail> {
-    let text = fabric_text(alloc, chance)?;
-    let topology = read(alloc, &text).or(Err("the topology"))?;
-    let mut plain = plain_wire_of(alloc, &topology)?;
-    let mut fabric = fabric_over(alloc, &topology)?;
-    Ok(answers_of(rt, &mut fabric, &mut plain, chance))
+    let topology = topology_by_chance(alloc, chance)?;
+    answers_over(rt, alloc, &topology, chance)
 }
 
 #[test]

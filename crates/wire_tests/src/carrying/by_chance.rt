@@ -7,7 +7,7 @@ use std::alloc::Global;
 use std::process::Abort;
 use std::test::Fail;
 use test_fabrics::{Chance, fabric_over, put as put_text, put_line};
-use topo_file::read;
+use topo_file::{Topology, read};
 
 /// What a port holds: one key, or 0 for none, and what it enforces.
 #[derive(Clone, Copy, Default)]
@@ -277,19 +277,39 @@ fn guid_of(node: usize) -> u64 {
     GUIDS[node % 4]
 }
 
-/// How many of 100 packets are delivered on a fabric by chance.
-fn delivered(rt: &impl Abort, alloc: Global, chance: &mut Chance) -> Result<u32, Fail> {
-    let shape = some_shape(chance);
-    let topology = read(alloc, &text_of(alloc, &shape)?).or(Err("the topology"))?;
-    let mut fabric = fabric_over(alloc, &topology)?;
-    let mut plain = Plain {
+fn topology_of(alloc: Global, shape: &Shape) -> Result<Topology, Fail> {
+    let text = text_of(alloc, shape)?;
+    Ok(read(alloc, &text).or(Err("the topology"))?)
+}
+
+fn plain_of(alloc: Global, topology: &Topology) -> Result<Plain, Fail> {
+    Ok(Plain {
         cables: Vec::from_slice(alloc, topology.cables()).or(Err("memory"))?,
         entries: Vec::new(alloc),
         ports: Vec::new(alloc),
-    };
-    fill_switches(&mut fabric, &shape, chance, &mut plain)?;
-    fill_adapters(alloc, &mut fabric, &shape, chance, &mut plain)?;
+    })
+}
+
+/// How many of 100 packets are delivered on the fabric of that topology, filled by chance.
+fn delivered_over(
+    rt: &impl Abort,
+    alloc: Global,
+    shape: &Shape,
+    topology: &Topology,
+    chance: &mut Chance,
+) -> Result<u32, Fail> {
+    let mut plain = plain_of(alloc, topology)?;
+    let mut fabric = fabric_over(alloc, topology)?;
+    fill_switches(&mut fabric, shape, chance, &mut plain)?;
+    fill_adapters(alloc, &mut fabric, shape, chance, &mut plain)?;
     send(rt, alloc, &fabric, &plain, chance)
+}
+
+/// The same of a fabric by chance.
+fn delivered(rt: &impl Abort, alloc: Global, chance: &mut Chance) -> Result<u32, Fail> {
+    let shape = some_shape(chance);
+    let topology = topology_of(alloc, &shape)?;
+    delivered_over(rt, alloc, &shape, &topology, chance)
 }
 
 #[test]

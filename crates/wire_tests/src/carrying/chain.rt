@@ -1,6 +1,7 @@
 //! Five switches in a row, with an adapter on each. `bench/measure` counts the instructions of these tests.
 
 use crate::carrying::fixtures::{BOTH_WAYS, packet, put_enforcement, put_entries};
+use data_packet::Packet;
 use fabric_wire::Fabric;
 use std::alloc::Global;
 use std::process::Abort;
@@ -43,15 +44,22 @@ fn chain(alloc: Global) -> Result<Fabric, Fail> {
     Ok(fabric)
 }
 
-/// Carries 1,000 packets from the first adapter to that LID.
-fn carry_1000(rt: &impl Abort, alloc: Global, lid: u16) -> Result<(), Fail> {
-    let fabric = chain(alloc)?;
-    let sent = packet(1, lid, 0xffff, 7)?;
+/// How many ports get a packet from the first adapter.
+fn receivers(alloc: Global, fabric: &Fabric, sent: &Packet) -> Result<usize, Fail> {
+    let deliveries = fabric.carry(alloc, FIRST, sent).ok().ok_or("memory")?;
+    Ok(deliveries.len())
+}
+
+fn carry_many(rt: &impl Abort, alloc: Global, fabric: &Fabric, sent: &Packet) -> Result<(), Fail> {
     for _ in 0..1000u16 {
-        let deliveries = fabric.carry(alloc, FIRST, &sent).ok().ok_or("memory")?;
-        assert_eq!(rt; deliveries.len(), 1);
+        assert_eq!(rt; receivers(alloc, fabric, sent)?, 1);
     }
     Ok(())
+}
+
+/// Carries 1,000 packets from the first adapter to that LID.
+fn carry_1000(rt: &impl Abort, alloc: Global, lid: u16) -> Result<(), Fail> {
+    carry_many(rt, alloc, &chain(alloc)?, &packet(1, lid, 0xffff, 7)?)
 }
 
 #[test]

@@ -1,0 +1,12 @@
+pub mod KeyLemmas
+pub mod SeatLemmas
+pub mod HomeLemmas
+pub mod RowLemmas
+pub mod EntryLemmas
+pub mod OwnLemmas
+pub mod LeadLemmas
+pub mod ForwardsLemmas
+pub mod NodeLemmas
+pub mod PortLemmas
+pub mod BroughtUpLemmas
+pub mod EndLemmas

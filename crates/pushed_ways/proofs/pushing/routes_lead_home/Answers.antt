@@ -1,0 +1,15 @@
+use Rattle.std.proofs.Common.{ℕ, ◌==◌, subst, List}
+use Rattle.std.specs.List.{IsDistinct}
+use Rattle.sweep.specs.Graph.{IsGraph}
+use Rattle.updn_routes.proofs.AnswerLemmas.{all_routed}
+use Rattle.updn_routes.specs.Routes.{AreRoutes}
+use Rattle.pushed_ways.proofs.pushing.routes_lead_home.Goals as goal
+
+pub returns : goal.returns
+returns c = record {
+  graph = subst IsGraph c.graph.ensures c.is_whole.ensures;
+  of = c.are_of_graph.ensures;
+  own_lids = subst (λ (lids : List ℕ). IsDistinct (λ a b. a == b) lids) c.lids.ensures c.are_own.ensures.own;
+  routed = all_routed c.args.routes.now.between (subst AreRoutes c.between.ensures c.are_whole.ensures);
+  reached = c.requires;
+}

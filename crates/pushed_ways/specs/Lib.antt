@@ -1,0 +1,3 @@
+pub mod BroughtUp
+pub mod Pushed
+pub mod Laws

@@ -1,0 +1,2 @@
+pub mod OfFabric
+pub mod Laws
