@@ -12,7 +12,7 @@ use std::alloc::Global;
 use std::process::Abort;
 use std::test::Fail;
 use sweep::{Graph, sweep};
-use table_push::{push_linear, push_ports};
+use table_push::push_linear;
 use test_fabrics::{fabric_of, put, put_line};
 use updn_routes::Routes;
 
@@ -229,39 +229,4 @@ fn a_fat_tree_of_16_switches_has_its_tables(rt: HostRuntime) -> Result<(), Fail>
 #[test]
 fn a_fat_tree_of_64_switches_has_its_tables(rt: HostRuntime) -> Result<(), Fail> {
     has_its_tables(&rt, rt.alloc(), 32)
-}
-
-/// A fat tree whose ports are set up takes a Get and two Sets for each port with a cable, and a Get and a Set each for
-/// port 0 and for SwitchInfo of each switch.
-fn is_set_up(rt: &impl Abort, alloc: Global, leaves: u16) -> Result<(), Fail>
-    requires some { 0 < leaves }
-    requires few { leaves ≤ 32 }
-{
-    let mut fabric = fat_tree_of(alloc, leaves)?;
-    let graph = graph_of(alloc, &mut fabric)?;
-    let routes = routes_below_spines(alloc, graph)?;
-    let mut wire = CountingWire {
-        wire: fabric,
-        count: 0,
-    };
-    push_ports(&mut wire, &routes).or(Err("a push"))?;
-    let ports = 16 * u64::from(leaves) + 2 * u64::from(leaves * leaves.min(28));
-    assert_eq!(rt; wire.count, 3 * ports + 8 * u64::from(leaves));
-    Ok(())
-}
-
-#[test]
-fn a_fat_tree_of_8_switches_is_set_up(rt: HostRuntime) -> Result<(), Fail> {
-    is_set_up(&rt, rt.alloc(), 4)
-}
-
-#[test]
-fn a_fat_tree_of_16_switches_is_set_up(rt: HostRuntime) -> Result<(), Fail> {
-    is_set_up(&rt, rt.alloc(), 8)
-}
-
-/// It has 7,168 SMPs for that. With the sweep and the tables a bring-up has 12,930; 14,000 are allowed.
-#[test]
-fn a_fat_tree_of_64_switches_is_set_up(rt: HostRuntime) -> Result<(), Fail> {
-    is_set_up(&rt, rt.alloc(), 32)
 }

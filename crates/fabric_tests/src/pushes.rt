@@ -3,7 +3,6 @@
 mod faults;
 mod fixtures;
 mod keys;
-mod ports;
 
 ghost use Rattle.std.specs.Prelude.{◌≤◌, length};
 

@@ -16,17 +16,17 @@ const LINEAR_SMPS: u64 = 16;
 const KEY_SMPS: u64 = 10;
 
 /// Where the status stands in a reply, and the first byte of its attribute.
-pub const STATUS: usize = 5;
+const STATUS: usize = 5;
 
-pub const DATA: usize = 64;
+const DATA: usize = 64;
 
 /// Passes so many exchanges on, and changes one byte of the reply to the next. It stands for no fabric.
 #[derive(Drop)]
-pub struct FaultyWire {
-    pub wire: Fabric,
-    pub left: u64,
-    pub place: usize,
-    pub value: u8,
+struct FaultyWire {
+    wire: Fabric,
+    left: u64,
+    place: usize,
+    value: u8,
 }
 
 impl SmpWire for FaultyWire {
