@@ -25,7 +25,7 @@ alike a b e =
     let q = and_parts (a.1.base == b.1.base) (bytes_eq a.1.name b.1.name) p.1 in
     (eqb-true a.0 b.0 p.0, (eqb-true a.1.base b.1.base q.0, (bytes_eq-Decides a.1.name b.1.name).0 q.1))
 
-same_if : (a b : ℕ × Heading) → Alike a b → same_partition a b ≡ true
+pub same_if : (a b : ℕ × Heading) → Alike a b → same_partition a b ≡ true
 same_if a b e =
     and_from (a.0 == b.0) _ (eq-eqb a.0 b.0 e.0) (and_from (a.1.base == b.1.base) _ (eq-eqb a.1.base b.1.base e.1.0) ((bytes_eq-Decides a.1.name b.1.name).1 e.1.1))
 
@@ -89,7 +89,7 @@ fields_alike a b e =
     let s = and_parts (a.rate == b.rate) (a.service_level == b.service_level) r.1 in
     (eqb-true a.scope b.scope p.0, (eqb-true a.q_key b.q_key q.0, (eqb-true a.mtu b.mtu r.0, (eqb-true a.rate b.rate s.0, eqb-true a.service_level b.service_level s.1))))
 
-fields_if : (a b : BroadcastGroup) → AlikeFields a b → same_fields a b ≡ true
+pub fields_if : (a b : BroadcastGroup) → AlikeFields a b → same_fields a b ≡ true
 fields_if a b e =
     and_from (a.scope == b.scope) _ (eq-eqb a.scope b.scope e.0) (and_from (a.q_key == b.q_key) _ (eq-eqb a.q_key b.q_key e.1.0)
     (and_from (a.mtu == b.mtu) _ (eq-eqb a.mtu b.mtu e.1.1.0) (and_from (a.rate == b.rate) _ (eq-eqb a.rate b.rate e.1.1.1.0) (eq-eqb a.service_level b.service_level e.1.1.1.1))))
@@ -121,7 +121,7 @@ group_turned a b e =
     let one = and_parts (a.base == b.base) (same_groups a.group b.group) e in
     and_from (b.base == a.base) (same_groups b.group a.group) (eq-eqb b.base a.base (sym (eqb-true a.base b.base one.0))) (groups_turned a.group b.group one.1)
 
-either : (a b : Bool) → (a ≡ true → b ≡ true) → (b ≡ true → a ≡ true) → a ≡ b
+pub either : (a b : Bool) → (a ≡ true → b ≡ true) → (b ≡ true → a ≡ true) → a ≡ b
 either true true f g = refl
 either true false f g = sym (f refl)
 either false true f g = g refl

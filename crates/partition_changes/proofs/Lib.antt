@@ -2,5 +2,6 @@ pub mod BaseLemmas
 pub mod ChangeLemmas
 pub mod KindLemmas
 pub mod MemberLemmas
+pub mod SameLemmas
 pub mod ShareToldLemmas
 pub mod ToldLemmas

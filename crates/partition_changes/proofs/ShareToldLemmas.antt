@@ -1,7 +1,7 @@
 -- Shares that go or come are told, where the ports are the same.
-use Rattle.std.proofs.Common.{◌≡◌, ℕ, zero, suc, ◌+◌, ◌<◌, Bool, true, false, not, ◌==◌, ◌&&◌, ◌||◌, if◌then◌else◌, List, [], ◌∷◌, ◌++◌, Option, Some, None, filter, map, refl, sym, ap, ◌∙◌, inl, inr, subst, arith}
+use Rattle.std.proofs.Common.{◌≡◌, ℕ, Bool, true, false, not, ◌==◌, ◌&&◌, ◌||◌, if◌then◌else◌, List, [], ◌∷◌, Some, None, filter, map, refl, sym, ap, ◌∙◌, inl, inr, subst}
 use Rattle.std.specs.List.{AllByRecursion, IsDistinct, flat_map, list_any, range_with_len, zip}
-use Rattle.std.proofs.lemmas.Bool.{and_from, and_parts, cases_Bool, eq-eqb, eqb-true, false≢true}
+use Rattle.std.proofs.lemmas.Bool.{and_from, and_parts, cases_Bool, eq-eqb, eqb-true}
 use Rattle.std.proofs.lemmas.List.Folds.{list_any-append}
 use Rattle.lid_assign.proofs.RisingLemmas.{Rises, rises}
 use Rattle.pkey_rules.specs.KeyTable.{shares_base}
@@ -10,15 +10,15 @@ use Rattle.port_shares.proofs.ShareLemmas.{range_rises}
 use Rattle.port_shares.specs.Found.{share_of as share_between}
 use Rattle.port_shares.specs.Shares.{Share, pair_shares, shared_bases, shares}
 use Rattle.subnet_model.specs.declared.subnet_port.SubnetPort.{SubnetPort}
-use Rattle.partition_changes.specs.Changes.{Change, changes_of, pair_changes, same_share, share_changes, share_changes_at, share_of}
-use Rattle.partition_changes.specs.Laws.{AreSamePorts, SharesAreTold, comes, goes, has_share, same_guid, says}
+use Rattle.partition_changes.specs.Changes.{pair_changes, same_share, share_changes, share_changes_at, share_of}
+use Rattle.partition_changes.specs.Laws.{SharesAreTold, comes, goes, has_share, same_guid, says}
 use Rattle.partition_changes.proofs.MemberLemmas.{any_first, any_second, first_same, guids, none_after, own}
 use Rattle.partition_changes.proofs.ToldLemmas.{Apart, alone, apart_by_base, one_comes, one_goes, told_apart, weaker_none}
 
-abbrev Alike : Share → Share → Type 0
+abbrev pub Alike : Share → Share → Type 0
 Alike a b = (a.first.guid ≡ b.first.guid) × ((a.second.guid ≡ b.second.guid) × (a.base ≡ b.base))
 
-alike : (a b : Share) → same_share a b ≡ true → Alike a b
+pub alike : (a b : Share) → same_share a b ≡ true → Alike a b
 alike a b e =
     let p = and_parts (a.first.guid == b.first.guid) ((a.second.guid == b.second.guid) && (a.base == b.base)) e in
     let q = and_parts (a.second.guid == b.second.guid) (a.base == b.base) p.1 in

@@ -1,11 +1,13 @@
 -- What goes is what was said and is said no more; what comes is what was not said before.
-use Rattle.std.specs.Prelude.{ℕ, ◌≡◌, Bool, false, not, ◌==◌, ◌&&◌, List, Option, map}
+use Rattle.std.specs.Prelude.{ℕ, ◌≡◌, ◌↔◌, Bool, true, false, not, ◌==◌, ◌&&◌, List, [], Option, map}
 use Rattle.std.specs.List.{IsDistinct, list_any, zip}
 use Rattle.std.specs.Option.{option_map_or}
-use Rattle.partition_changes.specs.Changes.{Change, bases_named, group_changes, grouped, member_changes, member_of, partition_changes, partition_of, same_group, same_member, same_partition, same_share, share_changes}
+use Rattle.partition_changes.specs.Changes.{Change, bases_named, group_changes, grouped, member_changes, member_of, partition_changes, partition_of, same_group, same_member, same_partition, same_share, share_changes, text_of_changes}
 use Rattle.partition_file.specs.declared.heading.Heading.{Heading}
 use Rattle.pkey_rules.specs.PKey.{base_of}
 use Rattle.port_shares.specs.Shares.{Share, shares}
+use Rattle.subnet_model.specs.Configuration.{Configured}
+use Rattle.subnet_model.specs.Near.{is_near}
 use Rattle.subnet_model.specs.declared.subnet_port.SubnetPort.{SubnetPort}
 
 -- this is what is said
@@ -71,3 +73,22 @@ abbrev pub SharesAreTold : Type 0
 SharesAreTold =
     (before after : List SubnetPort) → AreSamePorts before after
     → TellWhatChanges same_share (has_share before) (has_share after) (share_changes (zip before after))
+
+-- ---- where nothing is told
+-- both say the same of each partition, of each group, of each member of one of the partitions and of each share
+pub record SayTheSame (before after : Configured) : Type 0 where
+  pub partitions : (x : ℕ × Heading) → has_partition before.partitions x ≡ has_partition after.partitions x
+  pub groups : (x : Heading) → has_group before.partitions x ≡ has_group after.partitions x
+  pub members : (x : SubnetPort × ℕ) → is_of (bases_named before.partitions after.partitions) x ≡ true → has_member before.ports x ≡ has_member after.ports x
+  pub shares : (x : Share) → has_share before.ports x ≡ has_share after.ports x
+
+-- the text of changes is empty exactly where they do
+abbrev pub NothingIsToldOfTheSame : Type 0
+NothingIsToldOfTheSame =
+    (before after : Configured) → AreSamePorts before.ports after.ports → text_of_changes before after ≡ [] ↔ SayTheSame before after
+
+-- where no share is told, whoever was near a port is near it still, and nobody else is
+abbrev pub NearStaysWhereNoShareIsTold : Type 0
+NearStaysWhereNoShareIsTold =
+    (before after : List SubnetPort) → AreSamePorts before after → share_changes (zip before after) ≡ []
+    → (p q : ℕ) → is_near before p q ≡ is_near after p q

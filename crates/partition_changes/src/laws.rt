@@ -1,6 +1,6 @@
 //! What changes tell, over the definitions alone. The functions do nothing: their contracts are the laws.
 
-ghost use Rattle.partition_changes.specs.Laws.{GroupsAreTold, MembersAreTold, PartitionsAreTold, SharesAreTold};
+ghost use Rattle.partition_changes.specs.Laws.{GroupsAreTold, MembersAreTold, NearStaysWhereNoShareIsTold, NothingIsToldOfTheSame, PartitionsAreTold, SharesAreTold};
 
 /// A partition with its number and name goes exactly where it was there before and is not after, and comes the other way
 /// round.
@@ -21,4 +21,15 @@ pub fn members_are_told()
 /// So does a share of two ports under a base, where the ports are the same before and after.
 pub fn shares_are_told()
     ensures { SharesAreTold }
+{}
+
+/// The text of changes is empty exactly where both files say the same of each partition, group, member and share, and the
+/// ports are the same before and after.
+pub fn nothing_is_told_of_the_same()
+    ensures { NothingIsToldOfTheSame }
+{}
+
+/// Where no share is told, each port has those near it that it had before, and no others.
+pub fn near_stays_where_no_share_is_told()
+    ensures { NearStaysWhereNoShareIsTold }
 {}

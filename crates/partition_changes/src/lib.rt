@@ -13,4 +13,7 @@ mod ports;
 mod shares;
 
 pub use crate::changes::changes_text;
-pub use crate::laws::{groups_are_told, members_are_told, partitions_are_told, shares_are_told};
+pub use crate::laws::{
+    groups_are_told, members_are_told, near_stays_where_no_share_is_told,
+    nothing_is_told_of_the_same, partitions_are_told, shares_are_told,
+};

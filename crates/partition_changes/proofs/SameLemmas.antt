@@ -1,0 +1,200 @@
+-- Nothing is told exactly where both files say the same.
+use Rattle.std.proofs.Common.{◌≡◌, ◌↔◌, ℕ, Bool, true, false, not, ◌==◌, ◌&&◌, ◌||◌, if◌then◌else◌, List, [], ◌∷◌, ◌++◌, Option, Some, None, is_some, refl, sym, ap, ◌∙◌, inl, inr}
+use Rattle.std.specs.List.{AllByRecursion, flat_map, list_any, zip}
+use Rattle.std.proofs.lemmas.Bool.{and_from, and_parts, cases_Bool, eq-eqb, false≢true, or_left, or_right}
+use Rattle.partition_file.specs.declared.broadcast_group.BroadcastGroup.{BroadcastGroup}
+use Rattle.partition_file.specs.declared.heading.Heading.{Heading}
+use Rattle.port_shares.proofs.NearLemmas.{near_is_to_share}
+use Rattle.port_shares.specs.Laws.{is_of_both}
+use Rattle.port_shares.specs.Shares.{Share, share_line, shares}
+use Rattle.subnet_model.specs.declared.subnet_port.SubnetPort.{SubnetPort}
+use Rattle.partition_changes.specs.Changes.{Change, bases_named, change_of_member_line, changes_of, changes_text, coming, going, group_changes, group_changes_at, group_line, grouped, member_changes, partition_changes, partition_line, same_group, same_groups, same_member, same_partition, same_share, share_changes, sign}
+use Rattle.partition_changes.specs.Laws.{NearStaysWhereNoShareIsTold, NothingIsToldOfTheSame, TellWhatChanges, comes, goes, has_group, has_member, has_partition, has_share, is_of}
+use Rattle.partition_changes.proofs.KindLemmas.{either, fields_if, groups_are_told, partitions_are_told, same_if}
+use Rattle.partition_changes.proofs.MemberLemmas.{members_are_told}
+use Rattle.partition_changes.proofs.ShareToldLemmas.{alike, shares_are_told}
+
+-- ---- changes of one kind
+-- what is told is the same as itself
+abbrev IsOwn : {X : Type 0} → (X → X → Bool) → Change X → Type 0
+IsOwn same change = same change.what change.what ≡ true
+
+own_always : {X : Type 0} (same : X → X → Bool) → ((x : X) → same x x ≡ true) → (changes : List (Change X)) → AllByRecursion (IsOwn same) changes
+own_always same own [] = tt
+own_always same own (change ∷ changes) = (own change.what, own_always same own changes)
+
+some_told : (is_new is_same gone come : Bool) → is_same ≡ true → ((not is_new && is_same) || gone) ≡ false → ((is_new && is_same) || come) ≡ false → false ≡ true
+some_told true true gone come e f g = sym g
+some_told false true gone come e f g = sym f
+some_told is_new false gone come e f g = e
+
+none_told : {X : Type 0} (same : X → X → Bool) (changes : List (Change X)) → AllByRecursion (IsOwn same) changes
+    → ((x : X) → goes same x changes ≡ false) → ((x : X) → comes same x changes ≡ false) → changes ≡ []
+none_told same [] own gone come = refl
+none_told same (change ∷ changes) own gone come =
+    absurd (false≢true (some_told change.comes (same change.what change.what) (goes same change.what changes) (comes same change.what changes) own.0 (gone change.what) (come change.what)))
+
+unchanged : (a b : Bool) → a ≡ b → (a && not b) ≡ false
+unchanged true true e = refl
+unchanged false b e = refl
+unchanged true false e = e
+
+equal : (a b : Bool) → (a && not b) ≡ false → (b && not a) ≡ false → a ≡ b
+equal true true e f = refl
+equal true false e f = e
+equal false true e f = sym f
+equal false false e f = refl
+
+-- nothing of the kind is told exactly where both say the same of it
+kind : {X : Type 0} (same : X → X → Bool) (was becomes : X → Bool) (changes : List (Change X)) → TellWhatChanges same was becomes changes → AllByRecursion (IsOwn same) changes
+    → changes ≡ [] ↔ ((x : X) → was x ≡ becomes x)
+kind same was becomes changes told own = (
+  (λ none x. equal (was x) (becomes x) (sym (told.gone x) ∙ ap (goes same x) none) (sym (told.come x) ∙ ap (comes same x) none)),
+  (λ all. none_told same changes own (λ x. told.gone x ∙ unchanged (was x) (becomes x) (all x)) (λ x. told.come x ∙ unchanged (becomes x) (was x) (sym (all x)))),
+)
+
+-- ---- what is found is the same as itself
+own_partition : (x : ℕ × Heading) → same_partition x x ≡ true
+own_partition x = same_if x x (refl, (refl, refl))
+
+own_member : (x : SubnetPort × ℕ) → same_member x x ≡ true
+own_member x = and_from (x.0.guid == x.0.guid) (x.1 == x.1) (eq-eqb x.0.guid x.0.guid refl) (eq-eqb x.1 x.1 refl)
+
+own_share : (x : Share) → same_share x x ≡ true
+own_share x =
+    and_from (x.first.guid == x.first.guid) _ (eq-eqb x.first.guid x.first.guid refl)
+    (and_from (x.second.guid == x.second.guid) _ (eq-eqb x.second.guid x.second.guid refl) (eq-eqb x.base x.base refl))
+
+-- a group, where there is one
+own_fields : (group : Option BroadcastGroup) → is_some group ≡ true → same_groups group group ≡ true
+own_fields None e = absurd (cc)
+own_fields (Some group) e = fields_if group group (refl, (refl, (refl, (refl, refl))))
+
+own_group : (heading : Heading) → is_some heading.group ≡ true → same_group heading heading ≡ true
+own_group heading e = and_from (heading.base == heading.base) (same_groups heading.group heading.group) (eq-eqb heading.base heading.base refl) (own_fields heading.group e)
+
+abbrev IsOwnGroup : Option Heading → Type 0
+IsOwnGroup None = Unit {0}
+IsOwnGroup (Some heading) = same_group heading heading ≡ true
+
+own_grouped : (headings : List Heading) (base : ℕ) → IsOwnGroup (grouped headings base)
+own_grouped [] base = tt
+own_grouped (heading ∷ headings) base = elim (cases_Bool ((heading.base == base) && is_some heading.group)) [
+  | inl here ↦ rw here (own_group heading (and_parts (heading.base == base) (is_some heading.group) here).1)
+  | inr other ↦ rw other (own_grouped headings base)
+]
+
+own_either : (before after : Option Heading) → IsOwnGroup before → IsOwnGroup after → AllByRecursion (IsOwn same_group) (changes_of same_group before after)
+own_either None None b a = tt
+own_either None (Some y) b a = (a, tt)
+own_either (Some x) None b a = (b, tt)
+own_either (Some x) (Some y) b a = by (same_group x y)
+  where
+    by : (kept : Bool) → AllByRecursion (IsOwn same_group) (if kept then [] else going (Some x) ++ coming (Some y))
+    by true = tt
+    by false = (b, (a, tt))
+
+own_joined : (xs ys : List (Change Heading)) → AllByRecursion (IsOwn same_group) xs → AllByRecursion (IsOwn same_group) ys → AllByRecursion (IsOwn same_group) (xs ++ ys)
+own_joined [] ys a b = b
+own_joined (x ∷ xs) ys a b = (a.0, own_joined xs ys a.1 b)
+
+own_groups : (before after : List Heading) (bases : List ℕ) → AllByRecursion (IsOwn same_group) (flat_map (group_changes_at before after) bases)
+own_groups before after [] = tt
+own_groups before after (base ∷ bases) =
+    own_joined (group_changes_at before after base) (flat_map (group_changes_at before after) bases)
+    (own_either (grouped before base) (grouped after base) (own_grouped before base) (own_grouped after base)) (own_groups before after bases)
+
+-- ---- the text
+joined_none : (xs ys : List ℕ) → xs ++ ys ≡ [] → (xs ≡ []) × (ys ≡ [])
+joined_none [] ys e = (refl, e)
+joined_none (x ∷ xs) ys e = absurd (cc)
+
+none_joined : (ps gs ms ss : List ℕ) → ps ≡ [] → gs ≡ [] → ms ≡ [] → ss ≡ [] → ps ++ gs ++ ms ++ ss ≡ []
+none_joined ps gs ms ss p g m s = rw (p, g, m, s) refl
+
+-- each change has a line
+untold : {X : Type 0} (line : X → List ℕ) (changes : List (Change X)) → changes_text line changes ≡ [] → changes ≡ []
+untold line [] e = refl
+untold line (change ∷ changes) e = absurd (by change.comes (joined_none (sign change.comes ++ line change.what) (changes_text line changes) e).0)
+  where
+    by : (b : Bool) → sign b ++ line change.what ≡ [] → ⊥
+    by true e = cc
+    by false e = cc
+
+within : (a b c : Bool) → (a ≡ true → b ≡ c) → (a && b) ≡ (a && c)
+within true b c f = f refl
+within false b c f = refl
+
+without : (a b c : Bool) → (a && b) ≡ (a && c) → a ≡ true → b ≡ c
+without true b c e f = e
+without false b c e f = absurd (false≢true f)
+
+pub nothing_is_told_of_the_same : NothingIsToldOfTheSame
+nothing_is_told_of_the_same before after are =
+    let bases : List ℕ = bases_named before.partitions after.partitions in
+    let partitions : List (Change (ℕ × Heading)) = partition_changes before.partitions after.partitions in
+    let groups : List (Change Heading) = group_changes before.partitions after.partitions in
+    let members : List (Change (SubnetPort × ℕ)) = member_changes bases (zip before.ports after.ports) in
+    let changed : List (Change Share) = share_changes (zip before.ports after.ports) in
+    let of_partitions = kind same_partition (has_partition before.partitions) (has_partition after.partitions) partitions (partitions_are_told before.partitions after.partitions) (own_always same_partition own_partition partitions) in
+    let of_groups = kind same_group (has_group before.partitions) (has_group after.partitions) groups (groups_are_told before.partitions after.partitions) (own_groups before.partitions after.partitions bases) in
+    let of_members = kind same_member (λ x. is_of bases x && has_member before.ports x) (λ x. is_of bases x && has_member after.ports x) members (members_are_told before.ports after.ports before.partitions after.partitions are) (own_always same_member own_member members) in
+    let of_shares = kind same_share (has_share before.ports) (has_share after.ports) changed (shares_are_told before.ports after.ports are) (own_always same_share own_share changed) in (
+      (λ empty.
+          let one = joined_none (changes_text partition_line partitions ++ changes_text group_line groups ++ changes_text change_of_member_line members) (changes_text share_line changed) empty in
+          let two = joined_none (changes_text partition_line partitions ++ changes_text group_line groups) (changes_text change_of_member_line members) one.0 in
+          let three = joined_none (changes_text partition_line partitions) (changes_text group_line groups) two.0 in
+          record {
+            partitions = of_partitions.0 (untold partition_line partitions three.0);
+            groups = of_groups.0 (untold group_line groups three.1);
+            members = λ x. without (is_of bases x) (has_member before.ports x) (has_member after.ports x) (of_members.0 (untold change_of_member_line members two.1) x);
+            shares = of_shares.0 (untold share_line changed one.1);
+          }),
+      (λ same.
+          none_joined (changes_text partition_line partitions) (changes_text group_line groups) (changes_text change_of_member_line members) (changes_text share_line changed)
+          (ap (changes_text partition_line) (of_partitions.1 same.partitions)) (ap (changes_text group_line) (of_groups.1 same.groups))
+          (ap (changes_text change_of_member_line) (of_members.1 (λ x. within (is_of bases x) (has_member before.ports x) (has_member after.ports x) (same.members x))))
+          (ap (changes_text share_line) (of_shares.1 same.shares))),
+    )
+
+-- ---- near
+both_alike : (p q : ℕ) (x y : Share) → same_share x y ≡ true → is_of_both p q x ≡ is_of_both p q y
+both_alike p q x y e =
+    let same = alike x y e in
+    ap (λ n. ((n == p) && (x.second.guid == q)) || ((n == q) && (x.second.guid == p))) same.0
+    ∙ ap (λ n. ((y.first.guid == p) && (n == q)) || ((y.first.guid == q) && (n == p))) same.1.0
+
+-- one that passes the test
+passing : (test : Share → Bool) (xs : List Share) → list_any test xs ≡ true → (x : Share) × ((test x ≡ true) × (list_any (same_share x) xs ≡ true))
+passing test [] e = absurd (cc)
+passing test (x ∷ xs) e = elim (cases_Bool (test x)) [
+  | inl here ↦ (x, (here, or_left (same_share x x) (list_any (same_share x) xs) (own_share x)))
+  | inr other ↦
+      let rest = passing test xs (rw other at e) in
+      (rest.0, (rest.1.0, or_right (same_share rest.0 x) (list_any (same_share rest.0) xs) rest.1.1))
+]
+
+passed : (test : Share → Bool) → ((x y : Share) → same_share x y ≡ true → test x ≡ test y) → (xs : List Share) (x : Share)
+    → test x ≡ true → list_any (same_share x) xs ≡ true → list_any test xs ≡ true
+passed test even [] x e h = absurd (cc)
+passed test even (y ∷ ys) x e h = elim (cases_Bool (same_share x y)) [
+  | inl here ↦ or_left (test y) (list_any test ys) (sym (even x y here) ∙ e)
+  | inr other ↦ or_right (test y) (list_any test ys) (passed test even ys x e (rw other at h))
+]
+
+implies : (test : Share → Bool) → ((x y : Share) → same_share x y ≡ true → test x ≡ test y) → (xs ys : List Share)
+    → ((x : Share) → list_any (same_share x) xs ≡ list_any (same_share x) ys) → list_any test xs ≡ true → list_any test ys ≡ true
+implies test even xs ys same h =
+    let one = passing test xs h in
+    passed test even ys one.0 one.1.0 (sym (same one.0) ∙ one.1.1)
+
+pub near_stays_where_no_share_is_told : NearStaysWhereNoShareIsTold
+near_stays_where_no_share_is_told before after are none p q =
+    let changed : List (Change Share) = share_changes (zip before after) in
+    let of_shares = kind same_share (has_share before) (has_share after) changed (shares_are_told before after are) (own_always same_share own_share changed) in
+    let same : (x : Share) → has_share before x ≡ has_share after x = of_shares.0 none in
+    near_is_to_share before p q
+    ∙ ap (λ b. (q == p) || b) (either (list_any (is_of_both p q) (shares before)) (list_any (is_of_both p q) (shares after))
+    (implies (is_of_both p q) (both_alike p q) (shares before) (shares after) same)
+    (implies (is_of_both p q) (both_alike p q) (shares after) (shares before) (λ x. sym (same x))))
+    ∙ sym (near_is_to_share after p q)
