@@ -1,5 +1,4 @@
-//! Fat trees: as many leaf switches, with 8 adapters each, as spine switches, of which each leaf is cabled to
-//! 28 or all. The greatest fabric has 32 of each. `bench/measure` counts the instructions of these tests.
+//! Fat trees that are read, swept and routed. `bench/measure` counts the instructions of these tests.
 
 ghost use Rattle.std.specs.Prelude.{◌≤◌, ◌<◌, length};
 
@@ -12,48 +11,8 @@ use std::alloc::Global;
 use std::process::Abort;
 use std::test::Fail;
 use sweep::{Graph, sweep};
-use table_push::push_linear;
-use test_fabrics::{fabric_of, put, put_line};
+use test_fabrics::fat_tree_of;
 use updn_routes::Routes;
-
-fn text_of_a_fat_tree(alloc: Global, leaves: u16) -> Result<Vec<u8>, Fail>
-    requires some { 0 < leaves }
-    requires few { leaves ≤ 32 }
-{
-    let mut text = Vec::new(alloc);
-    for i in 0..leaves {
-        put_line(&mut text, &[(b"switch leaf", i), (b" 1", i)], b" 36\n")?;
-        put_line(&mut text, &[(b"switch spine", i), (b" 2", i)], b" 36\n")?;
-    }
-    for i in 0..8 * leaves {
-        put_line(&mut text, &[(b"adapter h", i), (b" 3", i)], b"0 1\n")?;
-        let leaf_port = [(b"cable leaf".as_slice(), i / 8), (b"/", i % 8 + 1)];
-        put_line(&mut text, &leaf_port, b"")?;
-        put_line(&mut text, &[(b" h", i)], b"/1\n")?;
-    }
-    for i in 0..leaves {
-        for k in 0..leaves.min(28) {
-            let leaf_port = [(b"cable leaf".as_slice(), i), (b"/", 9 + k)];
-            put_line(&mut text, &leaf_port, b"")?;
-            put_line(
-                &mut text,
-                &[(b" spine", (i + k) % leaves), (b"/", k + 1)],
-                b"\n",
-            )?;
-        }
-    }
-    put(&mut text, b"sm h000/1\n")?;
-    Ok(text)
-}
-
-/// A fat tree of so many leaf switches, and as many spine switches.
-fn fat_tree_of(alloc: Global, leaves: u16) -> Result<Fabric, Fail>
-    requires some { 0 < leaves }
-    requires few { leaves ≤ 32 }
-{
-    let text = text_of_a_fat_tree(alloc, leaves)?;
-    fabric_of(alloc, &text)
-}
 
 /// The greatest fabric.
 fn fat_tree(alloc: Global) -> Result<Fabric, Fail> {
@@ -197,36 +156,4 @@ fn a_fat_tree_of_16_switches_is_routed(rt: HostRuntime) -> Result<(), Fail> {
 #[test]
 fn a_fat_tree_of_64_switches_is_routed(rt: HostRuntime) -> Result<(), Fail> {
     is_routed(&rt, rt.alloc(), 32)
-}
-
-/// A fat tree whose linear tables are pushed takes eight SMPs for each switch, one a block.
-fn has_its_tables(rt: &impl Abort, alloc: Global, leaves: u16) -> Result<(), Fail>
-    requires some { 0 < leaves }
-    requires few { leaves ≤ 32 }
-{
-    let mut fabric = fat_tree_of(alloc, leaves)?;
-    let graph = graph_of(alloc, &mut fabric)?;
-    let routes = routes_below_spines(alloc, graph)?;
-    let mut wire = CountingWire {
-        wire: fabric,
-        count: 0,
-    };
-    push_linear(&mut wire, &routes).or(Err("a push"))?;
-    assert_eq!(rt; wire.count, u64::from(leaves) * 16);
-    Ok(())
-}
-
-#[test]
-fn a_fat_tree_of_8_switches_has_its_tables(rt: HostRuntime) -> Result<(), Fail> {
-    has_its_tables(&rt, rt.alloc(), 4)
-}
-
-#[test]
-fn a_fat_tree_of_16_switches_has_its_tables(rt: HostRuntime) -> Result<(), Fail> {
-    has_its_tables(&rt, rt.alloc(), 8)
-}
-
-#[test]
-fn a_fat_tree_of_64_switches_has_its_tables(rt: HostRuntime) -> Result<(), Fail> {
-    has_its_tables(&rt, rt.alloc(), 32)
 }

@@ -1,4 +1,4 @@
-//! Tests of the subnet manager on the simulated fabric, through public calls alone: sweeps, LIDs, routes and pushes.
+//! Tests of the subnet manager on the simulated fabric, through public calls alone: sweeps, LIDs and routes.
 //!
 //! They say what no clause says: that the definitions mean what users were told, by byte vectors and
 //! worked requests.
@@ -10,8 +10,6 @@ mod fat_tree;
 mod fixtures;
 #[cfg(test)]
 mod lids;
-#[cfg(test)]
-mod pushes;
 #[cfg(test)]
 mod sweeps;
 #[cfg(test)]

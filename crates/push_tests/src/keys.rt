@@ -1,15 +1,12 @@
 //! Key tables over the two-switch fabric: those of a file with one partition.
 
-ghost use Rattle.std.specs.Prelude.{◌≤◌, length};
-
-use crate::pushes::fixtures::found;
+use crate::fixtures::{give, told};
 use attr_tables::SmpAttribute;
-use fabric_wire::{SmpWire, get_attribute, set_attribute};
+use fabric_wire::SmpWire;
 use pkey_rules::{KeyTable, PARTITIONS, PKey};
 use std::alloc::Global;
 use std::process::Abort;
 use std::test::Fail;
-use table_push::push_keys;
 
 /// Of each LID, from 1 on: h0/1, which is the subnet manager's, A, B, h1/1, h2/1 and h3/1. The second is 0 for none.
 const KEYS: [(u16, u16); 6] = [
@@ -37,7 +34,8 @@ const TABLES: [(&[u8], u32, [u8; 4]); 9] = [
 /// Ports that the push leaves alone: cabled to a switch, and without a cable.
 const OTHERS: [(&[u8], u32); 3] = [(&[1], 3), (&[1], 4), (&[1, 3], 3)];
 
-fn table_of(first: u16, second: u16) -> Result<KeyTable<PARTITIONS>, Fail> {
+/// The table of these two keys, of which 0 is none.
+pub fn table_of(first: u16, second: u16) -> Result<KeyTable<PARTITIONS>, Fail> {
     let mut table = KeyTable::new();
     let key = PKey::new(first).or(Err("a key"))?;
     table.push(key).or(Err("a place"))?;
@@ -48,7 +46,7 @@ fn table_of(first: u16, second: u16) -> Result<KeyTable<PARTITIONS>, Fail> {
 }
 
 /// The tables of all LIDs.
-pub fn keys(alloc: Global) -> Result<Vec<KeyTable<PARTITIONS>>, Fail> {
+pub fn keys_of_one_partition(alloc: Global) -> Result<Vec<KeyTable<PARTITIONS>>, Fail> {
     let mut tables = Vec::new(alloc);
     for (first, second) in KEYS {
         tables.push(table_of(first, second)?).or(Err("memory"))?;
@@ -56,53 +54,49 @@ pub fn keys(alloc: Global) -> Result<Vec<KeyTable<PARTITIONS>>, Fail> {
     Ok(tables)
 }
 
-fn fill_one<W: SmpWire>(wire: &mut W, path: &[u8], port: u32) -> Result<(), Fail>
-    requires short { length path.now ≤ 63 }
-{
-    let place = port.wrapping_mul(65536);
-    set_attribute(wire, 1, SmpAttribute::PKeyTable, place, path, &[7; 64]).or(Err("a Set"))?;
-    Ok(())
-}
-
 /// Fills all tables, so that what stood before is seen.
-fn fill<W: SmpWire>(wire: &mut W) -> Result<(), Fail> {
+pub fn fill_key_tables<W: SmpWire>(wire: &mut W) -> Result<(), Fail> {
     for (path, port, _) in TABLES {
-        fill_one(wire, path, port)?;
+        give(
+            wire,
+            SmpAttribute::PKeyTable,
+            first_block(port),
+            path,
+            &[7; 64],
+        )?;
     }
     for (path, port) in OTHERS {
-        fill_one(wire, path, port)?;
+        give(
+            wire,
+            SmpAttribute::PKeyTable,
+            first_block(port),
+            path,
+            &[7; 64],
+        )?;
     }
     Ok(())
 }
 
-fn block<W: SmpWire>(wire: &mut W, path: &[u8], port: u32) -> Result<[u8; 64], Fail>
-    requires short { length path.now ≤ 63 }
-{
-    let place = port.wrapping_mul(65536);
-    Ok(get_attribute(wire, 1, SmpAttribute::PKeyTable, place, path).or(Err("a block"))?)
+/// The attribute modifier of the first block of a port's key table.
+fn first_block(port: u32) -> u32 {
+    port.wrapping_mul(65536)
 }
 
-fn keys_stand<W: SmpWire>(rt: &impl Abort, wire: &mut W) -> Result<(), Fail> {
+/// Each table has its keys, and nothing behind them.
+pub fn keys_stand<W: SmpWire>(rt: &impl Abort, wire: &mut W) -> Result<(), Fail> {
     for (path, port, begins) in TABLES {
-        let bytes = block(wire, path, port)?;
+        let bytes = told(wire, SmpAttribute::PKeyTable, first_block(port), path)?;
         assert!(rt; bytes.starts_with(&begins));
         assert!(rt; bytes.iter().skip(4).all(|byte| *byte == 0));
     }
     Ok(())
 }
 
-fn others_stay<W: SmpWire>(rt: &impl Abort, wire: &mut W) -> Result<(), Fail> {
+/// Between switches, and where no cable is, the tables are as they were.
+pub fn other_tables_stay<W: SmpWire>(rt: &impl Abort, wire: &mut W) -> Result<(), Fail> {
     for (path, port) in OTHERS {
-        assert_eq!(rt; block(wire, path, port)?, [7; 64]);
+        let bytes = told(wire, SmpAttribute::PKeyTable, first_block(port), path)?;
+        assert_eq!(rt; bytes, [7; 64]);
     }
     Ok(())
-}
-
-#[test]
-fn key_tables_are_the_files_and_nothing_else(rt: HostRuntime) -> Result<(), Fail> {
-    let (mut fabric, routes) = found(rt.alloc())?;
-    fill(&mut fabric)?;
-    push_keys(&mut fabric, &routes, &keys(rt.alloc())?).or(Err("a push"))?;
-    keys_stand(&rt, &mut fabric)?;
-    others_stay(&rt, &mut fabric)
 }

@@ -1,0 +1,191 @@
+//! Fat trees that are brought up. `bench/measure` counts the instructions of these tests.
+
+ghost use Rattle.std.specs.Prelude.{◌≤◌, ◌<◌};
+
+use crate::fixtures::{Push, routes_over};
+use crate::keys::table_of;
+use fabric_wire::{CountingWire, Fabric, SmpWire};
+use pkey_rules::{KeyTable, PARTITIONS};
+use pushed_ways::push_all;
+use std::alloc::Global;
+use std::process::Abort;
+use std::test::Fail;
+use test_fabrics::fat_tree_of;
+use updn_routes::Routes;
+
+/// How many SMPs a push takes over a fat tree. Ports: two for port 0 of each switch and two for its LinearFDBTop, three for
+/// each end of a cable. Keys: one for each switch, and for each end of a cable to an adapter. Linear tables: one a block.
+fn smps_of(push: Push, leaves: u16) -> u64
+    requires { leaves ≤ 32 }
+{
+    let switches = 2 * u64::from(leaves);
+    let adapters = 8 * u64::from(leaves);
+    let links = 2 * u64::from(leaves * leaves.min(28));
+    match push {
+        Push::Nothing => 0,
+        Push::Ports => 4 * switches + 3 * (links + 2 * adapters),
+        Push::Keys => switches + 2 * adapters,
+        Push::Linear => 8 * switches,
+    }
+}
+
+/// The spines.
+fn roots_of(alloc: Global, leaves: u16) -> Result<Vec<u64>, Fail>
+    requires { leaves ≤ 32 }
+{
+    let mut roots = Vec::new(alloc);
+    for spine in 0..leaves {
+        roots.push(2000 + u64::from(spine)).or(Err("memory"))?;
+    }
+    Ok(roots)
+}
+
+/// Two keys for each of the LIDs.
+fn keys_of(alloc: Global, leaves: u16) -> Result<Vec<KeyTable<PARTITIONS>>, Fail>
+    requires { leaves ≤ 32 }
+{
+    let mut tables = Vec::new(alloc);
+    for _ in 0..10 * leaves {
+        tables.push(table_of(0x7fff, 0x8001)?).or(Err("memory"))?;
+    }
+    Ok(tables)
+}
+
+/// The routes of a fat tree, with the spines as roots.
+fn routed<W: SmpWire>(alloc: Global, wire: &mut W, leaves: u16) -> Result<Routes, Fail>
+    requires { leaves ≤ 32 }
+{
+    let roots = roots_of(alloc, leaves)?;
+    routes_over(alloc, wire, &roots)
+}
+
+/// One push over a fat tree.
+fn is_pushed(rt: &impl Abort, alloc: Global, leaves: u16, push: Push) -> Result<(), Fail>
+    requires some { 0 < leaves }
+    requires few { leaves ≤ 32 }
+{
+    let mut fabric = fat_tree_of(alloc, leaves)?;
+    let routes = routed(alloc, &mut fabric, leaves)?;
+    let count = count_of(alloc, fabric, &routes, leaves, push)?;
+    assert_eq!(rt; count, smps_of(push, leaves));
+    Ok(())
+}
+
+/// How many SMPs the push takes.
+fn count_of(
+    alloc: Global,
+    wire: Fabric,
+    routes: &Routes,
+    leaves: u16,
+    push: Push,
+) -> Result<u64, Fail>
+    requires { leaves ≤ 32 }
+{
+    let keys = keys_of(alloc, leaves)?;
+    let mut counting = CountingWire { wire, count: 0 };
+    push.over(&mut counting, routes, &keys).or(Err("a push"))?;
+    Ok(counting.count)
+}
+
+#[test]
+fn a_fat_tree_of_8_switches_is_routed(rt: HostRuntime) -> Result<(), Fail> {
+    is_pushed(&rt, rt.alloc(), 4, Push::Nothing)
+}
+
+#[test]
+fn a_fat_tree_of_8_switches_has_its_ports(rt: HostRuntime) -> Result<(), Fail> {
+    is_pushed(&rt, rt.alloc(), 4, Push::Ports)
+}
+
+#[test]
+fn a_fat_tree_of_8_switches_has_its_keys(rt: HostRuntime) -> Result<(), Fail> {
+    is_pushed(&rt, rt.alloc(), 4, Push::Keys)
+}
+
+#[test]
+fn a_fat_tree_of_8_switches_has_its_tables(rt: HostRuntime) -> Result<(), Fail> {
+    is_pushed(&rt, rt.alloc(), 4, Push::Linear)
+}
+
+#[test]
+fn a_fat_tree_of_16_switches_is_routed(rt: HostRuntime) -> Result<(), Fail> {
+    is_pushed(&rt, rt.alloc(), 8, Push::Nothing)
+}
+
+#[test]
+fn a_fat_tree_of_16_switches_has_its_ports(rt: HostRuntime) -> Result<(), Fail> {
+    is_pushed(&rt, rt.alloc(), 8, Push::Ports)
+}
+
+#[test]
+fn a_fat_tree_of_16_switches_has_its_keys(rt: HostRuntime) -> Result<(), Fail> {
+    is_pushed(&rt, rt.alloc(), 8, Push::Keys)
+}
+
+#[test]
+fn a_fat_tree_of_16_switches_has_its_tables(rt: HostRuntime) -> Result<(), Fail> {
+    is_pushed(&rt, rt.alloc(), 8, Push::Linear)
+}
+
+#[test]
+fn a_fat_tree_of_64_switches_is_routed(rt: HostRuntime) -> Result<(), Fail> {
+    is_pushed(&rt, rt.alloc(), 32, Push::Nothing)
+}
+
+#[test]
+fn a_fat_tree_of_64_switches_has_its_ports(rt: HostRuntime) -> Result<(), Fail> {
+    is_pushed(&rt, rt.alloc(), 32, Push::Ports)
+}
+
+#[test]
+fn a_fat_tree_of_64_switches_has_its_keys(rt: HostRuntime) -> Result<(), Fail> {
+    is_pushed(&rt, rt.alloc(), 32, Push::Keys)
+}
+
+#[test]
+fn a_fat_tree_of_64_switches_has_its_tables(rt: HostRuntime) -> Result<(), Fail> {
+    is_pushed(&rt, rt.alloc(), 32, Push::Linear)
+}
+
+/// A fat tree that is swept, routed and brought up by all three pushes, over one wire.
+fn is_brought_up(rt: &impl Abort, alloc: Global, leaves: u16, smps: u64) -> Result<(), Fail>
+    requires some { 0 < leaves }
+    requires few { leaves ≤ 32 }
+{
+    let mut counting = CountingWire {
+        wire: fat_tree_of(alloc, leaves)?,
+        count: 0,
+    };
+    let routes = routed(alloc, &mut counting, leaves)?;
+    all_is_pushed(alloc, &mut counting, &routes, leaves)?;
+    assert_eq!(rt; counting.count, smps);
+    Ok(())
+}
+
+fn all_is_pushed<W: SmpWire>(
+    alloc: Global,
+    wire: &mut W,
+    routes: &Routes,
+    leaves: u16,
+) -> Result<(), Fail>
+    requires { leaves ≤ 32 }
+{
+    let keys = keys_of(alloc, leaves)?;
+    Ok(push_all(wire, routes, &keys).or(Err("a push"))?)
+}
+
+#[test]
+fn a_fat_tree_of_8_switches_is_brought_up(rt: HostRuntime) -> Result<(), Fail> {
+    is_brought_up(&rt, rt.alloc(), 4, 850)
+}
+
+#[test]
+fn a_fat_tree_of_16_switches_is_brought_up(rt: HostRuntime) -> Result<(), Fail> {
+    is_brought_up(&rt, rt.alloc(), 8, 1954)
+}
+
+/// It takes 12,930 SMPs, of which the sweep has 4,674; 14,000 are allowed.
+#[test]
+fn a_fat_tree_of_64_switches_is_brought_up(rt: HostRuntime) -> Result<(), Fail> {
+    is_brought_up(&rt, rt.alloc(), 32, 12930)
+}

@@ -1,0 +1,87 @@
+//! Fabrics with their routes, the three pushes, and what agents have.
+
+ghost use Rattle.std.specs.Prelude.{◌≤◌, length};
+
+use attr_tables::SmpAttribute;
+use fabric_wire::{Fabric, SmpWire, get_attribute, set_attribute};
+use lid_assign::assign;
+use pkey_rules::{KeyTable, PARTITIONS};
+use std::alloc::Global;
+use std::test::Fail;
+use sweep::{Graph, sweep};
+use table_push::{PushFault, push_keys, push_linear, push_ports};
+use test_fabrics::two_switch_fabric;
+use updn_routes::{Routes, are_switches, routes};
+
+/// One of the three pushes, or none.
+#[derive(Clone, Copy, Debug)]
+pub enum Push {
+    Nothing,
+    Ports,
+    Keys,
+    Linear,
+}
+
+impl Push {
+    /// What the push answers over a wire.
+    pub fn over<W: SmpWire>(
+        self,
+        wire: &mut W,
+        routes: &Routes,
+        keys: &[KeyTable<PARTITIONS>],
+    ) -> Result<(), PushFault> {
+        match self {
+            Push::Nothing => Ok(()),
+            Push::Ports => push_ports(wire, routes),
+            Push::Keys => push_keys(wire, routes, keys),
+            Push::Linear => push_linear(wire, routes),
+        }
+    }
+}
+
+/// The two-switch fabric and its routes.
+pub fn found(alloc: Global) -> Result<(Fabric, Routes), Fail> {
+    let mut fabric = two_switch_fabric(alloc)?;
+    let routes = routes_over(alloc, &mut fabric, &[])?;
+    Ok((fabric, routes))
+}
+
+/// The routes of what a sweep finds, with these switches as roots.
+pub fn routes_over<W: SmpWire>(alloc: Global, wire: &mut W, roots: &[u64]) -> Result<Routes, Fail> {
+    let graph = sweep(alloc, wire).or(Err("a graph"))?;
+    routes_of(alloc, graph, roots)
+}
+
+fn routes_of(alloc: Global, graph: Graph, roots: &[u64]) -> Result<Routes, Fail> {
+    let lids = assign(alloc, &graph).or(Err("LIDs"))?;
+    if !graph.is_joined() || !are_switches(&graph, roots) {
+        return Err("a joined fabric, and roots that are switches")?;
+    }
+    Ok(routes(alloc, graph, lids, roots).or(Err("routes"))?)
+}
+
+/// What a Get of an attribute tells of the node at the end of a path.
+pub fn told<W: SmpWire>(
+    wire: &mut W,
+    attribute: SmpAttribute,
+    modifier: u32,
+    path: &[u8],
+) -> Result<[u8; 64], Fail>
+    requires short { length path.now ≤ 63 }
+{
+    Ok(get_attribute(wire, 1, attribute, modifier, path).or(Err("a Get"))?)
+}
+
+/// Sets an attribute of the node at the end of a path.
+pub fn give<W: SmpWire>(
+    wire: &mut W,
+    attribute: SmpAttribute,
+    modifier: u32,
+    path: &[u8],
+    bytes: &[u8; 64],
+) -> Result<(), Fail>
+    requires short { length path.now ≤ 63 }
+{
+    set_attribute(wire, 1, attribute, modifier, path, bytes).or(Err("a Set"))?;
+    Ok(())
+}

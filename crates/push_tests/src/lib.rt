@@ -1,0 +1,22 @@
+//! Tests of the pushes that bring a fabric up: ports, key tables and linear forwarding tables, through public calls alone.
+//!
+//! They say what no clause says: what stands in the agents then, by byte vectors, what a push does over wires at fault,
+//! and how many SMPs it takes.
+#![tactic(auto)]
+
+#[cfg(test)]
+mod bring_up;
+#[cfg(test)]
+mod fat_tree;
+#[cfg(test)]
+mod fault_texts;
+#[cfg(test)]
+mod faults;
+#[cfg(test)]
+mod fixtures;
+#[cfg(test)]
+mod keys;
+#[cfg(test)]
+mod linear;
+#[cfg(test)]
+mod ports;

@@ -1,0 +1,71 @@
+//! Who may talk to whom, and what another partition file changes.
+
+use example_texts::{ONE_PARTITION_FILE, TWO_SWITCHES};
+use partition_changes::changes_text;
+use port_shares::shares_text;
+use std::alloc::{AllocError, Global};
+use std::process::Abort;
+use std::test::Fail;
+use subnet_core::{RunFault, Subnet, bring_up};
+
+/// The file in which h2 is a full member too.
+const ANOTHER_FILE: &str = "P1=0x0001: 0x111=full, 0x121=full, 0x131;\n";
+
+const SHARES: &str = "\
+share h0/1 A/0 0x7fff
+share h0/1 B/0 0x7fff
+share h0/1 h1/1 0x7fff
+share h0/1 h2/1 0x7fff
+share h0/1 h3/1 0x7fff
+share h1/1 h2/1 0x0001
+share h1/1 h3/1 0x0001
+";
+
+const CHANGES: &str = "\
+- member 0x0001 h2/1
++ member 0x8001 h2/1
++ share h2/1 h3/1 0x0001
+";
+
+/// The two-switch fabric under a file; nothing where memory is refused, and no other fault.
+fn subnet_under(rt: &impl Abort, alloc: Global, file: &str) -> Option<Subnet> {
+    match bring_up(alloc, TWO_SWITCHES.as_bytes(), Some(file.as_bytes())) {
+        Ok(subnet) => Some(subnet),
+        Err(fault) => {
+            assert_eq!(rt; fault, RunFault::NoMemory);
+            None
+        }
+    }
+}
+
+/// What is told, where memory is not refused.
+fn is_text(rt: &impl Abort, told: Result<Vec<u8>, AllocError>, text: &str) {
+    if let Ok(told) = told {
+        assert_eq!(rt; told.as_slice(), text.as_bytes());
+    }
+}
+
+/// tools/refused-memory refuses each allocation of this test, and of the next, in turn.
+#[test]
+fn shares_are_told_or_memory_is_refused(rt: HostRuntime) -> Result<(), Fail> {
+    if let Some(subnet) = subnet_under(&rt, rt.alloc(), ONE_PARTITION_FILE) {
+        let told = shares_text(rt.alloc(), subnet.configuration().ports(), None);
+        is_text(&rt, told, SHARES);
+    }
+    Ok(())
+}
+
+fn changes_after(rt: &impl Abort, alloc: Global, before: &Subnet) {
+    if let Some(after) = subnet_under(rt, alloc, ANOTHER_FILE) {
+        let told = changes_text(alloc, before.configuration(), after.configuration());
+        is_text(rt, told, CHANGES);
+    }
+}
+
+#[test]
+fn changes_are_told_or_memory_is_refused(rt: HostRuntime) -> Result<(), Fail> {
+    if let Some(before) = subnet_under(&rt, rt.alloc(), ONE_PARTITION_FILE) {
+        changes_after(&rt, rt.alloc(), &before);
+    }
+    Ok(())
+}
