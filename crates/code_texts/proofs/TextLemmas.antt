@@ -1,0 +1,45 @@
+-- Each text begins with its code.
+use Rattle.std.proofs.Common.{◌≡◌, ◌++◌, codes, refl, true}
+use Rattle.code_texts.specs.Codes.{spelling}
+use Rattle.code_texts.specs.Texts.{begins_with, text_of}
+use Rattle.code_texts.specs.declared.code.Code.{Code}
+use Rattle.code_texts.specs.declared.code.Code.TheVariants.{Tf1, Tf2, Tf3, Tf4, Tf5, Tf6, Tf7, Tf8, Tf9, Tf10, Tf11, Tf12}
+use Rattle.code_texts.specs.declared.code.Code.TheVariants.{Pf1, Pf2, Pf3, Pf4, Pf5, Pf6, Pf7, Pf8, Pf9}
+use Rattle.code_texts.specs.declared.code.Code.TheVariants.{Sf1, Sf2, Sf3, Sf4, Sf5, Sf6, Ar1, Ar2, Ar3, Ar4}
+use Rattle.code_texts.specs.declared.code.Code.TheVariants.{Memory, Read, Write}
+
+pub begins_with_code : (code : Code) → begins_with (spelling code ++ codes ": ") (text_of code) ≡ true
+begins_with_code Tf1 = refl
+begins_with_code Tf2 = refl
+begins_with_code Tf3 = refl
+begins_with_code Tf4 = refl
+begins_with_code Tf5 = refl
+begins_with_code Tf6 = refl
+begins_with_code Tf7 = refl
+begins_with_code Tf8 = refl
+begins_with_code Tf9 = refl
+begins_with_code Tf10 = refl
+begins_with_code Tf11 = refl
+begins_with_code Tf12 = refl
+begins_with_code Pf1 = refl
+begins_with_code Pf2 = refl
+begins_with_code Pf3 = refl
+begins_with_code Pf4 = refl
+begins_with_code Pf5 = refl
+begins_with_code Pf6 = refl
+begins_with_code Pf7 = refl
+begins_with_code Pf8 = refl
+begins_with_code Pf9 = refl
+begins_with_code Sf1 = refl
+begins_with_code Sf2 = refl
+begins_with_code Sf3 = refl
+begins_with_code Sf4 = refl
+begins_with_code Sf5 = refl
+begins_with_code Sf6 = refl
+begins_with_code Ar1 = refl
+begins_with_code Ar2 = refl
+begins_with_code Ar3 = refl
+begins_with_code Ar4 = refl
+begins_with_code Memory = refl
+begins_with_code Read = refl
+begins_with_code Write = refl

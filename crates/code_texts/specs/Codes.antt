@@ -1,0 +1,50 @@
+-- The codes that the program prints for faults and refusals, and how they are spelt.
+use Rattle.std.specs.Prelude.{ℕ, List, codes, Option}
+use Rattle.std.specs.List.{find}
+use Rattle.std.specs.Str.{bytes_eq}
+use Rattle.code_texts.specs.declared.code.Code.{Code}
+use Rattle.code_texts.specs.declared.code.Code.TheVariants.{Tf1, Tf2, Tf3, Tf4, Tf5, Tf6, Tf7, Tf8, Tf9, Tf10, Tf11, Tf12}
+use Rattle.code_texts.specs.declared.code.Code.TheVariants.{Pf1, Pf2, Pf3, Pf4, Pf5, Pf6, Pf7, Pf8, Pf9}
+use Rattle.code_texts.specs.declared.code.Code.TheVariants.{Sf1, Sf2, Sf3, Sf4, Sf5, Sf6, Ar1, Ar2, Ar3, Ar4}
+use Rattle.code_texts.specs.declared.code.Code.TheVariants.{Memory, Read, Write}
+use Rattle.code_texts.specs.declared.code.TheConstants.{ALL}
+
+abbrev pub spelling : Code → List ℕ
+spelling Tf1 = codes "TF1"
+spelling Tf2 = codes "TF2"
+spelling Tf3 = codes "TF3"
+spelling Tf4 = codes "TF4"
+spelling Tf5 = codes "TF5"
+spelling Tf6 = codes "TF6"
+spelling Tf7 = codes "TF7"
+spelling Tf8 = codes "TF8"
+spelling Tf9 = codes "TF9"
+spelling Tf10 = codes "TF10"
+spelling Tf11 = codes "TF11"
+spelling Tf12 = codes "TF12"
+spelling Pf1 = codes "PF1"
+spelling Pf2 = codes "PF2"
+spelling Pf3 = codes "PF3"
+spelling Pf4 = codes "PF4"
+spelling Pf5 = codes "PF5"
+spelling Pf6 = codes "PF6"
+spelling Pf7 = codes "PF7"
+spelling Pf8 = codes "PF8"
+spelling Pf9 = codes "PF9"
+spelling Sf1 = codes "SF1"
+spelling Sf2 = codes "SF2"
+spelling Sf3 = codes "SF3"
+spelling Sf4 = codes "SF4"
+spelling Sf5 = codes "SF5"
+spelling Sf6 = codes "SF6"
+spelling Ar1 = codes "AR1"
+spelling Ar2 = codes "AR2"
+spelling Ar3 = codes "AR3"
+spelling Ar4 = codes "AR4"
+spelling Memory = codes "memory"
+spelling Read = codes "read"
+spelling Write = codes "write"
+
+-- the code that a word spells
+abbrev pub code_of : List ℕ → Option Code
+code_of word = find (λ code. bytes_eq (spelling code) word) ALL

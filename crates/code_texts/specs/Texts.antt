@@ -1,0 +1,64 @@
+-- What is told of each code. The texts themselves stand in the code, and here what holds of them.
+use Rattle.std.specs.Prelude.{ℕ, Bool, List, ◌∷◌, [], ◌++◌, ◌==◌, length, take}
+use Rattle.std.specs.Str.{bytes_eq}
+use Rattle.std.specs.List.{before_first, flat_map}
+use Rattle.code_texts.specs.declared.code.Code.{Code}
+use Rattle.code_texts.specs.declared.code.Code.TheVariants.{Tf1, Tf2, Tf3, Tf4, Tf5, Tf6, Tf7, Tf8, Tf9, Tf10, Tf11, Tf12}
+use Rattle.code_texts.specs.declared.code.Code.TheVariants.{Pf1, Pf2, Pf3, Pf4, Pf5, Pf6, Pf7, Pf8, Pf9}
+use Rattle.code_texts.specs.declared.code.Code.TheVariants.{Sf1, Sf2, Sf3, Sf4, Sf5, Sf6, Ar1, Ar2, Ar3, Ar4}
+use Rattle.code_texts.specs.declared.code.Code.TheVariants.{Memory, Read, Write}
+use Rattle.code_texts.specs.declared.code.TheConstants.{ALL}
+use Rattle.code_texts.specs.declared.machine_texts.TheConstants.{MEMORY, READ, WRITE}
+use Rattle.code_texts.specs.declared.partition_texts.TheConstants.{PF1, PF2, PF3, PF4, PF5, PF6, PF7, PF8, PF9}
+use Rattle.code_texts.specs.declared.script_texts.TheConstants.{AR1, AR2, AR3, AR4, SF1, SF2, SF3, SF4, SF5, SF6}
+use Rattle.code_texts.specs.declared.topology_texts.TheConstants.{TF1, TF2, TF3, TF4, TF5, TF6, TF7, TF8, TF9, TF10, TF11, TF12}
+
+-- a text that has this beginning
+abbrev pub begins_with : List ℕ → List ℕ → Bool
+begins_with start text = bytes_eq start (take (length start) text)
+
+abbrev pub text_of : Code → List ℕ
+text_of Tf1 = TF1.now
+text_of Tf2 = TF2.now
+text_of Tf3 = TF3.now
+text_of Tf4 = TF4.now
+text_of Tf5 = TF5.now
+text_of Tf6 = TF6.now
+text_of Tf7 = TF7.now
+text_of Tf8 = TF8.now
+text_of Tf9 = TF9.now
+text_of Tf10 = TF10.now
+text_of Tf11 = TF11.now
+text_of Tf12 = TF12.now
+text_of Pf1 = PF1.now
+text_of Pf2 = PF2.now
+text_of Pf3 = PF3.now
+text_of Pf4 = PF4.now
+text_of Pf5 = PF5.now
+text_of Pf6 = PF6.now
+text_of Pf7 = PF7.now
+text_of Pf8 = PF8.now
+text_of Pf9 = PF9.now
+text_of Sf1 = SF1.now
+text_of Sf2 = SF2.now
+text_of Sf3 = SF3.now
+text_of Sf4 = SF4.now
+text_of Sf5 = SF5.now
+text_of Sf6 = SF6.now
+text_of Ar1 = AR1.now
+text_of Ar2 = AR2.now
+text_of Ar3 = AR3.now
+text_of Ar4 = AR4.now
+text_of Memory = MEMORY.now
+text_of Read = READ.now
+text_of Write = WRITE.now
+
+abbrev pub first_line : List ℕ → List ℕ
+first_line text = before_first (λ byte. byte == 10) text
+
+abbrev pub line_of : Code → List ℕ
+line_of code = first_line (text_of code) ++ 10 ∷ []
+
+-- a line for each code
+abbrev pub listing : List ℕ
+listing = flat_map line_of ALL

@@ -1,0 +1,218 @@
+//! The codes that the program prints.
+
+ghost use Rattle.std.specs.Prelude.{◌≡◌, ◌++◌, codes, true};
+ghost use Rattle.code_texts.specs.Codes.{code_of, spelling};
+ghost use Rattle.code_texts.specs.Texts.{begins_with, text_of};
+
+use crate::machine_texts::{MEMORY, READ, WRITE};
+use crate::partition_texts::{PF1, PF2, PF3, PF4, PF5, PF6, PF7, PF8, PF9};
+use crate::script_texts::{AR1, AR2, AR3, AR4, SF1, SF2, SF3, SF4, SF5, SF6};
+use crate::topology_texts::{TF1, TF2, TF3, TF4, TF5, TF6, TF7, TF8, TF9, TF10, TF11, TF12};
+
+/// A code that stands for the cause of a fault, or of a refusal: a letter or two of the text that it is a fault of and
+/// a number, or a word. Each variant says what is wrong.
+#[derive(Clone, Copy, Debug, PartialEq, Eq)]
+pub enum Code {
+    /// A malformed line.
+    Tf1,
+    /// A name that is there already.
+    Tf2,
+    /// A GUID that is used already.
+    Tf3,
+    /// A name that no line above declares.
+    Tf4,
+    /// A port that the node does not have.
+    Tf5,
+    /// A port with a cable.
+    Tf6,
+    /// A cable between the wrong ends.
+    Tf7,
+    /// A subnet manager nowhere, twice, or on a switch.
+    Tf8,
+    /// Switches that no cables join.
+    Tf9,
+    /// A switch or an adapter port too many.
+    Tf10,
+    /// A subnet manager's port without a cable.
+    Tf11,
+    /// A root that is no switch.
+    Tf12,
+    /// A character that may not stand there.
+    Pf1,
+    /// A word that is no number of its kind.
+    Pf2,
+    /// Base 0, or `Default` without a PKey.
+    Pf3,
+    /// A flag that there is not.
+    Pf4,
+    /// The membership `both`.
+    Pf5,
+    /// The item `mgid`.
+    Pf6,
+    /// A partition too many.
+    Pf7,
+    /// A definition that is unfinished.
+    Pf8,
+    /// A flag twice, or with a value that it does not take.
+    Pf9,
+    /// A malformed line.
+    Sf1,
+    /// A port that there is not.
+    Sf2,
+    /// The subnet manager's port.
+    Sf3,
+    /// A port without a cable.
+    Sf4,
+    /// A payload over 256 bytes.
+    Sf5,
+    /// A misspelt field, or one out of its range.
+    Sf6,
+    /// A partition key that the port does not hold.
+    Ar1,
+    /// Queue pair 0.
+    Ar2,
+    /// A destination LID 0 or 0xffff.
+    Ar3,
+    /// A port that is not Active.
+    Ar4,
+    /// Memory that was refused.
+    Memory,
+    /// A file that is not read.
+    Read,
+    /// An output that is not written.
+    Write,
+}
+
+/// All codes, in the order in which they are listed.
+pub const ALL: [Code; 34] = [
+    Code::Tf1,
+    Code::Tf2,
+    Code::Tf3,
+    Code::Tf4,
+    Code::Tf5,
+    Code::Tf6,
+    Code::Tf7,
+    Code::Tf8,
+    Code::Tf9,
+    Code::Tf10,
+    Code::Tf11,
+    Code::Tf12,
+    Code::Pf1,
+    Code::Pf2,
+    Code::Pf3,
+    Code::Pf4,
+    Code::Pf5,
+    Code::Pf6,
+    Code::Pf7,
+    Code::Pf8,
+    Code::Pf9,
+    Code::Sf1,
+    Code::Sf2,
+    Code::Sf3,
+    Code::Sf4,
+    Code::Sf5,
+    Code::Sf6,
+    Code::Ar1,
+    Code::Ar2,
+    Code::Ar3,
+    Code::Ar4,
+    Code::Memory,
+    Code::Read,
+    Code::Write,
+];
+
+impl Code {
+    /// The code as it is printed.
+    pub fn spelling(self) -> &'static str
+        ensures { result.now ≡ spelling self }
+    {
+        match self {
+            Code::Tf1 => "TF1",
+            Code::Tf2 => "TF2",
+            Code::Tf3 => "TF3",
+            Code::Tf4 => "TF4",
+            Code::Tf5 => "TF5",
+            Code::Tf6 => "TF6",
+            Code::Tf7 => "TF7",
+            Code::Tf8 => "TF8",
+            Code::Tf9 => "TF9",
+            Code::Tf10 => "TF10",
+            Code::Tf11 => "TF11",
+            Code::Tf12 => "TF12",
+            Code::Pf1 => "PF1",
+            Code::Pf2 => "PF2",
+            Code::Pf3 => "PF3",
+            Code::Pf4 => "PF4",
+            Code::Pf5 => "PF5",
+            Code::Pf6 => "PF6",
+            Code::Pf7 => "PF7",
+            Code::Pf8 => "PF8",
+            Code::Pf9 => "PF9",
+            Code::Sf1 => "SF1",
+            Code::Sf2 => "SF2",
+            Code::Sf3 => "SF3",
+            Code::Sf4 => "SF4",
+            Code::Sf5 => "SF5",
+            Code::Sf6 => "SF6",
+            Code::Ar1 => "AR1",
+            Code::Ar2 => "AR2",
+            Code::Ar3 => "AR3",
+            Code::Ar4 => "AR4",
+            Code::Memory => "memory",
+            Code::Read => "read",
+            Code::Write => "write",
+        }
+    }
+
+    /// The code that a word spells.
+    pub fn read(word: &str) -> Option<Code>
+        ensures { result ≡ code_of word.now }
+    {
+        ALL.iter().copied().find(|code| code.spelling() == word)
+    }
+
+    /// What is told of the code: its cause on a line that begins with it, what exactly is asked, a text that has it
+    /// and that text mended, if there is one.
+    #[tactic(auto, using(crate::proofs::TextLemmas::begins_with_code))]
+    pub fn text(self) -> &'static str
+        ensures is { result.now ≡ text_of self }
+        ensures begins { begins_with (spelling self ++ codes ": ") result.now ≡ true }
+    {
+        match self {
+            Code::Tf1 => TF1,
+            Code::Tf2 => TF2,
+            Code::Tf3 => TF3,
+            Code::Tf4 => TF4,
+            Code::Tf5 => TF5,
+            Code::Tf6 => TF6,
+            Code::Tf7 => TF7,
+            Code::Tf8 => TF8,
+            Code::Tf9 => TF9,
+            Code::Tf10 => TF10,
+            Code::Tf11 => TF11,
+            Code::Tf12 => TF12,
+            Code::Pf1 => PF1,
+            Code::Pf2 => PF2,
+            Code::Pf3 => PF3,
+            Code::Pf4 => PF4,
+            Code::Pf5 => PF5,
+            Code::Pf6 => PF6,
+            Code::Pf7 => PF7,
+            Code::Pf8 => PF8,
+            Code::Pf9 => PF9,
+            Code::Sf1 => SF1,
+            Code::Sf2 => SF2,
+            Code::Sf3 => SF3,
+            Code::Sf4 => SF4,
+            Code::Sf5 => SF5,
+            Code::Sf6 => SF6,
+            Code::Ar1 => AR1,
+            Code::Ar2 => AR2,
+            Code::Ar3 => AR3,
+            Code::Ar4 => AR4,
+            Code::Memory => MEMORY,
+            Code::Read => READ,
+            Code::Write => WRITE,
+        }
+    }
+}

@@ -1,0 +1,146 @@
+//! What is told of the faults of a script, and of the refusals that a report tells.
+
+/// The text `$before`, then a script over a topology of a switch and two adapters: what it is told as, itself,
+/// and the script mended.
+macro_rules! with_script {
+    ($before:literal, $told:literal, $script:literal, $mended:literal) => {
+        concat!(
+            $before,
+            "
+Over this topology, and with `-` for PARTS,
+
+    switch A 0x10 4
+    adapter h 0x20 1
+    adapter i 0x30 2
+    cable A/1 h/1
+    cable A/2 i/1
+    sm h/1
+
+this script is told as `",
+            $told,
+            "`:
+
+    ",
+            $script,
+            "
+
+Mended:
+
+    ",
+            $mended,
+            "\n"
+        )
+    };
+}
+
+pub const SF1: &str = with_script!(
+    "\
+SF1: the line is malformed
+
+A line is empty, a comment, or `send PORT DLID PKEY QP PAYLOAD` with exactly these words. Outside
+comments there is printable ASCII, blanks and tabs alone; a CR stands only before LF or a comment.
+",
+    "fault SF1 script line 1",
+    "sent i/1 1 0xffff 7 1:01",
+    "send i/1 1 0xffff 7 1:01"
+);
+
+pub const SF2: &str = with_script!(
+    "\
+SF2: there is no such port
+
+PORT is `NAME/NUMBER`, and the topology has an adapter NAME with a port NUMBER; switches send
+nothing. The PORT of `fabric shares` may be port 0 of a switch besides.
+",
+    "fault SF2 script line 1",
+    "send i1 1 0xffff 7 1:01",
+    "send i/1 1 0xffff 7 1:01"
+);
+
+pub const SF3: &str = with_script!(
+    "\
+SF3: the port is the subnet manager's
+
+PORT is not the port of the topology's line `sm`: that one sends nothing of its own.
+",
+    "fault SF3 script line 1",
+    "send h/1 3 0xffff 7 1:01",
+    "send i/1 3 0xffff 7 1:01"
+);
+
+pub const SF4: &str = with_script!(
+    "\
+SF4: the port has no cable
+
+PORT has a cable in the topology. That is asked of the PORT of `fabric shares` too.
+",
+    "fault SF4 script line 1",
+    "send i/2 1 0xffff 7 1:01",
+    "send i/1 1 0xffff 7 1:01"
+);
+
+pub const SF5: &str = with_script!(
+    "\
+SF5: the payload is longer than 256 bytes
+
+PAYLOAD is `N:HEX`, and N is at most 256, however few digits stand behind it.
+",
+    "fault SF5 script line 1",
+    "send i/1 1 0xffff 7 257:01",
+    "send i/1 1 0xffff 7 256:01"
+);
+
+pub const SF6: &str = with_script!(
+    "\
+SF6: a field is misspelt or out of its range
+
+DLID and PKEY are numbers of 16 bits, QP is one of 24, and PAYLOAD is `N:HEX`: HEX has two
+hexadecimal digits for each byte, and gives at most N bytes. Numbers are decimal, or `0x` and
+hexadecimal digits.
+",
+    "fault SF6 script line 1",
+    "send i/1 1 0xffff 7 1:0102",
+    "send i/1 1 0xffff 7 2:0102"
+);
+
+pub const AR1: &str = with_script!(
+    "\
+AR1: the port does not hold this partition key
+
+PKEY is a key of the port that sends, bit for bit: a full member's key is 0x8000 more than the base
+of its partition, a limited member's is the base alone. `fabric check` lists them.
+",
+    "i/1 refused AR1",
+    "send i/1 1 0x7fff 7 1:01",
+    "send i/1 1 0xffff 7 1:01"
+);
+
+pub const AR2: &str = with_script!(
+    "\
+AR2: the packet is for queue pair 0
+
+QP is not 0: queue pair 0 takes packets of subnet management alone.
+",
+    "i/1 refused AR2",
+    "send i/1 1 0xffff 0 1:01",
+    "send i/1 1 0xffff 7 1:01"
+);
+
+pub const AR3: &str = with_script!(
+    "\
+AR3: the destination LID is 0 or 0xffff
+
+DLID is neither 0, which no port can have, nor 0xffff, the permissive LID, which is for
+directed-route packets alone. Any other may be sent to, whether a port has it or not.
+",
+    "i/1 refused AR3",
+    "send i/1 0 0xffff 7 1:01",
+    "send i/1 1 0xffff 7 1:01"
+);
+
+pub const AR4: &str = "\
+AR4: the port is not Active
+
+Data leaves by a port in the state Active alone. A port with a cable is Active once its subnet is
+brought up, and one without a cable sends nothing (SF4), so no script gives this code.
+";
