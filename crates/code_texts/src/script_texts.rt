@@ -37,8 +37,9 @@ pub const SF1: &str = with_script!(
     "\
 SF1: the line is malformed
 
-A line is empty, a comment, or `send PORT DLID PKEY QP PAYLOAD` with exactly these words. Outside
-comments there is printable ASCII, blanks and tabs alone; a CR stands only before LF or a comment.
+But for its comment a line is empty, or `send PORT DLID PKEY QP PAYLOAD` with exactly these words.
+Outside comments there is printable ASCII, blanks and tabs alone; a CR stands only before LF or a
+comment.
 ",
     "fault SF1 script line 1",
     "sent i/1 1 0xffff 7 1:01",

@@ -3,7 +3,7 @@
 pub const TF1: &str = "\
 TF1: the line is malformed
 
-A line is empty, a comment, or one of `switch NAME GUID PORTS`, `adapter NAME GUID PORTS`,
+But for its comment a line is empty, or one of `switch NAME GUID PORTS`, `adapter NAME GUID PORTS`,
 `cable PORT PORT`, `root NAME` and `sm PORT`, with exactly these words. NAME is 1 to 32 letters,
 digits, `_`, `-` and `.`; GUID is from 1 to 2^64-1; PORTS is 1 to 36 for a switch, 1 to 8 for an
 adapter; PORT is `NAME/NUMBER`. Numbers are decimal, or `0x` and hexadecimal digits. Outside

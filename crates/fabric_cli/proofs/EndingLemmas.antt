@@ -1,5 +1,5 @@
 -- How a call ends, from what was written and told.
-use Rattle.std.proofs.Common.{ℕ, ◌≡◌, ◌≢◌, ◌∙◌, ◌⊎◌, inl, inr, refl, sym, append-nil, arith, ap, Bool, true, List, [], Option, Some, None, IfSome}
+use Rattle.std.proofs.Common.{ℕ, ◌≡◌, ◌≢◌, ◌⊎◌, inl, inr, refl, sym, append-nil, arith, ap, Bool, List, [], Option, Some, None, IfSome}
 use Rattle.std.proofs.Common.{Result, Ok, Err, option_map, map, string_bytes, String, Global, Vec, subst}
 use Rattle.std.specs.Io.KnownBytes.{Appends, Keeps}
 use Rattle.std.specs.declared.io.Error.{Error}
@@ -9,7 +9,9 @@ use Rattle.fabric_cli.specs.declared.faults.Stop.{Stop}
 use Rattle.fabric_cli.specs.declared.faults.Stop.TheVariants.{Words, NoMemory, Unread, Unwritten, Run, Port, Second}
 use Rattle.fabric_cli.specs.Faults.{line_of, memory_line, not_text_line, status_of, IsOfGiven}
 use Rattle.fabric_cli.specs.Files.{Contents, OpensAll, OpensInOrder}
-use Rattle.fabric_cli.specs.Serving.{Bytes, ComesTo, Ending, complete, ending_of, not_text, ending_with, refused, EndsForSomeBytes, Ends, ForSomeBytes, IsRefused, IsTold, Stops, TellsStop, texts_of}
+use Rattle.fabric_cli.specs.Serving.{Bytes, ComesTo, Ending, complete, ending_of, explained, not_text, ending_with, refused, EndsForSomeBytes, Ends, ForSomeBytes, IsRefused, IsTold, Stops, TellsStop, texts_of}
+use Rattle.fabric_cli.specs.declared.words.Call.{Call}
+use Rattle.fabric_cli.specs.declared.words.Call.TheVariants.{Explain, Subnet}
 use Rattle.fabric_cli.specs.Words.{Names, asked_by_given, given_items, given_texts, opened_for}
 use Rattle.fabric_cli.specs.Writing.{Writes}
 use Rattle.fabric_cli.proofs.ServingLemmas.{of_memory, other_status}
@@ -58,9 +60,10 @@ of_texts None names texts result are comes = tt
 of_texts (Some file) names texts result are comes =
     subst (λ (read : Result Bytes Ending). ComesTo (λ (text : Vec ℕ Global). text.items) (ending_with read) result) (sym are) comes
 
-pub for_some_bytes : (asked : Option Names) (P Q : Ending → Type 0) → ((ending : Ending) → P ending → Q ending) → ForSomeBytes asked P → ForSomeBytes asked Q
+pub for_some_bytes : (asked : Option (Call Names)) (P Q : Ending → Type 0) → ((ending : Ending) → P ending → Q ending) → ForSomeBytes asked P → ForSomeBytes asked Q
 for_some_bytes None P Q f some = f refused some
-for_some_bytes (Some names) P Q f some = (some.0, some.1, f (ending_with (Ok some.0)) some.2)
+for_some_bytes (Some (Subnet names)) P Q f some = (some.0, some.1, f (ending_with (Ok some.0)) some.2)
+for_some_bytes (Some (Explain code)) P Q f some = f (complete (explained code)) some
 
 nothing_opened : (opened : Option (List (List ℕ))) → OpensAll opened opened []
 nothing_opened None = inr refl

@@ -3,3 +3,4 @@ pub mod KnownBytesLemmas
 pub mod WordsLemmas
 pub mod ServingLemmas
 pub mod EndingLemmas
+pub mod ExplainedLemmas

@@ -28,6 +28,9 @@ about_diff = codes "Lists what a second partition file in place of the first cha
 abbrev pub about_run : List ℕ
 about_run = codes "Runs a script in a subnet, and prints what its ports receive"
 
+abbrev pub about_explain : List ℕ
+about_explain = codes "Tells what the code of a fault or a refusal means, or lists all codes"
+
 abbrev pub help_of_topology : List ℕ
 help_of_topology = codes "The topology: switches, adapters, cables and the subnet manager"
 
@@ -39,6 +42,9 @@ help_of_port = codes "An end port as `check` lists it: `h1/1`, or `A/0` for port
 
 abbrev pub help_of_second_partitions : List ℕ
 help_of_second_partitions = codes "The partitions in place of those, or `-` for the default one alone"
+
+abbrev pub help_of_code : List ℕ
+help_of_code = codes "A code as it is told: `PF2`, or `memory`"
 
 abbrev pub help_of_script : List ℕ
 help_of_script = codes "The script: what ports send"

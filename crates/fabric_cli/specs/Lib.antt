@@ -1,4 +1,5 @@
 pub mod Files
+pub mod Explained
 pub mod Help
 pub mod Words
 pub mod Faults

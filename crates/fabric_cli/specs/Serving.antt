@@ -19,6 +19,10 @@ use Rattle.result_words.specs.Steps.{◌>>=◌}
 use Rattle.subnet_core.specs.EventLines.{report_text}
 use Rattle.fabric_cli.specs.declared.faults.Stop.{Stop}
 use Rattle.fabric_cli.specs.declared.serving.Texts.{Texts}
+use Rattle.code_texts.specs.Texts.{listing, text_of}
+use Rattle.code_texts.specs.declared.code.Code.{Code}
+use Rattle.fabric_cli.specs.declared.words.Call.{Call}
+use Rattle.fabric_cli.specs.declared.words.Call.TheVariants.{Explain, Subnet}
 use Rattle.fabric_cli.specs.declared.words.Work.{Work}
 use Rattle.fabric_cli.specs.declared.words.Work.TheVariants as work
 use Rattle.fabric_cli.specs.declared.faults.Stop.TheVariants.{Words, NoMemory, Unread, Unwritten, Run, Port, Second}
@@ -27,7 +31,7 @@ use Rattle.fabric_cli.specs.Files.{Contents, StopsAt}
 use Rattle.fabric_cli.specs.Words.{Names, asked_of}
 use Rattle.fabric_cli.specs.Writing.{Writes}
 
--- how a call ends: clap refuses the words, or a fault's status and line, or a whole output
+-- how a call ends: the words are refused, or a fault's status and line, or a whole output
 pub data Ending : Type 0 where
   refused : Ending
   faulted : ℕ → List ℕ → Ending
@@ -126,9 +130,15 @@ abbrev pub ending_with : Result Bytes Ending → Ending
 ending_with (Ok texts) = ending_over texts.topology texts.partitions texts.work
 ending_with (Err ending) = ending
 
-abbrev pub ending_for : Contents → Option Names → Ending
+-- what is told of a code, or a line for each
+abbrev pub explained : Option Code → List ℕ
+explained None = listing
+explained (Some code) = text_of code
+
+abbrev pub ending_for : Contents → Option (Call Names) → Ending
 ending_for file None = refused
-ending_for file (Some names) = ending_with (texts_of file names)
+ending_for file (Some (Subnet names)) = ending_with (texts_of file names)
+ending_for file (Some (Explain code)) = complete (explained code)
 
 -- words that are not text are refused by a line of ours
 abbrev pub not_text : Ending
@@ -151,16 +161,17 @@ abbrev pub AreFor : Names → Bytes → Type 0
 AreFor names texts = (is_some texts.partitions ≡ is_some names.partitions) × (without_files texts.work ≡ without_files names.work)
 
 -- it ends so where each file that is asked for had some bytes; one name that is asked for twice may have had two
-abbrev pub ForSomeBytes : Option Names → (Ending → Type 0) → Type 0
+abbrev pub ForSomeBytes : Option (Call Names) → (Ending → Type 0) → Type 0
 ForSomeBytes None ends = ends refused
-ForSomeBytes (Some names) ends = (texts : Bytes) × AreFor names texts × ends (ending_with (Ok texts))
+ForSomeBytes (Some (Subnet names)) ends = (texts : Bytes) × AreFor names texts × ends (ending_with (Ok texts))
+ForSomeBytes (Some (Explain code)) ends = ends (complete (explained code))
 
 abbrev pub EndsForSomeBytes : Option (List (List ℕ)) → (Ending → Type 0) → Type 0
 EndsForSomeBytes None ends = ends not_text
 EndsForSomeBytes (Some words) ends = ForSomeBytes (asked_of words) ends
 
--- the exit status, and how the two outputs grow. Where clap refuses the words, standard error gains a text,
--- which is clap's: its contracts don't say which
+-- the exit status, and how the two outputs grow. Where the words are refused, standard error gains a text:
+-- it is clap's, whose contracts don't say which, or says that there is no such code
 abbrev pub Ends : Ending → ℕ → Option (List ℕ) → Option (List ℕ) → Option (List ℕ) → Option (List ℕ) → Type 0
 Ends refused status out out' err err' = (status ≡ 2) × Keeps out out' × ((text : List ℕ) × Appends err err' text)
 Ends (faulted fault line) status out out' err err' = (status ≡ fault) × Keeps out out' × Appends err err' line

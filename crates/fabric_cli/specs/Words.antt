@@ -7,7 +7,10 @@ use Rattle.clap.specs.Words.{App, Row, Rule, Text, Kinds, fault_of, first_of, ne
 use Rattle.std.specs.Borrow.{Bor}
 use Rattle.std.specs.Vec.Iter.{into_iter_items}
 use Rattle.std.specs.declared.vec.IntoIter.{IntoIter}
+use Rattle.code_texts.specs.Codes.{code_of}
 use Rattle.fabric_cli.specs.declared.words.Asked.{Asked}
+use Rattle.fabric_cli.specs.declared.words.Call.{Call}
+use Rattle.fabric_cli.specs.declared.words.Call.TheVariants.{Explain, Subnet}
 use Rattle.fabric_cli.specs.declared.words.Work.{Work}
 use Rattle.fabric_cli.specs.declared.words.Work.TheVariants.{Check, Diff, Run, Shares}
 use Rattle.clap.specs.declared.builder.ArgAction.TheVariants.{Set}
@@ -36,13 +39,16 @@ diff_command = with_rule (subnet_command (codes "diff")) (wanted (codes "PARTS2"
 abbrev pub run_command : App
 run_command = with_rule (subnet_command (codes "run")) (wanted (codes "SCRIPT"))
 
+abbrev pub explain_command : App
+explain_command = with_rule (new_app (codes "explain")) (optional (codes "CODE"))
+
 -- the program's words: one of its subcommands, with that one's arguments
 abbrev pub fabric_top : App
 fabric_top = let app = new_app (codes "fabric") in record app { top = record app.top { has_version = true; subcommand_required = true } }
 
 abbrev pub fabric_command : App
 fabric_command =
-    with_subcommand (with_subcommand (with_subcommand (with_subcommand fabric_top check_command.top) shares_command.top) diff_command.top) run_command.top
+    with_subcommand (with_subcommand (with_subcommand (with_subcommand (with_subcommand fabric_top check_command.top) shares_command.top) diff_command.top) run_command.top) explain_command.top
 
 -- the words that a program is given, where all of them are text
 abbrev pub given_items : {E : Type 0} → Result (IntoIter (String Global) Global) E → Option (List (String Global))
@@ -52,7 +58,7 @@ given_items (Err error) = None
 abbrev pub given_texts : {E : Type 0} → Result (IntoIter (String Global) Global) E → Option (List Text)
 given_texts given = option_map (λ words. map string_bytes words) (given_items given)
 
--- what is asked for, with the names of the files as texts
+-- what is asked for in a subnet, with the names of the files as texts
 pub record Names : Type 0 where
   pub topology : Text
   pub partitions : Option Text
@@ -70,6 +76,10 @@ names asked = record {
   partitions = option_map (λ name. name.now) asked.partitions;
   work = named_work asked.work;
 }
+
+abbrev pub named_call : Call Asked → Call Names
+named_call (Subnet asked) = Subnet (names asked)
+named_call (Explain code) = Explain code
 
 -- `-` stands for no file
 abbrev pub file_in : Text → Option Text
@@ -91,23 +101,34 @@ asked_by (Some topology) (Some partitions) (Some work) =
     Some (record { topology = topology; partitions = file_in partitions; work = work })
 asked_by _ _ _ = None
 
-abbrev pub asked_in : Option (Text × List Row) → Option Names
+-- a word for a code that spells none asks for nothing
+abbrev pub explain_by : Option Text → Option (Call Names)
+explain_by None = Some (Explain None)
+explain_by (Some word) = option_map (λ code. Explain (Some code)) (code_of word)
+
+-- `explain` takes a code, and all other commands are for a subnet
+abbrev pub call_by : Text → Option Text → Option Names → Option (Call Names)
+call_by command code asked =
+    if bytes_eq command (codes "explain") then explain_by code else option_map (λ names. Subnet names) asked
+
+abbrev pub asked_in : Option (Text × List Row) → Option (Call Names)
 asked_in None = None
 asked_in (Some found) =
-    asked_by (first_of (codes "TOPO") found.1) (first_of (codes "PARTS") found.1)
-    (work_in found.0 (first_of (codes "PORT") found.1) (first_of (codes "PARTS2") found.1) (first_of (codes "SCRIPT") found.1))
+    call_by found.0 (first_of (codes "CODE") found.1)
+    (asked_by (first_of (codes "TOPO") found.1) (first_of (codes "PARTS") found.1)
+    (work_in found.0 (first_of (codes "PORT") found.1) (first_of (codes "PARTS2") found.1) (first_of (codes "SCRIPT") found.1)))
 
-abbrev pub unless_refused : Kinds → Option Names → Option Names
+abbrev pub unless_refused : Kinds → Option (Call Names) → Option (Call Names)
 unless_refused [] asked = asked
 unless_refused (kind ∷ kinds) asked = None
 
 -- what the words ask for, the first of them the program's own name; nothing where clap refuses
--- them, or where help or the version is asked for
-unfoldable pub asked_of : List Text → Option Names
+-- them, where help or the version is asked for, or where a word for a code spells none
+unfoldable pub asked_of : List Text → Option (Call Names)
 asked_of words = unless_refused (fault_of fabric_command words) (asked_in (subcommand_of fabric_command words))
 
 -- words that are not text ask for nothing
-abbrev pub asked_by_given : Option (List Text) → Option Names
+abbrev pub asked_by_given : Option (List Text) → Option (Call Names)
 asked_by_given None = None
 asked_by_given (Some words) = asked_of words
 
@@ -118,6 +139,10 @@ work_names (Diff second) = option_to_list second
 work_names (Run script) = script ∷ []
 
 -- the names that are opened, in order
-abbrev pub opened_for : Option Names → List Text
+abbrev pub all_names : Names → List Text
+all_names asked = asked.topology ∷ (option_to_list asked.partitions ++ work_names asked.work)
+
+abbrev pub opened_for : Option (Call Names) → List Text
 opened_for None = []
-opened_for (Some asked) = asked.topology ∷ (option_to_list asked.partitions ++ work_names asked.work)
+opened_for (Some (Subnet asked)) = all_names asked
+opened_for (Some (Explain code)) = []

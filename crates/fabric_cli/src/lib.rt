@@ -2,11 +2,13 @@
 //!
 //! `fabric check TOPO PARTS` brings up the subnet of a topology under a partition file, and lists its
 //! ports and the members of its partitions. `fabric shares TOPO PARTS [PORT]` lists who may talk to whom in
-//! it, and `fabric diff TOPO PARTS PARTS2` what another partition file changes. `fabric run TOPO PARTS SCRIPT` runs a script of commands
-//! in it, and prints what its ports receive. [`serve`] is the one call: it does all the work, over any words,
-//! any files and any two writers, and its contract says what it answers of the words and the bytes alone.
+//! it, and `fabric diff TOPO PARTS PARTS2` what another partition file changes. `fabric run TOPO PARTS SCRIPT` runs a
+//! script of commands in it, and prints what its ports receive. `fabric explain CODE` tells what the code of a fault
+//! or a refusal means. [`serve`] is the one call: it does all the work, over any words, any files and any two writers,
+//! and its contract says what it answers of the words and the bytes alone.
 #![tactic(auto)]
 
+mod explaining;
 mod faults;
 mod files;
 mod laws;
@@ -16,6 +18,6 @@ mod words;
 mod writing;
 
 pub use crate::files::{Files, MachineFiles, Reader};
-pub use crate::laws::the_numbers;
+pub use crate::laws::{every_code_that_is_told_is_explained, the_numbers};
 pub use crate::serving::serve;
 pub use crate::writing::Output;

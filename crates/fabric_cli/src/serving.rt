@@ -7,14 +7,16 @@ ghost use Rattle.fabric_cli.specs.Files.{OpensAll, OpensInOrder};
 ghost use Rattle.fabric_cli.specs.Serving.{bytes_if_named, ending_by, asked_port, changes_in, ending_for, ending_of, ending_with, listed, output_in, reported, second_told, shares_in, texts_in, texts_of, without_files, work_bytes, work_of, AreFor, Ends, EndsForSomeBytes, ForSomeBytes, ComesTo, IsRefused, IsTold, Stops, TellsStop};
 ghost use Rattle.std.specs.Option.{option_to_list};
 ghost use Rattle.std.specs.Process.{exit_status};
-ghost use Rattle.fabric_cli.specs.Words.{asked_by_given, asked_of, given_texts, named_work, names, opened_for, work_names};
+ghost use Rattle.fabric_cli.specs.Words.{all_names, asked_by_given, asked_of, given_texts, named_work, names, opened_for, work_names};
+ghost use Rattle.fabric_cli.specs.declared.words.Call.TheVariants.{Subnet as InSubnet};
 ghost use Rattle.fabric_cli.specs.Writing.{AppendsPart, Writes};
 ghost use Rattle.subnet_core.specs.Run.{subnet_of};
 
+use crate::explaining::explained;
 use crate::faults::{COMPLETE, MEMORY_LINE, REFUSED, Stop};
 use crate::files::Files;
 use crate::reading::read_file;
-use crate::words::{Asked, Work, given_words, read_words};
+use crate::words::{Asked, Call, Work, given_words, read_words};
 use crate::writing::{Output, write_whole};
 use partition_changes::changes_text;
 use port_shares::shares_text;
@@ -136,7 +138,11 @@ fn output<'a, F: Files>(
         (opened_for (asked_of (map string_bytes words.entry.now)))) }
 {
     match read_words(alloc, words) {
-        Ok(asked) => output_of_files(alloc, &asked, files),
+        Ok(Call::Subnet(asked)) => output_of_files(alloc, &asked, files),
+        Ok(Call::Explain(code)) => match explained(alloc, code) {
+            Ok(text) => Ok(text),
+            Err(_) => Err(Stop::NoMemory),
+        },
         Err(stop) => Err(stop),
     }
 }
@@ -147,13 +153,13 @@ fn output_of_files<'a, F: Files>(
     asked: &Asked<'a>,
     files: &mut F,
 ) -> Result<Vec<u8>, Stop<'a>>
-    ensures order { OpensInOrder (F.opened files.old) (F.opened files.new) (opened_for (Some (names asked.now))) }
-    ensures all { IsTold result → OpensAll (F.opened files.old) (F.opened files.new) (opened_for (Some (names asked.now))) }
+    ensures order { OpensInOrder (F.opened files.old) (F.opened files.new) (all_names (names asked.now)) }
+    ensures all { IsTold result → OpensAll (F.opened files.old) (F.opened files.new) (all_names (names asked.now)) }
     ensures exact { IfSome (F.told files.old) (λ file. ComesTo (λ text. text.items)
         (ending_with (texts_of file (names asked.now))) result) }
-    ensures any_files { IsTold result → ForSomeBytes (Some (names asked.now))
+    ensures any_files { IsTold result → ForSomeBytes (Some (InSubnet (names asked.now)))
         (λ ending. ComesTo (λ text. text.items) ending result) }
-    ensures unread { IfErr result (NamesUnread (F.told files.old) (F.reads files.old) (F.opened files.old) (F.opened files.new) (opened_for (Some (names asked.now)))) }
+    ensures unread { IfErr result (NamesUnread (F.told files.old) (F.reads files.old) (F.opened files.old) (F.opened files.new) (all_names (names asked.now))) }
 {
     match read_texts(alloc, asked, files) {
         Ok(texts) => output_of_texts(alloc, &texts),
@@ -318,13 +324,13 @@ fn read_texts<'a, F: Files>(
     asked: &Asked<'a>,
     files: &mut F,
 ) -> Result<Texts<'a>, Stop<'a>>
-    ensures order { OpensInOrder (F.opened files.old) (F.opened files.new) (opened_for (Some (names asked.now))) }
-    ensures all { OnOk result (OpensAll (F.opened files.old) (F.opened files.new) (opened_for (Some (names asked.now)))) }
+    ensures order { OpensInOrder (F.opened files.old) (F.opened files.new) (all_names (names asked.now)) }
+    ensures all { OnOk result (OpensAll (F.opened files.old) (F.opened files.new) (all_names (names asked.now))) }
     ensures texts { IfOk result (λ texts. IfSome (F.told files.old) (λ file.
         texts_of file (names asked.now) ≡ Ok (texts_in texts))) }
     ensures shape { IfOk result (λ texts. AreFor (names asked.now) (texts_in texts)) }
     ensures fault { IfErr result IsOfFiles }
-    ensures unread { IfErr result (NamesUnread (F.told files.old) (F.reads files.old) (F.opened files.old) (F.opened files.new) (opened_for (Some (names asked.now)))) }
+    ensures unread { IfErr result (NamesUnread (F.told files.old) (F.reads files.old) (F.opened files.old) (F.opened files.new) (all_names (names asked.now))) }
 {
     let topology = read_file(alloc, files, asked.topology)?;
     let partitions = read_if_named(alloc, files, asked.partitions)?;

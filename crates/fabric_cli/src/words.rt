@@ -4,13 +4,14 @@ ghost use Rattle.std.specs.Prelude.{◌≡◌, false, Some, codes, map, string_b
 ghost use Rattle.clap.specs.Words.{app_of, rule_of, subcommand_rows_of};
 ghost use Rattle.clap.specs.declared.builder.command.Command.TheViews.{out-Command as fields_of};
 ghost use Rattle.fabric_cli.specs.Faults.{IsOfGiven, IsOfWords, IsRefusalOf, TellsAll};
-ghost use Rattle.fabric_cli.specs.Help.{about_check, about_diff, about_program, about_run, about_shares, help_of_partitions, help_of_port, help_of_script, help_of_second_partitions, help_of_topology, program_name, program_version, text_in};
-ghost use Rattle.fabric_cli.specs.Words.{asked_by, asked_in, asked_of, check_command, diff_by, diff_command, fabric_command, file_in, given_items, named_work, names, optional, run_command, shares_command, subnet_command, wanted, work_in};
-ghost use Rattle.fabric_cli.specs.declared.words.TheConstants.{CHANGES, LISTING, REPORT, SHARES, STATUSES};
+ghost use Rattle.fabric_cli.specs.Help.{about_check, about_diff, about_explain, about_program, about_run, about_shares, help_of_code, help_of_partitions, help_of_port, help_of_script, help_of_second_partitions, help_of_topology, program_name, program_version, text_in};
+ghost use Rattle.fabric_cli.specs.Words.{asked_by, asked_in, asked_of, call_by, check_command, diff_by, diff_command, explain_by, explain_command, fabric_command, file_in, given_items, named_call, named_work, names, optional, run_command, shares_command, subnet_command, wanted, work_in};
+ghost use Rattle.fabric_cli.specs.declared.words.TheConstants.{CHANGES, CODES, LISTING, REPORT, SHARES, STATUSES};
 
 use crate::faults::Stop;
 use clap::error::ErrorKind;
 use clap::{Arg, ArgAction, ArgMatches, Command, Error};
+use code_texts::Code;
 use std::alloc::{AllocError, Global};
 use std::env::Args;
 use std::fmt::Display;
@@ -29,7 +30,16 @@ pub enum Work<W, S> {
     Run(S),
 }
 
-/// What is asked for, with the names of the files.
+/// What a call is for.
+#[derive(Drop)]
+pub enum Call<A> {
+    /// Something in a subnet.
+    Subnet(A),
+    /// Tell what a code means, or which codes there are.
+    Explain(Option<Code>),
+}
+
+/// What is asked for in a subnet, with the names of the files.
 #[derive(Drop)]
 pub struct Asked<'a> {
     /// The topology.
@@ -51,8 +61,10 @@ const ABOUT_DIFF: &str = "Lists what a second partition file in place of the fir
 
 const ABOUT_RUN: &str = "Runs a script in a subnet, and prints what its ports receive";
 
+const ABOUT_EXPLAIN: &str = "Tells what the code of a fault or a refusal means, or lists all codes";
+
 /// The help `$before`, then the exit statuses, of which 2 is also that of a call that asks for `$asked`,
-/// then `$after`.
+/// then `$after`, and at last where codes are explained.
 macro_rules! with_statuses {
     ($before:literal, $asked:literal, $after:literal) => {
         concat!(
@@ -64,7 +76,10 @@ macro_rules! with_statuses {
             $asked,
             " is asked for
   3  want of memory, a file that is not read, or output that is not written",
-            $after
+            $after,
+            "
+
+`fabric explain CODE` tells what the CODE of a fault means, and `fabric explain` lists all codes."
         )
     };
 }
@@ -81,7 +96,10 @@ A fault is told as `fault CODE topology line L`, `fault CODE partitions line L`,
 
 const NOT_TEXT: &str = "error: a word is not text\n";
 
-const USAGE: &str = "Usage: fabric <COMMAND>\n";
+const NO_SUCH_CODE: &str = "error: there is no such code
+
+For the list of all codes, try 'fabric explain'.
+";
 
 const LISTING: &str = with_statuses!(
     "The listing has a line for each end port by LID, then for each partition its line and one for
@@ -149,6 +167,24 @@ HEX leaves out the zero bytes at the end of the N bytes.
     ""
 );
 
+const CODES: &str = with_statuses!(
+    "A code stands behind `fault` where a call does not complete, and behind `refused` in a report:
+  TF1 to TF12            a fault of the topology
+  PF1 to PF9             a fault of a partition file
+  SF1 to SF6             a fault of the script, or of the PORT of `shares`
+  AR1 to AR4             why a port refuses to send a packet
+  memory, read, write    what the machine refuses
+
+With CODE that one is told: its cause, what exactly is asked, a text that has it, and that text
+mended. Without CODE there is a line for each code, with its cause.
+
+For example, `fabric explain PF2` says what a line as `fault PF2 partitions line 3` means.
+
+",
+    "help",
+    ""
+);
+
 /// An argument that has to be given.
 fn wanted<'a>(alloc: Global, name: &'a str, help: &'a str) -> Arg<'a>
     ensures global { result.global ≡ false }
@@ -201,6 +237,16 @@ fn optional_port<'a>(alloc: Global) -> Arg<'a>
     Arg::new(alloc, "PORT").action(ArgAction::Set).help(
         "An end port as `check` lists it: `h1/1`, or `A/0` for port 0 of switch A",
     )
+}
+
+fn optional_code<'a>(alloc: Global) -> Arg<'a>
+    ensures global { result.global ≡ false }
+    ensures rule { rule_of result ≡ optional (codes "CODE") }
+    ensures help { text_in result.help ≡ Some help_of_code }
+{
+    Arg::new(alloc, "CODE")
+        .action(ArgAction::Set)
+        .help("A code as it is told: `PF2`, or `memory`")
 }
 
 fn wanted_second_partitions<'a>(alloc: Global) -> Arg<'a>
@@ -265,6 +311,16 @@ fn run_command<'a>(alloc: Global) -> Result<Command<'a>, AllocError>
     Ok(command.about(ABOUT_RUN).after_help(REPORT))
 }
 
+/// The command that tells what codes mean.
+fn explain_command<'a>(alloc: Global) -> Result<Command<'a>, AllocError>
+    ensures words { IfOk result (λ command. app_of command ≡ explain_command) }
+    ensures about { IfOk result (λ command. text_in (fields_of command).about ≡ Some about_explain) }
+    ensures help { IfOk result (λ command. text_in (fields_of command).after_help ≡ Some CODES.now) }
+{
+    let command = Command::new(alloc, "explain").arg(optional_code(alloc))?;
+    Ok(command.about(ABOUT_EXPLAIN).after_help(CODES))
+}
+
 /// The program's command line. Help and usage say `fabric`, whatever name the program's file has.
 fn fabric_command<'a>(alloc: Global) -> Result<Command<'a>, AllocError>
     ensures words { IfOk result (λ command. app_of command ≡ fabric_command) }
@@ -279,6 +335,7 @@ fn fabric_command<'a>(alloc: Global) -> Result<Command<'a>, AllocError>
         .subcommand(shares_command(alloc)?)?
         .subcommand(diff_command(alloc)?)?
         .subcommand(run_command(alloc)?)?
+        .subcommand(explain_command(alloc)?)?
         .bin_name("fabric")?;
     Ok(command.version("0.1.0").about(ABOUT).after_help(STATUSES))
 }
@@ -296,23 +353,23 @@ pub fn given_words(alloc: Global, given: io::Result<Args>) -> Result<Vec<String>
 }
 
 /// What the words ask for, the first of them the program's own name.
-pub fn read_words<'a>(alloc: Global, words: &'a [String]) -> Result<Asked<'a>, Stop<'a>>
-    ensures asked { IfOk result (λ asked. asked_of (map string_bytes words.entry.now) ≡ Some (names asked)) }
+pub fn read_words<'a>(alloc: Global, words: &'a [String]) -> Result<Call<Asked<'a>>, Stop<'a>>
+    ensures asked { IfOk result (λ call. asked_of (map string_bytes words.entry.now) ≡ Some (named_call call)) }
     ensures refused { IfErr result (IsOfWords (asked_of (map string_bytes words.entry.now))) }
 {
     let command = fabric_command(alloc)?;
     match command.try_get_matches_from(words) {
-        Ok(matches) => match names_in(&matches) {
-            Some(asked) => Ok(asked),
-            None => Err(Stop::Words(String::from_str(alloc, USAGE)?)),
+        Ok(matches) => match call_in(&matches) {
+            Some(call) => Ok(call),
+            None => Err(Stop::Words(String::from_str(alloc, NO_SUCH_CODE)?)),
         },
         Err(error) => Err(refusal(alloc, &error)),
     }
 }
 
-/// What is asked for in what clap found.
-fn names_in<'a>(matches: &ArgMatches<'a>) -> Option<Asked<'a>>
-    ensures { option_map names result ≡ asked_in (subcommand_rows_of matches.now) }
+/// What is asked for in what clap found; nothing where the word for a code is none.
+fn call_in<'a>(matches: &ArgMatches<'a>) -> Option<Call<Asked<'a>>>
+    ensures { option_map named_call result ≡ asked_in (subcommand_rows_of matches.now) }
 {
     let (command, found) = matches.subcommand()?;
     let topology = found.get_str("TOPO");
@@ -320,7 +377,40 @@ fn names_in<'a>(matches: &ArgMatches<'a>) -> Option<Asked<'a>>
     let port = found.get_str("PORT");
     let second = found.get_str("PARTS2");
     let script = found.get_str("SCRIPT");
-    asked_by(topology, partitions, work_in(command, port, second, script))
+    let code = found.get_str("CODE");
+    let asked = asked_by(topology, partitions, work_in(command, port, second, script));
+    call_by(command, code, asked)
+}
+
+/// What a command is for, with its code if it has one.
+fn call_by<'a>(
+    command: &str,
+    code: Option<&str>,
+    asked: Option<Asked<'a>>,
+) -> Option<Call<Asked<'a>>>
+    ensures { option_map named_call result ≡ call_by command.now (option_map (λ word. word.now) code.entry)
+        (option_map names asked.entry) }
+{
+    if command == "explain" {
+        return explain_by(code);
+    }
+    match asked {
+        Some(asked) => Some(Call::Subnet(asked)),
+        None => None,
+    }
+}
+
+/// The code that a word spells, or none where there is no word.
+fn explain_by<'a>(word: Option<&str>) -> Option<Call<Asked<'a>>>
+    ensures { option_map named_call result ≡ explain_by (option_map (λ word. word.now) word.entry) }
+{
+    match word {
+        Some(word) => match Code::read(word) {
+            Some(code) => Some(Call::Explain(Some(code))),
+            None => None,
+        },
+        None => Some(Call::Explain(None)),
+    }
 }
 
 /// What a command does, with its port, its second partition file or its script if it has one.

@@ -1,0 +1,101 @@
+-- Each code that the program tells is explained.
+use Rattle.std.proofs.Common.{ℕ, ◌≡◌, List, codes, refl, Some, true}
+use Rattle.code_texts.specs.Codes.{spelling, code_of}
+use Rattle.code_texts.specs.Texts.{begins_with}
+use Rattle.code_texts.specs.declared.code.Code.{Code}
+use Rattle.code_texts.specs.declared.code.Code.TheVariants as code
+use Rattle.code_texts.proofs.TextLemmas.{begins_with_code}
+use Rattle.topo_file.specs.Fault.{code_of as topology_code}
+use Rattle.topo_file.specs.declared.fault.TopologyCause.{TopologyCause}
+use Rattle.topo_file.specs.declared.fault.TopologyCause.TheVariants as topology
+use Rattle.partition_file.specs.Fault.{code_of as partitions_code}
+use Rattle.partition_file.specs.declared.fault.PartitionCause.{PartitionCause}
+use Rattle.partition_file.specs.declared.fault.PartitionCause.TheVariants as partitions
+use Rattle.subnet_core.specs.Fault.{code_of as script_code}
+use Rattle.subnet_core.specs.declared.fault.ScriptCause.{ScriptCause}
+use Rattle.subnet_core.specs.declared.fault.ScriptCause.TheVariants as script
+use Rattle.subnet_core.specs.declared.fault.RunFault.TheVariants as run
+use Rattle.data_packet.specs.Refusal.{code_of as refusal_code}
+use Rattle.data_packet.specs.declared.refusal.Refusal.{Refusal}
+use Rattle.data_packet.specs.declared.refusal.Refusal.TheVariants as refusal
+use Rattle.fabric_cli.specs.Explained.{IsExplained, NamesCode, TellsCode, told_word}
+use Rattle.fabric_cli.specs.Faults.{partitions_line, port_line, script_line, second_line, topology_line}
+use Rattle.fabric_cli.specs.declared.faults.Stop.{Stop}
+use Rattle.fabric_cli.specs.declared.faults.Stop.TheVariants.{Words, NoMemory, Unread, Unwritten, Run, Port, Second}
+
+explained_as : (c : Code) → code_of (spelling c) ≡ Some c → IsExplained (spelling c)
+explained_as c read = record { code = c; read = read; begins = begins_with_code c }
+
+-- a line with this code behind `fault `, and a blank behind that
+told_as : (c : Code) (line : List ℕ) → begins_with (codes "fault ") line ≡ true → told_word line ≡ spelling c → code_of (spelling c) ≡ Some c → TellsCode line
+told_as c line begins word read = record { begins = begins; explained = rw word (explained_as c read) }
+
+topology_told : (cause : TopologyCause) (number : ℕ) → TellsCode (topology_line (topology_code cause) number)
+topology_told topology.Malformed number = told_as code.Tf1 _ refl refl refl
+topology_told topology.DuplicateName number = told_as code.Tf2 _ refl refl refl
+topology_told topology.DuplicateGuid number = told_as code.Tf3 _ refl refl refl
+topology_told topology.UnknownNode number = told_as code.Tf4 _ refl refl refl
+topology_told topology.NoSuchPort number = told_as code.Tf5 _ refl refl refl
+topology_told topology.PortTaken number = told_as code.Tf6 _ refl refl refl
+topology_told topology.WrongCableEnds number = told_as code.Tf7 _ refl refl refl
+topology_told topology.WrongManager number = told_as code.Tf8 _ refl refl refl
+topology_told topology.Disconnected number = told_as code.Tf9 _ refl refl refl
+topology_told topology.OverLimit number = told_as code.Tf10 _ refl refl refl
+topology_told topology.ManagerUncabled number = told_as code.Tf11 _ refl refl refl
+topology_told topology.RootNotSwitch number = told_as code.Tf12 _ refl refl refl
+
+partitions_told : (cause : PartitionCause) (number : ℕ) → TellsCode (partitions_line (partitions_code cause) number)
+partitions_told partitions.BadCharacter number = told_as code.Pf1 _ refl refl refl
+partitions_told partitions.BadNumber number = told_as code.Pf2 _ refl refl refl
+partitions_told partitions.ReservedKey number = told_as code.Pf3 _ refl refl refl
+partitions_told partitions.UnknownFlag number = told_as code.Pf4 _ refl refl refl
+partitions_told partitions.BothMembership number = told_as code.Pf5 _ refl refl refl
+partitions_told partitions.MgidItem number = told_as code.Pf6 _ refl refl refl
+partitions_told partitions.TooManyPartitions number = told_as code.Pf7 _ refl refl refl
+partitions_told partitions.Unfinished number = told_as code.Pf8 _ refl refl refl
+partitions_told partitions.BadFlagValue number = told_as code.Pf9 _ refl refl refl
+
+second_told : (cause : PartitionCause) (number : ℕ) → TellsCode (second_line (partitions_code cause) number)
+second_told partitions.BadCharacter number = told_as code.Pf1 _ refl refl refl
+second_told partitions.BadNumber number = told_as code.Pf2 _ refl refl refl
+second_told partitions.ReservedKey number = told_as code.Pf3 _ refl refl refl
+second_told partitions.UnknownFlag number = told_as code.Pf4 _ refl refl refl
+second_told partitions.BothMembership number = told_as code.Pf5 _ refl refl refl
+second_told partitions.MgidItem number = told_as code.Pf6 _ refl refl refl
+second_told partitions.TooManyPartitions number = told_as code.Pf7 _ refl refl refl
+second_told partitions.Unfinished number = told_as code.Pf8 _ refl refl refl
+second_told partitions.BadFlagValue number = told_as code.Pf9 _ refl refl refl
+
+script_told : (cause : ScriptCause) (number : ℕ) → TellsCode (script_line (script_code cause) number)
+script_told script.Malformed number = told_as code.Sf1 _ refl refl refl
+script_told script.UnknownPort number = told_as code.Sf2 _ refl refl refl
+script_told script.ManagerPort number = told_as code.Sf3 _ refl refl refl
+script_told script.UncabledPort number = told_as code.Sf4 _ refl refl refl
+script_told script.PayloadTooLong number = told_as code.Sf5 _ refl refl refl
+script_told script.BadField number = told_as code.Sf6 _ refl refl refl
+
+port_told : (cause : ScriptCause) → TellsCode (port_line (script_code cause))
+port_told script.Malformed = told_as code.Sf1 _ refl refl refl
+port_told script.UnknownPort = told_as code.Sf2 _ refl refl refl
+port_told script.ManagerPort = told_as code.Sf3 _ refl refl refl
+port_told script.UncabledPort = told_as code.Sf4 _ refl refl refl
+port_told script.PayloadTooLong = told_as code.Sf5 _ refl refl refl
+port_told script.BadField = told_as code.Sf6 _ refl refl refl
+
+pub stops_are_told : (stop : Stop) → NamesCode stop
+stops_are_told (Words text) = tt
+stops_are_told NoMemory = told_as code.Memory _ refl refl refl
+stops_are_told (Unread name) = told_as code.Read _ refl refl refl
+stops_are_told Unwritten = told_as code.Write _ refl refl refl
+stops_are_told (Run run.NoMemory) = told_as code.Memory _ refl refl refl
+stops_are_told (Run (run.Topology line cause)) = topology_told cause line
+stops_are_told (Run (run.Partitions line cause)) = partitions_told cause line
+stops_are_told (Run (run.Script line cause)) = script_told cause line
+stops_are_told (Port cause) = port_told cause
+stops_are_told (Second line cause) = second_told cause line
+
+pub refusals_are_explained : (refusal : Refusal) → IsExplained (refusal_code refusal)
+refusals_are_explained refusal.KeyNotHeld = explained_as code.Ar1 refl
+refusals_are_explained refusal.QpZero = explained_as code.Ar2 refl
+refusals_are_explained refusal.ReservedDlid = explained_as code.Ar3 refl
+refusals_are_explained refusal.PortNotActive = explained_as code.Ar4 refl
