@@ -9,9 +9,9 @@ use Rattle.subnet_model.specs.declared.subnet_port.SubnetPort.{SubnetPort}
 use Rattle.subnet_model.specs.Source.{same_lid}
 use Rattle.subnet_core.specs.declared.fault.RunFault.{RunFault}
 use Rattle.subnet_core.specs.Headline.{KeepsPartitionsApart}
-use Rattle.subnet_core.specs.Ports.{configuration_of, ports_of}
-use Rattle.subnet_core.specs.EndPorts.{HaveLidsInOrder}
-use Rattle.subnet_core.proofs.SeatLemmas.{each_weaker}
+use Rattle.subnet_ports.specs.Ports.{configuration_of, ports_of}
+use Rattle.subnet_ports.specs.EndPorts.{HaveLidsInOrder}
+use Rattle.subnet_ports.proofs.LidLemmas.{own_lids}
 use Rattle.subnet_core.specs.Run.{ReportState, RunGives, of_text, partitions_for, report_of, started, subnet_of, report_after}
 use Rattle.subnet_core.specs.Script.{commands_in}
 use Rattle.result_words.specs.Steps.{◌>>=◌}
@@ -22,25 +22,6 @@ brought_up : (topology : List ℕ) (partitions : Option (List ℕ)) (plan : Plan
     → partitions_for partitions ≡ Ok all → subnet_of topology partitions ≡ Ok (started plan all)
 unfolding subnet_of
 brought_up topology partitions plan all e p = rw (e, p) refl
-
--- LIDs that count up are each port's own
-lids_from : (first : ℕ) (ports : List SubnetPort) → map (λ port. port.lid) ports ≡ range_with_len first (length ports) → AllByRecursion (λ b. first ≤ b.lid) ports
-lids_from first [] h = tt
-lids_from first (port ∷ ports) h =
-    let head : port.lid ≡ first = cc in
-    let tail : map (λ q. q.lid) ports ≡ range_with_len (first + 1) (length ports) = cc in
-    (omega arith, each_weaker (λ b. first + 1 ≤ b.lid) (λ b. first ≤ b.lid) (λ b k. omega arith) ports (lids_from (first + 1) ports tail))
-
-differ : (m n : ℕ) → m + 1 ≤ n → (m == n) ≡ false
-differ m n h = grind (arith, nat_tests)
-
-own_lids : (first : ℕ) (ports : List SubnetPort) → map (λ port. port.lid) ports ≡ range_with_len first (length ports) → IsDistinct same_lid ports
-unfolding IsDistinct
-own_lids first [] h = tt
-own_lids first (port ∷ ports) h =
-    let head : port.lid ≡ first = cc in
-    let tail : map (λ q. q.lid) ports ≡ range_with_len (first + 1) (length ports) = cc in
-    (each_weaker (λ b. first + 1 ≤ b.lid) (λ b. same_lid port b ≡ false) (λ b k. differ port.lid b.lid (omega arith)) ports (lids_from (first + 1) ports tail), own_lids (first + 1) ports tail)
 
 -- a run that is answered tells what the definitions of its texts give, and that is isolated
 pub told_apart : (topology script : List ℕ) (partitions : Option (List ℕ)) (r : ReportState) → report_of topology partitions script ≡ Ok r → HaveLidsInOrder r.ports

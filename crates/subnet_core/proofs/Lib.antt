@@ -1,10 +1,5 @@
 pub mod CommandLemmas
-pub mod EndPortLemmas
-pub mod FabricPortLemmas
-pub mod GraphPortLemmas
 pub mod HeadlineLemmas
 pub mod ListingLemmas
 pub mod PayloadLemmas
-pub mod PortLemmas
-pub mod SeatLemmas
 pub mod EventLinesLemmas

@@ -1,7 +1,4 @@
 pub mod Fault
-pub mod Ports
-pub mod EndPorts
-pub mod FabricPorts
 pub mod Script
 pub mod NamedPort
 pub mod Seen
@@ -9,4 +6,3 @@ pub mod Run
 pub mod EventLines
 pub mod Listing
 pub mod Headline
-pub mod Laws

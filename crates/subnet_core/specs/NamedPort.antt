@@ -8,7 +8,7 @@ use Rattle.result_words.specs.Steps.{◌>>=◌}
 use Rattle.topo_file.specs.Cable.{port_at}
 use Rattle.topo_file.specs.Node.{is_switch_at, place_of, port_guid_at}
 use Rattle.topo_file.specs.Topology.{Plan}
-use Rattle.subnet_core.specs.Ports.{guid_at}
+use Rattle.subnet_ports.specs.Ports.{guid_at}
 use Rattle.subnet_core.specs.declared.fault.ScriptCause.{ScriptCause}
 use Rattle.subnet_core.specs.declared.fault.ScriptCause.TheVariants.{UnknownPort, UncabledPort}
 

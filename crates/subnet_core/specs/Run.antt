@@ -16,7 +16,7 @@ use Rattle.subnet_model.specs.State.{start}
 use Rattle.subnet_model.specs.Report.{events_from, step}
 use Rattle.subnet_core.specs.declared.fault.RunFault.{RunFault}
 use Rattle.subnet_core.specs.declared.fault.RunFault.TheVariants.{NoMemory, Topology, Partitions, Script}
-use Rattle.subnet_core.specs.Ports.{configuration_of}
+use Rattle.subnet_ports.specs.Ports.{configuration_of}
 use Rattle.subnet_core.specs.Script.{command_of, commands_in}
 
 -- a subnet that runs: its topology, its end ports and partitions, and what it remembers; after memory was

@@ -8,10 +8,8 @@
 //! end ports, for now; no caller can tell.
 #![tactic(auto)]
 
-mod end_ports;
 mod event_lines;
 mod fault;
-mod laws;
 mod listing;
 mod named_port;
 mod report;
@@ -19,11 +17,7 @@ mod running;
 mod script;
 mod subnet;
 
-pub use crate::end_ports::configuration_of;
 pub use crate::fault::{RunFault, ScriptCause, StepFault};
-pub use crate::laws::{
-    end_ports_are_the_fabrics, end_ports_stand_in_order, sweeps_find_what_is_listed,
-};
 pub use crate::report::Report;
 pub use crate::running::run;
 pub use crate::subnet::{Subnet, bring_up};

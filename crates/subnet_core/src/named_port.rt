@@ -4,9 +4,9 @@ ghost use Rattle.std.specs.Prelude.{◌≡◌, ◌≤◌, false};
 ghost use Rattle.topo_file.specs.Node.{is_switch_at, ports_at};
 ghost use Rattle.subnet_core.specs.NamedPort.{adapter_port, cabled_port, named_port, switch_port};
 
-use crate::end_ports::guid_at;
 use crate::fault::ScriptCause;
 use fabric_parts::PortRef;
+use subnet_ports::guid_at;
 use text_words::port_in;
 use topo_file::Topology;
 

@@ -1,7 +1,7 @@
 ghost use Rattle.std.specs.Prelude.{IfOk};
 ghost use Rattle.std.specs.Option.{option_copied};
 ghost use Rattle.result_words.specs.AtLine.{on_line};
-ghost use Rattle.subnet_core.specs.EndPorts.{HaveLidsInOrder};
+ghost use Rattle.subnet_ports.specs.EndPorts.{HaveLidsInOrder};
 ghost use Rattle.subnet_core.specs.Headline.{KeepsPartitionsApart};
 ghost use Rattle.subnet_core.specs.Run.{RunGives, of_text, report_of};
 ghost use Rattle.subnet_core.specs.Script.{commands_in, with_line};

@@ -2,13 +2,12 @@ ghost use Rattle.std.specs.Prelude.{◌≡◌, true, ◌↔◌, IsErrOf, IfOk, O
 ghost use Rattle.std.specs.Option.{option_copied};
 ghost use Rattle.topo_file.specs.Topology.{topology_of};
 ghost use Rattle.subnet_model.specs.Report.{step};
-ghost use Rattle.subnet_core.specs.EndPorts.{HaveLidsInOrder};
+ghost use Rattle.subnet_ports.specs.EndPorts.{HaveLidsInOrder};
 ghost use Rattle.subnet_core.specs.Listing.{listing_text};
 ghost use Rattle.subnet_core.specs.NamedPort.{named_port};
 ghost use Rattle.subnet_core.specs.Run.{RunGives, of_text, parsed, partitions_for, report_after, subnet_of};
 ghost use Rattle.subnet_core.specs.declared.fault.RunFault.TheVariants as run;
 
-use crate::end_ports::configuration_of;
 use crate::fault::{RunFault, ScriptCause, StepFault};
 use crate::named_port::named_port;
 use crate::report::Report;
@@ -17,6 +16,7 @@ use partition_file::{PartFault, Partitions, no_file};
 use std::alloc::{AllocError, Global};
 use std::marker::Model;
 use subnet_model::{Command, Configuration, Event, State, carry_out, step};
+use subnet_ports::configuration_of;
 use topo_file::{TopoFault, Topology};
 
 /// A subnet that was brought up and takes commands one by one.

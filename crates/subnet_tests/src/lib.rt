@@ -7,6 +7,8 @@ mod changes;
 #[cfg(test)]
 mod error_texts;
 #[cfg(test)]
+mod fabrics;
+#[cfg(test)]
 mod fixtures;
 #[cfg(test)]
 mod neighbours;

@@ -2,8 +2,9 @@ use crate::fixtures::{GUIDS, ONE_PARTITION};
 use example_texts::{ONE_PARTITION_FILE, TWO_SWITCHES};
 use std::alloc::Global;
 use std::test::Fail;
-use subnet_core::{RunFault, bring_up, configuration_of};
+use subnet_core::{RunFault, bring_up};
 use subnet_model::Configuration;
+use subnet_ports::configuration_of;
 
 const PORTS: &str = "\
 port 0x0001 0x0000000000000101 h0/1

@@ -1,5 +1,0 @@
-use Rattle.subnet_core.proofs.FabricPortLemmas.{end_ports_are_the_fabrics}
-use Rattle.subnet_core.proofs.laws.end_ports_are_the_fabrics.Goals as goal
-
-pub returns : goal.returns
-returns c = end_ports_are_the_fabrics

@@ -1,0 +1,5 @@
+pub mod KeyLemmas
+pub mod RootLemmas
+pub mod LimitLemmas
+pub mod ListedLemmas
+pub mod FoundLemmas

@@ -1,0 +1,7 @@
+pub mod SeatLemmas
+pub mod PortLemmas
+pub mod EndPortLemmas
+pub mod FabricPortLemmas
+pub mod GraphPortLemmas
+pub mod LidLemmas
+pub mod OwnEndLemmas

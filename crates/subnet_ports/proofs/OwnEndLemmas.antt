@@ -1,0 +1,72 @@
+-- No two end ports of a topology have one GUID.
+use Rattle.std.proofs.Common.{ℕ, zero, suc, ◌≡◌, ◌==◌, ◌∙◌, ap, refl, subst, sym, Bool, true, false, List, [], ◌∷◌, slice_get, Some}
+use Rattle.std.specs.List.{AllByRecursion, IsDistinct}
+use Rattle.std.proofs.lemmas.Bool.{eq-eqb, false≢true}
+use Rattle.std.proofs.lemmas.List.Elements.{All-from_recursion}
+use Rattle.std.proofs.lemmas.Map.Keys.{IsDistinct-head, IsDistinct-tail}
+use Rattle.std.proofs.lemmas.Option.{none-some, same_Some}
+use Rattle.fabric_parts.specs.Cable.{is_same_port}
+use Rattle.fabric_parts.specs.declared.cable.PortRef.{PortRef}
+use Rattle.pkey_rules.specs.declared.end_port.EndPort.{EndPort}
+use Rattle.result_words.proofs.ListLemmas.{all_have}
+use Rattle.smp_wire.proofs.CableLemmas.{same_port}
+use Rattle.sweep.proofs.FoundLemmas.{any_at}
+use Rattle.topo_file.specs.Node.{port_guid_at}
+use Rattle.topo_file.specs.Sound.{IsSound}
+use Rattle.topo_file.specs.Topology.{Plan}
+use Rattle.subnet_ports.proofs.EndPortLemmas.{of_sound}
+use Rattle.subnet_ports.proofs.SeatLemmas.{IsSeat, one_guid, place_of}
+use Rattle.subnet_ports.specs.EndPorts.{is_end_port}
+use Rattle.subnet_ports.specs.Ports.{seats}
+use Rattle.subnet_ports.specs.declared.end_ports.Seat.{Seat}
+
+-- what is so of each is so of one of them
+all_at : {X : Type 0} (P : X → Type 0) (xs : List X) (k : ℕ) (x : X) → AllByRecursion P xs → slice_get xs k ≡ Some x → P x
+all_at P xs k x each there = all_have P xs k x (All-from_recursion P xs each) there
+
+-- of a list of which no two are the same, two that are the same stand at one place
+one_place : {X : Type 0} (same : X → X → Bool) (xs : List X) (i j : ℕ) (x y : X) → IsDistinct same xs → slice_get xs i ≡ Some x
+    → slice_get xs j ≡ Some y → same x y ≡ true → same y x ≡ true → i ≡ j
+one_place same [] i j x y own here there to fro = absurd (none-some x here)
+one_place same (z ∷ xs) zero zero x y own here there to fro = refl
+one_place same (z ∷ xs) zero (suc j) x y own here there to fro =
+    let apart = all_at (λ other. same z other ≡ false) xs j y (IsDistinct-head same z xs own) there in
+    absurd (false≢true (sym apart ∙ ap (λ z. same z y) (same_Some z x here) ∙ to))
+one_place same (z ∷ xs) (suc i) zero x y own here there to fro =
+    let apart = all_at (λ other. same z other ≡ false) xs i x (IsDistinct-head same z xs own) here in
+    absurd (false≢true (sym apart ∙ ap (λ z. same z x) (same_Some z y there) ∙ fro))
+one_place same (z ∷ xs) (suc i) (suc j) x y own here there to fro = ap suc (one_place same xs i j x y (IsDistinct-tail same z xs own) here there to fro)
+
+-- the seat of an end port
+record IsSeatOf (plan : Plan) (at : PortRef) : Type 0 where
+  place : ℕ
+  seat : Seat
+  there : slice_get (seats plan) place ≡ Some seat
+  is : place_of seat ≡ at
+  guid : seat.port.guid ≡ port_guid_at plan.nodes at
+
+seat_of : (plan : Plan) (at : PortRef) → IsSound plan → is_end_port plan at ≡ true → IsSeatOf plan at
+seat_of plan at sound there =
+    let are = of_sound plan sound in
+    let found = any_at (λ seat. is_same_port (place_of seat) at) (seats plan) (are.all at there) in
+    let is = same_port (place_of found.one) at found.passes in
+    let seat = all_at (IsSeat plan) (seats plan) found.place found.one are.each found.there in
+    record {
+      place = found.place;
+      seat = found.one;
+      there = found.there;
+      is = is;
+      guid = ap (λ (port : EndPort). port.guid) seat.port ∙ ap (port_guid_at plan.nodes) is;
+    }
+
+pub one_end : (plan : Plan) (a b : PortRef) → IsSound plan → is_end_port plan a ≡ true → is_end_port plan b ≡ true
+    → port_guid_at plan.nodes a ≡ port_guid_at plan.nodes b → a ≡ b
+one_end plan a b sound here there same =
+    let one = seat_of plan a sound here in
+    let other = seat_of plan b sound there in
+    let guid : one.seat.port.guid ≡ other.seat.port.guid = one.guid ∙ same ∙ sym other.guid in
+    let place =
+    one_place one_guid (seats plan) one.place other.place one.seat other.seat (of_sound plan sound).own one.there other.there
+    (eq-eqb one.seat.port.guid other.seat.port.guid guid) (eq-eqb other.seat.port.guid one.seat.port.guid (sym guid)) in
+    let seat = same_Some one.seat other.seat (sym one.there ∙ ap (slice_get (seats plan)) place ∙ other.there) in
+    sym one.is ∙ ap place_of seat ∙ other.is

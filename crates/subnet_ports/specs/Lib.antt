@@ -1,0 +1,4 @@
+pub mod Ports
+pub mod EndPorts
+pub mod FabricPorts
+pub mod Laws

@@ -1,0 +1,108 @@
+-- The end ports of a subnet, as a topology has them, with the keys that its partitions give them.
+use Rattle.std.specs.Prelude.{ℕ, Bool, true, false, List, [], ◌∷◌, map, fold, slice_get, nat_le, if◌then◌else◌}
+use Rattle.std.specs.List.{flat_map, enumerate_from, range_with_len}
+use Rattle.std.specs.Option.{option_map_or}
+use Rattle.partition_file.specs.declared.partition.Partition.{Partition}
+use Rattle.partition_file.specs.Members.{heading_of, keys_in}
+use Rattle.pkey_rules.specs.declared.end_port.EndPort.{EndPort}
+use Rattle.subnet_model.specs.Configuration.{Configured}
+use Rattle.subnet_model.specs.EndPorts.{lid_of}
+use Rattle.subnet_model.specs.declared.subnet_port.SubnetPort.{SubnetPort}
+use Rattle.fabric_parts.specs.declared.cable.PortRef.{PortRef}
+use Rattle.fabric_parts.specs.declared.node_type.NodeType.{NodeType}
+use Rattle.fabric_parts.specs.declared.node_type.NodeType.TheVariants.{ChannelAdapter, Switch}
+use Rattle.fabric_parts.specs.Cable.{is_cabled, is_same_port}
+use Rattle.topo_file.specs.declared.node.Node.{Node}
+use Rattle.subnet_ports.specs.declared.end_ports.Seat.{Seat}
+use Rattle.topo_file.specs.Node.{port_guid, ports_at}
+use Rattle.topo_file.specs.Topology.{Plan}
+
+-- port 0 of a switch, which has the GUID of the switch
+abbrev pub switch_seat : ℕ → Node → Seat
+switch_seat place node = record {
+  place = place;
+  number = 0;
+  port = record { guid = node.guid; is_switch = true; is_sm = false };
+}
+
+-- a port of an adapter, which has a GUID of its own
+abbrev pub adapter_seat : PortRef → Node → PortRef → Seat
+adapter_seat sm node at = record {
+  place = at.node;
+  number = at.port;
+  port = record { guid = port_guid node at.port; is_switch = false; is_sm = is_same_port at sm };
+}
+
+-- a port of an adapter is an end port if it has a cable
+abbrev pub seat_if_cabled : Plan → Node → PortRef → List Seat
+seat_if_cabled plan node at = if is_cabled plan.cables at then adapter_seat plan.sm node at ∷ [] else []
+
+abbrev pub adapter_seats : Plan → ℕ → Node → ℕ → List Seat
+adapter_seats plan place node count =
+    flat_map (seat_if_cabled plan node)
+    (map (λ number. record { node = place; port = number }) (range_with_len 1 count))
+
+abbrev pub seats_of_type : NodeType → Plan → ℕ → Node → List Seat
+seats_of_type Switch plan place node = switch_seat place node ∷ []
+seats_of_type ChannelAdapter plan place node = adapter_seats plan place node node.ports
+
+-- the end ports of the node at its place
+abbrev pub seats_at : Plan → ℕ × Node → List Seat
+seats_at plan placed = seats_of_type placed.1.node_type plan placed.0 placed.1
+
+-- the end ports of all nodes, one node after the other
+abbrev pub seats : Plan → List Seat
+seats plan = flat_map (seats_at plan) (enumerate_from 0 plan.nodes)
+
+abbrev pub end_ports : List Seat → List EndPort
+end_ports all = map (λ seat. seat.port) all
+
+abbrev pub type_of : Bool → NodeType
+type_of true = Switch
+type_of false = ChannelAdapter
+
+-- the name and the GUID of the node there
+abbrev pub name_at : List Node → ℕ → List ℕ
+name_at nodes place = option_map_or (λ node. node.name) (slice_get nodes place) []
+
+abbrev pub guid_at : List Node → ℕ → ℕ
+guid_at nodes place = option_map_or (λ node. node.guid) (slice_get nodes place) 0
+
+-- an end port as the subnet knows it
+abbrev pub seated : List Node → List ℕ → ℕ → Seat → SubnetPort
+seated nodes keys lid seat = record {
+  lid = lid;
+  guid = seat.port.guid;
+  node_name = name_at nodes seat.place;
+  node_guid = guid_at nodes seat.place;
+  num_ports = ports_at nodes seat.place;
+  number = seat.number;
+  node_type = type_of seat.port.is_switch;
+  keys = keys;
+}
+
+-- the port at its place in a list in order of LID
+abbrev pub with_port : List SubnetPort → SubnetPort → List SubnetPort
+with_port [] port = port ∷ []
+with_port (first ∷ rest) port =
+    if nat_le first.lid port.lid then first ∷ with_port rest port else port ∷ first ∷ rest
+
+-- each end port beside the keys that the partitions give it
+abbrev pub keyed : List Partition → List Seat → List (Seat × List ℕ)
+keyed partitions some = map (λ seat. (seat, keys_in partitions seat.port)) some
+
+-- one more end port, with its LID and its keys
+abbrev pub with_seat : List Node → List EndPort → List SubnetPort → Seat × List ℕ → List SubnetPort
+with_seat nodes all ports one = with_port ports (seated nodes one.1 (lid_of all one.0.port) one.0)
+
+-- all of them, in order of LID
+abbrev pub in_order : List Node → List EndPort → List (Seat × List ℕ) → List SubnetPort
+in_order nodes all some = fold (with_seat nodes all) [] some
+
+-- the end ports of a topology under these partitions
+abbrev pub ports_of : List Partition → Plan → List SubnetPort
+ports_of partitions plan = in_order plan.nodes (end_ports (seats plan)) (keyed partitions (seats plan))
+
+-- and what a subnet is brought up as
+abbrev pub configuration_of : List Partition → Plan → Configured
+configuration_of partitions plan = record { ports = ports_of partitions plan; partitions = map heading_of partitions }

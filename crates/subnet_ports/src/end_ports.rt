@@ -1,0 +1,229 @@
+ghost use Rattle.std.specs.Prelude.{◌≡◌, ◌+◌, ◌^◌, ◌<◌, ◌≤◌, [], ◌∷◌, ◌++◌, length, map, nat_le, All, IfOk, OnOk};
+ghost use Rattle.std.specs.List.{prefix_len, zip};
+ghost use Rattle.topo_file.specs.Node.{HasGuids, port_guid, ports_at};
+ghost use Rattle.topo_file.specs.declared.node.TheConstants.{SWITCHES, ADAPTER_PORTS};
+ghost use Rattle.subnet_ports.specs.EndPorts.{AreEndPorts};
+ghost use Rattle.subnet_ports.specs.Ports.{switch_seat, adapter_seat, seat_if_cabled, adapter_seats, seats_of_type, seats, end_ports, type_of, guid_at, name_at, seated, with_port, with_seat, in_order, configuration_of};
+ghost use Rattle.subnet_model.specs.EndPorts.{lid_of};
+
+use fabric_parts::{NodeType, PortRef};
+use partition_file::{Partitions, members};
+use pkey_rules::{EndPort, KeyTable, PARTITIONS};
+use std::alloc::{AllocError, Global};
+use subnet_model::{Configuration, NodeName, SubnetPort, lid_of};
+use topo_file::{Node, Topology};
+
+/// Where an end port stands: the place of its node in the topology, and its number there.
+#[derive(Clone, Copy, Debug)]
+pub(crate) struct Seat {
+    place: usize,
+    number: u8,
+    port: EndPort,
+}
+
+/// The end ports of a topology, in order of their LIDs, each with the keys that the partitions give
+/// it; and the partitions without their lists.
+pub fn configuration_of(
+    alloc: Global,
+    topology: &Topology,
+    partitions: &Partitions,
+) -> Result<Configuration, AllocError>
+    ensures value { IfOk result (λ configuration. configuration ≡ configuration_of partitions.now topology.now) }
+    ensures end_ports { IfOk result (λ configuration.
+        AreEndPorts partitions.now topology.now configuration.ports) }
+{
+    topology.known_sound();
+    let seats = seats(alloc, topology)?;
+    let all = end_ports(alloc, &seats)?;
+    let (headings, keys) = members(alloc, partitions, &all)?.into_parts();
+    let ports = in_order(alloc, topology.nodes(), &all, &seats, keys)?;
+    Ok(Configuration::new(ports, headings))
+}
+
+fn seats(alloc: Global, topology: &Topology) -> Result<Vec<Seat>, AllocError>
+    ensures value { IfOk result (λ all. all.items ≡ seats topology.now) }
+    ensures few { IfOk result (λ all. length all.items ≤ SWITCHES + ADAPTER_PORTS) }
+{
+    let mut all = Vec::new(alloc);
+    for (place, node) in topology.nodes().iter().enumerate() {
+        push_seats(&mut all, topology, place, node)?;
+    }
+    Ok(all)
+}
+
+fn push_seats(
+    all: &mut Vec<Seat>,
+    topology: &Topology,
+    place: usize,
+    node: &Node,
+) -> Result<(), AllocError>
+    requires { HasGuids node.now }
+    ensures { OnOk result (all.new.items
+        ≡ all.old.items ++ seats_of_type node.now.node_type topology.now place node.now) }
+{
+    match node.node_type {
+        NodeType::Switch => {
+            all.push(switch_seat(place, node))?;
+            Ok(())
+        }
+        NodeType::ChannelAdapter => push_adapter_seats(all, topology, place, node),
+    }
+}
+
+fn switch_seat(place: usize, node: &Node) -> Seat
+    ensures { result ≡ switch_seat place node.now }
+{
+    Seat {
+        place,
+        number: 0,
+        port: EndPort {
+            guid: node.guid,
+            is_switch: true,
+            is_sm: false,
+        },
+    }
+}
+
+fn push_adapter_seats(
+    all: &mut Vec<Seat>,
+    topology: &Topology,
+    place: usize,
+    node: &Node,
+) -> Result<(), AllocError>
+    requires { port_guid node.now node.now.ports < 2 ^ 64 }
+    ensures { OnOk result (all.new.items
+        ≡ all.old.items ++ adapter_seats topology.now place node.now node.now.ports) }
+{
+    for index in 0..node.ports {
+        let at = PortRef {
+            node: place,
+            port: index + 1,
+        };
+        push_if_cabled(all, topology, node, at)?;
+    }
+    Ok(())
+}
+
+fn push_if_cabled(
+    all: &mut Vec<Seat>,
+    topology: &Topology,
+    node: &Node,
+    at: PortRef,
+) -> Result<(), AllocError>
+    requires { port_guid node.now at.port < 2 ^ 64 }
+    ensures { OnOk result (all.new.items ≡ all.old.items ++ seat_if_cabled topology.now node.now at) }
+{
+    if topology.is_cabled(at) {
+        all.push(adapter_seat(topology.sm(), node, at))?;
+    }
+    Ok(())
+}
+
+fn adapter_seat(sm: PortRef, node: &Node, at: PortRef) -> Seat
+    requires { port_guid node.now at.port < 2 ^ 64 }
+    ensures { result ≡ adapter_seat sm node.now at }
+{
+    Seat {
+        place: at.node,
+        number: at.port,
+        port: EndPort {
+            guid: node.port_guid(at.port),
+            is_switch: false,
+            is_sm: at == sm,
+        },
+    }
+}
+
+fn end_ports(alloc: Global, seats: &[Seat]) -> Result<Vec<EndPort>, AllocError>
+    ensures { IfOk result (λ ports. ports.items ≡ end_ports seats.now) }
+{
+    seats.iter().map(|seat| seat.port).collect(alloc)
+}
+
+fn in_order(
+    alloc: Global,
+    nodes: &[Node],
+    all: &[EndPort],
+    seats: &[Seat],
+    keys: Vec<KeyTable<PARTITIONS>>,
+) -> Result<Vec<SubnetPort>, AllocError>
+    requires { length all.now ≤ SWITCHES + ADAPTER_PORTS }
+    ensures { IfOk result (λ ports. ports.items ≡ in_order nodes.now all.now (zip seats.now keys.items)) }
+{
+    let mut ports = Vec::new(alloc);
+    for (seat, held) in seats.iter().zip(keys) {
+        let port = seated(nodes, lid_of(all, &seat.port), seat, held);
+        insert_port(&mut ports, port)?;
+    }
+    Ok(ports)
+}
+
+/// Puts a port behind those of lesser LIDs.
+fn insert_port(ports: &mut Vec<SubnetPort>, port: SubnetPort) -> Result<(), AllocError>
+    ensures { OnOk result (ports.new.items ≡ with_port ports.old.items port) }
+{
+    let place = place_for(ports, port.lid);
+    ports.insert(place, port)?;
+    Ok(())
+}
+
+/// How many ports stand before the first of a greater LID.
+fn place_for(ports: &[SubnetPort], lid: u16) -> usize
+    ensures value { result ≡ prefix_len (λ other. nat_le other.lid lid) ports.now }
+    ensures within { result ≤ length ports.now }
+{
+    ports.iter().take_while(|other| other.lid <= lid).count()
+}
+
+fn seated(nodes: &[Node], lid: u16, seat: &Seat, keys: KeyTable<PARTITIONS>) -> SubnetPort
+    ensures { result ≡ seated nodes.now keys lid seat.now }
+{
+    SubnetPort {
+        lid,
+        guid: seat.port.guid,
+        node_name: name_at(nodes, seat.place),
+        node_guid: guid_at(nodes, seat.place),
+        num_ports: ports_at(nodes, seat.place),
+        number: seat.number,
+        node_type: type_of(seat.port.is_switch),
+        keys,
+    }
+}
+
+fn type_of(is_switch: bool) -> NodeType
+    ensures { result ≡ type_of is_switch }
+{
+    if is_switch {
+        NodeType::Switch
+    } else {
+        NodeType::ChannelAdapter
+    }
+}
+
+fn name_at(nodes: &[Node], place: usize) -> NodeName
+    ensures { result ≡ name_at nodes.now place }
+{
+    match nodes.get(place) {
+        Some(node) => NodeName::new(node.name.as_bytes()),
+        None => NodeName::new(&[]),
+    }
+}
+
+/// The GUID of the node there, or 0.
+pub fn guid_at(nodes: &[Node], place: usize) -> u64
+    ensures { result ≡ guid_at nodes.now place }
+{
+    match nodes.get(place) {
+        Some(node) => node.guid,
+        None => 0,
+    }
+}
+
+fn ports_at(nodes: &[Node], place: usize) -> u8
+    ensures { result ≡ ports_at nodes.now place }
+{
+    match nodes.get(place) {
+        Some(node) => node.ports,
+        None => 0,
+    }
+}
