@@ -6,6 +6,7 @@ use Rattle.code_texts.specs.declared.code.Code.{Code}
 use Rattle.code_texts.specs.declared.code.Code.TheVariants.{Tf1, Tf2, Tf3, Tf4, Tf5, Tf6, Tf7, Tf8, Tf9, Tf10, Tf11, Tf12}
 use Rattle.code_texts.specs.declared.code.Code.TheVariants.{Pf1, Pf2, Pf3, Pf4, Pf5, Pf6, Pf7, Pf8, Pf9}
 use Rattle.code_texts.specs.declared.code.Code.TheVariants.{Sf1, Sf2, Sf3, Sf4, Sf5, Sf6, Ar1, Ar2, Ar3, Ar4}
+use Rattle.code_texts.specs.declared.code.Code.TheVariants.{Sw1, Sw2, Sw3, Sw4, Ur1, Tp1, Tp2, Tp3}
 use Rattle.code_texts.specs.declared.code.Code.TheVariants.{Memory, Read, Write}
 
 pub begins_with_code : (code : Code) → begins_with (spelling code ++ codes ": ") (text_of code) ≡ true
@@ -40,6 +41,14 @@ begins_with_code Ar1 = refl
 begins_with_code Ar2 = refl
 begins_with_code Ar3 = refl
 begins_with_code Ar4 = refl
+begins_with_code Sw1 = refl
+begins_with_code Sw2 = refl
+begins_with_code Sw3 = refl
+begins_with_code Sw4 = refl
+begins_with_code Ur1 = refl
+begins_with_code Tp1 = refl
+begins_with_code Tp2 = refl
+begins_with_code Tp3 = refl
 begins_with_code Memory = refl
 begins_with_code Read = refl
 begins_with_code Write = refl

@@ -6,6 +6,7 @@ use Rattle.code_texts.specs.declared.code.Code.{Code}
 use Rattle.code_texts.specs.declared.code.Code.TheVariants.{Tf1, Tf2, Tf3, Tf4, Tf5, Tf6, Tf7, Tf8, Tf9, Tf10, Tf11, Tf12}
 use Rattle.code_texts.specs.declared.code.Code.TheVariants.{Pf1, Pf2, Pf3, Pf4, Pf5, Pf6, Pf7, Pf8, Pf9}
 use Rattle.code_texts.specs.declared.code.Code.TheVariants.{Sf1, Sf2, Sf3, Sf4, Sf5, Sf6, Ar1, Ar2, Ar3, Ar4}
+use Rattle.code_texts.specs.declared.code.Code.TheVariants.{Sw1, Sw2, Sw3, Sw4, Ur1, Tp1, Tp2, Tp3}
 use Rattle.code_texts.specs.declared.code.Code.TheVariants.{Memory, Read, Write}
 use Rattle.code_texts.specs.declared.code.TheConstants.{ALL}
 
@@ -41,6 +42,14 @@ spelling Ar1 = codes "AR1"
 spelling Ar2 = codes "AR2"
 spelling Ar3 = codes "AR3"
 spelling Ar4 = codes "AR4"
+spelling Sw1 = codes "SW1"
+spelling Sw2 = codes "SW2"
+spelling Sw3 = codes "SW3"
+spelling Sw4 = codes "SW4"
+spelling Ur1 = codes "UR1"
+spelling Tp1 = codes "TP1"
+spelling Tp2 = codes "TP2"
+spelling Tp3 = codes "TP3"
 spelling Memory = codes "memory"
 spelling Read = codes "read"
 spelling Write = codes "write"

@@ -4,6 +4,7 @@ ghost use Rattle.std.specs.Prelude.{◌≡◌, ◌++◌, codes, true};
 ghost use Rattle.code_texts.specs.Codes.{code_of, spelling};
 ghost use Rattle.code_texts.specs.Texts.{begins_with, text_of};
 
+use crate::fabric_texts::{SW1, SW2, SW3, SW4, TP1, TP2, TP3, UR1};
 use crate::machine_texts::{MEMORY, READ, WRITE};
 use crate::partition_texts::{PF1, PF2, PF3, PF4, PF5, PF6, PF7, PF8, PF9};
 use crate::script_texts::{AR1, AR2, AR3, AR4, SF1, SF2, SF3, SF4, SF5, SF6};
@@ -75,6 +76,22 @@ pub enum Code {
     Ar3,
     /// A port that is not Active.
     Ar4,
+    /// A request of a sweep without a reply.
+    Sw1,
+    /// A wrong reply to a sweep.
+    Sw2,
+    /// A cable too many hops away.
+    Sw3,
+    /// A switch or an adapter port too many in a sweep.
+    Sw4,
+    /// A switch from which no legal path leads to a port.
+    Ur1,
+    /// A Set without a reply.
+    Tp1,
+    /// A Set that is refused.
+    Tp2,
+    /// A reply that is not what was set.
+    Tp3,
     /// Memory that was refused.
     Memory,
     /// A file that is not read.
@@ -84,7 +101,7 @@ pub enum Code {
 }
 
 /// All codes, in the order in which they are listed.
-pub const ALL: [Code; 34] = [
+pub const ALL: [Code; 42] = [
     Code::Tf1,
     Code::Tf2,
     Code::Tf3,
@@ -116,6 +133,14 @@ pub const ALL: [Code; 34] = [
     Code::Ar2,
     Code::Ar3,
     Code::Ar4,
+    Code::Sw1,
+    Code::Sw2,
+    Code::Sw3,
+    Code::Sw4,
+    Code::Ur1,
+    Code::Tp1,
+    Code::Tp2,
+    Code::Tp3,
     Code::Memory,
     Code::Read,
     Code::Write,
@@ -158,6 +183,14 @@ impl Code {
             Code::Ar2 => "AR2",
             Code::Ar3 => "AR3",
             Code::Ar4 => "AR4",
+            Code::Sw1 => "SW1",
+            Code::Sw2 => "SW2",
+            Code::Sw3 => "SW3",
+            Code::Sw4 => "SW4",
+            Code::Ur1 => "UR1",
+            Code::Tp1 => "TP1",
+            Code::Tp2 => "TP2",
+            Code::Tp3 => "TP3",
             Code::Memory => "memory",
             Code::Read => "read",
             Code::Write => "write",
@@ -210,6 +243,14 @@ impl Code {
             Code::Ar2 => AR2,
             Code::Ar3 => AR3,
             Code::Ar4 => AR4,
+            Code::Sw1 => SW1,
+            Code::Sw2 => SW2,
+            Code::Sw3 => SW3,
+            Code::Sw4 => SW4,
+            Code::Ur1 => UR1,
+            Code::Tp1 => TP1,
+            Code::Tp2 => TP2,
+            Code::Tp3 => TP3,
             Code::Memory => MEMORY,
             Code::Read => READ,
             Code::Write => WRITE,

@@ -6,6 +6,7 @@
 #![tactic(auto)]
 
 mod code;
+mod fabric_texts;
 mod laws;
 mod lines;
 mod machine_texts;

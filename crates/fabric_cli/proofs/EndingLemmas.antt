@@ -1,19 +1,21 @@
 -- How a call ends, from what was written and told.
-use Rattle.std.proofs.Common.{ℕ, ◌≡◌, ◌≢◌, ◌⊎◌, inl, inr, refl, sym, append-nil, arith, ap, Bool, List, [], Option, Some, None, IfSome}
+use Rattle.std.proofs.Common.{ℕ, ◌≡◌, ◌≢◌, ◌⊎◌, ◌∙◌, inl, inr, refl, sym, append-nil, arith, ap, Bool, List, [], Option, Some, None, IfSome}
 use Rattle.std.proofs.Common.{Result, Ok, Err, option_map, map, string_bytes, String, Global, Vec, subst}
 use Rattle.std.specs.Io.KnownBytes.{Appends, Keeps}
 use Rattle.std.specs.declared.io.Error.{Error}
 use Rattle.std.specs.declared.vec.IntoIter.{IntoIter}
+use Rattle.subnet_core.specs.declared.fault.RunFault.{RunFault}
 use Rattle.subnet_core.specs.declared.fault.RunFault.TheVariants as run
 use Rattle.fabric_cli.specs.declared.faults.Stop.{Stop}
 use Rattle.fabric_cli.specs.declared.faults.Stop.TheVariants.{Words, NoMemory, Unread, Unwritten, Run, Port, Second}
-use Rattle.fabric_cli.specs.Faults.{line_of, memory_line, not_text_line, status_of, IsOfGiven}
+use Rattle.fabric_cli.specs.Faults.{line_of, memory_line, not_text_line, run_line, run_status, status_of, IsOfGiven}
 use Rattle.fabric_cli.specs.Files.{Contents, OpensAll, OpensInOrder}
-use Rattle.fabric_cli.specs.Serving.{Bytes, ComesTo, Ending, complete, ending_of, explained, not_text, ending_with, refused, EndsForSomeBytes, Ends, ForSomeBytes, IsRefused, IsTold, Stops, TellsStop, texts_of}
+use Rattle.fabric_cli.specs.Serving.{AppendsSome, Bytes, ComesTo, Ending, complete, explained, faulted, judged_of, not_text, output_in, refused, Ends, EndsAs, EndsForSomeBytes, ForEnding, ForSomeBytes, IsRefused, IsTold, RunStops, Stops, TellsStop, texts_of}
 use Rattle.fabric_cli.specs.declared.words.Call.{Call}
 use Rattle.fabric_cli.specs.declared.words.Call.TheVariants.{Explain, Subnet}
 use Rattle.fabric_cli.specs.Words.{Names, asked_by_given, given_items, given_texts, opened_for}
-use Rattle.fabric_cli.specs.Writing.{Writes}
+use Rattle.fabric_cli.specs.Writing.{AppendsPart, Writes}
+use Rattle.fabric_cli.proofs.JudgedLemmas.{for_ending}
 use Rattle.fabric_cli.proofs.ServingLemmas.{of_memory, other_status}
 
 kept : (known : Option (List ℕ)) → Keeps known known
@@ -21,23 +23,44 @@ kept None = tt
 kept (Some xs) = refl
 
 -- a whole output
-pub written_ends : (ending : Ending) (output : List ℕ) (out out' err : Option (List ℕ)) → ending ≡ complete output → Appends out out' output
-    → Ends ending 0 out out' err err
-written_ends ending output out out' err is wrote = rw is (refl, wrote, kept err)
+pub written_ends : (judged : Result Bytes Ending) (output : List ℕ) (out out' err : Option (List ℕ)) → ForEnding judged (λ ending. ending ≡ complete output)
+    → Appends out out' output → EndsAs judged 0 out out' err err
+written_ends judged output out out' err is wrote =
+    for_ending judged (λ ending. ending ≡ complete output) (λ ending. Ends ending 0 out out' err err) (λ ending same. rw same (refl, wrote, kept err)) is
 
--- a stop that is told, and is no refusal of the machine
-pub stop_ends : (ending : Ending) (stop : Stop) (answer : ℕ) (out err err' : Option (List ℕ)) → Stops ending stop → answer ≢ 3
-    → (answer ≡ status_of stop) × Appends err err' (line_of stop) → Ends ending answer out out err err'
-stop_ends ending (Words text) answer out err err' is other told = rw is (told.0, kept out, (string_bytes text, told.1))
-stop_ends ending NoMemory answer out err err' is other told = absurd (other told.0)
-stop_ends ending (Unread name) answer out err err' is other told = absurd (other told.0)
-stop_ends ending Unwritten answer out err err' is other told = absurd is
-stop_ends ending (Run run.NoMemory) answer out err err' is other told = absurd (other told.0)
-stop_ends ending (Run (run.Topology line cause)) answer out err err' is other told = rw is (told.0, kept out, told.1)
-stop_ends ending (Run (run.Partitions line cause)) answer out err err' is other told = rw is (told.0, kept out, told.1)
-stop_ends ending (Run (run.Script line cause)) answer out err err' is other told = rw is (told.0, kept out, told.1)
-stop_ends ending (Port cause) answer out err err' is other told = rw is (told.0, kept out, told.1)
-stop_ends ending (Second line cause) answer out err err' is other told = rw is (told.0, kept out, told.1)
+-- and what of it went out
+pub written_some : (judged : Result Bytes Ending) (output : List ℕ) (out out' : Option (List ℕ)) → ForEnding judged (λ ending. ending ≡ complete output)
+    → AppendsPart out out' output → AppendsSome judged out out'
+written_some judged output out out' is wrote =
+    inr (for_ending judged (λ ending. ending ≡ complete output) (λ ending. AppendsPart out out' (output_in ending)) (λ ending same. rw same wrote) is)
+
+-- a fault that is told, and is no refusal of the machine
+fault_ends : (judged : Result Bytes Ending) (line : List ℕ) (answer : ℕ) (out err err' : Option (List ℕ)) → ForEnding judged (λ ending. ending ≡ faulted 1 line)
+    → answer ≡ 1 → Appends err err' line → EndsAs judged answer out out err err'
+fault_ends judged line answer out err err' is one told =
+    for_ending judged (λ ending. ending ≡ faulted 1 line) (λ ending. Ends ending answer out out err err') (λ ending same. rw same (one, kept out, told)) is
+
+run_ends : (judged : Result Bytes Ending) (fault : RunFault) (answer : ℕ) (out err err' : Option (List ℕ)) → RunStops judged fault → answer ≢ 3
+    → (answer ≡ run_status fault) × Appends err err' (run_line fault) → EndsAs judged answer out out err err'
+run_ends judged run.NoMemory answer out err err' is other told = absurd (other told.0)
+run_ends judged (run.Topology line cause) answer out err err' is other told = fault_ends judged _ answer out err err' is.1 told.0 told.1
+run_ends judged (run.Partitions line cause) answer out err err' is other told = fault_ends judged _ answer out err err' is.1 told.0 told.1
+run_ends judged (run.Sweep fault) answer out err err' is other told = fault_ends judged _ answer out err err' is.1 (told.0 ∙ is.0) told.1
+run_ends judged (run.NoLegalPath switch node number) answer out err err' is other told = fault_ends judged _ answer out err err' is.1 told.0 told.1
+run_ends judged (run.Push fault) answer out err err' is other told = fault_ends judged _ answer out err err' is.1 (told.0 ∙ is.0) told.1
+run_ends judged (run.Script line cause) answer out err err' is other told = fault_ends judged _ answer out err err' is.1 told.0 told.1
+
+-- a stop
+pub stop_ends : (judged : Result Bytes Ending) (stop : Stop) (answer : ℕ) (out err err' : Option (List ℕ)) → Stops judged stop → answer ≢ 3
+    → (answer ≡ status_of stop) × Appends err err' (line_of stop) → EndsAs judged answer out out err err'
+stop_ends judged (Words text) answer out err err' is other told =
+    for_ending judged (λ ending. ending ≡ refused) (λ ending. Ends ending answer out out err err') (λ ending same. rw same (told.0, kept out, (string_bytes text, told.1))) is
+stop_ends judged NoMemory answer out err err' is other told = absurd (other told.0)
+stop_ends judged (Unread name) answer out err err' is other told = absurd (other told.0)
+stop_ends judged Unwritten answer out err err' is other told = absurd is
+stop_ends judged (Run fault) answer out err err' is other told = run_ends judged fault answer out err err' is other told
+stop_ends judged (Port cause) answer out err err' is other told = fault_ends judged _ answer out err err' is told.0 told.1
+stop_ends judged (Second line cause) answer out err err' is other told = fault_ends judged _ answer out err err' is told.0 told.1
 
 -- it is told of files that were read
 pub is_told : (X : Type 0) (stop : Stop) (answer : ℕ) → answer ≢ 3 → answer ≡ status_of stop → let result : Result X Stop = Err stop in IsTold result
@@ -53,17 +76,18 @@ pub for_some_told : {A B : Contents → Type 0} (told : Option Contents) → ((f
 for_some_told None f a = tt
 for_some_told (Some file) f a = f file a
 
--- the ending over texts that were read is that over the files
+-- what comes of texts that were read is what comes of the files
 pub of_texts : (told : Option Contents) (names : Names) (texts : Bytes) (result : Result (Vec ℕ Global) Stop) → IfSome told (λ file. texts_of file names ≡ Ok texts)
-    → ComesTo (λ text. text.items) (ending_with (Ok texts)) result → IfSome told (λ file. ComesTo (λ text. text.items) (ending_with (texts_of file names)) result)
+    → ComesTo (λ text. text.items) (Ok texts) result → IfSome told (λ file. ComesTo (λ text. text.items) (texts_of file names) result)
 of_texts None names texts result are comes = tt
 of_texts (Some file) names texts result are comes =
-    subst (λ (read : Result Bytes Ending). ComesTo (λ (text : Vec ℕ Global). text.items) (ending_with read) result) (sym are) comes
+    subst (λ (read : Result Bytes Ending). ComesTo (λ (text : Vec ℕ Global). text.items) read result) (sym are) comes
 
-pub for_some_bytes : (asked : Option (Call Names)) (P Q : Ending → Type 0) → ((ending : Ending) → P ending → Q ending) → ForSomeBytes asked P → ForSomeBytes asked Q
-for_some_bytes None P Q f some = f refused some
-for_some_bytes (Some (Subnet names)) P Q f some = (some.0, some.1, f (ending_with (Ok some.0)) some.2)
-for_some_bytes (Some (Explain code)) P Q f some = f (complete (explained code)) some
+pub for_some_bytes : (asked : Option (Call Names)) (P Q : Result Bytes Ending → Type 0) → ((judged : Result Bytes Ending) → P judged → Q judged) → ForSomeBytes asked P
+    → ForSomeBytes asked Q
+for_some_bytes None P Q f some = f (Err refused) some
+for_some_bytes (Some (Subnet names)) P Q f some = (some.0, some.1, f (Ok some.0) some.2)
+for_some_bytes (Some (Explain code)) P Q f some = f (Err (complete (explained code))) some
 
 nothing_opened : (opened : Option (List (List ℕ))) → OpensAll opened opened []
 nothing_opened None = inr refl
@@ -95,20 +119,20 @@ not_text_ends (Err error) (Second line cause) answer out err err' is other told 
 
 pub not_given_ends : (told : Option Contents) (given : Result (IntoIter (String Global) Global) Error) (stop : Stop) (answer : ℕ) (out err err' : Option (List ℕ))
     → IsOfGiven given stop → answer ≢ 3 → (answer ≡ status_of stop) × Appends err err' (line_of stop)
-    → IfSome told (λ file. Ends (ending_of file (given_texts given)) answer out out err err')
+    → IfSome told (λ file. EndsAs (judged_of file (given_texts given)) answer out out err err')
 not_given_ends None given stop answer out err err' is other told = tt
 not_given_ends (Some file) given stop answer out err err' is other told =
     let ends = not_text_ends given stop answer out err err' is other told in rw ends.0 ends.1
 
 pub not_given_any : (given : Result (IntoIter (String Global) Global) Error) (stop : Stop) (answer : ℕ) (out err err' : Option (List ℕ))
     → IsOfGiven given stop → answer ≢ 3 → (answer ≡ status_of stop) × Appends err err' (line_of stop)
-    → EndsForSomeBytes (given_texts given) (λ ending. Ends ending answer out out err err')
+    → EndsForSomeBytes (given_texts given) (λ judged. EndsAs judged answer out out err err')
 not_given_any given stop answer out err err' is other told =
     let ends = not_text_ends given stop answer out err err' is other told in rw ends.0 ends.1
 
 not_text_refused : (file : Contents) (reads : Bool) (opened : Option (List (List ℕ))) (given : Result (IntoIter (String Global) Global) Error) (stop : Stop) (answer : ℕ) (a b : Bool) (err err' : Option (List ℕ))
     → answer ≡ 3 → IsOfGiven given stop → TellsStop stop answer b err err' ⊎ Writes b err err' memory_line
-    → IsRefused file reads opened opened (opened_for (asked_by_given (given_texts given))) (ending_of file (given_texts given)) a b err err'
+    → IsRefused file reads opened opened (opened_for (asked_by_given (given_texts given))) (judged_of file (given_texts given)) a b err err'
 not_text_refused file reads opened given stop answer a b err err' three is (inr told) = of_memory file reads opened opened _ _ a b err err' told
 not_text_refused file reads opened (Ok words) (Words text) answer a b err err' three is (inl told) = absurd is
 not_text_refused file reads opened (Err error) (Words text) answer a b err err' three is (inl told) =
@@ -127,6 +151,6 @@ not_text_refused file reads opened (Err error) (Second line cause) answer a b er
 
 pub not_given_refused : (told : Option Contents) (reads : Bool) (opened : Option (List (List ℕ))) (given : Result (IntoIter (String Global) Global) Error) (stop : Stop) (answer : ℕ) (a b : Bool) (err err' : Option (List ℕ))
     → answer ≡ 3 → IsOfGiven given stop → TellsStop stop answer b err err' ⊎ Writes b err err' memory_line
-    → IfSome told (λ file. IsRefused file reads opened opened (opened_for (asked_by_given (given_texts given))) (ending_of file (given_texts given)) a b err err')
+    → IfSome told (λ file. IsRefused file reads opened opened (opened_for (asked_by_given (given_texts given))) (judged_of file (given_texts given)) a b err err')
 not_given_refused None reads opened given stop answer a b err err' three is told = tt
 not_given_refused (Some file) reads opened given stop answer a b err err' three is told = not_text_refused file reads opened given stop answer a b err err' three is told

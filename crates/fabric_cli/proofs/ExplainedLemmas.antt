@@ -15,11 +15,17 @@ use Rattle.subnet_core.specs.Fault.{code_of as script_code}
 use Rattle.subnet_core.specs.declared.fault.ScriptCause.{ScriptCause}
 use Rattle.subnet_core.specs.declared.fault.ScriptCause.TheVariants as script
 use Rattle.subnet_core.specs.declared.fault.RunFault.TheVariants as run
+use Rattle.sweep.specs.Fault.{code_of as sweep_code}
+use Rattle.sweep.specs.declared.fault.SweepFault.{SweepFault}
+use Rattle.sweep.specs.declared.fault.SweepFault.TheVariants as sweep
+use Rattle.table_push.specs.Fault.{code_of as push_code}
+use Rattle.table_push.specs.declared.fault.PushFault.{PushFault}
+use Rattle.table_push.specs.declared.fault.PushFault.TheVariants as push
 use Rattle.data_packet.specs.Refusal.{code_of as refusal_code}
 use Rattle.data_packet.specs.declared.refusal.Refusal.{Refusal}
 use Rattle.data_packet.specs.declared.refusal.Refusal.TheVariants as refusal
 use Rattle.fabric_cli.specs.Explained.{IsExplained, NamesCode, TellsCode, told_word}
-use Rattle.fabric_cli.specs.Faults.{partitions_line, port_line, script_line, second_line, topology_line}
+use Rattle.fabric_cli.specs.Faults.{fabric_line, partitions_line, port_line, run_line, script_line, second_line, topology_line}
 use Rattle.fabric_cli.specs.declared.faults.Stop.{Stop}
 use Rattle.fabric_cli.specs.declared.faults.Stop.TheVariants.{Words, NoMemory, Unread, Unwritten, Run, Port, Second}
 
@@ -82,6 +88,18 @@ port_told script.UncabledPort = told_as code.Sf4 _ refl refl refl
 port_told script.PayloadTooLong = told_as code.Sf5 _ refl refl refl
 port_told script.BadField = told_as code.Sf6 _ refl refl refl
 
+sweep_told : (fault : SweepFault) → TellsCode (run_line (run.Sweep fault))
+sweep_told sweep.NoMemory = told_as code.Memory _ refl refl refl
+sweep_told sweep.NoReply = told_as code.Sw1 _ refl refl refl
+sweep_told sweep.WrongReply = told_as code.Sw2 _ refl refl refl
+sweep_told sweep.TooManyHops = told_as code.Sw3 _ refl refl refl
+sweep_told sweep.TooManyNodes = told_as code.Sw4 _ refl refl refl
+
+push_told : (fault : PushFault) → TellsCode (run_line (run.Push fault))
+push_told push.NoReply = told_as code.Tp1 _ refl refl refl
+push_told push.Refused = told_as code.Tp2 _ refl refl refl
+push_told push.NotAsSet = told_as code.Tp3 _ refl refl refl
+
 pub stops_are_told : (stop : Stop) → NamesCode stop
 stops_are_told (Words text) = tt
 stops_are_told NoMemory = told_as code.Memory _ refl refl refl
@@ -90,6 +108,9 @@ stops_are_told Unwritten = told_as code.Write _ refl refl refl
 stops_are_told (Run run.NoMemory) = told_as code.Memory _ refl refl refl
 stops_are_told (Run (run.Topology line cause)) = topology_told cause line
 stops_are_told (Run (run.Partitions line cause)) = partitions_told cause line
+stops_are_told (Run (run.Sweep fault)) = sweep_told fault
+stops_are_told (Run (run.NoLegalPath switch node number)) = told_as code.Ur1 _ refl refl refl
+stops_are_told (Run (run.Push fault)) = push_told fault
 stops_are_told (Run (run.Script line cause)) = script_told cause line
 stops_are_told (Port cause) = port_told cause
 stops_are_told (Second line cause) = second_told cause line

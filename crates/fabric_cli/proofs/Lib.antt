@@ -2,5 +2,6 @@ pub mod FilesLemmas
 pub mod KnownBytesLemmas
 pub mod WordsLemmas
 pub mod ServingLemmas
+pub mod JudgedLemmas
 pub mod EndingLemmas
 pub mod ExplainedLemmas

@@ -1,13 +1,15 @@
 -- What standard error is told at status 3.
-use Rattle.std.proofs.Common.{ℕ, ◌≡◌, ◌≢◌, ◌⊎◌, ◌∙◌, inl, inr, refl, sym, append-nil, arith, Bool, true, false, List, Option, Some, None, IfSome}
+use Rattle.std.proofs.Common.{ℕ, ◌≡◌, ◌≢◌, ◌⊎◌, ◌∙◌, inl, inr, refl, sym, append-nil, arith, Bool, true, false, List, Option, Some, None, Result, IfSome}
+use Rattle.std.specs.Io.KnownBytes.{Keeps}
 use Rattle.subnet_core.specs.declared.fault.RunFault.{RunFault}
 use Rattle.subnet_core.specs.declared.fault.RunFault.TheVariants as run
 use Rattle.fabric_cli.specs.declared.faults.Stop.{Stop}
 use Rattle.fabric_cli.specs.declared.faults.Stop.TheVariants.{Words, NoMemory, Unread, Unwritten, Run, Port, Second}
-use Rattle.fabric_cli.specs.Faults.{NamesUnread, line_of, memory_line, run_line, unwritten_line}
+use Rattle.fabric_cli.specs.Faults.{NamesUnread, line_of, memory_line, port_line, run_line, run_status, second_line, unwritten_line}
 use Rattle.fabric_cli.specs.Files.{Contents}
-use Rattle.fabric_cli.specs.Serving.{Ending, complete, IsRefused, Stops, TellsStop}
+use Rattle.fabric_cli.specs.Serving.{AppendsSome, Bytes, Ending, complete, faulted, refused, ForEnding, IsLineOf, IsRefused, RunStops, Stops, TellsStop}
 use Rattle.fabric_cli.specs.Writing.{AppendsPart, Writes}
+use Rattle.fabric_cli.proofs.JudgedLemmas.{for_ending}
 
 -- a status other than 3 was told where the line can go out
 pub other_status : (status answer : ℕ) (b : Bool) → answer ≡ 3 → (b ≡ true → answer ≡ status) → status ≢ 3 → b ≢ true
@@ -16,64 +18,86 @@ other_status status answer b three told other sure = other (sym (told sure) ∙ 
 pub false_is_not_true : false ≡ true → ⊥
 false_is_not_true e = cc
 
-nothing_appended : (known : Option (List ℕ)) (text : List ℕ) → AppendsPart known known text
-nothing_appended None text = (0, tt)
-nothing_appended (Some xs) text = (0, sym (append-nil xs))
+stays : (known : Option (List ℕ)) → Keeps known known
+stays None = tt
+stays (Some xs) = refl
 
 -- where nothing is written, the contents stay
-pub stays_part : (told : Option Contents) (known : Option (List ℕ)) (text : Contents → List ℕ)
-    → IfSome told (λ file. AppendsPart known known (text file))
-stays_part None known text = tt
-stays_part (Some file) known text = nothing_appended known (text file)
+pub nothing_written : (told : Option Contents) (known : Option (List ℕ)) (judged : Contents → Result Bytes Ending)
+    → IfSome told (λ file. AppendsSome (judged file) known known)
+nothing_written None known judged = tt
+nothing_written (Some file) known judged = inl (stays known)
 
-pub of_memory : (file : Contents) (reads : Bool) (old new : Option (List (List ℕ))) (names : List (List ℕ)) (ending : Ending) (a b : Bool) (err err' : Option (List ℕ))
-    → Writes b err err' memory_line → IsRefused file reads old new names ending a b err err'
-of_memory file reads old new names ending a b err err' part = record { line = memory_line; is = inl refl; told = part }
+pub of_memory : (file : Contents) (reads : Bool) (old new : Option (List (List ℕ))) (names : List (List ℕ)) (judged : Result Bytes Ending) (a b : Bool) (err err' : Option (List ℕ))
+    → Writes b err err' memory_line → IsRefused file reads old new names judged a b err err'
+of_memory file reads old new names judged a b err err' part = record { line = memory_line; is = inl refl; told = part }
 
-of_output : (file : Contents) (reads : Bool) (old new : Option (List (List ℕ))) (names : List (List ℕ)) (ending : Ending) (output : List ℕ) (answer : ℕ) (a b : Bool) (err err' : Option (List ℕ))
-    → ending ≡ complete output → a ≢ true → TellsStop Unwritten answer b err err' ⊎ Writes b err err' memory_line
-    → IsRefused file reads old new names ending a b err err'
-of_output file reads old new names ending output answer a b err err' is may (inl part) = record { line = unwritten_line; is = rw is (inr (inr (refl, may))); told = part.told }
-of_output file reads old new names ending output answer a b err err' is may (inr part) = of_memory file reads old new names ending a b err err' part
+of_output : (file : Contents) (reads : Bool) (old new : Option (List (List ℕ))) (names : List (List ℕ)) (judged : Result Bytes Ending) (output : List ℕ) (answer : ℕ) (a b : Bool) (err err' : Option (List ℕ))
+    → ForEnding judged (λ ending. ending ≡ complete output) → a ≢ true → TellsStop Unwritten answer b err err' ⊎ Writes b err err' memory_line
+    → IsRefused file reads old new names judged a b err err'
+of_output file reads old new names judged output answer a b err err' is may (inl part) =
+    record {
+      line = unwritten_line;
+      is =
+          inr (inr (for_ending judged (λ ending. ending ≡ complete output) (λ ending. IsLineOf a b ending unwritten_line)
+          (λ ending same. rw same (refl, may)) is));
+      told = part.told;
+    }
+of_output file reads old new names judged output answer a b err err' is may (inr part) = of_memory file reads old new names judged a b err err' part
 
 -- an output that does not go out
-pub unwritten_is_refused : (told : Option Contents) (reads : Bool) (old new : Option (List (List ℕ))) (names : List (List ℕ)) (ending : Contents → Ending) (output : List ℕ) (answer : ℕ) (a b : Bool) (err err' : Option (List ℕ))
-    → IfSome told (λ file. ending file ≡ complete output) → a ≢ true → TellsStop Unwritten answer b err err' ⊎ Writes b err err' memory_line
-    → IfSome told (λ file. IsRefused file reads old new names (ending file) a b err err')
-unwritten_is_refused None reads old new names ending output answer a b err err' is may part = tt
-unwritten_is_refused (Some file) reads old new names ending output answer a b err err' is may part =
-    of_output file reads old new names (ending file) output answer a b err err' is may part
+pub unwritten_is_refused : (told : Option Contents) (reads : Bool) (old new : Option (List (List ℕ))) (names : List (List ℕ)) (judged : Contents → Result Bytes Ending) (output : List ℕ) (answer : ℕ) (a b : Bool) (err err' : Option (List ℕ))
+    → IfSome told (λ file. ForEnding (judged file) (λ ending. ending ≡ complete output)) → a ≢ true → TellsStop Unwritten answer b err err' ⊎ Writes b err err' memory_line
+    → IfSome told (λ file. IsRefused file reads old new names (judged file) a b err err')
+unwritten_is_refused None reads old new names judged output answer a b err err' is may part = tt
+unwritten_is_refused (Some file) reads old new names judged output answer a b err err' is may part =
+    of_output file reads old new names (judged file) output answer a b err err' is may part
 
-of_run : (file : Contents) (reads : Bool) (old new : Option (List (List ℕ))) (names : List (List ℕ)) (ending : Ending) (fault : RunFault) (answer : ℕ) (a b : Bool) (err err' : Option (List ℕ))
-    → answer ≡ 3 → Stops ending (Run fault) → TellsStop (Run fault) answer b err err' → IsRefused file reads old new names ending a b err err'
-of_run file reads old new names ending run.NoMemory answer a b err err' three is part = of_memory file reads old new names ending a b err err' part.told
-of_run file reads old new names ending (run.Topology line cause) answer a b err err' three is part =
-    record { line = run_line (run.Topology line cause); is = rw is (inr (inr (refl, other_status 1 answer b three part.status (λ e. omega (arith, e))))); told = part.told }
-of_run file reads old new names ending (run.Partitions line cause) answer a b err err' three is part =
-    record { line = run_line (run.Partitions line cause); is = rw is (inr (inr (refl, other_status 1 answer b three part.status (λ e. omega (arith, e))))); told = part.told }
-of_run file reads old new names ending (run.Script line cause) answer a b err err' three is part =
-    record { line = run_line (run.Script line cause); is = rw is (inr (inr (refl, other_status 1 answer b three part.status (λ e. omega (arith, e))))); told = part.told }
+module _ (file : Contents) (reads : Bool) (old new : Option (List (List ℕ))) (names : List (List ℕ)) (judged : Result Bytes Ending) (answer : ℕ) (a b : Bool)
+    (err err' : Option (List ℕ)) (three : answer ≡ 3) where
+  -- a fault whose line does not go out
+  of_fault : (line : List ℕ) (status : ℕ) → status ≡ 1 → ForEnding judged (λ ending. ending ≡ faulted 1 line) → Writes b err err' line → (b ≡ true → answer ≡ status)
+      → IsRefused file reads old new names judged a b err err'
+  of_fault line status one is told sure =
+      record {
+        line = line;
+        is =
+            inr (inr (for_ending judged (λ ending. ending ≡ faulted 1 line) (λ ending. IsLineOf a b ending line)
+            (λ ending same. rw same (refl, other_status status answer b three sure (λ e. omega (arith, e, one)))) is));
+        told = told;
+      }
 
-of_stop : (file : Contents) (reads : Bool) (old new : Option (List (List ℕ))) (names : List (List ℕ)) (ending : Ending) (stop : Stop) (answer : ℕ) (a b : Bool) (err err' : Option (List ℕ))
-    → answer ≡ 3 → Stops ending stop → NamesUnread (Some file) reads old new names stop → TellsStop stop answer b err err' ⊎ Writes b err err' memory_line
-    → IsRefused file reads old new names ending a b err err'
-of_stop file reads old new names ending stop answer a b err err' three is unread (inr part) = of_memory file reads old new names ending a b err err' part
-of_stop file reads old new names ending (Words text) answer a b err err' three is unread (inl part) =
-    record { line = line_of (Words text); is = rw is (inr (inr (other_status 2 answer b three part.status (λ e. omega (arith, e))))); told = part.told }
-of_stop file reads old new names ending NoMemory answer a b err err' three is unread (inl part) = of_memory file reads old new names ending a b err err' part.told
-of_stop file reads old new names ending (Unread name) answer a b err err' three is unread (inl part) =
-    record { line = line_of (Unread name); is = inr (inl (name.now, unread, refl)); told = part.told }
-of_stop file reads old new names ending Unwritten answer a b err err' three is unread (inl part) = absurd is
-of_stop file reads old new names ending (Run fault) answer a b err err' three is unread (inl part) = of_run file reads old new names ending fault answer a b err err' three is part
-of_stop file reads old new names ending (Port cause) answer a b err err' three is unread (inl part) =
-    record { line = line_of (Port cause); is = rw is (inr (inr (refl, other_status 1 answer b three part.status (λ e. omega (arith, e))))); told = part.told }
-of_stop file reads old new names ending (Second line cause) answer a b err err' three is unread (inl part) =
-    record { line = line_of (Second line cause); is = rw is (inr (inr (refl, other_status 1 answer b three part.status (λ e. omega (arith, e))))); told = part.told }
+  of_run : (fault : RunFault) → RunStops judged fault → TellsStop (Run fault) answer b err err' → IsRefused file reads old new names judged a b err err'
+  of_run run.NoMemory is part = of_memory file reads old new names judged a b err err' part.told
+  of_run (run.Topology line cause) is part = of_fault _ _ is.0 is.1 part.told part.status
+  of_run (run.Partitions line cause) is part = of_fault _ _ is.0 is.1 part.told part.status
+  of_run (run.Sweep fault) is part = of_fault _ _ is.0 is.1 part.told part.status
+  of_run (run.NoLegalPath switch node number) is part = of_fault _ _ is.0 is.1 part.told part.status
+  of_run (run.Push fault) is part = of_fault _ _ is.0 is.1 part.told part.status
+  of_run (run.Script line cause) is part = of_fault _ _ is.0 is.1 part.told part.status
+
+  of_stop : (stop : Stop) → Stops judged stop → NamesUnread (Some file) reads old new names stop → TellsStop stop answer b err err' ⊎ Writes b err err' memory_line
+      → IsRefused file reads old new names judged a b err err'
+  of_stop stop is unread (inr part) = of_memory file reads old new names judged a b err err' part
+  of_stop (Words text) is unread (inl part) =
+      record {
+        line = line_of (Words text);
+        is =
+            inr (inr (for_ending judged (λ ending. ending ≡ refused) (λ ending. IsLineOf a b ending (line_of (Words text)))
+            (λ ending same. rw same (other_status 2 answer b three part.status (λ e. omega (arith, e)))) is));
+        told = part.told;
+      }
+  of_stop NoMemory is unread (inl part) = of_memory file reads old new names judged a b err err' part.told
+  of_stop (Unread name) is unread (inl part) = record { line = line_of (Unread name); is = inr (inl (name.now, unread, refl)); told = part.told }
+  of_stop Unwritten is unread (inl part) = absurd is
+  of_stop (Run fault) is unread (inl part) = of_run fault is part
+  of_stop (Port cause) is unread (inl part) = of_fault _ 1 refl is part.told part.status
+  of_stop (Second line cause) is unread (inl part) = of_fault _ 1 refl is part.told part.status
 
 -- a call that stops
-pub stop_is_refused : (told : Option Contents) (reads : Bool) (old new : Option (List (List ℕ))) (names : List (List ℕ)) (ending : Contents → Ending) (stop : Stop) (answer : ℕ) (a b : Bool) (err err' : Option (List ℕ))
-    → answer ≡ 3 → IfSome told (λ file. Stops (ending file) stop) → NamesUnread told reads old new names stop → TellsStop stop answer b err err' ⊎ Writes b err err' memory_line
-    → IfSome told (λ file. IsRefused file reads old new names (ending file) a b err err')
-stop_is_refused None reads old new names ending stop answer a b err err' three is unread part = tt
-stop_is_refused (Some file) reads old new names ending stop answer a b err err' three is unread part =
-    of_stop file reads old new names (ending file) stop answer a b err err' three is unread part
+pub stop_is_refused : (told : Option Contents) (reads : Bool) (old new : Option (List (List ℕ))) (names : List (List ℕ)) (judged : Contents → Result Bytes Ending) (stop : Stop) (answer : ℕ) (a b : Bool) (err err' : Option (List ℕ))
+    → answer ≡ 3 → IfSome told (λ file. Stops (judged file) stop) → NamesUnread told reads old new names stop → TellsStop stop answer b err err' ⊎ Writes b err err' memory_line
+    → IfSome told (λ file. IsRefused file reads old new names (judged file) a b err err')
+stop_is_refused None reads old new names judged stop answer a b err err' three is unread part = tt
+stop_is_refused (Some file) reads old new names judged stop answer a b err err' three is unread part =
+    of_stop file reads old new names (judged file) answer a b err err' three stop is unread part

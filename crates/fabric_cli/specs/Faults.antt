@@ -1,5 +1,6 @@
 -- Why a call does not complete: the line that tells it, and the exit status.
 use Rattle.std.specs.Prelude.{ℕ, ◌≡◌, ◌≢◌, Bool, List, ◌++◌, codes, decimal, Option, Some, None, Result, Err, string_bytes, IfSome}
+use Rattle.std.specs.Option.{option_map_or}
 use Rattle.std.specs.IoError.{error_kind}
 use Rattle.std.specs.declared.io.Error.{Error as IoError}
 use Rattle.std.specs.declared.io.ErrorKind.TheVariants.{OutOfMemory as IoOutOfMemory}
@@ -9,6 +10,10 @@ use Rattle.clap.specs.declared.error.kind.ErrorKind.TheVariants.{OutOfMemory}
 use Rattle.topo_file.specs.Fault.{code_of as topology_code}
 use Rattle.partition_file.specs.Fault.{code_of as partitions_code}
 use Rattle.subnet_core.specs.Fault.{code_of as script_code}
+use Rattle.sweep.specs.Fault.{code_of as sweep_code}
+use Rattle.sweep.specs.declared.fault.SweepFault.{SweepFault}
+use Rattle.sweep.specs.declared.fault.SweepFault.TheVariants.{TooManyHops}
+use Rattle.table_push.specs.Fault.{code_of as push_code}
 use Rattle.subnet_core.specs.declared.fault.RunFault.{RunFault}
 use Rattle.subnet_core.specs.declared.fault.RunFault.TheVariants as run
 use Rattle.fabric_cli.specs.Files.{Contents, StopsAt}
@@ -29,6 +34,15 @@ second_line code number = codes "fault " ++ (code ++ (codes " partitions2 line "
 abbrev pub script_line : List ℕ → ℕ → List ℕ
 script_line code number = codes "fault " ++ (code ++ (codes " script line " ++ (decimal number ++ codes "\n")))
 
+-- `fault CODE`, of a fabric
+abbrev pub fabric_line : List ℕ → List ℕ
+fabric_line code = codes "fault " ++ (code ++ codes "\n")
+
+-- `fault UR1 SWITCH NODE/NUMBER`
+abbrev pub no_path_line : List ℕ → List ℕ → ℕ → List ℕ
+no_path_line switch node number =
+    codes "fault UR1 " ++ (switch ++ (codes " " ++ (node ++ (codes "/" ++ (decimal number ++ codes "\n")))))
+
 -- `fault CODE port`, of a word
 abbrev pub port_line : List ℕ → List ℕ
 port_line code = codes "fault " ++ (code ++ codes " port\n")
@@ -46,10 +60,20 @@ abbrev pub run_line : RunFault → List ℕ
 run_line run.NoMemory = memory_line
 run_line (run.Topology line cause) = topology_line (topology_code cause) line
 run_line (run.Partitions line cause) = partitions_line (partitions_code cause) line
+run_line (run.Sweep fault) = option_map_or fabric_line (sweep_code fault) memory_line
+run_line (run.NoLegalPath switch node number) = no_path_line switch node number
+run_line (run.Push fault) = fabric_line (push_code fault)
 run_line (run.Script line cause) = script_line (script_code cause) line
+
+-- of a topology's own fabric a sweep finds all but what is too far, and nothing refuses a push
+abbrev pub sweep_status : SweepFault → ℕ
+sweep_status TooManyHops = 1
+sweep_status _ = 3
 
 abbrev pub run_status : RunFault → ℕ
 run_status run.NoMemory = 3
+run_status (run.Sweep fault) = sweep_status fault
+run_status (run.Push fault) = 3
 run_status _ = 1
 
 -- what standard error is told: one line, or where the words are refused, the text that goes with that

@@ -1,4 +1,4 @@
--- What a call answers, from its words and the bytes of its files alone.
+-- What a call answers, from its words, the bytes of its files, and what becomes of the fabric that they describe.
 use Rattle.std.specs.Prelude.{ℕ, ◌≡◌, ◌≢◌, ◌⊎◌, Bool, true, List, [], Option, Some, None, is_some, option_map, Result, Ok, Err, Vec}
 use Rattle.std.specs.Borrow.{Bor}
 use Rattle.std.specs.Global.{Global}
@@ -13,7 +13,9 @@ use Rattle.partition_file.specs.Fault.{code_of as partitions_code}
 use Rattle.partition_changes.specs.Changes.{text_of_changes}
 use Rattle.subnet_core.specs.Listing.{listing_text}
 use Rattle.subnet_core.specs.NamedPort.{named_port}
-use Rattle.subnet_core.specs.Run.{Running, report_of, subnet_of}
+use Rattle.subnet_core.specs.BringUp.{Becomes, up_from}
+use Rattle.subnet_core.specs.Roster.{Rostered, roster_of}
+use Rattle.subnet_core.specs.Run.{report_of}
 use Rattle.topo_file.specs.Topology.{Plan}
 use Rattle.result_words.specs.Steps.{◌>>=◌}
 use Rattle.subnet_core.specs.EventLines.{report_text}
@@ -29,7 +31,7 @@ use Rattle.fabric_cli.specs.declared.faults.Stop.TheVariants.{Words, NoMemory, U
 use Rattle.fabric_cli.specs.Faults.{line_of, status_of, memory_line, not_text_line, port_line, run_line, second_line, run_status, unread_line, unwritten_line}
 use Rattle.fabric_cli.specs.Files.{Contents, StopsAt}
 use Rattle.fabric_cli.specs.Words.{Names, asked_of}
-use Rattle.fabric_cli.specs.Writing.{Writes}
+use Rattle.fabric_cli.specs.Writing.{AppendsPart, Writes}
 
 -- how a call ends: the words are refused, or a fault's status and line, or a whole output
 pub data Ending : Type 0 where
@@ -55,6 +57,10 @@ texts_in texts = record {
   partitions = option_map (λ bytes. bytes.items) texts.partitions;
   work = work_bytes texts.work;
 }
+
+-- these texts, to be judged
+abbrev pub texts_with : List ℕ → Option (List ℕ) → Work (List ℕ) (List ℕ) → Result Bytes Ending
+texts_with topology partitions work = Ok (record { topology = topology; partitions = partitions; work = work })
 
 -- a name that opens to nothing is not read
 abbrev pub opened_bytes : List ℕ → Option (List ℕ) → Result (List ℕ) Ending
@@ -82,14 +88,14 @@ texts_of file names = do
   work ← work_of file names.work
   Ok (record { topology = topology; partitions = partitions; work = work })
 
--- the listing of a subnet, and the report of a script in it
-abbrev pub listed : List ℕ → Option (List ℕ) → Result (List ℕ) RunFault
-listed topology partitions =
-    subnet_of topology partitions >>= λ subnet. Ok (listing_text subnet.configuration)
+-- the listing of a subnet, and the report of a script in it, unless this fault stops its fabric
+abbrev pub listed : List ℕ → Option (List ℕ) → Option RunFault → Result (List ℕ) RunFault
+listed topology partitions stop =
+    up_from (roster_of topology partitions) stop >>= λ roster. Ok (listing_text roster.configuration)
 
-abbrev pub reported : List ℕ → Option (List ℕ) → List ℕ → Result (List ℕ) RunFault
-reported topology partitions script =
-    report_of topology partitions script >>= λ told. Ok (report_text told.ports told.events)
+abbrev pub reported : List ℕ → Option (List ℕ) → List ℕ → Option RunFault → Result (List ℕ) RunFault
+reported topology partitions script stop =
+    report_of topology partitions script stop >>= λ told. Ok (report_text told.ports told.events)
 
 -- a fault is told by its line alone, and an output comes whole
 abbrev pub ending_by : Result (List ℕ) RunFault → Ending
@@ -106,8 +112,8 @@ shares_told ports (Ok asked) = complete (shares_text asked ports)
 shares_told ports (Err cause) = faulted 1 (port_line (script_code cause))
 
 -- the shares in a subnet: the texts are judged before the word for a port
-abbrev pub shares_in : Result Running RunFault → Option (List ℕ) → Ending
-shares_in (Ok subnet) port = shares_told subnet.configuration.ports (asked_port subnet.plan port)
+abbrev pub shares_in : Result Rostered RunFault → Option (List ℕ) → Ending
+shares_in (Ok roster) port = shares_told roster.configuration.ports (asked_port roster.plan port)
 shares_in (Err fault) port = faulted (run_status fault) (run_line fault)
 
 -- what changes from one subnet to the other: the second partition file is judged after the first
@@ -115,39 +121,53 @@ abbrev pub second_told : RunFault → Ending
 second_told (run.Partitions line cause) = faulted 1 (second_line (partitions_code cause) line)
 second_told fault = faulted (run_status fault) (run_line fault)
 
-abbrev pub changes_in : Result Running RunFault → Result Running RunFault → Ending
+abbrev pub changes_in : Result Rostered RunFault → Result Rostered RunFault → Ending
 changes_in (Ok before) (Ok after) = complete (text_of_changes before.configuration after.configuration)
 changes_in (Ok before) (Err fault) = second_told fault
 changes_in (Err fault) after = faulted (run_status fault) (run_line fault)
 
-abbrev pub ending_over : List ℕ → Option (List ℕ) → Work (List ℕ) (List ℕ) → Ending
-ending_over topology partitions work.Check = ending_by (listed topology partitions)
-ending_over topology partitions (work.Shares port) = shares_in (subnet_of topology partitions) port
-ending_over topology partitions (work.Diff second) = changes_in (subnet_of topology partitions) (subnet_of topology second)
-ending_over topology partitions (work.Run script) = ending_by (reported topology partitions script)
+abbrev pub ending_over : List ℕ → Option (List ℕ) → Work (List ℕ) (List ℕ) → Option RunFault → Ending
+ending_over topology partitions work.Check stop = ending_by (listed topology partitions stop)
+ending_over topology partitions (work.Shares port) stop = shares_in (roster_of topology partitions) port
+ending_over topology partitions (work.Diff second) stop = changes_in (roster_of topology partitions) (roster_of topology second)
+ending_over topology partitions (work.Run script) stop = ending_by (reported topology partitions script stop)
 
-abbrev pub ending_with : Result Bytes Ending → Ending
-ending_with (Ok texts) = ending_over texts.topology texts.partitions texts.work
-ending_with (Err ending) = ending
+-- a fabric is brought up for a listing and for a script alone
+abbrev pub Comes : List ℕ → Option (List ℕ) → Work (List ℕ) (List ℕ) → Option RunFault → Type 0
+Comes topology partitions work.Check stop = Becomes (roster_of topology partitions) stop
+Comes topology partitions (work.Shares port) stop = Unit {0}
+Comes topology partitions (work.Diff second) stop = Unit {0}
+Comes topology partitions (work.Run script) stop = Becomes (roster_of topology partitions) stop
+
+-- it is so of what comes of these texts and of their fabric
+pub record ForTexts (texts : Bytes) (Is : Ending → Type 0) : Type 0 where
+  pub stop : Option RunFault
+  pub comes : Comes texts.topology texts.partitions texts.work stop
+  pub is : Is (ending_over texts.topology texts.partitions texts.work stop)
+
+-- it is so of how a call ends: over these texts, or in an ending that is known without them
+abbrev pub ForEnding : Result Bytes Ending → (Ending → Type 0) → Type 0
+ForEnding (Ok texts) Is = ForTexts texts Is
+ForEnding (Err ending) Is = Is ending
 
 -- what is told of a code, or a line for each
 abbrev pub explained : Option Code → List ℕ
 explained None = listing
 explained (Some code) = text_of code
 
-abbrev pub ending_for : Contents → Option (Call Names) → Ending
-ending_for file None = refused
-ending_for file (Some (Subnet names)) = ending_with (texts_of file names)
-ending_for file (Some (Explain code)) = complete (explained code)
+abbrev pub judged_for : Contents → Option (Call Names) → Result Bytes Ending
+judged_for file None = Err refused
+judged_for file (Some (Subnet names)) = texts_of file names
+judged_for file (Some (Explain code)) = Err (complete (explained code))
 
 -- words that are not text are refused by a line of ours
 abbrev pub not_text : Ending
 not_text = faulted 2 not_text_line
 
--- what a call with these words ends in, where each name opens to the bytes that `file` says
-abbrev pub ending_of : Contents → Option (List (List ℕ)) → Ending
-ending_of file None = not_text
-ending_of file (Some words) = ending_for file (asked_of words)
+-- what is judged in a call with these words, where each name opens to the bytes that `file` says
+abbrev pub judged_of : Contents → Option (List (List ℕ)) → Result Bytes Ending
+judged_of file None = Err not_text
+judged_of file (Some words) = judged_for file (asked_of words)
 
 -- what is to be done, whatever stands in its files
 abbrev pub without_files : {W S : Type 0} → Work W S → Work W (Unit {0})
@@ -160,15 +180,15 @@ without_files (work.Run script) = work.Run tt
 abbrev pub AreFor : Names → Bytes → Type 0
 AreFor names texts = (is_some texts.partitions ≡ is_some names.partitions) × (without_files texts.work ≡ without_files names.work)
 
--- it ends so where each file that is asked for had some bytes; one name that is asked for twice may have had two
-abbrev pub ForSomeBytes : Option (Call Names) → (Ending → Type 0) → Type 0
-ForSomeBytes None ends = ends refused
-ForSomeBytes (Some (Subnet names)) ends = (texts : Bytes) × AreFor names texts × ends (ending_with (Ok texts))
-ForSomeBytes (Some (Explain code)) ends = ends (complete (explained code))
+-- it is so where each file that is asked for had some bytes; one name that is asked for twice may have had two
+abbrev pub ForSomeBytes : Option (Call Names) → (Result Bytes Ending → Type 0) → Type 0
+ForSomeBytes None Is = Is (Err refused)
+ForSomeBytes (Some (Subnet names)) Is = (texts : Bytes) × AreFor names texts × Is (Ok texts)
+ForSomeBytes (Some (Explain code)) Is = Is (Err (complete (explained code)))
 
-abbrev pub EndsForSomeBytes : Option (List (List ℕ)) → (Ending → Type 0) → Type 0
-EndsForSomeBytes None ends = ends not_text
-EndsForSomeBytes (Some words) ends = ForSomeBytes (asked_of words) ends
+abbrev pub EndsForSomeBytes : Option (List (List ℕ)) → (Result Bytes Ending → Type 0) → Type 0
+EndsForSomeBytes None Is = Is (Err not_text)
+EndsForSomeBytes (Some words) Is = ForSomeBytes (asked_of words) Is
 
 -- the exit status, and how the two outputs grow. Where the words are refused, standard error gains a text:
 -- it is clap's, whose contracts don't say which, or says that there is no such code
@@ -177,11 +197,19 @@ Ends refused status out out' err err' = (status ≡ 2) × Keeps out out' × ((te
 Ends (faulted fault line) status out out' err err' = (status ≡ fault) × Keeps out out' × Appends err err' line
 Ends (complete output) status out out' err err' = (status ≡ 0) × Appends out out' output × Keeps err err'
 
+-- so a call ends in which this is judged
+abbrev pub EndsAs : Result Bytes Ending → ℕ → Option (List ℕ) → Option (List ℕ) → Option (List ℕ) → Option (List ℕ) → Type 0
+EndsAs judged status out out' err err' = ForEnding judged (λ ending. Ends ending status out out' err err')
+
 -- what goes to the output where all of it goes out
 abbrev pub output_in : Ending → List ℕ
 output_in refused = []
 output_in (faulted fault line) = []
 output_in (complete output) = output
+
+-- and this has gone out, whatever was refused: nothing, or a beginning of the output
+abbrev pub AppendsSome : Result Bytes Ending → Option (List ℕ) → Option (List ℕ) → Type 0
+AppendsSome judged out out' = Keeps out out' ⊎ ForEnding judged (λ ending. AppendsPart out out' (output_in ending))
 
 -- the line that is told, whole or in part, where a call could not end so: that an output that may refuse
 -- did not go out, or the line of the fault itself, at which standard error refused (after all of it was
@@ -198,24 +226,29 @@ IsUnreadLine file reads old new names line = (name : List ℕ) × StopsAt file r
 -- status 3: standard error has some beginning of a line, and all of it where it refuses nothing: the line
 -- that tells that memory, a file or the output was refused, or the line of a fault at which it refused itself
 pub record IsRefused (file : Contents) (reads : Bool) (old new : Option (List (List ℕ))) (names : List (List ℕ))
-    (ending : Ending) (out_is_sure err_is_sure : Bool) (err err' : Option (List ℕ)) : Type 0 where
+    (judged : Result Bytes Ending) (out_is_sure err_is_sure : Bool) (err err' : Option (List ℕ)) : Type 0 where
   pub line : List ℕ
-  pub is : (line ≡ memory_line) ⊎ (IsUnreadLine file reads old new names line ⊎ IsLineOf out_is_sure err_is_sure ending line)
+  pub is : (line ≡ memory_line) ⊎ (IsUnreadLine file reads old new names line ⊎ ForEnding judged (λ ending. IsLineOf out_is_sure err_is_sure ending line))
   pub told : Writes err_is_sure err err' line
 
--- why the output is not made, unless the machine refuses
-abbrev pub RunStops : Ending → RunFault → Type 0
-RunStops ending run.NoMemory = Unit {0}
-RunStops ending fault = ending ≡ faulted (run_status fault) (run_line fault)
+-- why the output is not made, unless the machine refuses; no fault of a text or of its fabric has another status than 1
+abbrev pub RunStops : Result Bytes Ending → RunFault → Type 0
+RunStops judged run.NoMemory = Unit {0}
+RunStops judged fault = (run_status fault ≡ 1) × ForEnding judged (λ ending. ending ≡ faulted 1 (run_line fault))
 
-abbrev pub Stops : Ending → Stop → Type 0
-Stops ending (Words text) = ending ≡ refused
-Stops ending NoMemory = Unit {0}
-Stops ending (Unread name) = Unit {0}
-Stops ending Unwritten = ⊥
-Stops ending (Run fault) = RunStops ending fault
-Stops ending (Port cause) = ending ≡ faulted 1 (port_line (script_code cause))
-Stops ending (Second line cause) = ending ≡ faulted 1 (second_line (partitions_code cause) line)
+-- a fault of the second partitions, which only they have
+abbrev pub second_stop : RunFault → Stop
+second_stop (run.Partitions line cause) = Second line cause
+second_stop fault = Run fault
+
+abbrev pub Stops : Result Bytes Ending → Stop → Type 0
+Stops judged (Words text) = ForEnding judged (λ ending. ending ≡ refused)
+Stops judged NoMemory = Unit {0}
+Stops judged (Unread name) = Unit {0}
+Stops judged Unwritten = ⊥
+Stops judged (Run fault) = RunStops judged fault
+Stops judged (Port cause) = ForEnding judged (λ ending. ending ≡ faulted 1 (port_line (script_code cause)))
+Stops judged (Second line cause) = ForEnding judged (λ ending. ending ≡ faulted 1 (second_line (partitions_code cause) line))
 
 -- a stop is told by its line, and with its status where the line can go out
 pub record TellsStop (stop : Stop) (answer : ℕ) (is_sure : Bool) (err err' : Option (List ℕ)) : Type 0 where
@@ -232,6 +265,6 @@ IsTold (Err (Second line cause)) = Unit {0}
 IsTold _ = ⊥
 
 -- an output comes as it is, and a stop by its line
-abbrev pub ComesTo : {X : Type 0} → (X → List ℕ) → Ending → Result X Stop → Type 0
-ComesTo view ending (Ok output) = ending ≡ complete (view output)
-ComesTo view ending (Err stop) = Stops ending stop
+abbrev pub ComesTo : {X : Type 0} → (X → List ℕ) → Result Bytes Ending → Result X Stop → Type 0
+ComesTo view judged (Ok output) = ForEnding judged (λ ending. ending ≡ complete (view output))
+ComesTo view judged (Err stop) = Stops judged stop

@@ -1,7 +1,8 @@
 //! Why a call does not complete, and how that is told.
 
-ghost use Rattle.std.specs.Prelude.{◌≡◌, IfOk, string_bytes};
-ghost use Rattle.fabric_cli.specs.Faults.{line_of, port_line, run_line, run_status, second_line, status_of};
+ghost use Rattle.std.specs.Prelude.{◌≡◌, IfOk, option_map};
+ghost use Rattle.std.specs.Option.{option_map_or};
+ghost use Rattle.fabric_cli.specs.Faults.{fabric_line, line_of, memory_line, no_path_line, port_line, run_line, run_status, second_line, status_of, sweep_status};
 ghost use Rattle.fabric_cli.specs.declared.faults.Stop.TheVariants.{NoMemory};
 ghost use Rattle.subnet_core.specs.Fault.{code_of as script_code};
 ghost use Rattle.partition_file.specs.Fault.{code_of as partitions_code};
@@ -9,6 +10,7 @@ ghost use Rattle.partition_file.specs.Fault.{code_of as partitions_code};
 use partition_file::PartitionCause;
 use std::alloc::{AllocError, AllocFailed, Global};
 use subnet_core::{RunFault, ScriptCause};
+use sweep::SweepFault;
 
 /// The exit status of a call that completes.
 pub const COMPLETE: u8 = 0;
@@ -54,68 +56,119 @@ impl<'a> Stop<'a> {
         match self {
             Stop::Words(_) => WORDS_REFUSED,
             Stop::NoMemory | Stop::Unread(_) | Stop::Unwritten => REFUSED,
-            Stop::Run(fault) => run_status(*fault),
+            Stop::Run(fault) => run_status(fault),
             Stop::Port(_) | Stop::Second { .. } => FAULT,
         }
     }
 
     /// What standard error is told.
-    pub fn line(&self, alloc: Global) -> Result<String, AllocError>
-        ensures { IfOk result (λ text. string_bytes text ≡ line_of self.now) }
+    pub fn line(&self, alloc: Global) -> Result<Vec<u8>, AllocError>
+        ensures { IfOk result (λ text. text.items ≡ line_of self.now) }
     {
         match self {
-            Stop::Words(text) => text.clone(),
-            Stop::NoMemory => String::from_str(alloc, MEMORY_LINE),
-            Stop::Unread(name) => format!(in alloc; "fault read {name}\n"),
-            Stop::Unwritten => String::from_str(alloc, "fault write\n"),
-            Stop::Run(fault) => run_line(alloc, *fault),
+            Stop::Words(text) => Vec::from_slice(alloc, text.as_bytes()),
+            Stop::NoMemory => memory_line(alloc),
+            Stop::Unread(name) => Ok(format!(in alloc; "fault read {name}\n")?.into_bytes()),
+            Stop::Unwritten => Vec::from_slice(alloc, b"fault write\n"),
+            Stop::Run(fault) => run_line(alloc, fault),
             Stop::Port(cause) => port_line(alloc, *cause),
             Stop::Second { line, cause } => second_line(alloc, *line, *cause),
         }
     }
 }
 
-fn run_status(fault: RunFault) -> u8
-    ensures { result ≡ run_status fault }
+fn run_status(fault: &RunFault) -> u8
+    ensures { result ≡ run_status fault.now }
 {
     match fault {
-        RunFault::NoMemory => REFUSED,
-        RunFault::Topology { .. } | RunFault::Partitions { .. } | RunFault::Script { .. } => FAULT,
+        RunFault::NoMemory | RunFault::Push(_) => REFUSED,
+        RunFault::Sweep(fault) => sweep_status(*fault),
+        RunFault::Topology { .. }
+        | RunFault::Partitions { .. }
+        | RunFault::NoLegalPath { .. }
+        | RunFault::Script { .. } => FAULT,
     }
 }
 
-fn run_line(alloc: Global, fault: RunFault) -> Result<String, AllocError>
-    ensures { IfOk result (λ text. string_bytes text ≡ run_line fault) }
+fn sweep_status(fault: SweepFault) -> u8
+    ensures { result ≡ sweep_status fault }
 {
     match fault {
-        RunFault::NoMemory => String::from_str(alloc, MEMORY_LINE),
+        SweepFault::TooManyHops => FAULT,
+        _ => REFUSED,
+    }
+}
+
+fn memory_line(alloc: Global) -> Result<Vec<u8>, AllocError>
+    ensures { IfOk result (λ text. text.items ≡ memory_line) }
+{
+    Vec::from_slice(alloc, MEMORY_LINE.as_bytes())
+}
+
+fn run_line(alloc: Global, fault: &RunFault) -> Result<Vec<u8>, AllocError>
+    ensures { IfOk result (λ text. text.items ≡ run_line fault.now) }
+{
+    match fault {
+        RunFault::NoMemory => memory_line(alloc),
         RunFault::Topology { line, cause } => {
             let code = cause.code();
-            format!(in alloc; "fault {code} topology line {line}\n")
+            Ok(format!(in alloc; "fault {code} topology line {line}\n")?.into_bytes())
         }
         RunFault::Partitions { line, cause } => {
             let code = cause.code();
-            format!(in alloc; "fault {code} partitions line {line}\n")
+            Ok(format!(in alloc; "fault {code} partitions line {line}\n")?.into_bytes())
         }
+        RunFault::Sweep(fault) => match fault.code() {
+            Some(code) => fabric_line(alloc, code),
+            None => memory_line(alloc),
+        },
+        RunFault::NoLegalPath {
+            switch,
+            node,
+            number,
+        } => no_path_line(alloc, switch.as_slice(), node.as_slice(), *number),
+        RunFault::Push(fault) => fabric_line(alloc, fault.code()),
         RunFault::Script { line, cause } => {
             let code = cause.code();
-            format!(in alloc; "fault {code} script line {line}\n")
+            Ok(format!(in alloc; "fault {code} script line {line}\n")?.into_bytes())
         }
     }
 }
 
-fn port_line(alloc: Global, cause: ScriptCause) -> Result<String, AllocError>
-    ensures { IfOk result (λ text. string_bytes text ≡ port_line (script_code cause)) }
+fn fabric_line(alloc: Global, code: &str) -> Result<Vec<u8>, AllocError>
+    ensures { IfOk result (λ text. text.items ≡ fabric_line code.now) }
 {
-    let code = cause.code();
-    format!(in alloc; "fault {code} port\n")
+    Ok(format!(in alloc; "fault {code}\n")?.into_bytes())
 }
 
-fn second_line(alloc: Global, line: usize, cause: PartitionCause) -> Result<String, AllocError>
-    ensures { IfOk result (λ text. string_bytes text ≡ second_line (partitions_code cause) line) }
+fn no_path_line(
+    alloc: Global,
+    switch: &[u8],
+    node: &[u8],
+    number: u8,
+) -> Result<Vec<u8>, AllocError>
+    ensures { IfOk result (λ text. text.items ≡ no_path_line switch.now node.now number) }
+{
+    let mut text = Vec::from_slice(alloc, b"fault UR1 ")?;
+    text.extend_from_slice(switch)?;
+    text.extend_from_slice(b" ")?;
+    text.extend_from_slice(node)?;
+    text.extend_from_slice(format!(in alloc; "/{number}\n")?.as_bytes())?;
+    Ok(text)
+}
+
+fn port_line(alloc: Global, cause: ScriptCause) -> Result<Vec<u8>, AllocError>
+    ensures { IfOk result (λ text. text.items ≡ port_line (script_code cause)) }
 {
     let code = cause.code();
-    format!(in alloc; "fault {code} partitions2 line {line}\n")
+    Ok(format!(in alloc; "fault {code} port\n")?.into_bytes())
+}
+
+fn second_line(alloc: Global, line: usize, cause: PartitionCause) -> Result<Vec<u8>, AllocError>
+    ensures { IfOk result (λ text. text.items ≡ second_line (partitions_code cause) line) }
+{
+    let code = cause.code();
+    Ok(format!(in alloc; "fault {code} partitions2 line {line}\n")?.into_bytes())
 }
 
 impl<'a> From<AllocError> for Stop<'a> {

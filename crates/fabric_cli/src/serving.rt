@@ -4,13 +4,14 @@ ghost use Rattle.std.specs.Prelude.{ℕ, ◌≡◌, ◌≢◌, ◌⊎◌, Result
 ghost use Rattle.std.specs.Io.KnownBytes.{Appends};
 ghost use Rattle.fabric_cli.specs.Faults.{line_of, memory_line, status_of, IsOfFiles, IsOfRun, NamesUnread};
 ghost use Rattle.fabric_cli.specs.Files.{OpensAll, OpensInOrder};
-ghost use Rattle.fabric_cli.specs.Serving.{bytes_if_named, ending_by, asked_port, changes_in, ending_for, ending_of, ending_with, listed, output_in, reported, second_told, shares_in, texts_in, texts_of, without_files, work_bytes, work_of, AreFor, Ends, EndsForSomeBytes, ForSomeBytes, ComesTo, IsRefused, IsTold, Stops, TellsStop};
+ghost use Rattle.fabric_cli.specs.Serving.{asked_port, bytes_if_named, changes_in, judged_for, judged_of, second_stop, shares_in, texts_in, texts_of, texts_with, without_files, work_bytes, work_of, AppendsSome, AreFor, ComesTo, EndsAs, EndsForSomeBytes, ForSomeBytes, IsRefused, IsTold, TellsStop};
 ghost use Rattle.std.specs.Option.{option_to_list};
 ghost use Rattle.std.specs.Process.{exit_status};
 ghost use Rattle.fabric_cli.specs.Words.{all_names, asked_by_given, asked_of, given_texts, named_work, names, opened_for, work_names};
 ghost use Rattle.fabric_cli.specs.declared.words.Call.TheVariants.{Subnet as InSubnet};
-ghost use Rattle.fabric_cli.specs.Writing.{AppendsPart, Writes};
-ghost use Rattle.subnet_core.specs.Run.{subnet_of};
+ghost use Rattle.fabric_cli.specs.declared.words.Work.TheVariants as work;
+ghost use Rattle.fabric_cli.specs.Writing.{Writes};
+ghost use Rattle.subnet_core.specs.Roster.{roster_of};
 
 use crate::explaining::explained;
 use crate::faults::{COMPLETE, MEMORY_LINE, REFUSED, Stop};
@@ -24,7 +25,7 @@ use std::alloc::Global;
 use std::env::Args;
 use std::io;
 use std::process::ExitCode;
-use subnet_core::{RunFault, ScriptCause, Subnet, bring_up, run};
+use subnet_core::{Roster, RunFault, ScriptCause, bring_up, read_roster, run};
 
 /// The bytes of the files, and what to do with them.
 #[derive(Drop)]
@@ -49,15 +50,15 @@ pub fn serve<F: Files, O: Output, E: Output>(
     ensures order { OpensInOrder (F.opened files.old) (F.opened files.new) (opened_for (asked_by_given (given_texts given))) }
     ensures all { exit_status result ≢ 3 → OpensAll (F.opened files.old) (F.opened files.new) (opened_for (asked_by_given (given_texts given))) }
     ensures exact { exit_status result ≢ 3 → IfSome (F.told files.old) (λ file.
-        Ends (ending_of file (given_texts given)) (exit_status result)
+        EndsAs (judged_of file (given_texts given)) (exit_status result)
         (O.contents out.old) (O.contents out.new) (E.contents err.old) (E.contents err.new)) }
-    ensures any_files { exit_status result ≢ 3 → EndsForSomeBytes (given_texts given) (λ ending.
-        Ends ending (exit_status result) (O.contents out.old) (O.contents out.new) (E.contents err.old) (E.contents err.new)) }
+    ensures any_files { exit_status result ≢ 3 → EndsForSomeBytes (given_texts given) (λ judged.
+        EndsAs judged (exit_status result) (O.contents out.old) (O.contents out.new) (E.contents err.old) (E.contents err.new)) }
     ensures refused { exit_status result ≡ 3 → IfSome (F.told files.old) (λ file.
         IsRefused file (F.reads files.old) (F.opened files.old) (F.opened files.new) (opened_for (asked_by_given (given_texts given)))
-        (ending_of file (given_texts given)) (O.is_sure out.old) (E.is_sure err.old) (E.contents err.old) (E.contents err.new)) }
+        (judged_of file (given_texts given)) (O.is_sure out.old) (E.is_sure err.old) (E.contents err.old) (E.contents err.new)) }
     ensures short { IfSome (F.told files.old) (λ file.
-        AppendsPart (O.contents out.old) (O.contents out.new) (output_in (ending_of file (given_texts given)))) }
+        AppendsSome (judged_of file (given_texts given)) (O.contents out.old) (O.contents out.new)) }
 {
     match given_words(alloc, given) {
         Ok(words) => ExitCode::from(serve_words(alloc, words.as_slice(), files, out, err)),
@@ -76,16 +77,15 @@ fn serve_words<F: Files, O: Output, E: Output>(
     ensures order { OpensInOrder (F.opened files.old) (F.opened files.new) (opened_for (asked_of (map string_bytes words.now))) }
     ensures all { result ≢ 3 → OpensAll (F.opened files.old) (F.opened files.new) (opened_for (asked_of (map string_bytes words.now))) }
     ensures exact { result ≢ 3 → IfSome (F.told files.old) (λ file.
-        Ends (ending_for file (asked_of (map string_bytes words.now))) result
+        EndsAs (judged_for file (asked_of (map string_bytes words.now))) result
         (O.contents out.old) (O.contents out.new) (E.contents err.old) (E.contents err.new)) }
-    ensures any_files { result ≢ 3 → ForSomeBytes (asked_of (map string_bytes words.now)) (λ ending.
-        Ends ending result (O.contents out.old) (O.contents out.new) (E.contents err.old) (E.contents err.new)) }
+    ensures any_files { result ≢ 3 → ForSomeBytes (asked_of (map string_bytes words.now)) (λ judged.
+        EndsAs judged result (O.contents out.old) (O.contents out.new) (E.contents err.old) (E.contents err.new)) }
     ensures refused { result ≡ 3 → IfSome (F.told files.old) (λ file.
         IsRefused file (F.reads files.old) (F.opened files.old) (F.opened files.new) (opened_for (asked_of (map string_bytes words.now)))
-        (ending_for file (asked_of (map string_bytes words.now))) (O.is_sure out.old) (E.is_sure err.old) (E.contents err.old) (E.contents err.new)) }
+        (judged_for file (asked_of (map string_bytes words.now))) (O.is_sure out.old) (E.is_sure err.old) (E.contents err.old) (E.contents err.new)) }
     ensures short { IfSome (F.told files.old) (λ file.
-        AppendsPart (O.contents out.old) (O.contents out.new)
-        (output_in (ending_for file (asked_of (map string_bytes words.now))))) }
+        AppendsSome (judged_for file (asked_of (map string_bytes words.now))) (O.contents out.old) (O.contents out.new)) }
 {
     match output(alloc, words, files) {
         Ok(text) => {
@@ -107,7 +107,7 @@ fn told_stop<E: Output>(alloc: Global, stop: &Stop<'_>, err: &mut E) -> u8
 {
     match stop.line(alloc) {
         Ok(line) => {
-            if write_whole(err, line.as_bytes()) {
+            if write_whole(err, line.as_slice()) {
                 stop.status()
             } else {
                 REFUSED
@@ -131,9 +131,9 @@ fn output<'a, F: Files>(
     ensures all { IsTold result → OpensAll (F.opened files.old) (F.opened files.new)
         (opened_for (asked_of (map string_bytes words.entry.now))) }
     ensures exact { IfSome (F.told files.old) (λ file. ComesTo (λ text. text.items)
-        (ending_for file (asked_of (map string_bytes words.entry.now))) result) }
+        (judged_for file (asked_of (map string_bytes words.entry.now))) result) }
     ensures any_files { IsTold result → ForSomeBytes (asked_of (map string_bytes words.entry.now))
-        (λ ending. ComesTo (λ text. text.items) ending result) }
+        (λ judged. ComesTo (λ text. text.items) judged result) }
     ensures unread { IfErr result (NamesUnread (F.told files.old) (F.reads files.old) (F.opened files.old) (F.opened files.new)
         (opened_for (asked_of (map string_bytes words.entry.now)))) }
 {
@@ -156,9 +156,9 @@ fn output_of_files<'a, F: Files>(
     ensures order { OpensInOrder (F.opened files.old) (F.opened files.new) (all_names (names asked.now)) }
     ensures all { IsTold result → OpensAll (F.opened files.old) (F.opened files.new) (all_names (names asked.now)) }
     ensures exact { IfSome (F.told files.old) (λ file. ComesTo (λ text. text.items)
-        (ending_with (texts_of file (names asked.now))) result) }
+        (texts_of file (names asked.now)) result) }
     ensures any_files { IsTold result → ForSomeBytes (Some (InSubnet (names asked.now)))
-        (λ ending. ComesTo (λ text. text.items) ending result) }
+        (λ judged. ComesTo (λ text. text.items) judged result) }
     ensures unread { IfErr result (NamesUnread (F.told files.old) (F.reads files.old) (F.opened files.old) (F.opened files.new) (all_names (names asked.now))) }
 {
     match read_texts(alloc, asked, files) {
@@ -169,7 +169,7 @@ fn output_of_files<'a, F: Files>(
 
 /// The output over these texts.
 fn output_of_texts<'a>(alloc: Global, texts: &Texts<'_>) -> Result<Vec<u8>, Stop<'a>>
-    ensures exact { ComesTo (λ text. text.items) (ending_with (Ok (texts_in texts.now))) result }
+    ensures exact { ComesTo (λ text. text.items) (Ok (texts_in texts.now)) result }
     ensures fault { IfErr result IsOfRun }
 {
     let topology = texts.topology.as_slice();
@@ -182,14 +182,14 @@ fn output_of_texts<'a>(alloc: Global, texts: &Texts<'_>) -> Result<Vec<u8>, Stop
     }
 }
 
-/// The listing of a subnet.
+/// The listing of a subnet that is brought up.
 fn listed<'a>(
     alloc: Global,
     topology: &[u8],
     partitions: Option<&[u8]>,
 ) -> Result<Vec<u8>, Stop<'a>>
     ensures exact { ComesTo (λ text. text.items)
-        (ending_by (listed topology.now (option_copied partitions.entry))) result }
+        (texts_with topology.now (option_copied partitions.entry) work.Check) result }
     ensures fault { IfErr result IsOfRun }
 {
     match bring_up(alloc, topology, partitions) {
@@ -209,21 +209,21 @@ fn shared<'a>(
     port: Option<&str>,
 ) -> Result<Vec<u8>, Stop<'a>>
     ensures exact { ComesTo (λ text. text.items)
-        (shares_in (subnet_of topology.now (option_copied partitions.entry)) (option_map (λ word. word.now) port.entry)) result }
+        (texts_with topology.now (option_copied partitions.entry) (work.Shares (option_map (λ word. word.now) port.entry))) result }
     ensures fault { IfErr result IsOfRun }
 {
-    match bring_up(alloc, topology, partitions) {
-        Ok(subnet) => shares_in(alloc, &subnet, port),
+    match read_roster(alloc, topology, partitions) {
+        Ok(roster) => shares_in(alloc, &roster, port),
         Err(fault) => Err(Stop::Run(fault)),
     }
 }
 
-fn shares_in<'a>(alloc: Global, subnet: &Subnet, port: Option<&str>) -> Result<Vec<u8>, Stop<'a>>
-    ensures exact { ComesTo (λ text. text.items) (shares_in (Ok subnet.now) (option_map (λ word. word.now) port.entry)) result }
+fn shares_in<'a>(alloc: Global, roster: &Roster, port: Option<&str>) -> Result<Vec<u8>, Stop<'a>>
+    ensures exact { ComesTo (λ text. text.items) (Err (shares_in (Ok roster.now) (option_map (λ word. word.now) port.entry))) result }
     ensures fault { IfErr result IsOfRun }
 {
-    match asked_port(subnet, port) {
-        Ok(asked) => match shares_text(alloc, subnet.configuration().ports(), asked) {
+    match asked_port(roster, port) {
+        Ok(asked) => match shares_text(alloc, roster.configuration().ports(), asked) {
             Ok(text) => Ok(text),
             Err(_) => Err(Stop::NoMemory),
         },
@@ -232,11 +232,11 @@ fn shares_in<'a>(alloc: Global, subnet: &Subnet, port: Option<&str>) -> Result<V
 }
 
 /// The GUID of the port that a word names, if there is a word.
-fn asked_port(subnet: &Subnet, port: Option<&str>) -> Result<Option<u64>, ScriptCause>
-    ensures { result ≡ asked_port subnet.now.plan (option_map (λ word. word.now) port.entry) }
+fn asked_port(roster: &Roster, port: Option<&str>) -> Result<Option<u64>, ScriptCause>
+    ensures { result ≡ asked_port roster.now.plan (option_map (λ word. word.now) port.entry) }
 {
     match port {
-        Some(word) => Ok(Some(subnet.named_port(word.as_bytes())?)),
+        Some(word) => Ok(Some(roster.named_port(word.as_bytes())?)),
         None => Ok(None),
     }
 }
@@ -249,10 +249,10 @@ fn changed<'a>(
     second: Option<&[u8]>,
 ) -> Result<Vec<u8>, Stop<'a>>
     ensures exact { ComesTo (λ text. text.items)
-        (changes_in (subnet_of topology.now (option_copied partitions.entry)) (subnet_of topology.now (option_copied second.entry))) result }
+        (texts_with topology.now (option_copied partitions.entry) (work.Diff (option_copied second.entry))) result }
     ensures fault { IfErr result IsOfRun }
 {
-    match bring_up(alloc, topology, partitions) {
+    match read_roster(alloc, topology, partitions) {
         Ok(before) => changes_from(alloc, &before, topology, second),
         Err(fault) => Err(Stop::Run(fault)),
     }
@@ -260,15 +260,15 @@ fn changed<'a>(
 
 fn changes_from<'a>(
     alloc: Global,
-    before: &Subnet,
+    before: &Roster,
     topology: &[u8],
     second: Option<&[u8]>,
 ) -> Result<Vec<u8>, Stop<'a>>
     ensures exact { ComesTo (λ text. text.items)
-        (changes_in (Ok before.now) (subnet_of topology.now (option_copied second.entry))) result }
+        (Err (changes_in (Ok before.now) (roster_of topology.now (option_copied second.entry)))) result }
     ensures fault { IfErr result IsOfRun }
 {
-    match bring_up(alloc, topology, second) {
+    match read_roster(alloc, topology, second) {
         Ok(after) => match changes_text(alloc, before.configuration(), after.configuration()) {
             Ok(text) => Ok(text),
             Err(_) => Err(Stop::NoMemory),
@@ -279,7 +279,7 @@ fn changes_from<'a>(
 
 /// The stop for a fault of a subnet with the second partitions: the topology is the same.
 fn second_stop<'a>(fault: RunFault) -> Stop<'a>
-    ensures told { Stops (second_told fault) result }
+    ensures told { result ≡ second_stop fault }
     ensures fault { IsOfRun result }
 {
     match fault {
@@ -296,7 +296,7 @@ fn reported<'a>(
     script: &[u8],
 ) -> Result<Vec<u8>, Stop<'a>>
     ensures exact { ComesTo (λ text. text.items)
-        (ending_by (reported topology.now (option_copied partitions.entry) script.now)) result }
+        (texts_with topology.now (option_copied partitions.entry) (work.Run script.now)) result }
     ensures fault { IfErr result IsOfRun }
 {
     match run(alloc, topology, partitions, script) {

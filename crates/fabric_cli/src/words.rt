@@ -173,6 +173,8 @@ const CODES: &str = with_statuses!(
   PF1 to PF9             a fault of a partition file
   SF1 to SF6             a fault of the script, or of the PORT of `shares`
   AR1 to AR4             why a port refuses to send a packet
+  SW1 to SW4, UR1, TP1 to TP3
+                         why the fabric of a topology is not brought up
   memory, read, write    what the machine refuses
 
 With CODE that one is told: its cause, what exactly is asked, a text that has it, and that text

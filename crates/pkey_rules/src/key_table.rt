@@ -4,6 +4,7 @@ ghost use Rattle.pkey_rules.specs.KeyTable.{accepts, holds, find_base, has_base,
 
 use crate::p_key::PKey;
 use arrayvec::ArrayVec;
+use std::alloc::AllocError;
 use std::marker::Model;
 use thiserror::Error;
 
@@ -29,6 +30,20 @@ impl<const CAP: usize> Model for KeyTable<CAP> {
     ghost view = { λ table. table.keys.items };
 
     ghost invariant = { λ table. IsDistinct same_base table.keys.items };
+}
+
+impl<const CAP: usize> Clone for KeyTable<CAP> {
+    ghost use Rattle.std.specs.Prelude.{◌≡◌};
+
+    ghost is_clone = { λ table copy. copy ≡ table };
+
+    ghost is_infallible = { λ _. Unit {0} };
+
+    fn clone(&self) -> Result<Self, AllocError> {
+        let mut keys = ArrayVec::new();
+        let _ = keys.try_extend_from_slice(self.keys.as_slice());
+        Ok(KeyTable { keys })
+    }
 }
 
 /// Why a key table takes no further key.

@@ -6,7 +6,7 @@ use Rattle.result_words.specs.Steps.{◌>>=◌}
 use Rattle.result_words.proofs.LineLemmas.{IsLeft}
 use Rattle.result_words.proofs.StepLemmas.{same_err}
 use Rattle.subnet_core.specs.declared.fault.RunFault.{RunFault}
-use Rattle.subnet_core.specs.Run.{of_text}
+use Rattle.subnet_core.specs.Roster.{of_text}
 
 pub text_is_good : {X Cause : Type 0} (fault : ℕ → Cause → RunFault) (given : Result X (AtLine Cause)) (x : X) → of_text fault given ≡ Ok x
     → given ≡ Ok x

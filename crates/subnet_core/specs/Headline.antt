@@ -7,7 +7,7 @@ use Rattle.subnet_model.specs.declared.event.Event.{Event}
 use Rattle.subnet_model.specs.Isolation.{DependsOnNear}
 use Rattle.subnet_model.specs.Source.{ComesFromNear}
 use Rattle.subnet_ports.specs.Ports.{configuration_of, ports_of}
-use Rattle.subnet_core.specs.Run.{partitions_for}
+use Rattle.subnet_core.specs.Roster.{partitions_for}
 use Rattle.subnet_core.specs.Script.{commands_in}
 
 -- Whatever fabric the topology describes, whatever partitions the file gives it, and whatever commands the

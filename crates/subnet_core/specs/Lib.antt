@@ -2,6 +2,8 @@ pub mod Fault
 pub mod Script
 pub mod NamedPort
 pub mod Seen
+pub mod Roster
+pub mod BringUp
 pub mod Run
 pub mod EventLines
 pub mod Listing

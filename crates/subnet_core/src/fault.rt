@@ -5,6 +5,9 @@ ghost use Rattle.subnet_core.specs.Fault.{code_of};
 
 use partition_file::PartitionCause;
 use std::alloc::{AllocError, AllocFailed};
+use subnet_model::NodeName;
+use sweep::SweepFault;
+use table_push::PushFault;
 use thiserror::Error;
 use topo_file::TopologyCause;
 
@@ -48,7 +51,7 @@ impl ScriptCause {
 }
 
 /// Why a run did not complete. Of several faults the first in this order is told.
-#[derive(Clone, Copy, Debug, PartialEq, Eq, Error)]
+#[derive(Debug, Drop, PartialEq, Eq, Error)]
 pub enum RunFault {
     /// Memory was refused.
     #[error("out of memory")]
@@ -69,6 +72,23 @@ pub enum RunFault {
         /// What is wrong there.
         cause: PartitionCause,
     },
+    /// The sweep did not find the fabric. A simulated one it finds, unless a cable is too far away.
+    #[error("{0}")]
+    Sweep(SweepFault),
+    /// From a switch that carries adapters' ports no legal path leads to one of these. Of all such pairs this is the first,
+    /// by the switch's LID and then by the port's.
+    #[error("no legal path leads from a switch to a port")]
+    NoLegalPath {
+        /// The switch's name.
+        switch: NodeName,
+        /// The name of the adapter.
+        node: NodeName,
+        /// The number of its port.
+        number: u8,
+    },
+    /// An agent did not take what was pushed to it. Those of a simulated fabric do.
+    #[error("{0}")]
+    Push(PushFault),
     /// The first fault of the script.
     #[error("script line {line}: {cause}")]
     Script {

@@ -3,21 +3,25 @@
 //! [`run`] is the call that the product is named for. Its clause `exact` says that its answer is what
 //! the three texts stand for (`specs/Run.antt`), and its clause `private` that what a port receives
 //! depends only on the ports that share a partition with it (`specs/Headline.antt`). [`bring_up`],
-//! [`Subnet::parse`] and [`Subnet::step`] do the same piece by piece, [`Report::text`] prints it, and
-//! [`Subnet::listing`] prints who is in the subnet (`specs/Listing.antt`). The fabric is the list of its
-//! end ports, for now; no caller can tell.
+//! [`Subnet::parse`] and [`Subnet::step`] do the same piece by piece, and [`Report::text`] prints it. A subnet is brought
+//! up over the simulated fabric of its topology, and `specs/BringUp.antt` says when that fails. Who is in a subnet takes
+//! no fabric: [`read_roster`] reads it, and [`Roster::listing`] prints it (`specs/Listing.antt`).
 #![tactic(auto)]
 
+mod bringing_up;
 mod event_lines;
 mod fault;
 mod listing;
 mod named_port;
 mod report;
+mod roster;
 mod running;
 mod script;
 mod subnet;
 
+pub use crate::bringing_up::bring_up;
 pub use crate::fault::{RunFault, ScriptCause, StepFault};
 pub use crate::report::Report;
+pub use crate::roster::{Roster, read_roster};
 pub use crate::running::run;
-pub use crate::subnet::{Subnet, bring_up};
+pub use crate::subnet::Subnet;

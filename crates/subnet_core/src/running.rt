@@ -3,27 +3,30 @@ ghost use Rattle.std.specs.Option.{option_copied};
 ghost use Rattle.result_words.specs.AtLine.{on_line};
 ghost use Rattle.subnet_ports.specs.EndPorts.{HaveLidsInOrder};
 ghost use Rattle.subnet_core.specs.Headline.{KeepsPartitionsApart};
-ghost use Rattle.subnet_core.specs.Run.{RunGives, of_text, report_of};
+ghost use Rattle.subnet_core.specs.BringUp.{Answers};
+ghost use Rattle.subnet_core.specs.Roster.{RunGives, of_text, roster_of};
+ghost use Rattle.subnet_core.specs.Run.{report_of};
 ghost use Rattle.subnet_core.specs.Script.{commands_in, with_line};
 ghost use Rattle.subnet_core.specs.declared.fault.RunFault.TheVariants.{Script};
 
+use crate::bringing_up::bring_up;
 use crate::fault::RunFault;
 use crate::report::Report;
-use crate::subnet::{Subnet, bring_up};
+use crate::subnet::Subnet;
 use std::alloc::Global;
 use subnet_model::Command;
 use text_words::Lines;
 
-/// Runs a script on the subnet of a topology under a partition file, or without one. All three texts
-/// are read before anything of the script is carried out; a fault leaves no report.
+/// Runs a script on the subnet of a topology under a partition file, or without one. The subnet is brought up, and the
+/// whole script is read, before anything of it is carried out; a fault leaves no report.
 pub fn run(
     alloc: Global,
     topology: &[u8],
     partitions: Option<&[u8]>,
     script: &[u8],
 ) -> Result<Report, RunFault>
-    // The answer is what the texts stand for, unless memory is refused.
-    ensures exact { RunGives (λ report. report) result
+    // The answer is what the texts stand for, unless their fabric is not brought up or memory is refused.
+    ensures exact { Answers (λ report. report) result (roster_of topology.now (option_copied partitions.entry))
         (report_of topology.now (option_copied partitions.entry) script.now) }
     // What a port receives depends only on the ports that share a partition with it.
     ensures private { IfOk result (λ report.
@@ -32,14 +35,13 @@ pub fn run(
     in_turn(alloc, topology, partitions, script)
 }
 
-#[tactic(auto, unfolding(crate::specs::Run::report_of))]
 fn in_turn(
     alloc: Global,
     topology: &[u8],
     partitions: Option<&[u8]>,
     script: &[u8],
 ) -> Result<Report, RunFault>
-    ensures exact { RunGives (λ report. report) result
+    ensures exact { Answers (λ report. report) result (roster_of topology.now (option_copied partitions.entry))
         (report_of topology.now (option_copied partitions.entry) script.now) }
     ensures lids { IfOk result (λ report. HaveLidsInOrder report.ports) }
 {
@@ -51,7 +53,7 @@ fn in_turn(
 /// The commands of a script, or its first fault.
 fn commands_in(alloc: Global, subnet: &Subnet, script: &[u8]) -> Result<Vec<Command>, RunFault>
     ensures { RunGives (λ commands. commands.items) result
-        (of_text Script (commands_in subnet.now.plan script.now)) }
+        (of_text Script (commands_in subnet.now.roster.plan script.now)) }
 {
     let mut commands = Vec::new(alloc);
     let mut number = 0;
@@ -70,7 +72,7 @@ fn take_line(
     line: &[u8],
 ) -> Result<(), RunFault>
     ensures { RunGives (λ _. commands.new.items) result
-        (of_text Script (on_line number (with_line subnet.now.plan number commands.old.items line.now))) }
+        (of_text Script (on_line number (with_line subnet.now.roster.plan number commands.old.items line.now))) }
 {
     if let Some(command) = subnet.parse(number, line)? {
         commands.push(command)?;

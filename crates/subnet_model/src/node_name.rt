@@ -8,7 +8,7 @@ use std::marker::Model;
 pub const NODE_NAME_BYTES: usize = 32;
 
 /// The name of a node, as its description shows it.
-#[derive(Debug, Drop)]
+#[derive(Debug, Drop, PartialEq, Eq)]
 pub struct NodeName {
     bytes: ArrayVec<u8, NODE_NAME_BYTES>,
 }
@@ -19,6 +19,8 @@ impl Model for NodeName {
     ghost Value = { List ℕ };
 
     ghost view = { λ name. name.bytes.items };
+
+    ghost inverse = { λ bytes. record { bytes = record { items = bytes } } };
 }
 
 impl NodeName {
@@ -34,7 +36,8 @@ impl NodeName {
 
     /// Its bytes.
     pub fn as_slice(&self) -> &[u8]
-        ensures { result.now ≡ self.now }
+        ensures value { result.now ≡ self.now }
+        ensures fits { length result.now ≤ NODE_NAME_BYTES }
     {
         self.bytes.as_slice()
     }

@@ -6,7 +6,7 @@ use port_shares::shares_text;
 use std::alloc::{AllocError, Global};
 use std::process::Abort;
 use std::test::Fail;
-use subnet_core::{RunFault, Subnet, bring_up};
+use subnet_core::{Roster, RunFault, read_roster};
 
 /// The file in which h2 is a full member too.
 const ANOTHER_FILE: &str = "P1=0x0001: 0x111=full, 0x121=full, 0x131;\n";
@@ -28,9 +28,9 @@ const CHANGES: &str = "\
 ";
 
 /// The two-switch fabric under a file; nothing where memory is refused, and no other fault.
-fn subnet_under(rt: &impl Abort, alloc: Global, file: &str) -> Option<Subnet> {
-    match bring_up(alloc, TWO_SWITCHES.as_bytes(), Some(file.as_bytes())) {
-        Ok(subnet) => Some(subnet),
+fn roster_under(rt: &impl Abort, alloc: Global, file: &str) -> Option<Roster> {
+    match read_roster(alloc, TWO_SWITCHES.as_bytes(), Some(file.as_bytes())) {
+        Ok(roster) => Some(roster),
         Err(fault) => {
             assert_eq!(rt; fault, RunFault::NoMemory);
             None
@@ -48,15 +48,15 @@ fn is_text(rt: &impl Abort, told: Result<Vec<u8>, AllocError>, text: &str) {
 /// tools/refused-memory refuses each allocation of this test, and of the next, in turn.
 #[test]
 fn shares_are_told_or_memory_is_refused(rt: HostRuntime) -> Result<(), Fail> {
-    if let Some(subnet) = subnet_under(&rt, rt.alloc(), ONE_PARTITION_FILE) {
-        let told = shares_text(rt.alloc(), subnet.configuration().ports(), None);
+    if let Some(roster) = roster_under(&rt, rt.alloc(), ONE_PARTITION_FILE) {
+        let told = shares_text(rt.alloc(), roster.configuration().ports(), None);
         is_text(&rt, told, SHARES);
     }
     Ok(())
 }
 
-fn changes_after(rt: &impl Abort, alloc: Global, before: &Subnet) {
-    if let Some(after) = subnet_under(rt, alloc, ANOTHER_FILE) {
+fn changes_after(rt: &impl Abort, alloc: Global, before: &Roster) {
+    if let Some(after) = roster_under(rt, alloc, ANOTHER_FILE) {
         let told = changes_text(alloc, before.configuration(), after.configuration());
         is_text(rt, told, CHANGES);
     }
@@ -64,7 +64,7 @@ fn changes_after(rt: &impl Abort, alloc: Global, before: &Subnet) {
 
 #[test]
 fn changes_are_told_or_memory_is_refused(rt: HostRuntime) -> Result<(), Fail> {
-    if let Some(before) = subnet_under(&rt, rt.alloc(), ONE_PARTITION_FILE) {
+    if let Some(before) = roster_under(&rt, rt.alloc(), ONE_PARTITION_FILE) {
         changes_after(&rt, rt.alloc(), &before);
     }
     Ok(())

@@ -5,6 +5,8 @@ use partition_file::{PartFault, PartitionCause};
 use pkey_rules::{InvalidBase, PushRefusal};
 use std::test::Fail;
 use subnet_core::{RunFault, ScriptCause, StepFault};
+use subnet_model::NodeName;
+use sweep::SweepFault;
 use topo_file::{TopoFault, TopologyCause};
 
 const TOPOLOGIES: [(TopologyCause, &str); 12] = [
@@ -128,6 +130,23 @@ fn a_fault_of_partitions_tells_its_line_and_cause(rt: HostRuntime) -> Result<(),
         let told = format!(in alloc; "{}", RunFault::Partitions { line: 7, cause })?;
         assert_eq!(rt; told, format!(in alloc; "partitions line 7: {text}")?);
     }
+    Ok(())
+}
+
+#[test]
+fn a_fault_of_a_fabric_tells_its_cause(rt: HostRuntime) -> Result<(), Fail> {
+    let told = format!(in rt.alloc(); "{}", RunFault::Sweep(SweepFault::TooManyHops))?;
+    assert_eq!(rt; told.as_str(), "a cable is more than 63 hops away");
+    let no_path = RunFault::NoLegalPath {
+        switch: NodeName::new(b"R1"),
+        node: NodeName::new(b"h1"),
+        number: 1,
+    };
+    let told = format!(in rt.alloc(); "{no_path}")?;
+    assert_eq!(rt;
+        told.as_str(),
+        "no legal path leads from a switch to a port"
+    );
     Ok(())
 }
 

@@ -5,7 +5,9 @@ ghost use Rattle.std.specs.Prelude.{◌≤◌};
 use example_texts::TWO_SWITCHES;
 use std::alloc::Global;
 use std::test::Fail;
+use subnet_core::{RunFault, run};
 use subnet_fabric::{FabricFault, bring_up_fabric};
+use subnet_model::NodeName;
 use sweep::SweepFault;
 use test_fabrics::{put, put_line};
 use topo_file::TopoFault;
@@ -73,6 +75,11 @@ fn fault_of(alloc: Global, text: &[u8]) -> Result<Option<FabricFault>, Fail> {
     }
 }
 
+/// Why a run without partitions or commands does not complete on it.
+fn run_fault(alloc: Global, text: &[u8]) -> Option<RunFault> {
+    run(alloc, text, None, b"").err()
+}
+
 #[test]
 fn a_cable_of_63_hops_is_reached(rt: HostRuntime) -> Result<(), Fail> {
     let row = row_of(rt.alloc(), 63)?;
@@ -83,8 +90,8 @@ fn a_cable_of_63_hops_is_reached(rt: HostRuntime) -> Result<(), Fail> {
 #[test]
 fn a_cable_of_64_hops_is_too_far(rt: HostRuntime) -> Result<(), Fail> {
     let row = row_of(rt.alloc(), 64)?;
-    let too_far = FabricFault::Sweep(SweepFault::TooManyHops);
-    assert_eq!(rt; fault_of(rt.alloc(), &row)?, Some(too_far));
+    let too_far = RunFault::Sweep(SweepFault::TooManyHops);
+    assert_eq!(rt; run_fault(rt.alloc(), &row), Some(too_far));
     Ok(())
 }
 
@@ -99,6 +106,15 @@ fn adapters_on_two_roots_do_not(rt: HostRuntime) -> Result<(), Fail> {
     let fault = fault_of(rt.alloc(), ADAPTERS_ON_ROOTS.as_bytes())?;
     let no_path = FabricFault::NoLegalPath { switch: 2, port: 6 };
     assert_eq!(rt; fault, Some(no_path));
+    let named = RunFault::NoLegalPath {
+        switch: NodeName::new(b"R1"),
+        node: NodeName::new(b"h1"),
+        number: 1,
+    };
+    assert_eq!(rt;
+        run_fault(rt.alloc(), ADAPTERS_ON_ROOTS.as_bytes()),
+        Some(named)
+    );
     Ok(())
 }
 

@@ -2,7 +2,7 @@ use crate::fixtures::{GUIDS, ONE_PARTITION};
 use example_texts::{ONE_PARTITION_FILE, TWO_SWITCHES};
 use std::alloc::Global;
 use std::test::Fail;
-use subnet_core::{RunFault, bring_up};
+use subnet_core::{RunFault, read_roster};
 use subnet_model::Configuration;
 use subnet_ports::configuration_of;
 
@@ -46,8 +46,8 @@ fn end_ports_hold_the_keys_that_a_file_gives_them(rt: HostRuntime) -> Result<(),
 #[test]
 fn a_listing_is_told_or_memory_is_refused(rt: HostRuntime) -> Result<(), Fail> {
     let file = ONE_PARTITION_FILE.as_bytes();
-    match bring_up(rt.alloc(), TWO_SWITCHES.as_bytes(), Some(file)) {
-        Ok(subnet) => match subnet.listing() {
+    match read_roster(rt.alloc(), TWO_SWITCHES.as_bytes(), Some(file)) {
+        Ok(roster) => match roster.listing() {
             Ok(text) => {
                 let last =
                     b"partition 1 0x0001 P1\nmember 0x8001 h1/1\nmember 0x0001 h2/1\nmember 0x0001 h3/1\n";

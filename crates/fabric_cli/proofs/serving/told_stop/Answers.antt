@@ -3,7 +3,7 @@ use Rattle.fabric_cli.proofs.serving.told_stop.Goals as goal
 
 pub returns-clause-part : goal.returns-clause-part
 returns-clause-part g c =
-    let line = c.as_bytes-in-Err.ensures.value in
+    let line = c.as_bytes.ensures.value in
     let written = c.write_whole-in-Err.ensures in
     inr (record {
       part = rw line at written.part;

@@ -5,4 +5,4 @@ use Rattle.subnet_core.proofs.running.commands_in.Given as goal
 
 abbrev pub invariant-loop-line : goal.invariant-loop-line
 invariant-loop-line l =
-    IsLeft (with_line l.subnet.plan) l.number l.commands.items l.line-iterator (length l.script) (commands_in l.subnet.plan l.script)
+    IsLeft (with_line l.subnet.roster.plan) l.number l.commands.items l.line-iterator (length l.script) (commands_in l.subnet.roster.plan l.script)

@@ -1,0 +1,121 @@
+-- What is answered where a fabric is brought up, and where it is not.
+use Rattle.std.proofs.Common.{ℕ, ◌≡◌, ◌+◌, ◌-◌, ◌≤◌, ◌<◌, ◌==◌, ◌∙◌, ap, refl, sym, subst, arith, Bool, true, false, if◌then◌else◌, List, [], ◌∷◌, ◌++◌, length, get_or, map, take, slice_get, Option, Some, None, Result, Ok, Err}
+use Rattle.std.specs.List.{enumerate_from}
+use Rattle.std.proofs.lemmas.List.{get_or-map, length-map, map-append, take_more}
+use Rattle.std.proofs.lemmas.List.FromFn.{get_or-range_with_len, length-enumerate_from}
+use Rattle.std.proofs.lemmas.Option.{none-some, slice_get_within}
+use Rattle.std.proofs.lemmas.Bool.Decides.{nat_tests}
+use Rattle.fabric_parts.specs.declared.cable.PortRef.{PortRef}
+use Rattle.result_words.specs.Gives.{Fails}
+use Rattle.smp_wire.specs.FabricState.{FabricState}
+use Rattle.subnet_core.specs.BringUp.{Becomes, ComesTo, FailsWith, IsUp, WithFabric, up_from}
+use Rattle.subnet_core.specs.Roster.{IsRostered, Rostered, fault_in}
+use Rattle.subnet_core.specs.declared.fault.RunFault.{RunFault}
+use Rattle.subnet_core.specs.declared.fault.RunFault.TheVariants.{NoMemory, Topology, Partitions, Sweep, NoLegalPath, Push, Script}
+use Rattle.subnet_fabric.specs.BringUp.{AreAssigned, HasNoPath, IsFound}
+use Rattle.subnet_fabric.specs.Laws.{all_keys}
+use Rattle.subnet_model.specs.declared.subnet_port.SubnetPort.{SubnetPort}
+use Rattle.subnet_ports.proofs.EndPortLemmas.{end_ports_stand_in_order}
+use Rattle.subnet_ports.proofs.GraphPortLemmas.{sweeps_find_what_is_listed}
+use Rattle.subnet_ports.specs.EndPorts.{HaveLidsInOrder}
+use Rattle.subnet_ports.specs.Ports.{ports_of}
+use Rattle.sweep.specs.Graph.{GraphState}
+use Rattle.updn_routes.specs.Routes.{home_of}
+use Rattle.updn_routes.specs.Subnet.{home_in, homes_of}
+
+-- ---- answers
+pub mapped : (given : Result Rostered RunFault) (P Q : Option RunFault → Type 0) → ((stop : Option RunFault) → P stop → Q stop) → WithFabric given P → WithFabric given Q
+mapped given P Q f so = record { stop = so.stop; becomes = so.becomes; is = f so.stop so.is }
+
+pub fails_mapped : {Y Z : Type 0} (given : Result Rostered RunFault) (told : Option RunFault) (f : Option RunFault → Result Y RunFault) (g : Option RunFault → Result Z RunFault)
+    → ((fault : RunFault) (stop : Option RunFault) → f stop ≡ Err fault → g stop ≡ Err fault) → FailsWith given told f → FailsWith given told g
+fails_mapped given None f g more so = tt
+fails_mapped given (Some fault) f g more so = mapped given (λ stop. f stop ≡ Err fault) (λ stop. g stop ≡ Err fault) (more fault) so
+
+-- a text is at fault
+pub texts_fail : (given : Result Rostered RunFault) (told : Option RunFault) → Fails told given → FailsWith given told (up_from given)
+unfolding up_from
+texts_fail given None fails = tt
+texts_fail given (Some fault) fails = record { stop = None; becomes = rw fails tt; is = rw fails refl }
+
+stopped : (given : Result Rostered RunFault) (roster : Rostered) (fault : RunFault) → given ≡ Ok roster → Becomes (Ok roster) (Some fault)
+    → WithFabric given (λ stop. up_from given stop ≡ Err fault)
+unfolding up_from
+stopped given roster fault is becomes = record { stop = Some fault; becomes = rw is becomes; is = rw is refl }
+
+-- the fabric is not brought up
+pub fabric_fails : (given : Result Rostered RunFault) (roster : Rostered) (fault : RunFault) → given ≡ Ok roster → ComesTo roster (Err fault)
+    → FailsWith given (fault_in fault) (up_from given)
+fabric_fails given roster NoMemory is comes = tt
+fabric_fails given roster (Topology line cause) is comes = absurd comes
+fabric_fails given roster (Partitions line cause) is comes = absurd comes
+fabric_fails given roster (Sweep fault) is comes = stopped given roster (Sweep fault) is comes
+fabric_fails given roster (NoLegalPath switch node number) is comes = stopped given roster (NoLegalPath switch node number) is comes
+fabric_fails given roster (Push fault) is comes = absurd comes
+fabric_fails given roster (Script line cause) is comes = absurd comes
+
+-- it is brought up
+pub comes_up : (given : Result Rostered RunFault) (roster : Rostered) (fabric : FabricState) → given ≡ Ok roster → IsUp roster fabric
+    → WithFabric given (λ stop. up_from given stop ≡ Ok roster)
+unfolding up_from
+comes_up given roster fabric is up = record { stop = None; becomes = rw is (fabric, up); is = rw is refl }
+
+-- ---- ports in order
+pub keys_more : (ports : List SubnetPort) (i : ℕ) (port : SubnetPort) → i < length ports → get_or ports i port ≡ port
+    → all_keys (take i ports) ++ port.keys ∷ [] ≡ all_keys (take (i + 1) ports)
+keys_more ports i port inside here =
+    sym (ap all_keys (take_more ports i port inside)
+    ∙ (map-append (λ (port : SubnetPort). port.keys) (take i ports) (get_or ports i port ∷ [])
+    ∙ ap (λ (keys : List ℕ). all_keys (take i ports) ++ keys ∷ []) (ap (λ (port : SubnetPort). port.keys) here)))
+
+pub lid_at : (ports : List SubnetPort) (i : ℕ) (port : SubnetPort) → HaveLidsInOrder ports → i < length ports → get_or ports i port ≡ port → port.lid ≡ 1 + i
+lid_at ports i port order inside here =
+    ap (λ (port : SubnetPort). port.lid) (sym here)
+    ∙ (sym (get_or-map (λ (port : SubnetPort). port.lid) ports i port 0 inside)
+    ∙ (ap (λ (lids : List ℕ). get_or lids i 0) order ∙ get_or-range_with_len 1 (length ports) i 0 inside))
+
+-- ---- LIDs at which something hangs are those of listed ports
+pub lids_in_order : (roster : Rostered) → IsRostered roster → HaveLidsInOrder roster.configuration.ports
+lids_in_order roster is =
+    let ends = end_ports_stand_in_order is.partitions roster.plan is.topology in
+    rw is.listed ends.lids
+
+pub record AreListed (roster : Rostered) (lid : ℕ) : Type 0 where
+  pub first : 1 ≤ lid
+  pub last : lid ≤ length roster.configuration.ports
+
+hangs_at : (homes : List PortRef) (lid : ℕ) (home : PortRef) → home_of homes lid ≡ Some home → (1 ≤ lid) × (lid ≤ length homes)
+hangs_at homes lid home is = by (lid == 0) refl is
+  where
+    by : (b : Bool) → (lid == 0) ≡ b → (if b then None else slice_get homes (lid - 1)) ≡ Some home → (1 ≤ lid) × (lid ≤ length homes)
+    by true zero is = absurd (none-some home is)
+    by false more is =
+        let some : 1 ≤ lid = grind (arith, nat_tests, more) in
+        let within = slice_get_within homes (lid - 1) home is in
+        (some, omega (arith, some, within))
+
+abbrev numbers_of : SubnetPort → ℕ × ℕ
+numbers_of port = (port.lid, port.guid)
+
+as_many : (roster : Rostered) → IsRostered roster → (graph : GraphState) (guids : List ℕ) → IsFound roster.plan graph → AreAssigned graph guids
+    → length roster.configuration.ports ≡ length (homes_of graph guids)
+as_many roster is graph guids found assigned =
+    let of_graph = sweeps_find_what_is_listed is.partitions roster.plan graph guids is.topology found.of assigned.lids assigned.order in
+    let ports = ports_of is.partitions roster.plan in
+    let pairs = length-map {B = ℕ × ℕ} ports numbers_of in
+    let numbered = length-enumerate_from 1 guids in
+    let homes = length-map {B = PortRef} guids (home_in graph) in
+    let same = ap length of_graph.lids in
+    rw is.listed (omega (arith, pairs, numbered, homes, same))
+
+pub switch_is_listed : (roster : Rostered) → IsRostered roster → (a b : ℕ) → HasNoPath roster.plan a b → AreListed roster a
+switch_is_listed roster is a b none =
+    let many = as_many roster is none.graph none.guids none.found none.assigned in
+    let at = hangs_at _ a _ none.refused.first.pair.switch in
+    record { first = at.0; last = omega (arith, many, at.1) }
+
+pub port_is_listed : (roster : Rostered) → IsRostered roster → (a b : ℕ) → HasNoPath roster.plan a b → AreListed roster b
+port_is_listed roster is a b none =
+    let many = as_many roster is none.graph none.guids none.found none.assigned in
+    let at = hangs_at _ b _ none.refused.first.pair.adapter in
+    record { first = at.0; last = omega (arith, many, at.1) }

@@ -1,0 +1,20 @@
+use Rattle.std.specs.Option.{option_copied}
+use Rattle.std.proofs.lemmas.Result.{err_from_is_err_and}
+use Rattle.subnet_core.proofs.RunLemmas.{run_stops, run_tells, script_fails}
+use Rattle.subnet_core.proofs.running.in_turn.Goals as goal
+
+pub returns-in_err-subnet-clause-exact : goal.returns-in_err-subnet-clause-exact
+returns-in_err-subnet-clause-exact c =
+    let p = err_from_is_err_and c.from_residual.result c.from_residual.ensures.1 in
+    rw (p.1, p.2) (run_stops c.args.topology.now (option_copied c.args.partitions) c.args.script.now _ c.in_err-subnet.ensures.exact)
+
+pub returns-in_err-commands-clause-exact : goal.returns-in_err-commands-clause-exact
+returns-in_err-commands-clause-exact c =
+    let p = err_from_is_err_and c.from_residual-in_err-commands.result c.from_residual-in_err-commands.ensures.1 in
+    rw (p.1, p.2)
+    (script_fails c.args.topology.now (option_copied c.args.partitions) c.args.script.now _ _ c.in_ok-subnet.ensures.exact c.in_err-commands.ensures)
+
+pub returns-clause-exact : goal.returns-clause-exact
+returns-clause-exact c =
+    rw (c.in_ok-report.ensures, c.deref.ensures.value)
+    (run_tells c.args.topology.now (option_copied c.args.partitions) c.args.script.now _ _ c.in_ok-subnet.ensures.exact c.in_ok-commands.ensures)

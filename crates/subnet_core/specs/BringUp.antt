@@ -1,0 +1,88 @@
+-- What becomes of a roster's fabric when it is brought up: it is up, or a fault of the fabric stops that.
+use Rattle.std.specs.Prelude.{ℕ, ◌≡◌, false, Bool, List, Option, Some, None, Result, Ok, Err}
+use Rattle.std.specs.List.{Contains}
+use Rattle.result_words.specs.Steps.{◌>>=◌}
+use Rattle.smp_wire.specs.FabricState.{FabricState}
+use Rattle.subnet_core.specs.declared.fault.RunFault.{RunFault}
+use Rattle.subnet_core.specs.declared.fault.RunFault.TheVariants.{NoMemory, Topology, Partitions, Sweep, NoLegalPath, Push, Script}
+use Rattle.subnet_core.specs.Roster.{Rostered, fault_in}
+use Rattle.subnet_fabric.specs.BringUp.{HasNoPath, IsBroughtUpOf, IsUnfound}
+use Rattle.subnet_fabric.specs.Laws.{all_keys}
+use Rattle.subnet_model.specs.declared.state.State.{State}
+use Rattle.subnet_model.specs.declared.subnet_port.SubnetPort.{SubnetPort}
+use Rattle.subnet_model.specs.State.{start}
+
+-- ---- a fabric that is up
+-- it is that of the topology, brought up with the keys of the end ports
+abbrev pub IsUp : Rostered → FabricState → Type 0
+IsUp roster fabric = IsBroughtUpOf roster.plan (all_keys roster.configuration.ports) fabric
+
+-- a subnet that runs: who is in it, its fabric, and what it remembers; after memory was refused it is broken
+pub record Running : Type 0 where
+  pub roster : Rostered
+  pub fabric : FabricState
+  pub state : State
+  pub is_broken : Bool
+
+-- before its first command
+pub record IsStarted (subnet : Running) : Type 0 where
+  pub up : IsUp subnet.roster subnet.fabric
+  pub state : subnet.state ≡ start subnet.roster.configuration
+  pub whole : subnet.is_broken ≡ false
+
+-- ---- and one that is not
+-- from the switch of this name no legal path leads to the port of that node and number; all pairs before it, by their
+-- LIDs, have one
+pub record HasNoPathOf (roster : Rostered) (switch node : List ℕ) (number : ℕ) : Type 0 where
+  pub from : SubnetPort
+  pub from_listed : Contains roster.configuration.ports from
+  pub switch_is : switch ≡ from.node_name
+  pub to : SubnetPort
+  pub to_listed : Contains roster.configuration.ports to
+  pub node_is : node ≡ to.node_name
+  pub number_is : number ≡ to.number
+  pub none : HasNoPath roster.plan from.lid to.lid
+
+abbrev pub IsStopped : Rostered → RunFault → Type 0
+IsStopped roster (Sweep fault) = IsUnfound roster.plan fault
+IsStopped roster (NoLegalPath switch node number) = HasNoPathOf roster switch node number
+IsStopped roster (Push fault) = ⊥
+IsStopped roster NoMemory = ⊥
+IsStopped roster (Topology line cause) = ⊥
+IsStopped roster (Partitions line cause) = ⊥
+IsStopped roster (Script line cause) = ⊥
+
+abbrev pub ComesTo : Rostered → Result FabricState RunFault → Type 0
+ComesTo roster (Ok fabric) = IsUp roster fabric
+ComesTo roster (Err NoMemory) = Unit {0}
+ComesTo roster (Err fault) = IsStopped roster fault
+
+-- ---- what becomes of it: nothing stops it, or this fault; of texts that give no roster nothing is asked
+abbrev pub Becomes : Result Rostered RunFault → Option RunFault → Type 0
+Becomes (Ok roster) None = (fabric : FabricState) × IsUp roster fabric
+Becomes (Ok roster) (Some fault) = IsStopped roster fault
+Becomes (Err fault) stop = Unit {0}
+
+-- the roster, unless this fault stops its fabric
+abbrev pub unless_stopped : Option RunFault → Rostered → Result Rostered RunFault
+unless_stopped None roster = Ok roster
+unless_stopped (Some fault) roster = Err fault
+
+unfoldable pub up_from : Result Rostered RunFault → Option RunFault → Result Rostered RunFault
+up_from given stop = given >>= unless_stopped stop
+
+-- ---- what is answered
+-- it is so with what becomes of the fabric
+pub record WithFabric (given : Result Rostered RunFault) (Is : Option RunFault → Type 0) : Type 0 where
+  pub stop : Option RunFault
+  pub becomes : Becomes given stop
+  pub is : Is stop
+
+abbrev pub FailsWith : {Y : Type 0} → Result Rostered RunFault → Option RunFault → (Option RunFault → Result Y RunFault) → Type 0
+FailsWith given None answer = Unit {0}
+FailsWith given (Some fault) answer = WithFabric given (λ stop. answer stop ≡ Err fault)
+
+-- what is answered is what comes of the texts and of the fabric, unless memory was refused
+abbrev pub Answers : {X Y : Type 0} → (X → Y) → Result X RunFault → Result Rostered RunFault → (Option RunFault → Result Y RunFault) → Type 0
+Answers view (Ok x) given answer = WithFabric given (λ stop. answer stop ≡ Ok (view x))
+Answers view (Err fault) given answer = FailsWith given (fault_in fault) answer

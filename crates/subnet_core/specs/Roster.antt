@@ -1,0 +1,60 @@
+-- Who is in a subnet: its topology, and its end ports and partitions, from two texts alone.
+use Rattle.std.specs.Prelude.{ℕ, ◌≡◌, List, Option, Some, None, Result, Ok, Err}
+use Rattle.partition_file.specs.Members.{no_file}
+use Rattle.partition_file.specs.Partitions.{partitions_of}
+use Rattle.partition_file.specs.Sound.{IsSound as ArePartitions}
+use Rattle.partition_file.specs.declared.partition.Partition.{Partition}
+use Rattle.result_words.specs.AtLine.{AtLine}
+use Rattle.result_words.specs.Gives.{Gives}
+use Rattle.result_words.specs.Steps.{◌>>=◌}
+use Rattle.subnet_core.specs.declared.fault.RunFault.{RunFault}
+use Rattle.subnet_core.specs.declared.fault.RunFault.TheVariants.{NoMemory, Topology, Partitions, Sweep, NoLegalPath, Push, Script}
+use Rattle.subnet_model.specs.Configuration.{Configured}
+use Rattle.subnet_ports.specs.Ports.{configuration_of}
+use Rattle.topo_file.specs.Sound.{IsSound}
+use Rattle.topo_file.specs.Topology.{Plan, topology_of}
+
+-- nodes and cables; and the end ports by LID with their keys, and the partitions
+pub record Rostered : Type 0 where
+  pub plan : Plan
+  pub configuration : Configured
+
+abbrev pub rostered : Plan → List Partition → Rostered
+rostered plan partitions = record { plan = plan; configuration = configuration_of partitions plan }
+
+-- some partitions are those that it lists
+pub record IsRostered (roster : Rostered) : Type 0 where
+  pub topology : IsSound roster.plan
+  pub partitions : List Partition
+  pub sound : ArePartitions partitions
+  pub listed : roster.configuration ≡ configuration_of partitions roster.plan
+
+-- what is wrong with one of the texts, as a fault of the run
+abbrev pub of_text : {X Cause : Type 0} → (ℕ → Cause → RunFault) → Result X (AtLine Cause) → Result X RunFault
+of_text fault (Ok x) = Ok x
+of_text fault (Err at) = Err (fault at.line at.cause)
+
+-- the partitions that a file describes, or those that there are without one
+abbrev pub partitions_for : Option (List ℕ) → Result (List Partition) RunFault
+partitions_for (Some text) = of_text Partitions (partitions_of text)
+partitions_for None = Ok no_file
+
+-- the topology is read first
+unfoldable pub roster_of : List ℕ → Option (List ℕ) → Result Rostered RunFault
+roster_of topology partitions = do
+  plan ← of_text Topology (topology_of topology)
+  all ← partitions_for partitions
+  Ok (rostered plan all)
+
+-- ---- what is answered is what is given, unless memory was refused
+abbrev pub fault_in : RunFault → Option RunFault
+fault_in NoMemory = None
+fault_in (Topology line cause) = Some (Topology line cause)
+fault_in (Partitions line cause) = Some (Partitions line cause)
+fault_in (Sweep fault) = Some (Sweep fault)
+fault_in (NoLegalPath switch node number) = Some (NoLegalPath switch node number)
+fault_in (Push fault) = Some (Push fault)
+fault_in (Script line cause) = Some (Script line cause)
+
+abbrev pub RunGives : {X Y : Type 0} → (X → Y) → Result X RunFault → Result Y RunFault → Type 0
+RunGives view answer given = Gives fault_in view answer given

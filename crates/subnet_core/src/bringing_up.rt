@@ -1,0 +1,105 @@
+//! How a subnet is brought up.
+
+ghost use Rattle.std.specs.Prelude.{◌≡◌, ◌≤◌, length, Err, IfOk};
+ghost use Rattle.std.specs.List.{Contains};
+ghost use Rattle.std.specs.Option.{option_copied};
+ghost use Rattle.subnet_core.specs.BringUp.{Answers, ComesTo, IsStarted, up_from};
+ghost use Rattle.subnet_core.specs.Roster.{roster_of};
+ghost use Rattle.subnet_fabric.specs.BringUp.{HasNoPath, Stops};
+ghost use Rattle.subnet_fabric.specs.Laws.{all_keys};
+ghost use Rattle.subnet_ports.specs.EndPorts.{HaveLidsInOrder};
+
+use crate::fault::RunFault;
+use crate::roster::{Roster, read_roster};
+use crate::subnet::Subnet;
+use fabric_wire::Fabric;
+use pkey_rules::{KeyTable, PARTITIONS};
+use std::alloc::{AllocError, Global};
+use subnet_fabric::{FabricFault, bring_up_fabric};
+use subnet_model::{NodeName, SubnetPort};
+
+/// Brings up the subnet of a topology under a partition file: names its ports by LIDs, and has their LIDs, their keys and
+/// the ways of packets between them written into its fabric. Without a file every end port is a full member of the
+/// default partition.
+pub fn bring_up(
+    alloc: Global,
+    topology: &[u8],
+    partitions: Option<&[u8]>,
+) -> Result<Subnet, RunFault>
+    ensures exact { Answers (λ subnet. subnet.roster) result (roster_of topology.now (option_copied partitions.entry))
+        (up_from (roster_of topology.now (option_copied partitions.entry))) }
+    ensures started { IfOk result IsStarted }
+    ensures lids { IfOk result (λ subnet. HaveLidsInOrder subnet.roster.configuration.ports) }
+{
+    let roster = read_roster(alloc, topology, partitions)?;
+    let fabric = fabric_of(alloc, &roster)?;
+    roster.known_listed();
+    Ok(Subnet::new(alloc, roster, fabric))
+}
+
+/// The fabric of a roster, brought up.
+fn fabric_of(alloc: Global, roster: &Roster) -> Result<Fabric, RunFault>
+    ensures { ComesTo roster.now result }
+{
+    let keys = keys_of(alloc, roster.configuration().ports())?;
+    match bring_up_fabric(alloc, roster.topology(), &keys) {
+        Ok(fabric) => Ok(fabric),
+        Err(fault) => Err(told(roster, fault)),
+    }
+}
+
+/// The keys of these ports, port by port.
+fn keys_of(alloc: Global, ports: &[SubnetPort]) -> Result<Vec<KeyTable<PARTITIONS>>, AllocError>
+    ensures { IfOk result (λ keys. keys.items ≡ all_keys ports.now) }
+{
+    let mut keys = Vec::new(alloc);
+    for port in ports {
+        keys.push(port.keys.clone()?)?;
+    }
+    Ok(keys)
+}
+
+/// The same fault, with names in place of LIDs.
+fn told(roster: &Roster, fault: FabricFault) -> RunFault
+    requires { Stops roster.now.plan fault }
+    ensures { ComesTo roster.now (Err result) }
+{
+    match fault {
+        FabricFault::NoMemory => RunFault::NoMemory,
+        FabricFault::Sweep(fault) => RunFault::Sweep(fault),
+        FabricFault::NoLegalPath { switch, port } => no_legal_path(roster, switch, port),
+        FabricFault::Push(fault) => RunFault::Push(fault),
+    }
+}
+
+fn no_legal_path(roster: &Roster, switch: u16, port: u16) -> RunFault
+    requires { HasNoPath roster.now.plan switch port }
+    ensures { ComesTo roster.now (Err result) }
+{
+    roster.known_listed();
+    let ports = roster.configuration().ports();
+    let from = port_with_lid(ports, switch);
+    let to = port_with_lid(ports, port);
+    RunFault::NoLegalPath {
+        switch: copy_of(&from.node_name),
+        node: copy_of(&to.node_name),
+        number: to.number,
+    }
+}
+
+/// The port of this LID.
+fn port_with_lid(ports: &[SubnetPort], lid: u16) -> &SubnetPort
+    requires order { HaveLidsInOrder ports.now }
+    requires first { 1 ≤ lid }
+    requires last { lid ≤ length ports.now }
+    ensures there { Contains ports.now result.now }
+    ensures lid { result.now.lid ≡ lid }
+{
+    &ports[usize::from(lid) - 1]
+}
+
+fn copy_of(name: &NodeName) -> NodeName
+    ensures { result ≡ name.now }
+{
+    NodeName::new(name.as_slice())
+}

@@ -1,0 +1,128 @@
+//! Who is in a subnet. That takes no fabric.
+
+ghost use Rattle.std.specs.Prelude.{◌≡◌, IfOk};
+ghost use Rattle.std.specs.Option.{option_copied};
+ghost use Rattle.subnet_core.specs.Listing.{listing_text};
+ghost use Rattle.subnet_core.specs.NamedPort.{named_port};
+ghost use Rattle.subnet_core.specs.Roster.{IsRostered, RunGives, of_text, partitions_for, roster_of};
+ghost use Rattle.subnet_core.specs.declared.fault.RunFault.TheVariants as run;
+ghost use Rattle.topo_file.specs.Topology.{topology_of};
+
+use crate::fault::{RunFault, ScriptCause};
+use crate::listing;
+use crate::named_port::named_port;
+use partition_file::{PartFault, Partitions, no_file};
+use std::alloc::{AllocError, Global};
+use std::marker::Model;
+use subnet_model::Configuration;
+use subnet_ports::configuration_of;
+use topo_file::{TopoFault, Topology};
+
+/// A topology under a partition file: its end ports by LID, with their names and keys, and its partitions.
+#[derive(Debug, Drop)]
+pub struct Roster {
+    alloc: Global,
+    topology: Topology,
+    configuration: Configuration,
+}
+
+impl Model for Roster {
+    ghost use Rattle.subnet_core.specs.Roster.{IsRostered, Rostered};
+
+    ghost Value = { Rostered };
+
+    ghost view = { λ roster. record { plan = roster.topology; configuration = roster.configuration } };
+
+    ghost invariant = { λ roster. IsRostered (record { plan = roster.topology; configuration = roster.configuration }) };
+}
+
+/// Reads the texts of a topology and of partitions. Without the second every end port is a full member of the default
+/// partition.
+#[tactic(auto, unfolding(crate::specs::Roster::roster_of))]
+pub fn read_roster(
+    alloc: Global,
+    topology: &[u8],
+    partitions: Option<&[u8]>,
+) -> Result<Roster, RunFault>
+    ensures { RunGives (λ roster. roster) result (roster_of topology.now (option_copied partitions.entry)) }
+{
+    let topology = topology_of(alloc, topology)?;
+    let partitions = partitions_for(alloc, partitions)?;
+    let configuration = configuration_of(alloc, &topology, &partitions)?;
+    topology.known_sound();
+    // What partitions meet is known once they are looked at.
+    let _ = partitions.as_slice();
+    Ok(Roster {
+        alloc,
+        topology,
+        configuration,
+    })
+}
+
+fn topology_of(alloc: Global, text: &[u8]) -> Result<Topology, RunFault>
+    ensures { RunGives (λ topology. topology) result (of_text run.Topology (topology_of text.now)) }
+{
+    match topo_file::read(alloc, text) {
+        Ok(topology) => Ok(topology),
+        Err(TopoFault::NoMemory) => Err(RunFault::NoMemory),
+        Err(TopoFault::At { line, cause }) => Err(RunFault::Topology { line, cause }),
+    }
+}
+
+fn partitions_for(alloc: Global, text: Option<&[u8]>) -> Result<Partitions, RunFault>
+    ensures { RunGives (λ partitions. partitions) result (partitions_for (option_copied text.entry)) }
+{
+    let Some(text) = text else {
+        return Ok(no_file(alloc)?);
+    };
+    match partition_file::read(alloc, text) {
+        Ok(partitions) => Ok(partitions),
+        Err(PartFault::NoMemory) => Err(RunFault::NoMemory),
+        Err(PartFault::At { line, cause }) => Err(RunFault::Partitions { line, cause }),
+    }
+}
+
+impl Roster {
+    /// The nodes and cables.
+    pub fn topology(&self) -> &Topology
+        ensures { result.now ≡ self.now.plan }
+    {
+        &self.topology
+    }
+
+    /// The end ports and the partitions.
+    pub fn configuration(&self) -> &Configuration
+        ensures { result.now ≡ self.now.configuration }
+    {
+        &self.configuration
+    }
+
+    /// The GUID of the end port that a word names as the listing prints it: a port of a channel adapter that has a
+    /// cable, or port 0 of a switch.
+    pub fn named_port(&self, word: &[u8]) -> Result<u64, ScriptCause>
+        ensures { result ≡ named_port self.now.plan word.now }
+    {
+        named_port(&self.topology, word)
+    }
+
+    /// Who is in the subnet, as it is printed in ASCII: a line for each end port by LID, then for each
+    /// partition its line, and a line for each of its members by LID, with the key that it holds.
+    pub fn listing(&self) -> Result<Vec<u8>, AllocError>
+        ensures { IfOk result (λ text. text.items ≡ listing_text self.now.configuration) }
+    {
+        listing::listing_text(self.alloc, &self.configuration)
+    }
+
+    pub(crate) fn into_configuration(self) -> Configuration
+        ensures { result ≡ self.configuration }
+    {
+        self.configuration
+    }
+
+    /// Some partitions are those that are listed.
+    pub(crate) fn known_listed(&self)
+        ensures { IsRostered self.now }
+    {
+        let _ = &self.topology;
+    }
+}

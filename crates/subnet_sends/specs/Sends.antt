@@ -1,0 +1,54 @@
+-- What comes of a command to send, by what the ports and switches of a fabric hold (InfiniBand volume 1, chapter 14).
+use Rattle.std.specs.Prelude.{ℕ, ◌≡◌, true, false, List, [], ◌∷◌, map, Some, Result, Ok, Err}
+use Rattle.data_packet.specs.declared.packet.Packet.{Packet}
+use Rattle.data_packet.specs.declared.refusal.Refusal.{Refusal}
+use Rattle.fabric_parts.specs.declared.cable.PortRef.{PortRef}
+use Rattle.packet_ways.specs.Deliveries.{AreDeliveries, Delivered, HasPort, adapter_at}
+use Rattle.port_model.specs.AdapterState.{AdapterState}
+use Rattle.port_model.specs.Packets.{stamped}
+use Rattle.smp_wire.specs.FabricState.{FabricState}
+use Rattle.subnet_model.specs.Delivery.{is_for_sa}
+use Rattle.subnet_model.specs.Report.{sent_from}
+use Rattle.subnet_model.specs.declared.command.SendCommand.{SendCommand}
+use Rattle.subnet_model.specs.declared.event.Event.{Event as SubnetEvent}
+use Rattle.subnet_model.specs.declared.event.Outcome.TheVariants.{Refused as RefusedToSend}
+use Rattle.subnet_model.specs.declared.subnet_port.SubnetPort.{SubnetPort}
+use Rattle.subnet_ways.specs.Laws.{IsSender, told}
+use Rattle.subnet_ways.specs.OfFabric.{IsFabricOf}
+use Rattle.subnet_sends.specs.declared.event.Event.{Event}
+use Rattle.subnet_sends.specs.declared.event.Event.TheVariants.{Received, Refused}
+
+-- an event of a fabric's port, as a subnet tells it
+abbrev pub event_of : Event → SubnetEvent
+event_of (Received delivered) = told delivered
+event_of (Refused port_guid refusal) = record { port_guid = port_guid; what = RefusedToSend refusal }
+
+-- some port of a channel adapter has the command's GUID, and its stamp gives this: a packet, or why it sends none
+pub record Stamps (fabric : FabricState) (command : SendCommand) (given : Result Packet Refusal) : Type 0 where
+  pub at : PortRef
+  pub sender : AdapterState
+  pub there : adapter_at fabric.nodes at ≡ Some sender
+  pub guid : sender.port_guid ≡ command.port_guid
+  pub gives : stamped sender command.dlid command.p_key command.destination_qp command.payload ≡ given
+
+-- the packet is received at each port that it reaches from the one of that GUID, and nothing else happens
+pub record AreReceived (fabric : FabricState) (sender : ℕ) (packet : Packet) (events : List Event) : Type 0 where
+  pub deliveries : List Delivered
+  pub are : AreDeliveries fabric sender packet deliveries
+  pub told : events ≡ map Received deliveries
+
+-- these events come of the command
+pub record ComesOf (fabric : FabricState) (command : SendCommand) (events : List Event) : Type 0 where
+  -- where no port of a channel adapter has its GUID, nothing happens
+  pub nobody : (HasPort fabric.nodes command.port_guid → ⊥) → events ≡ []
+  pub refused : (refusal : Refusal) → Stamps fabric command (Err refusal) → events ≡ Refused command.port_guid refusal ∷ []
+  -- what is for the subnet administration is not carried
+  pub for_sa : (packet : Packet) → Stamps fabric command (Ok packet) → is_for_sa command ≡ true → events ≡ []
+  pub carried : (packet : Packet) → Stamps fabric command (Ok packet) → is_for_sa command ≡ false
+      → AreReceived fabric command.port_guid packet events
+
+-- in the fabric of a list of ports, these events are what the list tells of the command
+abbrev pub AreAsListed : FabricState → SendCommand → List Event → Type 0
+AreAsListed fabric command events =
+    (ports : List SubnetPort) (sender : SubnetPort) → IsFabricOf ports fabric → IsSender ports command sender
+    → map event_of events ≡ sent_from (Some sender) ports command
