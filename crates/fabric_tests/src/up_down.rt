@@ -3,7 +3,7 @@
 mod searches;
 
 use crate::fixtures::{graph_of_text, two_switch_graph};
-use example_texts::TWO_SWITCHES;
+use example_texts::{ADAPTERS_BELOW_ROOTS, ADAPTERS_ON_ROOTS, TWO_SWITCHES};
 use lid_assign::assign;
 use std::alloc::Global;
 use std::process::Abort;
@@ -11,40 +11,7 @@ use std::test::Fail;
 use sweep::Graph;
 use updn_routes::{RouteFault, Routes, are_switches, routes};
 
-/// Roots R1 and R2, and L1 and L2 below both; h0 on L1 and h1 on L2.
-const FOUR_SWITCHES: &str = "\
-switch R1 0x10 4
-switch R2 0x20 4
-switch L1 0x30 4
-switch L2 0x40 4
-adapter h0 0x100 1
-adapter h1 0x110 1
-cable R1/1 L1/1
-cable R1/2 L2/1
-cable R2/1 L1/2
-cable R2/2 L2/2
-cable h0/1 L1/3
-cable h1/1 L2/3
-sm h0/1
-";
-
-/// The same, with h0 on R1 and h1 on R2.
-const ADAPTERS_ON_ROOTS: &str = "\
-switch R1 0x10 4
-switch R2 0x20 4
-switch L1 0x30 4
-switch L2 0x40 4
-adapter h0 0x100 1
-adapter h1 0x110 1
-cable R1/1 L1/1
-cable R1/2 L2/1
-cable R2/1 L1/2
-cable R2/2 L2/2
-cable h0/1 R1/3
-cable h1/1 R2/3
-sm h0/1
-";
-
+/// The roots of the fabrics with four switches.
 const ROOTS: [u64; 2] = [0x10, 0x20];
 
 /// The routes of a graph, with these roots named.
@@ -109,7 +76,7 @@ fn are_numbered(rt: &impl Abort, routes: &Routes) {
 
 #[test]
 fn of_two_equal_ways_the_lesser_port_is_taken(rt: HostRuntime) -> Result<(), Fail> {
-    let graph = graph_of_text(rt.alloc(), FOUR_SWITCHES.as_bytes())?;
+    let graph = graph_of_text(rt.alloc(), ADAPTERS_BELOW_ROOTS.as_bytes())?;
     let routes = routes_of(rt.alloc(), graph, &ROOTS).or(Err("routes"))?;
     // L1, on which the subnet manager's port hangs, is found first; h1 has LID 6.
     sends(

@@ -1,24 +1,18 @@
 -- A run that is answered keeps partitions apart.
-use Rattle.std.proofs.Common.{◌≡◌, ℕ, ◌+◌, ◌≤◌, false, ◌==◌, List, [], ◌∷◌, length, map, Option, Some, None, Result, Ok, Err, IfOk, refl, sym, ap, subst, arith}
-use Rattle.std.specs.List.{IsDistinct, AllByRecursion, range_with_len}
-use Rattle.std.proofs.lemmas.Bool.Decides.{nat_tests}
+use Rattle.std.proofs.Common.{◌≡◌, ℕ, List, Option, Some, None, Result, Ok, Err, IfOk, refl, sym, ap, subst}
 use Rattle.topo_file.specs.Topology.{Plan, topology_of}
 use Rattle.partition_file.specs.declared.partition.Partition.{Partition}
 use Rattle.subnet_model.proofs.IsolationLemmas.{report_is_isolated, slids_name_their_ports}
-use Rattle.subnet_model.specs.declared.subnet_port.SubnetPort.{SubnetPort}
 use Rattle.subnet_model.specs.declared.command.Command.{Command}
-use Rattle.subnet_model.specs.Source.{same_lid}
-use Rattle.subnet_core.specs.BringUp.{Answers, unless_stopped, up_from}
+use Rattle.subnet_core.specs.BringUp.{Answers, up_from}
 use Rattle.subnet_core.specs.declared.fault.RunFault.{RunFault}
-use Rattle.subnet_core.specs.declared.fault.RunFault.TheVariants.{Script}
 use Rattle.subnet_core.specs.Headline.{KeepsPartitionsApart}
-use Rattle.subnet_core.specs.Roster.{Rostered, of_text, partitions_for, roster_of, rostered}
+use Rattle.subnet_core.specs.Roster.{partitions_for, roster_of, rostered}
 use Rattle.subnet_core.specs.Run.{ReportState, report_of, told_of}
 use Rattle.subnet_core.specs.Script.{commands_in}
 use Rattle.subnet_ports.specs.Ports.{configuration_of, ports_of}
 use Rattle.subnet_ports.specs.EndPorts.{HaveLidsInOrder}
 use Rattle.subnet_ports.proofs.LidLemmas.{own_lids}
-use Rattle.result_words.specs.Steps.{◌>>=◌}
 
 -- the roster of texts that are accepted
 rosters : (topology : List ℕ) (partitions : Option (List ℕ)) (plan : Plan) (all : List Partition) → topology_of topology ≡ Ok plan

@@ -2,6 +2,8 @@ pub mod CommandLemmas
 pub mod HeadlineLemmas
 pub mod BringUpLemmas
 pub mod RunLemmas
+pub mod SenderLemmas
+pub mod StepLemmas
 pub mod ListingLemmas
 pub mod PayloadLemmas
 pub mod EventLinesLemmas

@@ -1,7 +1,6 @@
 -- What a run answers once its subnet is up.
-use Rattle.std.proofs.Common.{ℕ, ◌≡◌, List, Option, Some, None, Result, Ok, Err, refl}
+use Rattle.std.proofs.Common.{ℕ, ◌≡◌, List, Option, Some, None, Ok, Err, refl}
 use Rattle.result_words.specs.Gives.{Fails}
-use Rattle.result_words.specs.Steps.{◌>>=◌}
 use Rattle.subnet_core.specs.BringUp.{FailsWith, WithFabric, up_from}
 use Rattle.subnet_core.specs.Roster.{Rostered, of_text, roster_of}
 use Rattle.subnet_core.specs.Run.{report_of, told_of}

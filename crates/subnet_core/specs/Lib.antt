@@ -5,6 +5,8 @@ pub mod Seen
 pub mod Roster
 pub mod BringUp
 pub mod Run
+pub mod Senders
+pub mod Laws
 pub mod EventLines
 pub mod Listing
 pub mod Headline

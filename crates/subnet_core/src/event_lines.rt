@@ -1,4 +1,5 @@
-ghost use Rattle.std.specs.Prelude.{◌≡◌, ◌≤◌, ◌++◌, [], ◌∷◌, length, OnOk, IfOk};
+ghost use Rattle.std.specs.Prelude.{◌≡◌, ◌≤◌, ◌++◌, [], ◌∷◌, length, map, OnOk, IfOk};
+ghost use Rattle.subnet_sends.specs.Sends.{event_of};
 ghost use Rattle.data_packet.specs.declared.payload.TheConstants.{PAYLOAD_BYTES};
 ghost use Rattle.subnet_model.specs.Delivery.{port_with_guid};
 ghost use Rattle.subnet_core.specs.EventLines.{name_text, trimmed, payload_text, packet_text, outcome_text, line_text, report_text};
@@ -6,7 +7,8 @@ ghost use Rattle.subnet_core.specs.EventLines.{name_text, trimmed, payload_text,
 use data_packet::{PAYLOAD_BYTES, Packet};
 use line_parts::{digits_of, push_decimal, push_hex, push_port};
 use std::alloc::{AllocError, Global};
-use subnet_model::{Event, Outcome, SubnetPort, port_with_guid};
+use subnet_model::{SubnetPort, port_with_guid};
+use subnet_sends::Event;
 
 /// The lines of these events, one each.
 pub(crate) fn report_text(
@@ -14,7 +16,7 @@ pub(crate) fn report_text(
     ports: &[SubnetPort],
     events: &[Event],
 ) -> Result<Vec<u8>, AllocError>
-    ensures { IfOk result (λ text. text.items ≡ report_text ports.now events.now) }
+    ensures { IfOk result (λ text. text.items ≡ report_text ports.now (map event_of events.now)) }
 {
     let mut text = Vec::new(alloc);
     for event in events {
@@ -24,10 +26,10 @@ pub(crate) fn report_text(
 }
 
 fn push_line(text: &mut Vec<u8>, ports: &[SubnetPort], event: &Event) -> Result<(), AllocError>
-    ensures { OnOk result (text.new.items ≡ text.old.items ++ line_text ports.now event.now) }
+    ensures { OnOk result (text.new.items ≡ text.old.items ++ line_text ports.now (event_of event.now)) }
 {
-    push_name(text, ports, event.port_guid)?;
-    push_outcome(text, &event.what)?;
+    push_name(text, ports, event.port_guid())?;
+    push_outcome(text, event)?;
     text.push(b'\n')?;
     Ok(())
 }
@@ -41,12 +43,12 @@ fn push_name(text: &mut Vec<u8>, ports: &[SubnetPort], guid: u64) -> Result<(), 
     }
 }
 
-fn push_outcome(text: &mut Vec<u8>, what: &Outcome) -> Result<(), AllocError>
-    ensures { OnOk result (text.new.items ≡ text.old.items ++ outcome_text what.now) }
+fn push_outcome(text: &mut Vec<u8>, event: &Event) -> Result<(), AllocError>
+    ensures { OnOk result (text.new.items ≡ text.old.items ++ outcome_text (event_of event.now).what) }
 {
-    match what {
-        Outcome::Received(packet) => push_packet(text, packet),
-        Outcome::Refused(refusal) => {
+    match event {
+        Event::Received(delivery) => push_packet(text, delivery.packet()),
+        Event::Refused { refusal, .. } => {
             text.extend_from_slice(b" refused ")?;
             text.extend_from_slice(refusal.code().as_bytes())
         }

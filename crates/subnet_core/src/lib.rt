@@ -4,13 +4,15 @@
 //! the three texts stand for (`specs/Run.antt`), and its clause `private` that what a port receives
 //! depends only on the ports that share a partition with it (`specs/Headline.antt`). [`bring_up`],
 //! [`Subnet::parse`] and [`Subnet::step`] do the same piece by piece, and [`Report::text`] prints it. A subnet is brought
-//! up over the simulated fabric of its topology, and `specs/BringUp.antt` says when that fails. Who is in a subnet takes
-//! no fabric: [`read_roster`] reads it, and [`Roster::listing`] prints it (`specs/Listing.antt`).
+//! up over the simulated fabric of its topology, and `specs/BringUp.antt` says when that fails; each step carries its
+//! command over that fabric, and tells what the list of ports tells (`specs/Senders.antt`). Who is in a subnet takes no
+//! fabric: [`read_roster`] reads it, and [`Roster::listing`] prints it (`specs/Listing.antt`).
 #![tactic(auto)]
 
 mod bringing_up;
 mod event_lines;
 mod fault;
+mod laws;
 mod listing;
 mod named_port;
 mod report;
@@ -21,6 +23,7 @@ mod subnet;
 
 pub use crate::bringing_up::bring_up;
 pub use crate::fault::{RunFault, ScriptCause, StepFault};
+pub use crate::laws::each_command_names_a_sender;
 pub use crate::report::Report;
 pub use crate::roster::{Roster, read_roster};
 pub use crate::running::run;

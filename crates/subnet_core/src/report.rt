@@ -1,10 +1,12 @@
-ghost use Rattle.std.specs.Prelude.{◌≡◌, IfOk};
+ghost use Rattle.std.specs.Prelude.{◌≡◌, map, IfOk};
+ghost use Rattle.subnet_sends.specs.Sends.{event_of};
 ghost use Rattle.subnet_core.specs.EventLines.{report_text};
 
 use crate::event_lines;
 use std::alloc::{AllocError, Global};
 use std::marker::Model;
-use subnet_model::{Configuration, Event};
+use subnet_model::Configuration;
+use subnet_sends::Event;
 
 /// What happened in a run: its events, in order, at ports that have names.
 #[derive(Debug, Drop)]
@@ -15,18 +17,20 @@ pub struct Report {
 }
 
 impl Model for Report {
+    ghost use Rattle.std.specs.Prelude.{map};
     ghost use Rattle.subnet_core.specs.Run.{ReportState};
+    ghost use Rattle.subnet_sends.specs.Sends.{event_of};
 
     ghost Value = { ReportState };
 
-    ghost view = { λ report. record { ports = report.configuration.ports; events = report.events.items } };
+    ghost view = { λ report. record { ports = report.configuration.ports; events = map event_of report.events.items } };
 }
 
 impl Report {
     ghost use Rattle.subnet_core.specs.Run.{ReportState};
 
     pub(crate) fn new(alloc: Global, configuration: Configuration, events: Vec<Event>) -> Report
-        ensures { result ≡ record { ports = configuration.ports; events = events.items } }
+        ensures { result ≡ record { ports = configuration.ports; events = map event_of events.items } }
     {
         Report {
             alloc,
@@ -37,7 +41,7 @@ impl Report {
 
     /// The events, in order.
     pub fn events(&self) -> &[Event]
-        ensures { result.now ≡ self.now.events }
+        ensures { map event_of result.now ≡ self.now.events }
     {
         self.events.as_slice()
     }

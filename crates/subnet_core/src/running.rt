@@ -47,6 +47,7 @@ fn in_turn(
 {
     let subnet = bring_up(alloc, topology, partitions)?;
     let commands = commands_in(alloc, &subnet, script)?;
+    subnet.roster().known_listed();
     Ok(subnet.report(&commands)?)
 }
 

@@ -1,10 +1,13 @@
-ghost use Rattle.std.specs.Prelude.{◌≡◌, true, ◌↔◌, IsErrOf, IfOk, OnOk, OnErr};
-ghost use Rattle.subnet_model.specs.Report.{step};
+ghost use Rattle.std.specs.Prelude.{◌≡◌, true, ◌↔◌, ◌++◌, map, All, IsErrOf, IfOk, IfSome, OnOk, OnErr};
+ghost use Rattle.subnet_model.specs.Report.{events_from, step};
 ghost use Rattle.subnet_model.specs.State.{start};
 ghost use Rattle.subnet_core.specs.BringUp.{IsStarted, IsUp};
 ghost use Rattle.subnet_core.specs.Listing.{listing_text};
 ghost use Rattle.subnet_core.specs.Roster.{RunGives};
 ghost use Rattle.subnet_core.specs.Run.{parsed, told_of};
+ghost use Rattle.subnet_core.specs.Senders.{Comes, NamesSender};
+ghost use Rattle.subnet_model.specs.declared.command.Command.TheVariants.{Send};
+ghost use Rattle.subnet_sends.specs.Sends.{ComesOf, event_of};
 
 use crate::fault::{RunFault, StepFault};
 use crate::report::Report;
@@ -13,7 +16,8 @@ use crate::script;
 use fabric_wire::Fabric;
 use std::alloc::{AllocError, Global};
 use std::marker::Model;
-use subnet_model::{Command, Event, State, carry_out, step};
+use subnet_model::{Command, SendCommand, State};
+use subnet_sends::{Event, send};
 
 /// A subnet that was brought up and takes commands one by one.
 #[derive(Debug, Drop)]
@@ -72,6 +76,14 @@ impl Subnet {
         &self.fabric
     }
 
+    /// Who is in it, and its fabric, which then can be asked by SMPs; no command is taken any more.
+    pub fn into_parts(self) -> (Roster, Fabric)
+        ensures parts { (result.0 ≡ self.roster) × (result.1 ≡ self.fabric) }
+        ensures up { IsUp result.0 result.1 }
+    {
+        (self.roster, self.fabric)
+    }
+
     /// Who is in it, as [`Roster::listing`] prints it.
     pub fn listing(&self) -> Result<Vec<u8>, AllocError>
         ensures { IfOk result (λ text. text.items ≡ listing_text self.now.roster.configuration) }
@@ -82,8 +94,10 @@ impl Subnet {
     /// The command that a line gives; none for a line without words. The line may have its LF and
     /// its comment; `number` is told with a fault, and nothing changes.
     pub fn parse(&self, number: usize, line: &[u8]) -> Result<Option<Command>, RunFault>
-        ensures { RunGives (λ command. command) result (parsed self.now.roster.plan number line.now) }
+        ensures exact { RunGives (λ command. command) result (parsed self.now.roster.plan number line.now) }
+        ensures sender { IfOk result (λ command. IfSome command (NamesSender self.now.roster.configuration.ports)) }
     {
+        self.roster.known_listed();
         match script::command_of(self.roster.topology(), line) {
             Ok(command) => Ok(command),
             Err(cause) => Err(RunFault::Script {
@@ -93,12 +107,17 @@ impl Subnet {
         }
     }
 
-    /// Carries out one command, and tells its events in order. Once memory was refused the subnet is broken
-    /// for good: every later step answers `Broken`. Its roster and its fabric stay, so that lines can be
-    /// parsed and members listed; what it remembers may be anything.
+    /// Carries out one command over the fabric, and tells its events in order. Once memory was refused the subnet is
+    /// broken for good: every later step answers `Broken`. Its roster and its fabric stay, so that lines can be parsed
+    /// and members listed; what it remembers may be anything.
+    ///
+    /// A command of [`Subnet::parse`] names a listed port of a channel adapter; `comes` holds of any other too.
     pub fn step(&mut self, command: &Command) -> Result<Vec<Event>, StepFault>
-        ensures events { IfOk result (λ events.
-            events.items ≡ (step self.old.roster.configuration self.old.state command.now).0) }
+        // What comes of a command is said by what the ports and switches of the fabric hold.
+        ensures comes { IfOk result (λ events. Comes self.old.fabric command.now events.items) }
+        // And it is what the list of ports tells.
+        ensures events { IfOk result (λ events. NamesSender self.old.roster.configuration.ports command.now
+            → map event_of events.items ≡ (step self.old.roster.configuration self.old.state command.now).0) }
         ensures next { OnOk result (self.new
             ≡ record self.old { state = (step self.old.roster.configuration self.old.state command.now).1 }) }
         ensures broken { IsErrOf result StepFault.Broken ↔ (self.old.is_broken ≡ true) }
@@ -109,14 +128,8 @@ impl Subnet {
         if self.is_broken {
             return Err(StepFault::Broken);
         }
-        let mut events = Vec::new(self.alloc);
-        match step(
-            &mut events,
-            self.roster.configuration(),
-            &mut self.state,
-            command,
-        ) {
-            Ok(()) => Ok(events),
+        match self.events_of(command) {
+            Ok(events) => Ok(events),
             Err(_) => {
                 self.is_broken = true;
                 Err(StepFault::NoMemory)
@@ -124,20 +137,53 @@ impl Subnet {
         }
     }
 
-    /// What is told of commands that are carried out one after another from the start. Memory alone can be refused.
-    pub(crate) fn report(self, commands: &[Command]) -> Result<Report, AllocError>
-        requires { self.state ≡ start self.roster.configuration }
+    /// What comes of a command.
+    fn events_of(&self, command: &Command) -> Result<Vec<Event>, AllocError>
+        ensures comes { IfOk result (λ events. Comes self.now.fabric command.now events.items) }
+        ensures events { IfOk result (λ events. NamesSender self.now.roster.configuration.ports command.now
+            → map event_of events.items ≡ (step self.now.roster.configuration self.now.state command.now).0) }
+    {
+        match command {
+            Command::Send(command) => self.sent(command),
+        }
+    }
+
+    /// What comes of a command to send.
+    fn sent(&self, command: &SendCommand) -> Result<Vec<Event>, AllocError>
+        ensures comes { IfOk result (λ events. ComesOf self.now.fabric command.now events.items) }
+        ensures events { IfOk result (λ events. NamesSender self.now.roster.configuration.ports (Send command.now)
+            → map event_of events.items ≡ (step self.now.roster.configuration self.now.state (Send command.now)).0) }
+    {
+        self.roster.known_listed();
+        send(self.alloc, &self.fabric, command)
+    }
+
+    /// What is told of commands that are carried out one after another from the start.
+    pub(crate) fn report(self, commands: &[Command]) -> Result<Report, StepFault>
+        requires fresh { self.state ≡ start self.roster.configuration }
+        requires senders { All (NamesSender self.roster.configuration.ports) commands.now }
         ensures { IfOk result (λ report. report ≡ told_of self.roster.configuration commands.now) }
     {
         let mut subnet = self;
         let mut events = Vec::new(subnet.alloc);
-        carry_out(
-            &mut events,
-            subnet.roster.configuration(),
-            &mut subnet.state,
-            commands,
-        )?;
+        subnet.carry_out(&mut events, commands)?;
         let configuration = subnet.roster.into_configuration();
         Ok(Report::new(subnet.alloc, configuration, events))
+    }
+
+    /// Carries out commands one after another, and adds their events to those before.
+    fn carry_out(&mut self, events: &mut Vec<Event>, commands: &[Command]) -> Result<(), StepFault>
+        requires { All (NamesSender self.old.roster.configuration.ports) commands.now }
+        ensures events { OnOk result (map event_of events.new.items
+            ≡ map event_of events.old.items ++ events_from (step self.old.roster.configuration) self.old.state commands.now) }
+        ensures roster { OnOk result (self.new.roster ≡ self.old.roster) }
+    {
+        for command in commands {
+            let mut more = self.step(command)?;
+            if events.append(&mut more).is_err() {
+                return Err(StepFault::NoMemory);
+            }
+        }
+        Ok(())
     }
 }

@@ -1,3 +1,6 @@
+ghost use Rattle.std.specs.Prelude.{◌≡◌};
+ghost use Rattle.subnet_sends.specs.Sends.{event_of};
+
 use data_packet::Refusal;
 use fabric_wire::Delivery;
 
@@ -14,4 +17,16 @@ pub enum Event {
         /// Why it does.
         refusal: Refusal,
     },
+}
+
+impl Event {
+    /// The GUID of the port at which it happens.
+    pub fn port_guid(&self) -> u64
+        ensures { result ≡ (event_of self.now).port_guid }
+    {
+        match self {
+            Event::Received(delivery) => delivery.port(),
+            Event::Refused { port_guid, .. } => *port_guid,
+        }
+    }
 }

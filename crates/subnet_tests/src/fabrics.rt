@@ -2,7 +2,7 @@
 
 ghost use Rattle.std.specs.Prelude.{◌≤◌};
 
-use example_texts::TWO_SWITCHES;
+use example_texts::{ADAPTERS_BELOW_ROOTS, ADAPTERS_ON_ROOTS, TWO_SWITCHES};
 use std::alloc::Global;
 use std::test::Fail;
 use subnet_core::{RunFault, run};
@@ -11,44 +11,6 @@ use subnet_model::NodeName;
 use sweep::SweepFault;
 use test_fabrics::{put, put_line};
 use topo_file::TopoFault;
-
-/// Roots R1 and R2, and L1 and L2 below both; h0 on L1 and h1 on L2.
-const ADAPTERS_BELOW: &str = "\
-switch R1 0x10 4
-switch R2 0x20 4
-switch L1 0x30 4
-switch L2 0x40 4
-adapter h0 0x100 1
-adapter h1 0x110 1
-cable R1/1 L1/1
-cable R1/2 L2/1
-cable R2/1 L1/2
-cable R2/2 L2/2
-cable h0/1 L1/3
-cable h1/1 L2/3
-root R1
-root R2
-sm h0/1
-";
-
-/// The same, with h0 on R1 and h1 on R2: what leads down to a leaf may not lead up again.
-const ADAPTERS_ON_ROOTS: &str = "\
-switch R1 0x10 4
-switch R2 0x20 4
-switch L1 0x30 4
-switch L2 0x40 4
-adapter h0 0x100 1
-adapter h1 0x110 1
-cable R1/1 L1/1
-cable R1/2 L2/1
-cable R2/1 L1/2
-cable R2/2 L2/2
-cable h0/1 R1/3
-cable h1/1 R2/3
-root R1
-root R2
-sm h0/1
-";
 
 /// A row of so many switches, the subnet manager on the first.
 fn row_of(alloc: Global, switches: u16) -> Result<Vec<u8>, Fail>
@@ -97,7 +59,10 @@ fn a_cable_of_64_hops_is_too_far(rt: HostRuntime) -> Result<(), Fail> {
 
 #[test]
 fn adapters_below_two_roots_reach_each_other(rt: HostRuntime) -> Result<(), Fail> {
-    assert_eq!(rt; fault_of(rt.alloc(), ADAPTERS_BELOW.as_bytes())?, None);
+    assert_eq!(rt;
+        fault_of(rt.alloc(), ADAPTERS_BELOW_ROOTS.as_bytes())?,
+        None
+    );
     Ok(())
 }
 

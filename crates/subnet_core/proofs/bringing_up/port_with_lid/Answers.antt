@@ -1,4 +1,4 @@
-use Rattle.std.proofs.Common.{◌-◌, ◌+◌, ◌<◌, ◌≤◌, ◌≡◌, length, sym, arith}
+use Rattle.std.proofs.Common.{◌-◌, ◌<◌, length, sym, arith}
 use Rattle.subnet_core.proofs.BringUpLemmas.{lid_at}
 use Rattle.subnet_core.proofs.bringing_up.port_with_lid.Goals as goal
 

@@ -1,6 +1,9 @@
 use Rattle.std.specs.Option.{option_copied}
 use Rattle.std.proofs.lemmas.Result.{err_from_is_err_and}
+use Rattle.subnet_core.proofs.CommandLemmas.{text_is_good}
 use Rattle.subnet_core.proofs.RunLemmas.{run_stops, run_tells, script_fails}
+use Rattle.subnet_core.proofs.SenderLemmas.{commands_name_senders}
+use Rattle.subnet_core.specs.declared.fault.RunFault.TheVariants.{Script}
 use Rattle.subnet_core.proofs.running.in_turn.Goals as goal
 
 pub returns-in_err-subnet-clause-exact : goal.returns-in_err-subnet-clause-exact
@@ -13,6 +16,11 @@ returns-in_err-commands-clause-exact c =
     let p = err_from_is_err_and c.from_residual-in_err-commands.result c.from_residual-in_err-commands.ensures.1 in
     rw (p.1, p.2)
     (script_fails c.args.topology.now (option_copied c.args.partitions) c.args.script.now _ _ c.in_ok-subnet.ensures.exact c.in_err-commands.ensures)
+
+pub report-requires-clause-senders : goal.report-requires-clause-senders
+report-requires-clause-senders c =
+    rw c.deref.ensures.value
+    (commands_name_senders c.in_ok-subnet.subnet.roster (rw c.roster.ensures at c.known_listed.ensures) c.args.script.now c.in_ok-commands.commands.items (text_is_good Script _ _ c.in_ok-commands.ensures))
 
 pub returns-clause-exact : goal.returns-clause-exact
 returns-clause-exact c =
