@@ -1,0 +1,5 @@
+use Rattle.sa_model.proofs.SoundLemmas.{joined_sound}
+use Rattle.sa_model.proofs.laws.joins_keep_sound.Goals as goal
+
+pub returns : goal.returns
+returns c = joined_sound

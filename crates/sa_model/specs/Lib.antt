@@ -1,0 +1,10 @@
+pub mod JoinState
+pub mod Members
+pub mod Groups
+pub mod Anchor
+pub mod Joining
+pub mod Leaving
+pub mod Delivery
+pub mod Sound
+pub mod Sight
+pub mod Laws
