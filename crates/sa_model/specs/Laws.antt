@@ -1,11 +1,13 @@
 -- What holds of the multicast groups of every subnet.
-use Rattle.std.specs.Prelude.{◌≡◌, true, List}
+use Rattle.std.specs.Prelude.{ℕ, ◌≡◌, true, false, List}
 use Rattle.subnet_model.specs.declared.subnet_port.SubnetPort.{SubnetPort}
+use Rattle.subnet_model.specs.Near.{is_near}
 use Rattle.subnet_model.specs.Configuration.{Configured}
 use Rattle.sa_model.specs.Groups.{PartitionGroups, start_of}
 use Rattle.sa_model.specs.Joining.{Join, joined}
 use Rattle.sa_model.specs.Leaving.{Leave, left}
 use Rattle.sa_model.specs.Sound.{is_sound}
+use Rattle.sa_model.specs.Sight.{Alike}
 
 abbrev pub StartsAreSound : Type 0
 StartsAreSound = (ports : List SubnetPort) (configuration : Configured) → is_sound ports (start_of configuration) ≡ true
@@ -19,3 +21,26 @@ abbrev pub LeavesKeepSound : Type 0
 LeavesKeepSound =
     (ports : List SubnetPort) (leave : Leave) (partitions : List PartitionGroups) → is_sound ports partitions ≡ true
     → is_sound ports (left ports leave partitions) ≡ true
+
+-- a leave of a port that is far from p leaves what p sees as it was
+abbrev pub FarLeavesAreNotSeen : Type 0
+FarLeavesAreNotSeen =
+    (ports : List SubnetPort) (p : ℕ) (leave : Leave) (s t : List PartitionGroups) → is_near ports p leave.port ≡ false
+    → Alike ports p s t → Alike ports p (left ports leave s) t
+
+-- one of any port leaves what p sees the same where it was the same
+abbrev pub LeavesAreSeenAlike : Type 0
+LeavesAreSeenAlike =
+    (ports : List SubnetPort) (p : ℕ) (leave : Leave) (s t : List PartitionGroups) → Alike ports p s t
+    → Alike ports p (left ports leave s) (left ports leave t)
+
+-- so it is with joins; where the join is of a port near p, what p sees stays the same where it was the same
+abbrev pub FarJoinsAreNotSeen : Type 0
+FarJoinsAreNotSeen =
+    (ports : List SubnetPort) (p : ℕ) (join : Join) (s t : List PartitionGroups) → is_near ports p join.port ≡ false
+    → Alike ports p s t → Alike ports p (joined ports join s) t
+
+abbrev pub NearJoinsAreSeenAlike : Type 0
+NearJoinsAreSeenAlike =
+    (ports : List SubnetPort) (p : ℕ) (join : Join) (s t : List PartitionGroups) → is_near ports p join.port ≡ true
+    → Alike ports p s t → Alike ports p (joined ports join s) (joined ports join t)

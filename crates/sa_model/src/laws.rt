@@ -1,7 +1,7 @@
 //! The laws of multicast groups, over the definitions alone. Each function does nothing: its contract
 //! is the law.
 
-ghost use Rattle.sa_model.specs.Laws.{JoinsKeepSound, LeavesKeepSound, StartsAreSound};
+ghost use Rattle.sa_model.specs.Laws.{FarJoinsAreNotSeen, FarLeavesAreNotSeen, JoinsKeepSound, LeavesAreSeenAlike, LeavesKeepSound, NearJoinsAreSeenAlike, StartsAreSound};
 
 /// At the start the groups of every partition are sound.
 pub fn starts_are_sound()
@@ -16,4 +16,24 @@ pub fn joins_keep_sound()
 /// A leave keeps sound groups sound.
 pub fn leaves_keep_sound()
     ensures { LeavesKeepSound }
+{}
+
+/// A leave of a port that is far from another leaves what that one sees of groups as it was.
+pub fn far_leaves_are_not_seen()
+    ensures { FarLeavesAreNotSeen }
+{}
+
+/// A leave leaves two states alike to a port that were alike to it.
+pub fn leaves_are_seen_alike()
+    ensures { LeavesAreSeenAlike }
+{}
+
+/// A join of a port that is far from another leaves what that one sees of groups as it was.
+pub fn far_joins_are_not_seen()
+    ensures { FarJoinsAreNotSeen }
+{}
+
+/// A join of a port near another leaves two states alike to that one that were alike to it.
+pub fn near_joins_are_seen_alike()
+    ensures { NearJoinsAreSeenAlike }
 {}

@@ -3,4 +3,7 @@
 
 mod laws;
 
-pub use crate::laws::{joins_keep_sound, leaves_keep_sound, starts_are_sound};
+pub use crate::laws::{
+    far_joins_are_not_seen, far_leaves_are_not_seen, joins_keep_sound, leaves_are_seen_alike,
+    leaves_keep_sound, near_joins_are_seen_alike, starts_are_sound,
+};
