@@ -11,7 +11,7 @@ use Rattle.sa_model.specs.Groups.{Membership, MulticastGroup, PartitionGroups}
 use Rattle.sa_model.specs.Anchor.{free_mlid, mlid_range}
 use Rattle.sa_model.specs.Joining.{Join, may_join, may_create, has_mgid, is_of, more_joined, with_member, joined_group, new_group, with_group, with_created, joined_groups, joined_in, joined}
 use Rattle.sa_model.specs.Sight.{group_seen, partition_seen, Alike}
-use Rattle.sa_model.proofs.SoundLemmas.{more_port, joined_sound}
+use Rattle.sa_model.proofs.JoinSoundLemmas.{more_port, joined_sound}
 use Rattle.sa_model.proofs.SightListLemmas.{any_within, any_map_same, find_same, filter_map_same, filter_map_absorbs, map_swap, map_absorbs}
 use Rattle.sa_model.proofs.SightLemmas.{full_member_is_near, seen_change, seen_absorbs}
 

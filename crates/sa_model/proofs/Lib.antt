@@ -1,5 +1,10 @@
 pub mod ListLemmas
 pub mod SoundLemmas
+pub mod JoinSoundLemmas
+pub mod LeaveSoundLemmas
 pub mod SightListLemmas
 pub mod SightLemmas
 pub mod JoinSightLemmas
+pub mod DeliveryLemmas
+pub mod WrongLemmas
+pub mod ExampleLemmas

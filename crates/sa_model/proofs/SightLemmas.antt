@@ -17,7 +17,9 @@ use Rattle.sa_model.specs.Joining.{is_of}
 use Rattle.sa_model.specs.Leaving.{Leave, less_joined, without_member, left_group, left_in, left}
 use Rattle.sa_model.specs.Sound.{is_sound_membership, is_sound_group, is_sound_partition, is_sound}
 use Rattle.sa_model.specs.Sight.{group_seen, partition_seen, seen, Alike}
-use Rattle.sa_model.proofs.SoundLemmas.{less_port, sound_parts, partition_parts, left_sound}
+use Rattle.sa_model.proofs.SoundLemmas.{sound_parts, partition_parts}
+use Rattle.sa_model.proofs.LeaveSoundLemmas.{less_port, left_sound}
+use Rattle.sa_model.proofs.ListLemmas.{all_filter}
 use Rattle.sa_model.proofs.SightListLemmas.{filter_commutes, any_within, filter_map_same, map_swap, filter_map_idle, filter_map_idle_of}
 
 -- a full member of a partition is near each of its members
@@ -78,15 +80,6 @@ far_less : (ports : List SubnetPort) (p : ℕ) (leave : Leave) (base : ℕ) (gro
     → is_near ports p leave.port ≡ false → is_seen ports p m ≡ true → less_joined leave base group m ≡ m
 far_less ports p leave base group m far here = rw (far_other ports p leave.port m far here) refl
 
-all_kept : {X : Type 0} (p t q : X → Bool) → ((x : X) → p x ≡ true → t x ≡ true → q x ≡ true) → (xs : List X) → list_all p xs ≡ true → list_all q (filter t xs) ≡ true
-all_kept p t q implies [] all = refl
-all_kept p t q implies (x ∷ xs) all =
-    let parts = and_parts (p x) (list_all p xs) all in
-    elim (cases_Bool (t x)) [
-      | inl here ↦ rw here (and_from (q x) (list_all q (filter t xs)) (implies x parts.0 here) (all_kept p t q implies xs parts.1))
-      | inr out ↦ rw out (all_kept p t q implies xs parts.1)
-    ]
-
 far_left_members : (ports : List SubnetPort) (p : ℕ) (leave : Leave) (base : ℕ) (group : MulticastGroup) → is_near ports p leave.port ≡ false
     → list_all (is_sound_membership ports base) group.memberships ≡ true
     → without_member leave base (group_seen ports p group) ≡ filter (is_seen ports p) group.memberships
@@ -95,7 +88,7 @@ far_left_members ports p leave base group far sound =
     (λ m e. far_less ports p leave base group m far (and_parts (is_seen ports p m) (is_joined m.join_state) e).0)
     (λ m e. (and_parts (is_seen ports p m) (is_joined m.join_state) e).1)
     (filter (is_seen ports p) group.memberships)
-    (all_kept (is_sound_membership ports base) (is_seen ports p) (λ m. is_seen ports p m && is_joined m.join_state)
+    (all_filter (is_sound_membership ports base) (is_seen ports p) (λ m. is_seen ports p m && is_joined m.join_state)
     (λ m e here. and_from (is_seen ports p m) (is_joined m.join_state) here (and_parts (is_member ports base m.port) (is_joined m.join_state) e).1) group.memberships sound)
 
 far_left_group : (ports : List SubnetPort) (p : ℕ) (leave : Leave) (partition : PartitionGroups) (group : MulticastGroup) → is_near ports p leave.port ≡ false

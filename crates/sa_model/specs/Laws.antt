@@ -1,11 +1,15 @@
 -- What holds of the multicast groups of every subnet.
-use Rattle.std.specs.Prelude.{ℕ, ◌≡◌, true, false, List}
+use Rattle.std.specs.Prelude.{ℕ, ◌≡◌, true, false, ◌==◌, ◌&&◌, List, Some, None}
+use Rattle.std.specs.List.{list_any}
 use Rattle.subnet_model.specs.declared.subnet_port.SubnetPort.{SubnetPort}
+use Rattle.subnet_model.specs.declared.command.SendCommand.{SendCommand}
+use Rattle.subnet_model.specs.Delivery.{port_with_guid, refusal_of}
 use Rattle.subnet_model.specs.Near.{is_near}
 use Rattle.subnet_model.specs.Configuration.{Configured}
 use Rattle.sa_model.specs.Groups.{PartitionGroups, start_of}
 use Rattle.sa_model.specs.Joining.{Join, joined}
 use Rattle.sa_model.specs.Leaving.{Leave, left}
+use Rattle.sa_model.specs.Delivery.{reaches}
 use Rattle.sa_model.specs.Sound.{is_sound}
 use Rattle.sa_model.specs.Sight.{Alike}
 
@@ -44,3 +48,17 @@ abbrev pub NearJoinsAreSeenAlike : Type 0
 NearJoinsAreSeenAlike =
     (ports : List SubnetPort) (p : ℕ) (join : Join) (s t : List PartitionGroups) → is_near ports p join.port ≡ true
     → Alike ports p s t → Alike ports p (joined ports join s) (joined ports join t)
+
+-- a packet reaches only ports near its sender, whatever its destination
+abbrev pub PacketsReachThoseNear : Type 0
+PacketsReachThoseNear =
+    (ports : List SubnetPort) (partitions : List PartitionGroups) (p : ℕ) (command : SendCommand) (sender : SubnetPort)
+    → port_with_guid ports command.port_guid ≡ Some sender → refusal_of sender command ≡ None
+    → list_any (λ port. (port.guid == p) && reaches partitions command port) ports ≡ true
+    → is_near ports p command.port_guid ≡ true
+
+-- whether it reaches a port is the same in states that are alike to it
+abbrev pub PacketsReachAlike : Type 0
+PacketsReachAlike =
+    (ports : List SubnetPort) (s t : List PartitionGroups) (command : SendCommand) (port : SubnetPort)
+    → Alike ports port.guid s t → reaches s command port ≡ reaches t command port

@@ -8,3 +8,6 @@ pub mod Delivery
 pub mod Sound
 pub mod Sight
 pub mod Laws
+pub mod WrongRules
+pub mod Examples
+pub mod ExampleLaws

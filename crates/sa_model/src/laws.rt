@@ -1,7 +1,7 @@
 //! The laws of multicast groups, over the definitions alone. Each function does nothing: its contract
 //! is the law.
 
-ghost use Rattle.sa_model.specs.Laws.{FarJoinsAreNotSeen, FarLeavesAreNotSeen, JoinsKeepSound, LeavesAreSeenAlike, LeavesKeepSound, NearJoinsAreSeenAlike, StartsAreSound};
+ghost use Rattle.sa_model.specs.Laws.{FarJoinsAreNotSeen, FarLeavesAreNotSeen, JoinsKeepSound, LeavesAreSeenAlike, LeavesKeepSound, NearJoinsAreSeenAlike, PacketsReachAlike, PacketsReachThoseNear, StartsAreSound};
 
 /// At the start the groups of every partition are sound.
 pub fn starts_are_sound()
@@ -36,4 +36,14 @@ pub fn far_joins_are_not_seen()
 /// A join of a port near another leaves two states alike to that one that were alike to it.
 pub fn near_joins_are_seen_alike()
     ensures { NearJoinsAreSeenAlike }
+{}
+
+/// By LID or by groups, a packet reaches only ports near its sender.
+pub fn packets_reach_those_near()
+    ensures { PacketsReachThoseNear }
+{}
+
+/// In states that are alike to a port, the same packets reach it.
+pub fn packets_reach_alike()
+    ensures { PacketsReachAlike }
 {}

@@ -1,4 +1,4 @@
-use Rattle.sa_model.proofs.SoundLemmas.{joined_sound}
+use Rattle.sa_model.proofs.JoinSoundLemmas.{joined_sound}
 use Rattle.sa_model.proofs.laws.joins_keep_sound.Goals as goal
 
 pub returns : goal.returns

@@ -1,4 +1,4 @@
-use Rattle.sa_model.proofs.SoundLemmas.{left_sound}
+use Rattle.sa_model.proofs.LeaveSoundLemmas.{left_sound}
 use Rattle.sa_model.proofs.laws.leaves_keep_sound.Goals as goal
 
 pub returns : goal.returns
