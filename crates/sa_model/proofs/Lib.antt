@@ -5,6 +5,7 @@ pub mod LeaveSoundLemmas
 pub mod SightListLemmas
 pub mod SightLemmas
 pub mod JoinSightLemmas
+pub mod ChangeLemmas
 pub mod DeliveryLemmas
 pub mod WrongLemmas
 pub mod ExampleLemmas

@@ -9,8 +9,9 @@ use Rattle.subnet_model.specs.Configuration.{Configured}
 use Rattle.sa_model.specs.Groups.{PartitionGroups, start_of}
 use Rattle.sa_model.specs.Joining.{Join, joined}
 use Rattle.sa_model.specs.Leaving.{Leave, left}
+use Rattle.sa_model.specs.Changes.{Change, after_changes, changes_near}
 use Rattle.sa_model.specs.Delivery.{reaches}
-use Rattle.sa_model.specs.Sound.{is_sound}
+use Rattle.sa_model.specs.Sound.{is_sound_partition, is_sound}
 use Rattle.sa_model.specs.Sight.{Alike}
 
 abbrev pub StartsAreSound : Type 0
@@ -62,3 +63,17 @@ abbrev pub PacketsReachAlike : Type 0
 PacketsReachAlike =
     (ports : List SubnetPort) (s t : List PartitionGroups) (command : SendCommand) (port : SubnetPort)
     → Alike ports port.guid s t → reaches s command port ≡ reaches t command port
+
+-- so after any joins and leaves p sees what it would see after those of the ports near it alone
+abbrev pub GroupsDependOnNear : Type 0
+GroupsDependOnNear =
+    (configuration : Configured) (p : ℕ) (changes : List Change)
+    → Alike configuration.ports p (after_changes configuration.ports (start_of configuration) changes)
+    (after_changes configuration.ports (start_of configuration) (changes_near configuration.ports p changes))
+
+-- partitions of different numbers have no MLID in common: so an MLID that no group of its partition has is free
+abbrev pub MlidsTellPartitions : Type 0
+MlidsTellPartitions =
+    (ports : List SubnetPort) (a b : PartitionGroups) (mlid : ℕ) → is_sound_partition ports a ≡ true
+    → is_sound_partition ports b ≡ true → (a.number == b.number) ≡ false
+    → list_any (λ group. group.mlid == mlid) a.groups ≡ true → list_any (λ group. group.mlid == mlid) b.groups ≡ false

@@ -4,6 +4,7 @@ pub mod Groups
 pub mod Anchor
 pub mod Joining
 pub mod Leaving
+pub mod Changes
 pub mod Delivery
 pub mod Sound
 pub mod Sight

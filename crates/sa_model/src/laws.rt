@@ -1,7 +1,7 @@
 //! The laws of multicast groups, over the definitions alone. Each function does nothing: its contract
 //! is the law.
 
-ghost use Rattle.sa_model.specs.Laws.{FarJoinsAreNotSeen, FarLeavesAreNotSeen, JoinsKeepSound, LeavesAreSeenAlike, LeavesKeepSound, NearJoinsAreSeenAlike, PacketsReachAlike, PacketsReachThoseNear, StartsAreSound};
+ghost use Rattle.sa_model.specs.Laws.{FarJoinsAreNotSeen, FarLeavesAreNotSeen, GroupsDependOnNear, JoinsKeepSound, LeavesAreSeenAlike, LeavesKeepSound, MlidsTellPartitions, NearJoinsAreSeenAlike, PacketsReachAlike, PacketsReachThoseNear, StartsAreSound};
 
 /// At the start the groups of every partition are sound.
 pub fn starts_are_sound()
@@ -46,4 +46,14 @@ pub fn packets_reach_those_near()
 /// In states that are alike to a port, the same packets reach it.
 pub fn packets_reach_alike()
     ensures { PacketsReachAlike }
+{}
+
+/// Whatever ports join and leave, what a port sees of groups depends only on the ports near it.
+pub fn groups_depend_on_near()
+    ensures { GroupsDependOnNear }
+{}
+
+/// No MLID is that of groups of two partitions.
+pub fn mlids_tell_partitions()
+    ensures { MlidsTellPartitions }
 {}

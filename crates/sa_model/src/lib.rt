@@ -1,4 +1,9 @@
 //! What subnet administration remembers of multicast groups, and why it keeps partitions apart.
+//!
+//! Here stand definitions, and laws over them: the groups of a subnet (`specs/Groups.antt`), what a join
+//! and a leave do to them (`specs/Joining.antt`, `specs/Leaving.antt`), whom a packet reaches by them
+//! (`specs/Delivery.antt`), and what of them a port sees (`specs/Sight.antt`): MCMemberRecords, IBA volume
+//! 1, 15.2.5. There is no table, block or hop in them, and no code: each function here is a law.
 #![tactic(auto)]
 
 mod examples;
@@ -7,8 +12,8 @@ mod wrong_rules;
 
 pub use crate::examples::{what_the_file_makes, which_mlids, who_joins, who_leaves, who_receives};
 pub use crate::laws::{
-    far_joins_are_not_seen, far_leaves_are_not_seen, joins_keep_sound, leaves_are_seen_alike,
-    leaves_keep_sound, near_joins_are_seen_alike, packets_reach_alike, packets_reach_those_near,
-    starts_are_sound,
+    far_joins_are_not_seen, far_leaves_are_not_seen, groups_depend_on_near, joins_keep_sound,
+    leaves_are_seen_alike, leaves_keep_sound, mlids_tell_partitions, near_joins_are_seen_alike,
+    packets_reach_alike, packets_reach_those_near, starts_are_sound,
 };
 pub use crate::wrong_rules::{limited_keepers_are_seen, mgids_alone_are_seen, one_pool_is_seen};
