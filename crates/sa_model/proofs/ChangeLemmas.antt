@@ -1,5 +1,5 @@
 -- Lists of joins and leaves; and which partition an MLID belongs to.
-use Rattle.std.proofs.Common.{ℕ, true, false, ◌==◌, List, [], ◌∷◌, ◌≡◌, ◌∙◌, ap, refl, sym, inl, inr, arith}
+use Rattle.std.proofs.Common.{ℕ, ◌==◌, ◌&&◌, true, false, map, List, [], ◌∷◌, ◌≡◌, ◌∙◌, ap, refl, sym, inl, inr, arith}
 use Rattle.std.specs.List.{list_all, list_any}
 use Rattle.std.proofs.lemmas.Bool.{cases_Bool, both_ways, false_from_ne_true, and_parts, or_cases, eqb-true}
 use Rattle.std.proofs.lemmas.Bool.Decides.{nat_tests}
@@ -7,7 +7,9 @@ use Rattle.subnet_model.specs.declared.subnet_port.SubnetPort.{SubnetPort}
 use Rattle.subnet_model.specs.Configuration.{Configured}
 use Rattle.subnet_model.specs.Near.{is_near}
 use Rattle.sa_model.specs.Groups.{MulticastGroup, PartitionGroups, start_of}
-use Rattle.sa_model.specs.Changes.{Change, actor, changed, after_changes, changes_near}
+use Rattle.sa_model.specs.Joining.{Join, may_join, joined_in}
+use Rattle.sa_model.specs.Leaving.{left_in}
+use Rattle.sa_model.specs.Changes.{Change, partition_of, actor, changed, after_changes, changes_near}
 use Rattle.sa_model.specs.Sound.{is_in_range, is_sound_group, is_sound_partition}
 use Rattle.sa_model.specs.Sight.{Alike}
 use Rattle.sa_model.proofs.SoundLemmas.{sound_parts, partition_parts, start_sound}
@@ -61,3 +63,19 @@ mlids_tell_partitions ports a b mlid sound_a sound_b other has =
     (one_range a.number b.number mlid
     (mlid_in_range ports a mlid a.groups (partition_parts ports a sound_a).each has)
     (mlid_in_range ports b mlid b.groups (partition_parts ports b sound_b).each too)))
+
+-- ---- which partitions there are
+same_by : {X Y : Type 0} (h : X → Y) (f : X → X) → ((x : X) → h (f x) ≡ h x) → (xs : List X) → map h (map f xs) ≡ map h xs
+same_by h f same [] = refl
+same_by h f same (x ∷ xs) = rw (same x, same_by h f same xs) refl
+
+joined_partition : (ports : List SubnetPort) (join : Join) (x : PartitionGroups) → partition_of (joined_in ports join x) ≡ partition_of x
+joined_partition ports join x = elim (cases_Bool ((x.base == join.base) && may_join ports join)) [
+  | inl allowed ↦ rw allowed refl
+  | inr refused ↦ rw refused refl
+]
+
+pub partitions_stay : (ports : List SubnetPort) (partitions : List PartitionGroups) (change : Change)
+    → map partition_of (changed ports partitions change) ≡ map partition_of partitions
+partitions_stay ports partitions (Change.joins join) = same_by partition_of (joined_in ports join) (joined_partition ports join) partitions
+partitions_stay ports partitions (Change.leaves leave) = same_by partition_of (left_in ports leave) (λ x. refl) partitions

@@ -26,3 +26,7 @@ after_changes ports partitions changes = fold (changed ports) partitions changes
 -- those of the ports near p
 abbrev pub changes_near : List SubnetPort → ℕ → List Change → List Change
 changes_near ports p changes = filter (λ change. is_near ports p (actor change)) changes
+
+-- a partition's number and its base
+abbrev pub partition_of : PartitionGroups → ℕ × ℕ
+partition_of partition = (partition.number, partition.base)

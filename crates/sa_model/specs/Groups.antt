@@ -45,7 +45,7 @@ pub record PartitionGroups : Type 0 where
 
 -- each partition has 32 MLIDs of its own, and this is the first of them
 abbrev pub first_mlid : ℕ → ℕ
-first_mlid number = 49152 + 32 * number
+first_mlid number = 0xc000 + 32 * number
 
 -- ---- the start: what the partition file makes, and nobody in it
 -- a broadcast group that the partition file asks for lives as long as its defaults say

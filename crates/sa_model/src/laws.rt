@@ -1,7 +1,7 @@
 //! The laws of multicast groups, over the definitions alone. Each function does nothing: its contract
 //! is the law.
 
-ghost use Rattle.sa_model.specs.Laws.{FarJoinsAreNotSeen, FarLeavesAreNotSeen, GroupsDependOnNear, JoinsKeepSound, LeavesAreSeenAlike, LeavesKeepSound, MlidsTellPartitions, NearJoinsAreSeenAlike, PacketsReachAlike, PacketsReachThoseNear, StartsAreSound};
+ghost use Rattle.sa_model.specs.Laws.{FarJoinsAreNotSeen, FarLeavesAreNotSeen, GroupsDependOnNear, JoinsKeepSound, LeavesAreSeenAlike, LeavesKeepSound, MlidsTellPartitions, NearJoinsAreSeenAlike, PacketsReachAlike, PacketsReachThoseNear, PartitionsStay, StartsAreSound};
 
 /// At the start the groups of every partition are sound.
 pub fn starts_are_sound()
@@ -18,14 +18,14 @@ pub fn leaves_keep_sound()
     ensures { LeavesKeepSound }
 {}
 
-/// A leave of a port that is far from another leaves what that one sees of groups as it was.
-pub fn far_leaves_are_not_seen()
-    ensures { FarLeavesAreNotSeen }
+/// No MLID is that of groups of two partitions.
+pub fn mlids_tell_partitions()
+    ensures { MlidsTellPartitions }
 {}
 
-/// A leave leaves two states alike to a port that were alike to it.
-pub fn leaves_are_seen_alike()
-    ensures { LeavesAreSeenAlike }
+/// Joins and leaves change neither the numbers nor the bases of partitions.
+pub fn partitions_stay()
+    ensures { PartitionsStay }
 {}
 
 /// A join of a port that is far from another leaves what that one sees of groups as it was.
@@ -38,6 +38,21 @@ pub fn near_joins_are_seen_alike()
     ensures { NearJoinsAreSeenAlike }
 {}
 
+/// A leave of a port that is far from another leaves what that one sees of groups as it was.
+pub fn far_leaves_are_not_seen()
+    ensures { FarLeavesAreNotSeen }
+{}
+
+/// A leave leaves two states alike to a port that were alike to it.
+pub fn leaves_are_seen_alike()
+    ensures { LeavesAreSeenAlike }
+{}
+
+/// Whatever ports join and leave, what a port sees of groups depends only on the ports near it.
+pub fn groups_depend_on_near()
+    ensures { GroupsDependOnNear }
+{}
+
 /// By LID or by groups, a packet reaches only ports near its sender.
 pub fn packets_reach_those_near()
     ensures { PacketsReachThoseNear }
@@ -46,14 +61,4 @@ pub fn packets_reach_those_near()
 /// In states that are alike to a port, the same packets reach it.
 pub fn packets_reach_alike()
     ensures { PacketsReachAlike }
-{}
-
-/// Whatever ports join and leave, what a port sees of groups depends only on the ports near it.
-pub fn groups_depend_on_near()
-    ensures { GroupsDependOnNear }
-{}
-
-/// No MLID is that of groups of two partitions.
-pub fn mlids_tell_partitions()
-    ensures { MlidsTellPartitions }
 {}

@@ -14,6 +14,6 @@ pub use crate::examples::{what_the_file_makes, which_mlids, who_joins, who_leave
 pub use crate::laws::{
     far_joins_are_not_seen, far_leaves_are_not_seen, groups_depend_on_near, joins_keep_sound,
     leaves_are_seen_alike, leaves_keep_sound, mlids_tell_partitions, near_joins_are_seen_alike,
-    packets_reach_alike, packets_reach_those_near, starts_are_sound,
+    packets_reach_alike, packets_reach_those_near, partitions_stay, starts_are_sound,
 };
 pub use crate::wrong_rules::{limited_keepers_are_seen, mgids_alone_are_seen, one_pool_is_seen};
