@@ -1,4 +1,5 @@
 pub mod Component
+pub mod Asked
 pub mod Speed
 pub mod NodeRecord
 pub mod PathRecord

@@ -1,9 +1,10 @@
 -- MCMemberRecord (InfiniBand volume 1, 15.2.5): the places of its fields.
-use Rattle.std.specs.Prelude.{ℕ, Bool, ◌==◌, List, [], ◌∷◌, replicate}
+use Rattle.std.specs.Prelude.{ℕ, Bool, ◌==◌, List, [], ◌∷◌, replicate, codes}
 use Rattle.mad_layout.specs.Bits.{bit_of}
 use Rattle.mad_layout.specs.Layout.{Field, at, put_all}
 use Rattle.sa_records.specs.declared.mc_member_record.McMemberRecord.{McMemberRecord}
 use Rattle.sa_records.specs.Component.{Component, on, is_selected, same_bit, same_base, satisfies}
+use Rattle.sa_records.specs.Asked.{Asked, by}
 use Rattle.sa_records.specs.Speed.{rate_satisfies}
 
 abbrev pub mc_member_record : McMemberRecord → List Field
@@ -54,3 +55,26 @@ mc_member_record_components shown asked =
 
 unfoldable pub mc_member_record_selected : ℕ → McMemberRecord → McMemberRecord → Bool
 mc_member_record_selected mask shown asked = is_selected mask (mc_member_record_components shown asked)
+
+-- the fields that groups are asked by, in the order of their bits
+abbrev pub mc_member_record_asked : List Asked
+mc_member_record_asked =
+    by (codes "mgid") 1 0 128
+    ∷ by (codes "portgid") 2 128 128
+    ∷ by (codes "qkey") 4 256 32
+    ∷ by (codes "mlid") 8 288 16
+    ∷ by (codes "mtusel") 16 304 2
+    ∷ by (codes "mtu") 32 306 6
+    ∷ by (codes "tclass") 64 312 8
+    ∷ by (codes "pkey") 128 320 16
+    ∷ by (codes "ratesel") 256 336 2
+    ∷ by (codes "rate") 512 338 6
+    ∷ by (codes "lifesel") 1024 344 2
+    ∷ by (codes "life") 2048 346 6
+    ∷ by (codes "sl") 4096 352 4
+    ∷ by (codes "flow") 8192 356 20
+    ∷ by (codes "hop") 16384 376 8
+    ∷ by (codes "scope") 32768 384 4
+    ∷ by (codes "join") 65536 388 4
+    ∷ by (codes "proxy") 131072 392 1
+    ∷ []

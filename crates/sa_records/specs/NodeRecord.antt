@@ -1,9 +1,10 @@
 -- NodeRecord (InfiniBand volume 1, 15.2.5): a LID, 16 bits that are reserved, NodeInfo (14.2.5.3) and NodeDescription.
-use Rattle.std.specs.Prelude.{ℕ, Bool, ◌==◌, List, [], ◌∷◌, replicate}
+use Rattle.std.specs.Prelude.{ℕ, Bool, ◌==◌, List, [], ◌∷◌, replicate, codes}
 use Rattle.mad_layout.specs.Bits.{number}
 use Rattle.mad_layout.specs.Layout.{Field, at, put_all}
 use Rattle.sa_records.specs.declared.node_record.NodeRecord.{NodeRecord}
 use Rattle.sa_records.specs.Component.{Component, on, is_selected}
+use Rattle.sa_records.specs.Asked.{Asked, by}
 
 abbrev pub node_record : NodeRecord → List Field
 node_record one =
@@ -38,3 +39,12 @@ node_record_components shown asked =
 
 unfoldable pub node_record_selected : ℕ → NodeRecord → NodeRecord → Bool
 node_record_selected mask shown asked = is_selected mask (node_record_components shown asked)
+
+-- the fields that nodes are asked by, in the order of their bits
+abbrev pub node_record_asked : List Asked
+node_record_asked =
+    by (codes "lid") 1 0 16
+    ∷ by (codes "base") 4 32 8
+    ∷ by (codes "class") 8 40 8
+    ∷ by (codes "kind") 16 48 8
+    ∷ []

@@ -1,9 +1,10 @@
 -- PathRecord (InfiniBand volume 1, 15.2.5): the places of its fields.
-use Rattle.std.specs.Prelude.{ℕ, Bool, ◌==◌, List, [], ◌∷◌, replicate}
+use Rattle.std.specs.Prelude.{ℕ, Bool, ◌==◌, List, [], ◌∷◌, replicate, codes}
 use Rattle.mad_layout.specs.Bits.{bit_of}
 use Rattle.mad_layout.specs.Layout.{Field, at, put_all}
 use Rattle.sa_records.specs.declared.path_record.PathRecord.{PathRecord}
 use Rattle.sa_records.specs.Component.{Component, on, is_selected, same_bit, same_base, satisfies}
+use Rattle.sa_records.specs.Asked.{Asked, by}
 use Rattle.sa_records.specs.Speed.{rate_satisfies}
 
 abbrev pub path_record : PathRecord → List Field
@@ -57,3 +58,28 @@ path_record_components shown asked =
 
 unfoldable pub path_record_selected : ℕ → PathRecord → PathRecord → Bool
 path_record_selected mask shown asked = is_selected mask (path_record_components shown asked)
+
+-- the fields that paths are asked by, in the order of their bits
+abbrev pub path_record_asked : List Asked
+path_record_asked =
+    by (codes "sid") 3 0 64
+    ∷ by (codes "dgid") 4 64 128
+    ∷ by (codes "sgid") 8 192 128
+    ∷ by (codes "dlid") 16 320 16
+    ∷ by (codes "slid") 32 336 16
+    ∷ by (codes "raw") 64 352 1
+    ∷ by (codes "flow") 256 356 20
+    ∷ by (codes "hop") 512 376 8
+    ∷ by (codes "tclass") 1024 384 8
+    ∷ by (codes "rev") 2048 392 1
+    ∷ by (codes "numb") 4096 393 7
+    ∷ by (codes "pkey") 8192 400 16
+    ∷ by (codes "qos") 16384 416 12
+    ∷ by (codes "sl") 32768 428 4
+    ∷ by (codes "mtusel") 65536 432 2
+    ∷ by (codes "mtu") 131072 434 6
+    ∷ by (codes "ratesel") 262144 440 2
+    ∷ by (codes "rate") 524288 442 6
+    ∷ by (codes "lifesel") 1048576 448 2
+    ∷ by (codes "life") 2097152 450 6
+    ∷ []

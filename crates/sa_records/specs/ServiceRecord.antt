@@ -1,10 +1,11 @@
 -- ServiceRecord (InfiniBand volume 1, 15.2.5.14): the places of its fields.
-use Rattle.std.specs.Prelude.{ℕ, Bool, ◌==◌, ◌&&◌, List, [], ◌∷◌, replicate}
+use Rattle.std.specs.Prelude.{ℕ, Bool, ◌==◌, ◌&&◌, List, [], ◌∷◌, replicate, codes}
 use Rattle.mad_layout.specs.Bits.{number}
 use Rattle.mad_layout.specs.Layout.{Field, at, put_all}
 use Rattle.sa_records.specs.declared.service_record.ServiceRecord.{ServiceRecord}
 use Rattle.std.specs.Str.{bytes_eq}
 use Rattle.sa_records.specs.Component.{Component, on, is_selected, same_base, same_part}
+use Rattle.sa_records.specs.Asked.{Asked, by}
 
 abbrev pub service_record : ServiceRecord → List Field
 service_record one =
@@ -15,6 +16,16 @@ service_record one =
     ∷ at 256 128 one.service_key
     ∷ at 384 512 (number one.service_name)
     ∷ at 896 512 (number one.service_data)
+    ∷ []
+
+-- those that are no bytes
+abbrev pub service_fields : ServiceRecord → List Field
+service_fields one =
+    at 0 64 one.service_id
+    ∷ at 64 128 one.service_gid
+    ∷ at 192 16 one.service_p_key
+    ∷ at 224 32 one.service_lease
+    ∷ at 256 128 one.service_key
     ∷ []
 
 -- the bytes that it fills in a table
@@ -115,3 +126,48 @@ service_record_selected mask shown asked =
     && (data16_selected mask shown.service_data asked.service_data
     && (data32_selected mask shown.service_data asked.service_data
     && data64_selected mask shown.service_data asked.service_data))))
+
+-- the fields that services are asked by with a number, in the order of their bits. ServiceName, bit 6, is text
+abbrev pub service_record_asked : List Asked
+service_record_asked =
+    by (codes "sid") 1 0 64
+    ∷ by (codes "gid") 2 64 128
+    ∷ by (codes "pkey") 4 192 16
+    ∷ by (codes "lease") 16 224 32
+    ∷ by (codes "key") 32 256 128
+    ∷ []
+
+-- the numbers in ServiceData, each by its place there
+abbrev pub service_data_asked : List Asked
+service_data_asked =
+    by (codes "data8_1") 128 0 8
+    ∷ by (codes "data8_2") 256 8 8
+    ∷ by (codes "data8_3") 512 16 8
+    ∷ by (codes "data8_4") 1024 24 8
+    ∷ by (codes "data8_5") 2048 32 8
+    ∷ by (codes "data8_6") 4096 40 8
+    ∷ by (codes "data8_7") 8192 48 8
+    ∷ by (codes "data8_8") 16384 56 8
+    ∷ by (codes "data8_9") 32768 64 8
+    ∷ by (codes "data8_10") 65536 72 8
+    ∷ by (codes "data8_11") 131072 80 8
+    ∷ by (codes "data8_12") 262144 88 8
+    ∷ by (codes "data8_13") 524288 96 8
+    ∷ by (codes "data8_14") 1048576 104 8
+    ∷ by (codes "data8_15") 2097152 112 8
+    ∷ by (codes "data8_16") 4194304 120 8
+    ∷ by (codes "data16_1") 8388608 128 16
+    ∷ by (codes "data16_2") 16777216 144 16
+    ∷ by (codes "data16_3") 33554432 160 16
+    ∷ by (codes "data16_4") 67108864 176 16
+    ∷ by (codes "data16_5") 134217728 192 16
+    ∷ by (codes "data16_6") 268435456 208 16
+    ∷ by (codes "data16_7") 536870912 224 16
+    ∷ by (codes "data16_8") 1073741824 240 16
+    ∷ by (codes "data32_1") 2147483648 256 32
+    ∷ by (codes "data32_2") 4294967296 288 32
+    ∷ by (codes "data32_3") 8589934592 320 32
+    ∷ by (codes "data32_4") 17179869184 352 32
+    ∷ by (codes "data64_1") 34359738368 384 64
+    ∷ by (codes "data64_2") 68719476736 448 64
+    ∷ []

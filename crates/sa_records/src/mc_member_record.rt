@@ -1,7 +1,9 @@
 ghost use Rattle.std.specs.Prelude.{◌≡◌, ◌≤◌, length, replicate};
 ghost use Rattle.mad_layout.specs.Layout.{Holds, Fits, put_all, Spells};
-ghost use Rattle.sa_records.specs.McMemberRecord.{mc_member_record, mc_member_record_bytes, mc_member_record_selected};
+ghost use Rattle.sa_records.specs.Asked.{asked_by, bits_of, with_value};
+ghost use Rattle.sa_records.specs.McMemberRecord.{mc_member_record, mc_member_record_asked, mc_member_record_bytes, mc_member_record_selected};
 
+use crate::asked::{component_agrees, flag, selected, set_asked, set_field};
 use crate::component::{agrees, code_satisfies, rate_satisfies, same_base};
 use mad_layout::{JoinState, read_fields, write_fields};
 
@@ -80,6 +82,33 @@ macro_rules! mc_member_record_layout {
     };
 }
 
+/// What groups are asked by (IBA volume 1, 15.2.5): word in scripts, bits of the ComponentMask, field, type, bits, and
+/// how it constrains.
+macro_rules! mc_member_record_components {
+    ($then:ident!($($context:tt)*)) => {
+        $then!($($context)*;
+            b"mgid", 1 << 0, mgid: u128, 128, equal;
+            b"portgid", 1 << 1, port_gid: u128, 128, equal;
+            b"qkey", 1 << 2, q_key: u32, 32, equal;
+            b"mlid", 1 << 3, mlid: u16, 16, equal;
+            b"mtusel", 1 << 4, mtu_selector: u8, 2, alone;
+            b"mtu", 1 << 5, mtu: u8, 6, (code mtu_selector 0b11 << 4);
+            b"tclass", 1 << 6, t_class: u8, 8, equal;
+            b"pkey", 1 << 7, p_key: u16, 16, base;
+            b"ratesel", 1 << 8, rate_selector: u8, 2, alone;
+            b"rate", 1 << 9, rate: u8, 6, (rate rate_selector 0b11 << 8);
+            b"lifesel", 1 << 10, packet_life_time_selector: u8, 2, alone;
+            b"life", 1 << 11, packet_life_time: u8, 6, (code packet_life_time_selector 0b11 << 10);
+            b"sl", 1 << 12, sl: u8, 4, equal;
+            b"flow", 1 << 13, flow_label: u32, 20, equal;
+            b"hop", 1 << 14, hop_limit: u8, 8, equal;
+            b"scope", 1 << 15, scope: u8, 4, equal;
+            b"join", 1 << 16, join_state: u8, 4, equal;
+            b"proxy", 1 << 17, proxy_join: bool, 1, equal;
+        )
+    };
+}
+
 impl McMemberRecord {
     /// Reads the record that these bytes begin with; bits outside its fields are not looked at.
     pub fn read(bytes: &[u8]) -> McMemberRecord
@@ -111,37 +140,17 @@ impl McMemberRecord {
     pub fn selected_by(&self, mask: u64, asked: &McMemberRecord) -> bool
         ensures { result ≡ mc_member_record_selected mask self.now asked.now }
     {
-        agrees(mask, 1 << 0, self.mgid == asked.mgid)
-            && agrees(mask, 1 << 1, self.port_gid == asked.port_gid)
-            && agrees(mask, 1 << 2, self.q_key == asked.q_key)
-            && agrees(mask, 1 << 3, self.mlid == asked.mlid)
-            && agrees(
-                mask,
-                0b11 << 4,
-                code_satisfies(asked.mtu_selector, self.mtu, asked.mtu),
-            )
-            && agrees(mask, 1 << 6, self.t_class == asked.t_class)
-            && agrees(mask, 1 << 7, same_base(self.p_key, asked.p_key))
-            && agrees(
-                mask,
-                0b11 << 8,
-                rate_satisfies(asked.rate_selector, self.rate, asked.rate),
-            )
-            && agrees(
-                mask,
-                0b11 << 10,
-                code_satisfies(
-                    asked.packet_life_time_selector,
-                    self.packet_life_time,
-                    asked.packet_life_time,
-                ),
-            )
-            && agrees(mask, 1 << 12, self.sl == asked.sl)
-            && agrees(mask, 1 << 13, self.flow_label == asked.flow_label)
-            && agrees(mask, 1 << 14, self.hop_limit == asked.hop_limit)
-            && agrees(mask, 1 << 15, self.scope == asked.scope)
-            && agrees(mask, 1 << 16, self.join_state == asked.join_state)
-            && agrees(mask, 1 << 17, self.proxy_join == asked.proxy_join)
+        mc_member_record_components!(selected!(self asked mask))
+    }
+
+    /// Asks by the field of this name: sets its value, and gives the bits of the ComponentMask that name it. None, and
+    /// nothing is set, where groups have no such field or the value is wider than it.
+    #[tactic(auto, unfolding(crate::specs::Asked::asked_by))]
+    pub fn ask_by(&mut self, field: &[u8], value: u128) -> Option<u64>
+        ensures bits { result ≡ bits_of (asked_by field.now value mc_member_record_asked) }
+        ensures set { mc_member_record self.new ≡ with_value value (asked_by field.now value mc_member_record_asked) (mc_member_record self.old) }
+    {
+        mc_member_record_components!(set_asked!(self field value))
     }
 
     fn fields_of(bytes: &[u8]) -> McMemberRecord

@@ -1,7 +1,9 @@
 ghost use Rattle.std.specs.Prelude.{◌≡◌, ◌≤◌, length, replicate};
 ghost use Rattle.mad_layout.specs.Layout.{Holds, Fits, put_all, Spells};
-ghost use Rattle.sa_records.specs.NodeRecord.{node_record, node_record_bytes, node_record_selected};
+ghost use Rattle.sa_records.specs.Asked.{asked_by, bits_of, with_value};
+ghost use Rattle.sa_records.specs.NodeRecord.{node_record, node_record_asked, node_record_bytes, node_record_selected};
 
+use crate::asked::{component_agrees, selected, set_asked, set_field};
 use crate::component::agrees;
 use mad_layout::{read_fields, write_fields};
 
@@ -68,6 +70,19 @@ macro_rules! node_record_layout {
     };
 }
 
+/// What nodes are asked by (IBA volume 1, 15.2.5): word in scripts, bits of the ComponentMask, field, type, bits, and
+/// how it constrains.
+macro_rules! node_record_components {
+    ($then:ident!($($context:tt)*)) => {
+        $then!($($context)*;
+            b"lid", 1 << 0, lid: u16, 16, equal;
+            b"base", 1 << 2, base_version: u8, 8, equal;
+            b"class", 1 << 3, class_version: u8, 8, equal;
+            b"kind", 1 << 4, node_type: u8, 8, equal;
+        )
+    };
+}
+
 impl NodeRecord {
     /// Reads the record that these bytes begin with; bits outside its fields are not looked at.
     pub fn read(bytes: &[u8]) -> NodeRecord
@@ -92,10 +107,17 @@ impl NodeRecord {
     pub fn selected_by(&self, mask: u64, asked: &NodeRecord) -> bool
         ensures { result ≡ node_record_selected mask self.now asked.now }
     {
-        agrees(mask, 1 << 0, self.lid == asked.lid)
-            && agrees(mask, 1 << 2, self.base_version == asked.base_version)
-            && agrees(mask, 1 << 3, self.class_version == asked.class_version)
-            && agrees(mask, 1 << 4, self.node_type == asked.node_type)
+        node_record_components!(selected!(self asked mask))
+    }
+
+    /// Asks by the field of this name: sets its value, and gives the bits of the ComponentMask that name it. None, and
+    /// nothing is set, where nodes have no such field or the value is wider than it.
+    #[tactic(auto, unfolding(crate::specs::Asked::asked_by))]
+    pub fn ask_by(&mut self, field: &[u8], value: u128) -> Option<u64>
+        ensures bits { result ≡ bits_of (asked_by field.now value node_record_asked) }
+        ensures set { node_record self.new ≡ with_value value (asked_by field.now value node_record_asked) (node_record self.old) }
+    {
+        node_record_components!(set_asked!(self field value))
     }
 
     fn fields_of(bytes: &[u8]) -> NodeRecord

@@ -1,7 +1,9 @@
 ghost use Rattle.std.specs.Prelude.{◌≡◌, ◌≤◌, length, replicate};
 ghost use Rattle.mad_layout.specs.Layout.{Holds, Fits, put_all, Spells};
-ghost use Rattle.sa_records.specs.PathRecord.{path_record, path_record_bytes, path_record_selected};
+ghost use Rattle.sa_records.specs.Asked.{asked_by, bits_of, with_value};
+ghost use Rattle.sa_records.specs.PathRecord.{path_record, path_record_asked, path_record_bytes, path_record_selected};
 
+use crate::asked::{component_agrees, flag, selected, set_asked, set_field};
 use crate::component::{agrees, code_satisfies, rate_satisfies, same_base};
 use mad_layout::{read_fields, write_fields};
 
@@ -89,6 +91,35 @@ macro_rules! path_record_layout {
     };
 }
 
+/// What paths are asked by (IBA volume 1, 15.2.5): word in scripts, bits of the ComponentMask, field, type, bits, and
+/// how it constrains.
+macro_rules! path_record_components {
+    ($then:ident!($($context:tt)*)) => {
+        $then!($($context)*;
+            b"sid", 0b11 << 0, service_id: u64, 64, alone;
+            b"dgid", 1 << 2, dgid: u128, 128, equal;
+            b"sgid", 1 << 3, sgid: u128, 128, equal;
+            b"dlid", 1 << 4, dlid: u16, 16, equal;
+            b"slid", 1 << 5, slid: u16, 16, equal;
+            b"raw", 1 << 6, raw_traffic: bool, 1, equal;
+            b"flow", 1 << 8, flow_label: u32, 20, equal;
+            b"hop", 1 << 9, hop_limit: u8, 8, equal;
+            b"tclass", 1 << 10, t_class: u8, 8, equal;
+            b"rev", 1 << 11, reversible: bool, 1, alone;
+            b"numb", 1 << 12, numb_path: u8, 7, alone;
+            b"pkey", 1 << 13, p_key: u16, 16, base;
+            b"qos", 1 << 14, qos_class: u16, 12, equal;
+            b"sl", 1 << 15, sl: u8, 4, equal;
+            b"mtusel", 1 << 16, mtu_selector: u8, 2, alone;
+            b"mtu", 1 << 17, mtu: u8, 6, (code mtu_selector 0b11 << 16);
+            b"ratesel", 1 << 18, rate_selector: u8, 2, alone;
+            b"rate", 1 << 19, rate: u8, 6, (rate rate_selector 0b11 << 18);
+            b"lifesel", 1 << 20, packet_life_time_selector: u8, 2, alone;
+            b"life", 1 << 21, packet_life_time: u8, 6, (code packet_life_time_selector 0b11 << 20);
+        )
+    };
+}
+
 impl PathRecord {
     /// Reads the record that these bytes begin with; bits outside its fields are not looked at.
     pub fn read(bytes: &[u8]) -> PathRecord
@@ -113,36 +144,17 @@ impl PathRecord {
     pub fn selected_by(&self, mask: u64, asked: &PathRecord) -> bool
         ensures { result ≡ path_record_selected mask self.now asked.now }
     {
-        agrees(mask, 1 << 2, self.dgid == asked.dgid)
-            && agrees(mask, 1 << 3, self.sgid == asked.sgid)
-            && agrees(mask, 1 << 4, self.dlid == asked.dlid)
-            && agrees(mask, 1 << 5, self.slid == asked.slid)
-            && agrees(mask, 1 << 6, self.raw_traffic == asked.raw_traffic)
-            && agrees(mask, 1 << 8, self.flow_label == asked.flow_label)
-            && agrees(mask, 1 << 9, self.hop_limit == asked.hop_limit)
-            && agrees(mask, 1 << 10, self.t_class == asked.t_class)
-            && agrees(mask, 1 << 13, same_base(self.p_key, asked.p_key))
-            && agrees(mask, 1 << 14, self.qos_class == asked.qos_class)
-            && agrees(mask, 1 << 15, self.sl == asked.sl)
-            && agrees(
-                mask,
-                0b11 << 16,
-                code_satisfies(asked.mtu_selector, self.mtu, asked.mtu),
-            )
-            && agrees(
-                mask,
-                0b11 << 18,
-                rate_satisfies(asked.rate_selector, self.rate, asked.rate),
-            )
-            && agrees(
-                mask,
-                0b11 << 20,
-                code_satisfies(
-                    asked.packet_life_time_selector,
-                    self.packet_life_time,
-                    asked.packet_life_time,
-                ),
-            )
+        path_record_components!(selected!(self asked mask))
+    }
+
+    /// Asks by the field of this name: sets its value, and gives the bits of the ComponentMask that name it. None, and
+    /// nothing is set, where paths have no such field or the value is wider than it.
+    #[tactic(auto, unfolding(crate::specs::Asked::asked_by))]
+    pub fn ask_by(&mut self, field: &[u8], value: u128) -> Option<u64>
+        ensures bits { result ≡ bits_of (asked_by field.now value path_record_asked) }
+        ensures set { path_record self.new ≡ with_value value (asked_by field.now value path_record_asked) (path_record self.old) }
+    {
+        path_record_components!(set_asked!(self field value))
     }
 
     fn fields_of(bytes: &[u8]) -> PathRecord

@@ -1,9 +1,12 @@
 ghost use Rattle.std.specs.Prelude.{◌≡◌, ◌<◌, ◌≤◌, length, replicate};
 ghost use Rattle.mad_layout.specs.Layout.{Holds, Fits, put_all, Spells};
-ghost use Rattle.sa_records.specs.ServiceRecord.{service_record, service_record_bytes, service_record_selected, names_selected, data8_front_selected, data8_back_selected, data16_selected, data32_selected, data64_selected};
+ghost use Rattle.std.specs.Option.{option_or};
+ghost use Rattle.sa_records.specs.Asked.{asked_by, bits_of, with_number, with_value};
+ghost use Rattle.sa_records.specs.ServiceRecord.{service_record, service_fields, service_record_asked, service_data_asked, service_record_bytes, service_record_selected, names_selected, data8_front_selected, data8_back_selected, data16_selected, data32_selected, data64_selected};
 
+use crate::asked::{component_agrees, selected, set_asked, set_field, set_number};
 use crate::component::{agrees, same_base, same_part};
-use mad_layout::{read_fields, write_fields};
+use mad_layout::{put_bits, read_fields, write_fields};
 
 /// How many bytes a ServiceRecord fills in a table.
 pub const SERVICE_RECORD_BYTES: usize = 176;
@@ -47,6 +50,61 @@ macro_rules! service_record_layout {
     };
 }
 
+/// What services are asked by with a number (IBA volume 1, 15.2.5.14): word in scripts, bits of the ComponentMask, field,
+/// type, bits, and how it constrains.
+macro_rules! service_record_components {
+    ($then:ident!($($context:tt)*)) => {
+        $then!($($context)*;
+            b"sid", 1 << 0, service_id: u64, 64, equal;
+            b"gid", 1 << 1, service_gid: u128, 128, equal;
+            b"pkey", 1 << 2, service_p_key: u16, 16, base;
+            b"lease", 1 << 4, service_lease: u32, 32, equal;
+            b"key", 1 << 5, service_key: u128, 128, equal;
+        )
+    };
+}
+
+/// The bit of ServiceName.
+const NAME_BIT: u64 = 1 << 6;
+
+/// The numbers in ServiceData: word in scripts, bits of the ComponentMask, first bit, bits.
+macro_rules! service_data_components {
+    ($then:ident!($($context:tt)*)) => {
+        $then!($($context)*;
+            b"data8_1", 1 << 7, 0, 8;
+            b"data8_2", 1 << 8, 8, 8;
+            b"data8_3", 1 << 9, 16, 8;
+            b"data8_4", 1 << 10, 24, 8;
+            b"data8_5", 1 << 11, 32, 8;
+            b"data8_6", 1 << 12, 40, 8;
+            b"data8_7", 1 << 13, 48, 8;
+            b"data8_8", 1 << 14, 56, 8;
+            b"data8_9", 1 << 15, 64, 8;
+            b"data8_10", 1 << 16, 72, 8;
+            b"data8_11", 1 << 17, 80, 8;
+            b"data8_12", 1 << 18, 88, 8;
+            b"data8_13", 1 << 19, 96, 8;
+            b"data8_14", 1 << 20, 104, 8;
+            b"data8_15", 1 << 21, 112, 8;
+            b"data8_16", 1 << 22, 120, 8;
+            b"data16_1", 1 << 23, 128, 16;
+            b"data16_2", 1 << 24, 144, 16;
+            b"data16_3", 1 << 25, 160, 16;
+            b"data16_4", 1 << 26, 176, 16;
+            b"data16_5", 1 << 27, 192, 16;
+            b"data16_6", 1 << 28, 208, 16;
+            b"data16_7", 1 << 29, 224, 16;
+            b"data16_8", 1 << 30, 240, 16;
+            b"data32_1", 1 << 31, 256, 32;
+            b"data32_2", 1 << 32, 288, 32;
+            b"data32_3", 1 << 33, 320, 32;
+            b"data32_4", 1 << 34, 352, 32;
+            b"data64_1", 1 << 35, 384, 64;
+            b"data64_2", 1 << 36, 448, 64;
+        )
+    };
+}
+
 impl ServiceRecord {
     /// Reads the record that these bytes begin with; bits outside its fields are not looked at.
     pub fn read(bytes: &[u8]) -> ServiceRecord
@@ -82,16 +140,42 @@ impl ServiceRecord {
     fn names_agree(&self, mask: u64, asked: &ServiceRecord) -> bool
         ensures { result ≡ names_selected mask self.now asked.now }
     {
-        agrees(mask, 1 << 0, self.service_id == asked.service_id)
-            && agrees(mask, 1 << 1, self.service_gid == asked.service_gid)
-            && agrees(
-                mask,
-                1 << 2,
-                same_base(self.service_p_key, asked.service_p_key),
-            )
-            && agrees(mask, 1 << 4, self.service_lease == asked.service_lease)
-            && agrees(mask, 1 << 5, self.service_key == asked.service_key)
-            && agrees(mask, 1 << 6, self.service_name == asked.service_name)
+        service_record_components!(selected!(self asked mask))
+            && agrees(mask, NAME_BIT, self.service_name == asked.service_name)
+    }
+
+    /// Asks by the field or the number in ServiceData of this name: sets its value, and gives the bits of the
+    /// ComponentMask that name it. None, and nothing is set, where services have no such field or number or the value is
+    /// wider than it. ServiceName is no number: see `ask_by_name`.
+    pub fn ask_by(&mut self, field: &[u8], value: u128) -> Option<u64>
+        ensures bits { result ≡ option_or (bits_of (asked_by field.now value service_record_asked)) (bits_of (asked_by field.now value service_data_asked)) }
+        ensures fields { service_fields self.new ≡ with_value value (asked_by field.now value service_record_asked) (service_fields self.old) }
+        ensures name { self.new.service_name ≡ self.old.service_name }
+        ensures data { self.new.service_data ≡ with_number value (asked_by field.now value service_data_asked) self.old.service_data }
+    {
+        let own = self.ask_by_field(field, value);
+        let number = ask_by_number(&mut self.service_data, field, value);
+        own.or(number)
+    }
+
+    /// Asks by ServiceName, and gives its bit of the ComponentMask.
+    pub fn ask_by_name(&mut self, name: &[u8; 64]) -> u64
+        ensures bits { result ≡ 64 }
+        ensures set { self.new ≡ record self.old { service_name = name.now } }
+    {
+        self.service_name = *name;
+        NAME_BIT
+    }
+
+    /// Asks by the field of this name, as `ask_by` does, where it is no data.
+    #[tactic(auto, unfolding(crate::specs::Asked::asked_by))]
+    fn ask_by_field(&mut self, field: &[u8], value: u128) -> Option<u64>
+        ensures bits { result ≡ bits_of (asked_by field.now value service_record_asked) }
+        ensures fields { service_fields self.new ≡ with_value value (asked_by field.now value service_record_asked) (service_fields self.old) }
+        ensures name { self.new.service_name ≡ self.old.service_name }
+        ensures data { self.new.service_data ≡ self.old.service_data }
+    {
+        service_record_components!(set_asked!(self field value))
     }
 
     fn put_over_zeros(&self, bytes: &mut [u8; SERVICE_RECORD_BYTES])
@@ -101,6 +185,15 @@ impl ServiceRecord {
         *bytes = [0; SERVICE_RECORD_BYTES];
         service_record_layout!(write_fields!(self bytes))
     }
+}
+
+/// Asks by the number of this name in ServiceData, as `ask_by` does.
+#[tactic(auto, unfolding(crate::specs::Asked::asked_by))]
+fn ask_by_number(numbers: &mut [u8; 64], field: &[u8], value: u128) -> Option<u64>
+    ensures bits { result ≡ bits_of (asked_by field.now value service_data_asked) }
+    ensures set { numbers.new ≡ with_number value (asked_by field.now value service_data_asked) numbers.old }
+{
+    service_data_components!(set_number!(numbers field value))
 }
 
 /// Whether the first 8 numbers of 8 bits agree that the mask names.
