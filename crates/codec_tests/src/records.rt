@@ -277,82 +277,40 @@ fn mtus_and_life_times_are_compared_by_their_codes(rt: HostRuntime) {
 }
 
 #[test]
-fn paths_are_asked_for_by_what_constrains_them(rt: HostRuntime) {
-    let shown = path();
-    assert!(rt; shown.selected_by(u64::MAX, &shown));
-    // a key is asked for by its partition; ServiceID, Reversible and NumbPath constrain nothing
+fn service_ids_reversible_and_numb_path_constrain_no_path(rt: HostRuntime) {
+    assert!(rt; path().selected_by(u64::MAX, &path()));
+    // and a key is asked for by its partition
     let alike = PathRecord {
         p_key: 0x8001,
         service_id: 7,
         reversible: false,
         numb_path: 3,
         preference: 9,
-        ..shown
+        ..path()
     };
-    assert!(rt; shown.selected_by(u64::MAX, &alike));
-    for (bits, other) in [
-        (
-            1u64 << 2,
-            PathRecord {
-                dgid: SECOND_GID,
-                ..shown
-            },
-        ),
-        (
-            1u64 << 3,
-            PathRecord {
-                sgid: FIRST_GID,
-                ..shown
-            },
-        ),
-        (1u64 << 4, PathRecord { dlid: 5, ..shown }),
-        (1u64 << 5, PathRecord { slid: 4, ..shown }),
-        (
-            1u64 << 6,
-            PathRecord {
-                raw_traffic: true,
-                ..shown
-            },
-        ),
-        (
-            1u64 << 8,
-            PathRecord {
-                flow_label: 1,
-                ..shown
-            },
-        ),
-        (
-            1u64 << 9,
-            PathRecord {
-                hop_limit: 1,
-                ..shown
-            },
-        ),
-        (
-            1u64 << 10,
-            PathRecord {
-                t_class: 1,
-                ..shown
-            },
-        ),
-        (
-            1u64 << 13,
-            PathRecord {
-                p_key: 0x0002,
-                ..shown
-            },
-        ),
-        (
-            1u64 << 14,
-            PathRecord {
-                qos_class: 1,
-                ..shown
-            },
-        ),
-        (1u64 << 15, PathRecord { sl: 1, ..shown }),
+    assert!(rt; path().selected_by(u64::MAX, &alike));
+}
+
+#[test]
+fn paths_are_asked_for_by_what_constrains_them(rt: HostRuntime) {
+    // each field by its word in scripts, its bit and another value
+    for (word, bits, other) in [
+        (b"dgid".as_slice(), 1u64 << 2, SECOND_GID),
+        (b"sgid".as_slice(), 1u64 << 3, FIRST_GID),
+        (b"dlid".as_slice(), 1u64 << 4, 5),
+        (b"slid".as_slice(), 1u64 << 5, 4),
+        (b"raw".as_slice(), 1u64 << 6, 1),
+        (b"flow".as_slice(), 1u64 << 8, 1),
+        (b"hop".as_slice(), 1u64 << 9, 1),
+        (b"tclass".as_slice(), 1u64 << 10, 1),
+        (b"pkey".as_slice(), 1u64 << 13, 0x0002),
+        (b"qos".as_slice(), 1u64 << 14, 1),
+        (b"sl".as_slice(), 1u64 << 15, 1),
     ] {
-        assert!(rt; !shown.selected_by(bits, &other));
-        assert!(rt; shown.selected_by(!bits, &other));
+        let mut asked = path();
+        assert_eq!(rt; asked.ask_by(word, other), Some(bits));
+        assert!(rt; !path().selected_by(bits, &asked));
+        assert!(rt; path().selected_by(!bits, &asked));
     }
 }
 
@@ -442,100 +400,53 @@ fn groups_read_and_write(rt: HostRuntime) {
 }
 
 #[test]
-fn groups_are_asked_for_by_what_constrains_them(rt: HostRuntime) {
+fn a_group_agrees_with_itself_and_with_either_key_of_its_partition(rt: HostRuntime) {
     let shown = joined_group();
     assert!(rt; shown.selected_by(u64::MAX, &shown));
-    assert!(rt;
-        shown.selected_by(
-            u64::MAX,
-            &McMemberRecord {
-                p_key: 0x0001,
-                ..shown
-            }
-        )
-    );
-    for (bits, other) in [
-        (1u64 << 0, McMemberRecord { mgid: 1, ..shown }),
-        (
-            1u64 << 1,
-            McMemberRecord {
-                port_gid: 0,
-                ..shown
-            },
-        ),
-        (1u64 << 2, McMemberRecord { q_key: 1, ..shown }),
-        (
-            1u64 << 3,
-            McMemberRecord {
-                mlid: 0xc021,
-                ..shown
-            },
-        ),
-        (
-            1u64 << 6,
-            McMemberRecord {
-                t_class: 1,
-                ..shown
-            },
-        ),
-        (
-            1u64 << 7,
-            McMemberRecord {
-                p_key: 0x8002,
-                ..shown
-            },
-        ),
-        (1u64 << 12, McMemberRecord { sl: 1, ..shown }),
-        (
-            1u64 << 13,
-            McMemberRecord {
-                flow_label: 1,
-                ..shown
-            },
-        ),
-        (
-            1u64 << 14,
-            McMemberRecord {
-                hop_limit: 1,
-                ..shown
-            },
-        ),
-        (1u64 << 15, McMemberRecord { scope: 1, ..shown }),
-        (
-            1u64 << 16,
-            McMemberRecord {
-                join_state: 2,
-                ..shown
-            },
-        ),
-        (
-            1u64 << 17,
-            McMemberRecord {
-                proxy_join: true,
-                ..shown
-            },
-        ),
+    let alike = McMemberRecord {
+        p_key: 0x0001,
+        ..shown
+    };
+    assert!(rt; shown.selected_by(u64::MAX, &alike));
+}
+
+#[test]
+fn groups_are_asked_for_by_what_constrains_them(rt: HostRuntime) {
+    // each field by its word in scripts, its bit and another value
+    for (word, bits, other) in [
+        (b"mgid".as_slice(), 1u64 << 0, 1u128),
+        (b"portgid".as_slice(), 1u64 << 1, 0),
+        (b"qkey".as_slice(), 1u64 << 2, 1),
+        (b"mlid".as_slice(), 1u64 << 3, 0xc021),
+        (b"tclass".as_slice(), 1u64 << 6, 1),
+        (b"pkey".as_slice(), 1u64 << 7, 0x8002),
+        (b"sl".as_slice(), 1u64 << 12, 1),
+        (b"flow".as_slice(), 1u64 << 13, 1),
+        (b"hop".as_slice(), 1u64 << 14, 1),
+        (b"scope".as_slice(), 1u64 << 15, 1),
+        (b"join".as_slice(), 1u64 << 16, 2),
+        (b"proxy".as_slice(), 1u64 << 17, 1),
     ] {
-        assert!(rt; !shown.selected_by(bits, &other));
-        assert!(rt; shown.selected_by(!bits, &other));
+        let mut asked = joined_group();
+        assert_eq!(rt; asked.ask_by(word, other), Some(bits));
+        assert!(rt; !joined_group().selected_by(bits, &asked));
+        assert!(rt; joined_group().selected_by(!bits, &asked));
     }
-    // a selector and its code are one component
-    for (selector, code, other) in [
-        (1u64 << 4, 1u64 << 5, McMemberRecord { mtu: 3, ..shown }),
-        (1u64 << 8, 1u64 << 9, McMemberRecord { rate: 2, ..shown }),
-        (
-            1u64 << 10,
-            1u64 << 11,
-            McMemberRecord {
-                packet_life_time: 17,
-                ..shown
-            },
-        ),
+}
+
+#[test]
+fn a_selector_of_a_group_and_its_code_are_one_component(rt: HostRuntime) {
+    for (word, selector, code, other) in [
+        (b"mtu".as_slice(), 1u64 << 4, 1u64 << 5, 3),
+        (b"rate".as_slice(), 1u64 << 8, 1u64 << 9, 2),
+        (b"life".as_slice(), 1u64 << 10, 1u64 << 11, 17),
     ] {
-        assert!(rt; !shown.selected_by(selector | code, &other));
-        assert!(rt; shown.selected_by(selector, &other));
-        assert!(rt; shown.selected_by(code, &other));
-        assert!(rt; shown.selected_by(!(selector | code), &other));
+        let mut asked = joined_group();
+        assert_eq!(rt; asked.ask_by(word, other), Some(code));
+        assert!(rt; !joined_group().selected_by(selector | code, &asked));
+        assert!(rt; joined_group().selected_by(selector, &asked));
+        assert!(rt; joined_group().selected_by(code, &asked));
+        assert!(rt; joined_group().selected_by(!(selector | code), &asked));
     }
 }
 
