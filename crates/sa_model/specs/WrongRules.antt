@@ -1,4 +1,4 @@
--- Rules for groups that do not keep partitions apart, and what each of them owes.
+-- Rules for groups that do not keep partitions apart, and what each of them breaks.
 use Rattle.std.specs.Prelude.{ℕ, ◌≡◌, Bool, true, not, ◌==◌, ◌&&◌, ◌||◌, if◌then◌else◌, List, Option, find, filter, map}
 use Rattle.std.specs.List.{list_any, range_with_len}
 use Rattle.subnet_model.specs.declared.subnet_port.SubnetPort.{SubnetPort}
@@ -9,7 +9,7 @@ use Rattle.sa_model.specs.Joining.{Join, may_create, has_mgid, with_created, joi
 use Rattle.sa_model.specs.Leaving.{Leave, left_group}
 use Rattle.sa_model.specs.Sight.{Alike, seen}
 
--- ---- what a rule for joins, or for leaves, owes to a port p
+-- ---- what a rule for joins, or for leaves, has to keep for a port p
 abbrev pub JoinRule : Type 0
 JoinRule = List SubnetPort → Join → List PartitionGroups → List PartitionGroups
 
@@ -68,7 +68,7 @@ left_in_to_any leave partition =
 abbrev pub left_to_any : List SubnetPort → Leave → List PartitionGroups → List PartitionGroups
 left_to_any ports leave partitions = map (left_in_to_any leave) partitions
 
--- ---- none of them pays it
+-- ---- none of them keeps it
 abbrev pub OnePoolIsSeen : Type 0
 OnePoolIsSeen = JoinsAreSeenAlikeBy joined_from_pool → ⊥
 
