@@ -2,6 +2,7 @@
 
 ghost use Rattle.std.specs.Prelude.{◌≡◌, ◌≤◌, ◌↔◌, true, length, Some, None, IfOk, IfSome};
 ghost use Rattle.data_packet.specs.declared.payload.TheConstants.{PAYLOAD_BYTES};
+ghost use Rattle.fabric_parts.specs.Cable.{far_end};
 ghost use Rattle.fabric_parts.specs.declared.cable.PortRef.{PortRef};
 ghost use Rattle.packet_ways.specs.Deliveries.{AreDeliveries, HasPort, IsOwn, Numbers, Reaches, adapter_at, guid_at, numbers_of};
 ghost use Rattle.port_model.specs.AdapterState.{AdapterState};
@@ -77,6 +78,27 @@ impl Fabric {
             end_ports,
             manager: topology.sm(),
         })
+    }
+
+    /// Its nodes, with what they hold.
+    pub fn nodes(&self) -> &[Node]
+        ensures { result.now ≡ self.now.nodes }
+    {
+        &self.nodes
+    }
+
+    /// The other end of the cable at a port, if it has one.
+    pub fn far_end(&self, port: PortRef) -> Option<PortRef>
+        ensures { result ≡ far_end self.now.cables port }
+    {
+        self.cabling.far_end(port)
+    }
+
+    /// Where the port of a channel adapter is that has that GUID.
+    pub fn place_of(&self, guid: u64) -> Option<PortRef>
+        ensures { (at : PortRef) → result ≡ Some at ↔ (guid_at self.now.nodes at ≡ Some guid) }
+    {
+        self.end_ports.get(&guid).copied()
     }
 
     /// Whether a port of a channel adapter has that GUID.

@@ -193,6 +193,13 @@ impl AdapterPort {
         self.port_guid
     }
 
+    /// The words of its key table as they were written.
+    pub fn keys(&self) -> &[u16; PARTITIONS]
+        ensures { result.now ≡ self.now.keys }
+    {
+        &self.keys
+    }
+
     /// The packet of this payload, at most 256 bytes, for that LID and that queue pair under this key, from the
     /// port's own LID; or the first reason why the port won't send it, in the order of [`Refusal`]. The key may be
     /// any 16 bits; the port has to hold these very ones.

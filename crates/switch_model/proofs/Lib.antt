@@ -3,3 +3,4 @@ pub mod AgentLemmas
 pub mod ChangeLemmas
 pub mod GoodLemmas
 pub mod ForwardingLemmas
+pub mod FateLemmas

@@ -10,7 +10,8 @@ use Rattle.agent_rules.specs.Laws.{IsSettled, IsUnseenPut, ReadsAlike}
 use Rattle.data_packet.specs.declared.packet.Packet.{Packet}
 use Rattle.switch_model.specs.Agent.{agent_after, agent_reply, get, set}
 use Rattle.switch_model.specs.Changes.{ChangesAtMost}
-use Rattle.switch_model.specs.Forwarding.{IsSentOut, sends_out}
+use Rattle.switch_model.specs.Fate.{fate, way_out}
+use Rattle.switch_model.specs.Forwarding.{IsSentOut, out_port, sends_out}
 use Rattle.switch_model.specs.Good.{IsGoodSwitch}
 use Rattle.switch_model.specs.SwitchState.{SwitchState, at_power_up, port_at_power_up, ports_from}
 
@@ -65,3 +66,8 @@ abbrev pub UnicastGoesByEntries : Type 0
 UnicastGoesByEntries =
     (held : SwitchState) (in_port : ℕ) (packet : Packet) (out : ℕ)
     → (sends_out held in_port packet out ≡ true) ↔ IsSentOut held in_port packet out
+
+-- a packet leaves by the port that its fate tells, and else not
+abbrev pub FatesTellWaysOut : Type 0
+FatesTellWaysOut =
+    (held : SwitchState) (in_port : ℕ) (packet : Packet) → out_port held in_port packet ≡ way_out (fate held in_port packet)

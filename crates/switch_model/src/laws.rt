@@ -1,7 +1,7 @@
 ghost use Rattle.std.specs.Prelude.{◌≡◌};
 ghost use Rattle.switch_model.specs.declared.switch.TheConstants.{PORTS};
 ghost use Rattle.switch_model.specs.declared.multicast_table.TheConstants.{POSITIONS};
-ghost use Rattle.switch_model.specs.Laws.{GoodSwitchesGiveAttributes, NewSwitchesAreGood, PortsHaveTheirLinks, SmpsAreReadAlike, SmpsChangeWhatTheyName, SmpsKeepGood, SmpsSettle, UnicastGoesByEntries, UnseenComesBack};
+ghost use Rattle.switch_model.specs.Laws.{FatesTellWaysOut, GoodSwitchesGiveAttributes, NewSwitchesAreGood, PortsHaveTheirLinks, SmpsAreReadAlike, SmpsChangeWhatTheyName, SmpsKeepGood, SmpsSettle, UnicastGoesByEntries, UnseenComesBack};
 
 /// An SMP changes at most what it names, and each port is Down afterwards exactly where it was Down. Like
 /// the laws below it does nothing: its contract is the law.
@@ -46,6 +46,11 @@ pub fn unseen_comes_back()
 /// of the two ports.
 pub fn unicast_goes_by_entries()
     ensures { UnicastGoesByEntries }
+{}
+
+/// A unicast packet leaves by a port exactly where its fate says so, by that port.
+pub fn fates_tell_ways_out()
+    ensures { FatesTellWaysOut }
 {}
 
 /// How many ports a switch has at most, and how many positions its masks, written out. Both are ours: three

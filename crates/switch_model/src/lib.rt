@@ -4,10 +4,11 @@
 //! [`Switch::agent`] answers an SMP: its clauses say, by the definitions of `specs/Agent.antt`, whether
 //! there is a reply, each bit of it, and what the switch holds from then on. A wire needs to know nothing
 //! else. [`Switch::unicast_out`] says by which port a packet leaves, by the tables that SMPs wrote
-//! (`specs/Forwarding.antt`). What all agents share stands in `agent_rules`. The attributes are those of
+//! (`specs/Forwarding.antt`), and [`Switch::fate`] what becomes of one that does not (`specs/Fate.antt`). What all agents share stands in `agent_rules`. The attributes are those of
 //! the InfiniBand Architecture Specification, volume 1, chapter 14; what a switch holds at power-up is ours.
 #![tactic(auto)]
 
+mod fate;
 mod laws;
 mod linear_table;
 mod multicast_table;
@@ -15,9 +16,10 @@ mod port_list;
 mod switch;
 mod switch_port;
 
+pub use crate::fate::Fate;
 pub use crate::laws::{
-    good_switches_give_attributes, ports_have_their_links, smps_are_read_alike,
-    smps_change_what_they_name, smps_settle, switches_stay_good, the_numbers,
+    fates_tell_ways_out, good_switches_give_attributes, ports_have_their_links,
+    smps_are_read_alike, smps_change_what_they_name, smps_settle, switches_stay_good, the_numbers,
     unicast_goes_by_entries, unseen_comes_back,
 };
 pub use crate::switch::{PORTS, Switch};

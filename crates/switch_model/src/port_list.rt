@@ -124,7 +124,7 @@ pub fn leaves_by(number: u8, p_key: PKey, ports: &[SwitchPort]) -> Option<u8>
 }
 
 /// Whether a packet under this key may leave by the port of that number.
-fn passes_outbound(number: u8, p_key: PKey, ports: &[SwitchPort]) -> bool
+pub fn passes_outbound(number: u8, p_key: PKey, ports: &[SwitchPort]) -> bool
     ensures value { result ≡ passes_outbound ports.now number p_key }
     ensures there { result ≡ true → number < length ports.now }
 {

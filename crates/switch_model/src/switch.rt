@@ -4,14 +4,17 @@ ghost use Rattle.agent_rules.specs.Agent.{Leaves, answer, held_after};
 ghost use Rattle.attr_tables.specs.Attribute.{IsAttribute};
 ghost use Rattle.agent_rules.specs.Request.{KeepsRest};
 ghost use Rattle.switch_model.specs.Agent.{agent_after, agent_reply, get, set};
+ghost use Rattle.switch_model.specs.Fate.{fate, fate_by};
 ghost use Rattle.switch_model.specs.Forwarding.{linear_entry_of, out_port};
 ghost use Rattle.switch_model.specs.SwitchState.{at_power_up, num_ports};
 ghost use Rattle.switch_model.specs.declared.switch.TheConstants.{PORTS};
 
+use crate::fate::Fate;
 use crate::linear_table::{get_linear, set_linear, set_linear_top};
 use crate::multicast_table::{POSITIONS, get_masks, set_masks};
 use crate::port_list::{
-    get_keys, get_port_info, leaves_by, passes_inbound, ports_at_power_up, set_keys, set_port_info,
+    get_keys, get_port_info, leaves_by, passes_inbound, passes_outbound, ports_at_power_up,
+    set_keys, set_port_info,
 };
 use crate::switch_port::SwitchPort;
 use agent_rules::{
@@ -23,6 +26,7 @@ use attr_tables::{NodeDescription, SmpAttribute, SwitchInfo};
 use data_packet::Packet;
 use fabric_parts::NodeType;
 use mad_layout::{Mad, MadStatus};
+use pkey_rules::PKey;
 use std::marker::Model;
 
 /// How many ports a switch has at most, its port 0 not counted.
@@ -123,6 +127,59 @@ impl<const LFT: usize, const MFT: usize> Switch<LFT, MFT> {
         }
         let out = self.linear_entry_of(packet.dlid)?;
         leaves_by(out, packet.p_key, &self.ports)
+    }
+
+    /// What becomes of a unicast data packet that came in at that port: by which port it leaves, or why it does not.
+    #[tactic(auto, unfolding(crate::specs::Fate::fate))]
+    pub fn fate(&self, in_port: u8, packet: &Packet) -> Fate
+        ensures { result ≡ fate self.now in_port packet.now }
+    {
+        if !passes_inbound(in_port, packet.p_key, &self.ports) {
+            return Fate::KeptOut;
+        }
+        if packet.dlid > self.info.linear_fdb_top {
+            return Fate::OverTop;
+        }
+        match self.linear.get(usize::from(packet.dlid)) {
+            Some(entry) => self.fate_by(*entry, packet.p_key),
+            None => Fate::OverTop,
+        }
+    }
+
+    /// The same, by the entry for its LID.
+    fn fate_by(&self, entry: u8, p_key: PKey) -> Fate
+        ensures { result ≡ fate_by self.now.ports p_key entry }
+    {
+        if usize::from(entry) >= self.ports.len() {
+            Fate::NoPort(entry)
+        } else if entry == 0 {
+            Fate::Taken
+        } else if passes_outbound(entry, p_key, &self.ports) {
+            Fate::Leaves(entry)
+        } else {
+            Fate::KeptIn(entry)
+        }
+    }
+
+    /// What its ports hold, port 0 first.
+    pub fn ports(&self) -> &[SwitchPort]
+        ensures { result.now ≡ self.now.ports }
+    {
+        &self.ports
+    }
+
+    /// Its linear forwarding table: for each LID the port that leads there.
+    pub fn linear(&self) -> &[u8]
+        ensures { result.now ≡ self.now.linear }
+    {
+        &self.linear
+    }
+
+    /// LinearFDBTop, the last LID that counts.
+    pub fn linear_top(&self) -> u16
+        ensures { result ≡ self.now.info.linear_fdb_top }
+    {
+        self.info.linear_fdb_top
     }
 
     /// The port that the linear forwarding table has for a LID that counts.
