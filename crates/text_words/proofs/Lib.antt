@@ -3,3 +3,4 @@ pub mod NumberLemmas
 pub mod LineWordsLemmas
 pub mod ContentLemmas
 pub mod WordLemmas
+pub mod ScanLemmas

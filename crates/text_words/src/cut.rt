@@ -1,7 +1,9 @@
-ghost use Rattle.std.specs.Prelude.{◌≡◌, ◌≤◌, ◌<◌, ◌==◌, length, position, IfSome};
+ghost use Rattle.std.specs.Prelude.{◌≡◌, ◌≤◌, ◌==◌, length};
 ghost use Rattle.std.specs.List.{position_or_len};
 ghost use Rattle.std.specs.Option.{option_map};
 ghost use Rattle.text_words.specs.Cut.{both, cut_at};
+
+use memchr::memchr;
 
 /// What stands before and behind the first such byte, if there is one.
 #[tactic(auto, using(result_words::proofs::PlaceLemmas::list_any_place))]
@@ -20,15 +22,8 @@ pub(crate) fn place_or_end(wanted: u8, text: &[u8]) -> usize
     ensures value { result ≡ position_or_len (λ byte. byte == wanted) text.now }
     ensures within { result ≤ length text.now }
 {
-    match place_of(wanted, text) {
+    match memchr(wanted, text) {
         Some(place) => place,
         None => text.len(),
     }
-}
-
-fn place_of(wanted: u8, text: &[u8]) -> Option<usize>
-    ensures value { result ≡ position (λ byte. byte == wanted) text.now }
-    ensures within { IfSome result (λ place. place < length text.now) }
-{
-    text.iter().position(|byte| *byte == wanted)
 }

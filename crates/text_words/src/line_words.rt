@@ -3,6 +3,7 @@ ghost use Rattle.std.specs.List.{position_or_len};
 ghost use Rattle.text_words.specs.Lines.{is_blank, words_between, words_of};
 
 use crate::content::plain_content;
+use memchr::memchr2;
 use std::marker::Model;
 
 /// The words that are left of a line, which stand between blanks and tabs: contracts see their list.
@@ -72,17 +73,10 @@ fn blank_or_end(text: &[u8]) -> usize
     ensures value { result ≡ position_or_len is_blank text.now }
     ensures within { result ≤ length text.now }
 {
-    match blank_place(text) {
+    match memchr2(b' ', b'\t', text) {
         Some(place) => place,
         None => text.len(),
     }
-}
-
-fn blank_place(text: &[u8]) -> Option<usize>
-    ensures value { result ≡ position is_blank text.now }
-    ensures within { IfSome result (λ place. place < length text.now) }
-{
-    text.iter().position(|byte| is_blank(*byte))
 }
 
 fn is_blank(byte: u8) -> bool

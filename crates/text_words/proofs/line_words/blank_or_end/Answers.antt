@@ -1,7 +1,10 @@
 use Rattle.std.proofs.Common.{sym}
-use Rattle.text_words.specs.Lines.{is_blank}
-use Rattle.result_words.proofs.PlaceLemmas.{place-none}
+use Rattle.memchr.specs.Find.{is_byte2}
+use Rattle.text_words.proofs.ScanLemmas.{found_first, found_nowhere}
 use Rattle.text_words.proofs.line_words.blank_or_end.Goals as goal
 
 pub returns-in-None-clause-value : goal.returns-in-None-clause-value
-returns-in-None-clause-value c = place-none is_blank c.args.text.now (sym c.in-None.ensures.value)
+returns-in-None-clause-value c = sym (found_nowhere (is_byte2 32 9) c.args.text.now c.in-None.ensures)
+
+pub returns-in-Some-clause-value : goal.returns-in-Some-clause-value
+returns-in-Some-clause-value c = sym (found_first (is_byte2 32 9) c.args.text.now c.in-Some.place c.in-Some.ensures.0 c.in-Some.ensures.1)
