@@ -1,0 +1,5 @@
+pub mod KeyOrderLemmas
+pub mod ServiceLemmas
+pub mod ServiceSoundLemmas
+pub mod WrongLemmas
+pub mod ExampleLemmas

@@ -1,0 +1,40 @@
+//! The laws of services, over the definitions alone. Each function does nothing: its
+//! contract is the law.
+
+ghost use Rattle.sa_requests.specs.KeyOrder.{KeysStandByBase};
+ghost use Rattle.sa_requests.specs.ServiceLaws.{FarServicesAreNotSeen, NoServicesAreSound, PlacesStay, ServicesAreSeenAlike, ServicesDependOnNear, ServicesStaySound};
+
+/// A port's keys in the order of their bases are the same keys, and are in that order.
+pub fn keys_stand_by_base()
+    ensures { KeysStandByBase }
+{}
+
+/// At the start services are sound.
+pub fn no_services_are_sound()
+    ensures { NoServicesAreSound }
+{}
+
+/// What ports set and delete keeps them sound.
+pub fn services_stay_sound()
+    ensures { ServicesStaySound }
+{}
+
+/// Whose services there are, and in which partitions, does not change.
+pub fn places_stay()
+    ensures { PlacesStay }
+{}
+
+/// What a port that is far from another does to services is not shown to that one.
+pub fn far_services_are_not_seen()
+    ensures { FarServicesAreNotSeen }
+{}
+
+/// Where a port sees the same before a Set or a Delete of any port, it sees the same after.
+pub fn services_are_seen_alike()
+    ensures { ServicesAreSeenAlike }
+{}
+
+/// Whatever ports set and delete, what a port sees of services depends only on the ports near it.
+pub fn services_depend_on_near()
+    ensures { ServicesDependOnNear }
+{}
