@@ -1,0 +1,13 @@
+pub mod Request
+pub mod Reply
+pub mod Transfers
+pub mod Success
+pub mod Joins
+pub mod ServiceRequests
+pub mod Answer
+pub mod Laws
+pub mod Runs
+pub mod Sources
+pub mod WrongRules
+pub mod Examples
+pub mod ExampleLaws

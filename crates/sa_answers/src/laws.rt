@@ -1,0 +1,44 @@
+//! The laws of answers, over the definitions alone. Each function does nothing: its contract is the law.
+
+ghost use Rattle.sa_answers.specs.Laws.{AnswersAreSeenAlike, AnswersKeepSound, FarRequestsAreNotSeen, RefusedChangeNothing, RequestersAreAnsweredAlike};
+ghost use Rattle.sa_answers.specs.Runs.{WhatIsReceivedDependsOnNear};
+ghost use Rattle.sa_answers.specs.Sources.{OpenTablesComeFromNear};
+
+/// Whatever comes to subnet administration, what it remembers stays sound.
+pub fn answers_keep_sound()
+    ensures { AnswersKeepSound }
+{}
+
+/// A request that is refused changes nothing.
+pub fn refused_change_nothing()
+    ensures { RefusedChangeNothing }
+{}
+
+/// Whatever a port sends to subnet administration, a port that is far from it sees the same after it as
+/// before.
+pub fn far_requests_are_not_seen()
+    ensures { FarRequestsAreNotSeen }
+{}
+
+/// Where a port sees the same in two states, what it sends is answered by the same MADs, and it sees the
+/// same after.
+pub fn requesters_are_answered_alike()
+    ensures { RequestersAreAnsweredAlike }
+{}
+
+/// Whatever a port sends, who sees the same in two states sees the same after.
+pub fn answers_are_seen_alike()
+    ensures { AnswersAreSeenAlike }
+{}
+
+/// Whatever ports send to subnet administration, the MADs that come back to a port are those that would
+/// come back to it if the ports near it alone had sent.
+pub fn what_is_received_depends_on_near()
+    ensures { WhatIsReceivedDependsOnNear }
+{}
+
+/// Whatever ports sent, the table that is open to a port has records that come from ports near it or from
+/// the partition file.
+pub fn open_tables_come_from_near()
+    ensures { OpenTablesComeFromNear }
+{}

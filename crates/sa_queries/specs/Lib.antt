@@ -1,0 +1,11 @@
+pub mod Gid
+pub mod Visible
+pub mod Shown
+pub mod Selected
+pub mod Refusals
+pub mod Outcome
+pub mod Order
+pub mod Laws
+pub mod WrongRules
+pub mod Examples
+pub mod ExampleLaws
