@@ -1,12 +1,13 @@
 -- What comes of texts and of their fabric.
-use Rattle.std.proofs.Common.{ℕ, ◌≡◌, List, Option, Some, None, Result, Ok, Err, refl, sym, ◌∙◌, ap, subst}
+use Rattle.std.proofs.Common.{ℕ, ◌≡◌, List, [], Option, Some, None, Result, Ok, Err, Vec, Global, refl, sym, ◌∙◌, ap, subst}
 use Rattle.result_words.specs.AtLine.{AtLine}
 use Rattle.result_words.specs.Gives.{Fails}
 use Rattle.result_words.specs.Steps.{◌>>=◌}
 use Rattle.result_words.proofs.StepLemmas.{same_err}
 use Rattle.topo_file.specs.Topology.{Plan, topology_of}
 use Rattle.partition_file.specs.declared.partition.Partition.{Partition}
-use Rattle.subnet_core.specs.BringUp.{Becomes, FailsWith, WithFabric, up_from}
+use Rattle.fabric_parts.specs.declared.cable.PortRef.{PortRef}
+use Rattle.subnet_core.specs.BringUp.{Becomes, FailsWith, IsUp, Turns, WithFabric, stop_of, up_from}
 use Rattle.subnet_core.specs.Listing.{listing_text}
 use Rattle.subnet_core.specs.EventLines.{report_text}
 use Rattle.subnet_core.specs.Roster.{Rostered, fault_in, of_text, partitions_for, roster_of}
@@ -14,10 +15,12 @@ use Rattle.subnet_core.specs.Run.{ReportState, report_of}
 use Rattle.subnet_core.specs.Script.{commands_in}
 use Rattle.subnet_core.specs.declared.fault.RunFault.{RunFault}
 use Rattle.subnet_core.specs.declared.fault.RunFault.TheVariants as run
+use Rattle.subnet_fabric.specs.BringUp.{Up}
 use Rattle.subnet_model.specs.declared.command.Command.{Command}
 use Rattle.sweep.specs.declared.fault.SweepFault.TheVariants as sweep
 use Rattle.fabric_cli.specs.Faults.{run_line, run_status}
-use Rattle.fabric_cli.specs.Serving.{Bytes, Comes, ComesTo, Ending, ForEnding, ForTexts, RunStops, Stops, complete, ending_by, ending_over, faulted, second_stop, shares_in, changes_in, texts_with}
+use Rattle.fabric_cli.specs.Serving.{Bytes, Comes, ComesTo, Ending, ForEnding, ForTexts, RunStops, Stops, complete, ending_by, ending_over, faulted, inspected, looked_at, second_stop, shares_in, changes_in, texts_with}
+use Rattle.fabric_cli.specs.declared.words.Inspection.{Inspection}
 use Rattle.fabric_cli.specs.declared.faults.Stop.{Stop}
 use Rattle.fabric_cli.specs.declared.faults.Stop.TheVariants.{Words, NoMemory, Unread, Unwritten, Run, Port, Second}
 use Rattle.fabric_cli.specs.declared.words.Work.{Work}
@@ -85,7 +88,7 @@ report_at_one topology partitions script stop fault becomes is = by (up_from (ro
 
 -- ---- one ending
 pub for_ending : (judged : Result Bytes Ending) (P Q : Ending → Type 0) → ((ending : Ending) → P ending → Q ending) → ForEnding judged P → ForEnding judged Q
-for_ending (Ok texts) P Q f so = record { stop = so.stop; comes = so.comes; is = f _ so.is }
+for_ending (Ok texts) P Q f so = record { outcome = so.outcome; comes = so.comes; is = f _ so.is }
 for_ending (Err ending) P Q f so = f ending so
 
 -- a fault is told where it is no want of memory
@@ -99,32 +102,88 @@ stopped_by judged (run.NoLegalPath switch node number) f = f refl
 stopped_by judged (run.Push fault) f = f refl
 stopped_by judged (run.Script line cause) f = f refl
 
+-- ---- what becomes of a fabric, and with it the fabric itself
+nothing_at : PortRef
+nothing_at = record { node = 0; port = 0 }
+
+nothing_up : Up
+nothing_up = record {
+  routes = record {
+    graph = record { manager = 0; switches = []; rows = []; ports = [] };
+    lids = [];
+    between = record { rows = []; guids = []; ranks = []; depths = []; places = []; tables = []; homes = [] };
+  };
+  fabric = record { nodes = []; cables = []; manager = nothing_at };
+}
+
+outcome_of : (given : Result Rostered RunFault) (stop : Option RunFault) → Becomes given stop
+    → (outcome : Result Up RunFault) × Turns given outcome × (stop_of outcome ≡ stop)
+outcome_of (Ok roster) None becomes = (Ok becomes.0, becomes.1, refl)
+outcome_of (Ok roster) (Some fault) becomes = (Err fault, becomes, refl)
+outcome_of (Err fault) None becomes = (Ok nothing_up, tt, refl)
+outcome_of (Err fault) (Some other) becomes = (Err other, tt, refl)
+
 module _ (topology : List ℕ) (partitions : Option (List ℕ)) (asked : Work (List ℕ) (List ℕ)) where
   abbrev texts : Result Bytes Ending
   texts = texts_with topology partitions asked
 
   -- where this becomes of their fabric
-  pub run_over : (stop : Option RunFault) (fault : RunFault) → Comes topology partitions asked stop → RunStops (Err (ending_over topology partitions asked stop)) fault → RunStops texts fault
-  run_over stop run.NoMemory comes is = tt
-  run_over stop (run.Topology line cause) comes is = (is.0, record { stop = stop; comes = comes; is = is.1 })
-  run_over stop (run.Partitions line cause) comes is = (is.0, record { stop = stop; comes = comes; is = is.1 })
-  run_over stop (run.Sweep fault) comes is = (is.0, record { stop = stop; comes = comes; is = is.1 })
-  run_over stop (run.NoLegalPath switch node number) comes is = (is.0, record { stop = stop; comes = comes; is = is.1 })
-  run_over stop (run.Push fault) comes is = (is.0, record { stop = stop; comes = comes; is = is.1 })
-  run_over stop (run.Script line cause) comes is = (is.0, record { stop = stop; comes = comes; is = is.1 })
+  module _ (outcome : Result Up RunFault) (comes : Comes topology partitions asked outcome) where
+    abbrev over : Result Bytes Ending
+    over = Err (ending_over topology partitions asked outcome)
 
--- ---- a listing
+    for_over : (Is : Ending → Type 0) → ForEnding over Is → ForEnding texts Is
+    for_over Is is = record { outcome = outcome; comes = comes; is = is }
+
+    pub run_over : (fault : RunFault) → RunStops over fault → RunStops texts fault
+    run_over run.NoMemory is = tt
+    run_over (run.Topology line cause) is = (is.0, for_over _ is.1)
+    run_over (run.Partitions line cause) is = (is.0, for_over _ is.1)
+    run_over (run.Sweep fault) is = (is.0, for_over _ is.1)
+    run_over (run.NoLegalPath switch node number) is = (is.0, for_over _ is.1)
+    run_over (run.Push fault) is = (is.0, for_over _ is.1)
+    run_over (run.Script line cause) is = (is.0, for_over _ is.1)
+
+    stops_over : (stop : Stop) → Stops over stop → Stops texts stop
+    stops_over (Words text) is = for_over _ is
+    stops_over NoMemory is = tt
+    stops_over (Unread name) is = tt
+    stops_over Unwritten is = absurd is
+    stops_over (Run fault) is = run_over fault is
+    stops_over (Port cause) is = for_over _ is
+    stops_over (Second line cause) is = for_over _ is
+
+    pub comes_over : (result : Result (Vec ℕ Global) Stop) → ComesTo (λ text. text.items) over result → ComesTo (λ text. text.items) texts result
+    comes_over (Ok text) is = for_over _ is
+    comes_over (Err stop) is = stops_over stop is
+
+-- ---- a fabric that is not brought up
+stop_turns : (found : Result Rostered RunFault) (stop : Option RunFault) (fault : RunFault) → Becomes found stop → up_from found stop ≡ Err fault
+    → Turns found (Err fault) × ((what : Inspection (List ℕ)) → inspected found what (Err fault) ≡ faulted (run_status fault) (run_line fault))
+unfolding up_from
+stop_turns (Ok roster) None fault becomes is = absurd cc
+stop_turns (Ok roster) (Some other) fault becomes is = (rw (same_err other fault is) at becomes, λ what. refl)
+stop_turns (Err other) stop fault becomes is = (tt, λ what. rw (same_err other fault is) refl)
+
 module _ (topology : List ℕ) (partitions : Option (List ℕ)) where
   abbrev given : Result Rostered RunFault
   given = roster_of topology partitions
 
+  -- ---- a listing
   pub listing_stops : (fault : RunFault) → FailsWith given (fault_in fault) (up_from given)
       → RunStops (texts_with topology partitions work.Check) fault
   listing_stops fault fails =
       stopped_by (texts_with topology partitions work.Check) fault (λ told.
       let up : WithFabric given (λ stop. up_from given stop ≡ Err fault) = rw told at fails in
+      let turns = outcome_of given up.stop up.becomes in
       let one : run_status fault ≡ 1 = up_at_one topology partitions up.stop fault up.becomes up.is in
-      (one, record { stop = up.stop; comes = up.becomes; is = rw (up.is, one) refl }))
+      (one, record { outcome = turns.0; comes = turns.1; is = rw (turns.2, up.is, one) refl }))
+
+  pub is_listed : (roster : Rostered) (text : List ℕ) → WithFabric given (λ stop. up_from given stop ≡ Ok roster) → text ≡ listing_text roster.configuration
+      → ForEnding (texts_with topology partitions work.Check) (λ ending. ending ≡ complete text)
+  is_listed roster text up told =
+      let turns = outcome_of given up.stop up.becomes in
+      record { outcome = turns.0; comes = turns.1; is = rw (turns.2, up.is, told) refl }
 
   -- ---- a report
   pub report_stops : (script : List ℕ) (fault : RunFault) → FailsWith given (fault_in fault) (report_of topology partitions script)
@@ -132,8 +191,40 @@ module _ (topology : List ℕ) (partitions : Option (List ℕ)) where
   report_stops script fault fails =
       stopped_by (texts_with topology partitions (work.Run script)) fault (λ told.
       let up : WithFabric given (λ stop. report_of topology partitions script stop ≡ Err fault) = rw told at fails in
+      let turns = outcome_of given up.stop up.becomes in
       let one : run_status fault ≡ 1 = report_at_one topology partitions script up.stop fault up.becomes up.is in
-      (one, record { stop = up.stop; comes = up.becomes; is = rw (up.is, one) refl }))
+      (one, record { outcome = turns.0; comes = turns.1; is = rw (turns.2, up.is, one) refl }))
+
+  pub is_reported : (script : List ℕ) (report : ReportState) (text : List ℕ)
+      → WithFabric given (λ stop. report_of topology partitions script stop ≡ Ok report) → text ≡ report_text report.ports report.events
+      → ForEnding (texts_with topology partitions (work.Run script)) (λ ending. ending ≡ complete text)
+  is_reported script report text up told =
+      let turns = outcome_of given up.stop up.becomes in
+      record { outcome = turns.0; comes = turns.1; is = rw (turns.2, up.is, told) refl }
+
+  -- ---- what a fabric holds
+  same_roster : (found : Result Rostered RunFault) (stop : Option RunFault) (roster : Rostered) → up_from found stop ≡ Ok roster → found ≡ Ok roster
+  unfolding up_from
+  same_roster (Ok other) None roster is = is
+  same_roster (Ok other) (Some fault) roster is = absurd cc
+  same_roster (Err fault) stop roster is = absurd cc
+
+  pub is_inspected : (what : Inspection (List ℕ)) (roster : Rostered) (up : Up) (result : Result (Vec ℕ Global) Stop)
+      → WithFabric given (λ stop. up_from given stop ≡ Ok roster) → IsUp roster up
+      → ComesTo (λ text. text.items) (Err (looked_at roster up what)) result
+      → ComesTo (λ text. text.items) (texts_with topology partitions (work.Inspect what)) result
+  is_inspected what roster up result told is_up comes =
+      let found = same_roster given told.stop roster told.is in
+      comes_over topology partitions (work.Inspect what) (Ok up) (rw found is_up) result (rw found comes)
+
+  pub inspection_stops : (what : Inspection (List ℕ)) (fault : RunFault) → FailsWith given (fault_in fault) (up_from given)
+      → RunStops (texts_with topology partitions (work.Inspect what)) fault
+  inspection_stops what fault fails =
+      stopped_by (texts_with topology partitions (work.Inspect what)) fault (λ told.
+      let up : WithFabric given (λ stop. up_from given stop ≡ Err fault) = rw told at fails in
+      let one : run_status fault ≡ 1 = up_at_one topology partitions up.stop fault up.becomes up.is in
+      let turns = stop_turns given up.stop fault up.becomes up.is in
+      (one, record { outcome = Err fault; comes = turns.0; is = turns.1 what ∙ ap (λ (status : ℕ). faulted status (run_line fault)) one }))
 
   -- ---- shares and changes, which take no fabric
   pub roster_stops : (fault : RunFault) (ending : Ending) → Fails (fault_in fault) given → (given ≡ Err fault → ending ≡ faulted (run_status fault) (run_line fault))
@@ -146,12 +237,22 @@ module _ (topology : List ℕ) (partitions : Option (List ℕ)) where
 
   pub shares_stop : (port : Option (List ℕ)) (fault : RunFault) → Fails (fault_in fault) given → RunStops (texts_with topology partitions (work.Shares port)) fault
   shares_stop port fault fails =
-      run_over topology partitions (work.Shares port) None fault tt (roster_stops fault (shares_in given port) fails (λ at. rw at refl))
+      run_over topology partitions (work.Shares port) (Err run.NoMemory) tt fault (roster_stops fault (shares_in given port) fails (λ at. rw at refl))
+
+  pub shares_come : (port : Option (List ℕ)) (roster : Rostered) (result : Result (Vec ℕ Global) Stop) → given ≡ Ok roster
+      → ComesTo (λ text. text.items) (Err (shares_in (Ok roster) port)) result
+      → ComesTo (λ text. text.items) (texts_with topology partitions (work.Shares port)) result
+  shares_come port roster result is comes = comes_over topology partitions (work.Shares port) (Err run.NoMemory) tt result (rw is comes)
 
   pub changes_stop : (second : Option (List ℕ)) (fault : RunFault) → Fails (fault_in fault) given → RunStops (texts_with topology partitions (work.Diff second)) fault
   changes_stop second fault fails =
-      run_over topology partitions (work.Diff second) None fault tt
+      run_over topology partitions (work.Diff second) (Err run.NoMemory) tt fault
       (roster_stops fault (changes_in given (roster_of topology second)) fails (λ at. rw at refl))
+
+  pub changes_come : (second : Option (List ℕ)) (before : Rostered) (result : Result (Vec ℕ Global) Stop) → given ≡ Ok before
+      → ComesTo (λ text. text.items) (Err (changes_in (Ok before) (roster_of topology second))) result
+      → ComesTo (λ text. text.items) (texts_with topology partitions (work.Diff second)) result
+  changes_come second before result is comes = comes_over topology partitions (work.Diff second) (Err run.NoMemory) tt result (rw is comes)
 
 -- the second partitions
 pub second_stops : (before : Rostered) (topology : List ℕ) (second : Option (List ℕ)) (fault : RunFault) → Fails (fault_in fault) (roster_of topology second)

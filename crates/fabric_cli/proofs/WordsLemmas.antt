@@ -13,7 +13,7 @@ use Rattle.fabric_cli.specs.declared.faults.Stop.{Stop}
 use Rattle.fabric_cli.specs.declared.words.Call.{Call}
 use Rattle.fabric_cli.specs.declared.faults.Stop.TheVariants.{Words, NoMemory, Unread, Unwritten, Run, Port, Second}
 use Rattle.fabric_cli.specs.Faults.{IsOfWords, IsRefusalOf, TellsAll}
-use Rattle.fabric_cli.specs.Words.{Names, asked_by, asked_in, call_by, asked_of, fabric_command, work_in}
+use Rattle.fabric_cli.specs.Words.{Names, asked_by, asked_in, call_by, asked_of, fabric_command, trace_by, work_in}
 
 same_some : {X : Type 0} (x y : X) → Some x ≡ Some y → x ≡ y
 same_some x y e = cc
@@ -21,7 +21,9 @@ same_some x y e = cc
 in_rows : (given : Option (Text × List Row)) (name : Text) (rows : List Row) → Some name ≡ option_map (λ found. found.0) given
     → Some rows ≡ option_map (λ found. found.1) given
     → asked_in given ≡ call_by name (first_of (codes "CODE") rows)
-    (asked_by (first_of (codes "TOPO") rows) (first_of (codes "PARTS") rows) (work_in name (first_of (codes "PORT") rows) (first_of (codes "PARTS2") rows) (first_of (codes "SCRIPT") rows)))
+    (asked_by (first_of (codes "TOPO") rows) (first_of (codes "PARTS") rows) (work_in name (first_of (codes "PORT") rows) (first_of (codes "PARTS2") rows)
+    (trace_by (first_of (codes "PORT") rows) (first_of (codes "DLID") rows) (first_of (codes "PKEY") rows))
+    (first_of (codes "SCRIPT") rows)))
 in_rows None name rows e f = cc
 in_rows (Some found) name rows e f =
     rw (same_some name found.0 e, same_some rows found.1 f) refl
@@ -39,9 +41,11 @@ name_beside_rows m = first_of_both _ _ _
 pub in_found : (m : ArgMatches) (name : Text) (found : Found) → Some name ≡ subcommand_name_of m
     → Some (rows_of found) ≡ option_map (λ run. run.1) (subcommand_rows_of m)
     → asked_in (subcommand_rows_of m) ≡ call_by name (first_value found (codes "CODE"))
-    (asked_by (first_value found (codes "TOPO")) (first_value found (codes "PARTS")) (work_in name (first_value found (codes "PORT")) (first_value found (codes "PARTS2")) (first_value found (codes "SCRIPT"))))
+    (asked_by (first_value found (codes "TOPO")) (first_value found (codes "PARTS")) (work_in name (first_value found (codes "PORT")) (first_value found (codes "PARTS2"))
+    (trace_by (first_value found (codes "PORT")) (first_value found (codes "DLID")) (first_value found (codes "PKEY")))
+    (first_value found (codes "SCRIPT"))))
 in_found m name found e f = in_rows (subcommand_rows_of m) name (rows_of found) (e ∙ name_beside_rows m) f
-    ∙ rw (← first_value-rows found (codes "TOPO"), ← first_value-rows found (codes "PARTS"), ← first_value-rows found (codes "PORT"), ← first_value-rows found (codes "PARTS2"), ← first_value-rows found (codes "SCRIPT"), ← first_value-rows found (codes "CODE")) refl
+    ∙ rw (← first_value-rows found (codes "TOPO"), ← first_value-rows found (codes "PARTS"), ← first_value-rows found (codes "PORT"), ← first_value-rows found (codes "PARTS2"), ← first_value-rows found (codes "SCRIPT"), ← first_value-rows found (codes "CODE"), ← first_value-rows found (codes "DLID"), ← first_value-rows found (codes "PKEY")) refl
 
 fabric_is_simple : is_simple fabric_command ≡ true
 unfolding clap_on_literals

@@ -25,6 +25,18 @@ about_shares = codes "Lists which two ports may talk to one another, and in whic
 abbrev pub about_diff : List ℕ
 about_diff = codes "Lists what a second partition file in place of the first changes"
 
+abbrev pub about_tables : List ℕ
+about_tables = codes "Prints the linear forwarding tables of a subnet's switches, as dump_fts does"
+
+abbrev pub about_keys : List ℕ
+about_keys = codes "Prints the key tables of a subnet's ports"
+
+abbrev pub about_trace : List ℕ
+about_trace = codes "Prints the way of one packet, and why it ends"
+
+abbrev pub about_graph : List ℕ
+about_graph = codes "Draws a subnet's fabric, as a text for Graphviz"
+
 abbrev pub about_run : List ℕ
 about_run = codes "Runs a script in a subnet, and prints what its ports receive"
 
@@ -39,6 +51,15 @@ help_of_partitions = codes "The partitions and their members, or `-` for the def
 
 abbrev pub help_of_port : List ℕ
 help_of_port = codes "An end port as `check` lists it: `h1/1`, or `A/0` for port 0 of switch A"
+
+abbrev pub help_of_sender : List ℕ
+help_of_sender = codes "The port that sends, of a channel adapter: `h1/1`"
+
+abbrev pub help_of_dlid : List ℕ
+help_of_dlid = codes "The LID that it is sent to: a number of 16 bits, as `5` or `0xc000`"
+
+abbrev pub help_of_key : List ℕ
+help_of_key = codes "The key under which it is sent: a number of 16 bits, as `0x8001`"
 
 abbrev pub help_of_second_partitions : List ℕ
 help_of_second_partitions = codes "The partitions in place of those, or `-` for the default one alone"

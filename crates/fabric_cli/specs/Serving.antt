@@ -9,11 +9,17 @@ use Rattle.port_shares.specs.Shares.{shares_text}
 use Rattle.subnet_model.specs.declared.subnet_port.SubnetPort.{SubnetPort}
 use Rattle.subnet_core.specs.declared.fault.ScriptCause.{ScriptCause}
 use Rattle.subnet_core.specs.Fault.{code_of as script_code}
+use Rattle.fabric_graph.specs.Graph.{graph_text}
+use Rattle.fabric_keys.specs.Keys.{keys_text}
+use Rattle.fabric_parts.specs.declared.cable.PortRef.{PortRef}
+use Rattle.linear_tables.specs.Tables.{tables_text}
+use Rattle.packet_trace.specs.Lines.{trace_text}
 use Rattle.partition_file.specs.Fault.{code_of as partitions_code}
 use Rattle.partition_changes.specs.Changes.{text_of_changes}
 use Rattle.subnet_core.specs.Listing.{listing_text}
-use Rattle.subnet_core.specs.NamedPort.{named_port}
-use Rattle.subnet_core.specs.BringUp.{Becomes, up_from}
+use Rattle.subnet_core.specs.NamedPort.{adapter_place, named_port}
+use Rattle.subnet_fabric.specs.BringUp.{Up}
+use Rattle.subnet_core.specs.BringUp.{Turns, stop_of, up_from}
 use Rattle.subnet_core.specs.Roster.{Rostered, roster_of}
 use Rattle.subnet_core.specs.Run.{report_of}
 use Rattle.topo_file.specs.Topology.{Plan}
@@ -25,12 +31,14 @@ use Rattle.code_texts.specs.Texts.{listing, text_of}
 use Rattle.code_texts.specs.declared.code.Code.{Code}
 use Rattle.fabric_cli.specs.declared.words.Call.{Call}
 use Rattle.fabric_cli.specs.declared.words.Call.TheVariants.{Explain, Subnet}
+use Rattle.fabric_cli.specs.declared.words.Inspection.{Inspection}
+use Rattle.fabric_cli.specs.declared.words.Inspection.TheVariants.{Graph, Keys, Tables, Trace}
 use Rattle.fabric_cli.specs.declared.words.Work.{Work}
 use Rattle.fabric_cli.specs.declared.words.Work.TheVariants as work
 use Rattle.fabric_cli.specs.declared.faults.Stop.TheVariants.{Words, NoMemory, Unread, Unwritten, Run, Port, Second}
 use Rattle.fabric_cli.specs.Faults.{line_of, status_of, memory_line, not_text_line, port_line, run_line, second_line, run_status, unread_line, unwritten_line}
 use Rattle.fabric_cli.specs.Files.{Contents, StopsAt}
-use Rattle.fabric_cli.specs.Words.{Names, asked_of}
+use Rattle.fabric_cli.specs.Words.{Names, asked_of, named_inspection}
 use Rattle.fabric_cli.specs.Writing.{AppendsPart, Writes}
 
 -- how a call ends: the words are refused, or a fault's status and line, or a whole output
@@ -49,6 +57,7 @@ abbrev pub work_bytes : Work (Bor (List ℕ)) (Vec ℕ Global) → Work (List �
 work_bytes work.Check = work.Check
 work_bytes (work.Shares port) = work.Shares (option_map (λ word. word.now) port)
 work_bytes (work.Diff second) = work.Diff (option_map (λ bytes. bytes.items) second)
+work_bytes (work.Inspect what) = work.Inspect (named_inspection what)
 work_bytes (work.Run script) = work.Run script.items
 
 abbrev pub texts_in : Texts → Bytes
@@ -78,6 +87,7 @@ abbrev pub work_of : Contents → Work (List ℕ) (List ℕ) → Result (Work (L
 work_of file work.Check = Ok work.Check
 work_of file (work.Shares port) = Ok (work.Shares port)
 work_of file (work.Diff name) = bytes_if_named file name >>= λ bytes. Ok (work.Diff bytes)
+work_of file (work.Inspect what) = Ok (work.Inspect what)
 work_of file (work.Run name) = bytes_of file name >>= λ bytes. Ok (work.Run bytes)
 
 -- all files are read before any of them is judged
@@ -126,24 +136,48 @@ changes_in (Ok before) (Ok after) = complete (text_of_changes before.configurati
 changes_in (Ok before) (Err fault) = second_told fault
 changes_in (Err fault) after = faulted (run_status fault) (run_line fault)
 
-abbrev pub ending_over : List ℕ → Option (List ℕ) → Work (List ℕ) (List ℕ) → Option RunFault → Ending
-ending_over topology partitions work.Check stop = ending_by (listed topology partitions stop)
-ending_over topology partitions (work.Shares port) stop = shares_in (roster_of topology partitions) port
-ending_over topology partitions (work.Diff second) stop = changes_in (roster_of topology partitions) (roster_of topology second)
-ending_over topology partitions (work.Run script) stop = ending_by (reported topology partitions script stop)
+-- ---- what the fabric of a subnet holds, by its routes
+-- the way of a packet: the fabric is brought up before the word for its port is judged
+abbrev pub traced : Rostered → Up → (dlid p_key : ℕ) → Result PortRef ScriptCause → Ending
+traced roster up dlid p_key (Ok from) = complete (trace_text roster.plan.nodes up.fabric from dlid p_key)
+traced roster up dlid p_key (Err cause) = faulted 1 (port_line (script_code cause))
 
--- a fabric is brought up for a listing and for a script alone
-abbrev pub Comes : List ℕ → Option (List ℕ) → Work (List ℕ) (List ℕ) → Option RunFault → Type 0
-Comes topology partitions work.Check stop = Becomes (roster_of topology partitions) stop
-Comes topology partitions (work.Shares port) stop = Unit {0}
-Comes topology partitions (work.Diff second) stop = Unit {0}
-Comes topology partitions (work.Run script) stop = Becomes (roster_of topology partitions) stop
+abbrev pub looked_at : Rostered → Up → Inspection (List ℕ) → Ending
+looked_at roster up Tables = complete (tables_text roster.plan.nodes roster.configuration.ports up.routes.graph.switches up.fabric)
+looked_at roster up Keys = complete (keys_text roster.plan.nodes roster.configuration.ports up.fabric)
+looked_at roster up (Trace port dlid p_key) = traced roster up dlid p_key (adapter_place roster.plan port)
+looked_at roster up Graph = complete (graph_text roster.plan roster.configuration up.routes)
+
+abbrev pub looked_in : Rostered → Inspection (List ℕ) → Result Up RunFault → Ending
+looked_in roster what (Ok up) = looked_at roster up what
+looked_in roster what (Err fault) = faulted (run_status fault) (run_line fault)
+
+abbrev pub inspected : Result Rostered RunFault → Inspection (List ℕ) → Result Up RunFault → Ending
+inspected (Ok roster) what outcome = looked_in roster what outcome
+inspected (Err fault) what outcome = faulted (run_status fault) (run_line fault)
+
+-- ---- all of it
+-- by what becomes of the fabric: it is up, or this fault stops it
+abbrev pub ending_over : List ℕ → Option (List ℕ) → Work (List ℕ) (List ℕ) → Result Up RunFault → Ending
+ending_over topology partitions work.Check outcome = ending_by (listed topology partitions (stop_of outcome))
+ending_over topology partitions (work.Shares port) outcome = shares_in (roster_of topology partitions) port
+ending_over topology partitions (work.Diff second) outcome = changes_in (roster_of topology partitions) (roster_of topology second)
+ending_over topology partitions (work.Inspect what) outcome = inspected (roster_of topology partitions) what outcome
+ending_over topology partitions (work.Run script) outcome = ending_by (reported topology partitions script (stop_of outcome))
+
+-- shares and changes take no fabric
+abbrev pub Comes : List ℕ → Option (List ℕ) → Work (List ℕ) (List ℕ) → Result Up RunFault → Type 0
+Comes topology partitions work.Check outcome = Turns (roster_of topology partitions) outcome
+Comes topology partitions (work.Shares port) outcome = Unit {0}
+Comes topology partitions (work.Diff second) outcome = Unit {0}
+Comes topology partitions (work.Inspect what) outcome = Turns (roster_of topology partitions) outcome
+Comes topology partitions (work.Run script) outcome = Turns (roster_of topology partitions) outcome
 
 -- it is so of what comes of these texts and of their fabric
 pub record ForTexts (texts : Bytes) (Is : Ending → Type 0) : Type 0 where
-  pub stop : Option RunFault
-  pub comes : Comes texts.topology texts.partitions texts.work stop
-  pub is : Is (ending_over texts.topology texts.partitions texts.work stop)
+  pub outcome : Result Up RunFault
+  pub comes : Comes texts.topology texts.partitions texts.work outcome
+  pub is : Is (ending_over texts.topology texts.partitions texts.work outcome)
 
 -- it is so of how a call ends: over these texts, or in an ending that is known without them
 abbrev pub ForEnding : Result Bytes Ending → (Ending → Type 0) → Type 0
@@ -174,6 +208,7 @@ abbrev pub without_files : {W S : Type 0} → Work W S → Work W (Unit {0})
 without_files work.Check = work.Check
 without_files (work.Shares port) = work.Shares port
 without_files (work.Diff second) = work.Diff (option_map (λ file. tt) second)
+without_files (work.Inspect what) = work.Inspect what
 without_files (work.Run script) = work.Run tt
 
 -- bytes for each of the files that are asked for, and for no other

@@ -1,7 +1,7 @@
 -- What the words of a call ask for, as clap reads them.
-use Rattle.std.specs.Prelude.{List, [], ◌∷◌, ◌++◌, codes, map, string_bytes, Option, Some, None, option_map, Result, Ok, Err, String, if◌then◌else◌, true}
+use Rattle.std.specs.Prelude.{List, [], ◌∷◌, ◌++◌, codes, map, nat_lt, ◌^◌, string_bytes, Option, Some, None, option_map, Result, Ok, Err, String, if◌then◌else◌, true, ℕ}
 use Rattle.std.specs.Global.{Global}
-use Rattle.std.specs.Option.{option_to_list}
+use Rattle.std.specs.Option.{option_and_then, option_to_list}
 use Rattle.std.specs.Str.{bytes_eq}
 use Rattle.clap.specs.Words.{App, Row, Rule, Text, Kinds, fault_of, first_of, new_app, new_rule, subcommand_of, with_rule, with_subcommand}
 use Rattle.std.specs.Borrow.{Bor}
@@ -12,7 +12,11 @@ use Rattle.fabric_cli.specs.declared.words.Asked.{Asked}
 use Rattle.fabric_cli.specs.declared.words.Call.{Call}
 use Rattle.fabric_cli.specs.declared.words.Call.TheVariants.{Explain, Subnet}
 use Rattle.fabric_cli.specs.declared.words.Work.{Work}
-use Rattle.fabric_cli.specs.declared.words.Work.TheVariants.{Check, Diff, Run, Shares}
+use Rattle.fabric_cli.specs.declared.words.Inspection.{Inspection}
+use Rattle.fabric_cli.specs.declared.words.Inspection.TheVariants.{Graph, Keys, Tables, Trace}
+use Rattle.fabric_cli.specs.declared.words.TheConstants.{NO_SUCH_CODE, NO_SUCH_NUMBER}
+use Rattle.fabric_cli.specs.declared.words.Work.TheVariants.{Check, Diff, Inspect, Run, Shares}
+use Rattle.text_words.specs.Number.{number_in}
 use Rattle.clap.specs.declared.builder.ArgAction.TheVariants.{Set}
 
 -- an argument that has to be given
@@ -36,6 +40,19 @@ shares_command = with_rule (subnet_command (codes "shares")) (optional (codes "P
 abbrev pub diff_command : App
 diff_command = with_rule (subnet_command (codes "diff")) (wanted (codes "PARTS2"))
 
+abbrev pub tables_command : App
+tables_command = subnet_command (codes "tables")
+
+abbrev pub keys_command : App
+keys_command = subnet_command (codes "keys")
+
+abbrev pub trace_command : App
+trace_command =
+    with_rule (with_rule (with_rule (subnet_command (codes "trace")) (wanted (codes "PORT"))) (wanted (codes "DLID"))) (wanted (codes "PKEY"))
+
+abbrev pub graph_command : App
+graph_command = subnet_command (codes "graph")
+
 abbrev pub run_command : App
 run_command = with_rule (subnet_command (codes "run")) (wanted (codes "SCRIPT"))
 
@@ -48,7 +65,15 @@ fabric_top = let app = new_app (codes "fabric") in record app { top = record app
 
 abbrev pub fabric_command : App
 fabric_command =
-    with_subcommand (with_subcommand (with_subcommand (with_subcommand (with_subcommand fabric_top check_command.top) shares_command.top) diff_command.top) run_command.top) explain_command.top
+    let checks = with_subcommand fabric_top check_command.top in
+    let shares = with_subcommand checks shares_command.top in
+    let compares = with_subcommand shares diff_command.top in
+    let tables = with_subcommand compares tables_command.top in
+    let keys = with_subcommand tables keys_command.top in
+    let traces = with_subcommand keys trace_command.top in
+    let graphs = with_subcommand traces graph_command.top in
+    let runs = with_subcommand graphs run_command.top in
+    with_subcommand runs explain_command.top
 
 -- the words that a program is given, where all of them are text
 abbrev pub given_items : {E : Type 0} → Result (IntoIter (String Global) Global) E → Option (List (String Global))
@@ -64,10 +89,17 @@ pub record Names : Type 0 where
   pub partitions : Option Text
   pub work : Work Text Text
 
+abbrev pub named_inspection : Inspection (Bor Text) → Inspection Text
+named_inspection Tables = Tables
+named_inspection Keys = Keys
+named_inspection (Trace port dlid p_key) = Trace port.now dlid p_key
+named_inspection Graph = Graph
+
 abbrev pub named_work : Work (Bor Text) (Bor Text) → Work Text Text
 named_work Check = Check
 named_work (Shares port) = Shares (option_map (λ word. word.now) port)
 named_work (Diff second) = Diff (option_map (λ word. word.now) second)
+named_work (Inspect what) = Inspect (named_inspection what)
 named_work (Run script) = Run script.now
 
 abbrev pub names : Asked → Names
@@ -88,13 +120,35 @@ file_in word = if bytes_eq word (codes "-") then None else Some word
 abbrev pub diff_by : Option Text → Option (Work Text Text)
 diff_by second = option_map (λ word. Diff (file_in word)) second
 
--- `check` needs no more words, `shares` takes a port, `diff` needs other partitions, and `run` needs a script
-abbrev pub work_in : Text → Option Text → Option Text → Option Text → Option (Work Text Text)
-work_in command port second script =
+abbrev pub run_by : Option Text → Option (Work Text Text)
+run_by script = option_map (λ name. Run name) script
+
+-- a number of 16 bits, as scripts write it
+abbrev pub u16_in : Text → Option ℕ
+u16_in word = option_and_then (λ n. if nat_lt n (2 ^ 16) then Some n else None) (number_in word)
+
+abbrev pub u16_by : Option Text → Option ℕ
+u16_by word = option_and_then u16_in word
+
+abbrev pub packet_by : Option Text → Option ℕ → Option ℕ → Option (Work Text Text)
+packet_by (Some port) (Some dlid) (Some p_key) = Some (Inspect (Trace port dlid p_key))
+packet_by _ _ _ = None
+
+abbrev pub trace_by : Option Text → Option Text → Option Text → Option (Work Text Text)
+trace_by port dlid p_key = packet_by port (u16_by dlid) (u16_by p_key)
+
+-- `check`, `tables`, `keys` and `graph` need no more words, `shares` takes a port, `diff` needs other partitions, `trace` a packet, and
+-- `run` a script
+abbrev pub work_in : Text → Option Text → Option Text → Option (Work Text Text) → Option Text → Option (Work Text Text)
+work_in command port second trace script =
     if bytes_eq command (codes "check") then Some Check
     else if bytes_eq command (codes "shares") then Some (Shares port)
     else if bytes_eq command (codes "diff") then diff_by second
-    else option_map (λ name. Run name) script
+    else if bytes_eq command (codes "tables") then Some (Inspect Tables)
+    else if bytes_eq command (codes "keys") then Some (Inspect Keys)
+    else if bytes_eq command (codes "trace") then trace
+    else if bytes_eq command (codes "graph") then Some (Inspect Graph)
+    else run_by script
 
 abbrev pub asked_by : Option Text → Option Text → Option (Work Text Text) → Option Names
 asked_by (Some topology) (Some partitions) (Some work) =
@@ -116,14 +170,24 @@ asked_in None = None
 asked_in (Some found) =
     call_by found.0 (first_of (codes "CODE") found.1)
     (asked_by (first_of (codes "TOPO") found.1) (first_of (codes "PARTS") found.1)
-    (work_in found.0 (first_of (codes "PORT") found.1) (first_of (codes "PARTS2") found.1) (first_of (codes "SCRIPT") found.1)))
+    (work_in found.0 (first_of (codes "PORT") found.1) (first_of (codes "PARTS2") found.1)
+    (trace_by (first_of (codes "PORT") found.1) (first_of (codes "DLID") found.1) (first_of (codes "PKEY") found.1))
+    (first_of (codes "SCRIPT") found.1)))
+
+-- what is told where a word that clap takes is none
+abbrev pub text_for : Text → List ℕ
+text_for command = if bytes_eq command (codes "trace") then NO_SUCH_NUMBER.now else NO_SUCH_CODE.now
+
+abbrev pub not_understood : Option Text → List ℕ
+not_understood None = NO_SUCH_CODE.now
+not_understood (Some command) = text_for command
 
 abbrev pub unless_refused : Kinds → Option (Call Names) → Option (Call Names)
 unless_refused [] asked = asked
 unless_refused (kind ∷ kinds) asked = None
 
 -- what the words ask for, the first of them the program's own name; nothing where clap refuses
--- them, where help or the version is asked for, or where a word for a code spells none
+-- them, where help or the version is asked for, or where a word for a code or a number spells none
 unfoldable pub asked_of : List Text → Option (Call Names)
 asked_of words = unless_refused (fault_of fabric_command words) (asked_in (subcommand_of fabric_command words))
 
@@ -136,6 +200,7 @@ abbrev pub work_names : Work Text Text → List Text
 work_names Check = []
 work_names (Shares port) = []
 work_names (Diff second) = option_to_list second
+work_names (Inspect what) = []
 work_names (Run script) = script ∷ []
 
 -- the names that are opened, in order

@@ -4,10 +4,13 @@ ghost use Rattle.std.specs.Prelude.{ℕ, ◌≡◌, ◌≢◌, ◌⊎◌, Result
 ghost use Rattle.std.specs.Io.KnownBytes.{Appends};
 ghost use Rattle.fabric_cli.specs.Faults.{line_of, memory_line, status_of, IsOfFiles, IsOfRun, NamesUnread};
 ghost use Rattle.fabric_cli.specs.Files.{OpensAll, OpensInOrder};
-ghost use Rattle.fabric_cli.specs.Serving.{asked_port, bytes_if_named, changes_in, judged_for, judged_of, second_stop, shares_in, texts_in, texts_of, texts_with, without_files, work_bytes, work_of, AppendsSome, AreFor, ComesTo, EndsAs, EndsForSomeBytes, ForSomeBytes, IsRefused, IsTold, TellsStop};
+ghost use Rattle.fabric_cli.specs.Serving.{asked_port, bytes_if_named, changes_in, judged_for, looked_at, traced, judged_of, second_stop, shares_in, texts_in, texts_of, texts_with, without_files, work_bytes, work_of, AppendsSome, AreFor, ComesTo, EndsAs, EndsForSomeBytes, ForSomeBytes, IsRefused, IsTold, TellsStop};
 ghost use Rattle.std.specs.Option.{option_to_list};
 ghost use Rattle.std.specs.Process.{exit_status};
-ghost use Rattle.fabric_cli.specs.Words.{all_names, asked_by_given, asked_of, given_texts, named_work, names, opened_for, work_names};
+ghost use Rattle.fabric_cli.specs.Words.{all_names, asked_by_given, asked_of, given_texts, named_inspection, named_work, names, opened_for, work_names};
+ghost use Rattle.fabric_cli.specs.declared.words.Inspection.TheVariants.{Graph as IsGraph, Keys as IsKeys, Tables as IsTables};
+ghost use Rattle.subnet_core.specs.BringUp.{up_in};
+ghost use Rattle.subnet_core.specs.NamedPort.{adapter_place};
 ghost use Rattle.fabric_cli.specs.declared.words.Call.TheVariants.{Subnet as InSubnet};
 ghost use Rattle.fabric_cli.specs.declared.words.Work.TheVariants as work;
 ghost use Rattle.fabric_cli.specs.Writing.{Writes};
@@ -17,15 +20,19 @@ use crate::explaining::explained;
 use crate::faults::{COMPLETE, MEMORY_LINE, REFUSED, Stop};
 use crate::files::Files;
 use crate::reading::read_file;
-use crate::words::{Asked, Call, Work, given_words, read_words};
+use crate::words::{Asked, Call, Inspection, Work, given_words, read_words};
 use crate::writing::{Output, write_whole};
+use fabric_graph::graph_text;
+use fabric_keys::keys_text;
+use linear_tables::tables_text;
+use packet_trace::trace_text;
 use partition_changes::changes_text;
 use port_shares::shares_text;
 use std::alloc::Global;
 use std::env::Args;
 use std::io;
 use std::process::ExitCode;
-use subnet_core::{Roster, RunFault, ScriptCause, bring_up, read_roster, run};
+use subnet_core::{Roster, RunFault, ScriptCause, Subnet, bring_up, read_roster, run};
 
 /// The bytes of the files, and what to do with them.
 #[derive(Drop)]
@@ -178,6 +185,7 @@ fn output_of_texts<'a>(alloc: Global, texts: &Texts<'_>) -> Result<Vec<u8>, Stop
         Work::Check => listed(alloc, topology, partitions),
         Work::Shares(port) => shared(alloc, topology, partitions, *port),
         Work::Diff(second) => changed(alloc, topology, partitions, slice_of(second)),
+        Work::Inspect(what) => inspected(alloc, topology, partitions, what),
         Work::Run(script) => reported(alloc, topology, partitions, script.as_slice()),
     }
 }
@@ -288,6 +296,105 @@ fn second_stop<'a>(fault: RunFault) -> Stop<'a>
     }
 }
 
+/// What the fabric of a subnet holds.
+fn inspected<'a>(
+    alloc: Global,
+    topology: &[u8],
+    partitions: Option<&[u8]>,
+    what: &Inspection<&str>,
+) -> Result<Vec<u8>, Stop<'a>>
+    ensures exact { ComesTo (λ text. text.items)
+        (texts_with topology.now (option_copied partitions.entry) (work.Inspect (named_inspection what.now))) result }
+    ensures fault { IfErr result IsOfRun }
+{
+    match bring_up(alloc, topology, partitions) {
+        Ok(subnet) => looked_at(alloc, &subnet, what),
+        Err(fault) => Err(Stop::Run(fault)),
+    }
+}
+
+fn looked_at<'a>(
+    alloc: Global,
+    subnet: &Subnet,
+    what: &Inspection<&str>,
+) -> Result<Vec<u8>, Stop<'a>>
+    ensures exact { ComesTo (λ text. text.items) (Err (looked_at subnet.now.roster (up_in subnet.now) (named_inspection what.now))) result }
+    ensures fault { IfErr result IsOfRun }
+{
+    match what {
+        Inspection::Tables => tabled(alloc, subnet),
+        Inspection::Keys => keyed(alloc, subnet),
+        Inspection::Trace(port, dlid, p_key) => traced(alloc, subnet, port, *dlid, *p_key),
+        Inspection::Graph => drawn(alloc, subnet),
+    }
+}
+
+/// The linear forwarding tables, with the paths of the sweep that brought the fabric up.
+fn tabled<'a>(alloc: Global, subnet: &Subnet) -> Result<Vec<u8>, Stop<'a>>
+    ensures exact { ComesTo (λ text. text.items) (Err (looked_at subnet.now.roster (up_in subnet.now) IsTables)) result }
+    ensures fault { IfErr result IsOfRun }
+{
+    let roster = subnet.roster();
+    let ports = roster.configuration().ports();
+    let switches = subnet.routes().graph().switches();
+    match tables_text(alloc, roster.topology(), ports, switches, subnet.fabric()) {
+        Ok(text) => Ok(text),
+        Err(_) => Err(Stop::NoMemory),
+    }
+}
+
+/// The key tables.
+fn keyed<'a>(alloc: Global, subnet: &Subnet) -> Result<Vec<u8>, Stop<'a>>
+    ensures exact { ComesTo (λ text. text.items) (Err (looked_at subnet.now.roster (up_in subnet.now) IsKeys)) result }
+    ensures fault { IfErr result IsOfRun }
+{
+    let roster = subnet.roster();
+    let ports = roster.configuration().ports();
+    match keys_text(alloc, roster.topology(), ports, subnet.fabric()) {
+        Ok(text) => Ok(text),
+        Err(_) => Err(Stop::NoMemory),
+    }
+}
+
+/// The picture, with the ranks that the routes go by.
+fn drawn<'a>(alloc: Global, subnet: &Subnet) -> Result<Vec<u8>, Stop<'a>>
+    ensures exact { ComesTo (λ text. text.items) (Err (looked_at subnet.now.roster (up_in subnet.now) IsGraph)) result }
+    ensures fault { IfErr result IsOfRun }
+{
+    let roster = subnet.roster();
+    match graph_text(
+        alloc,
+        roster.topology(),
+        roster.configuration(),
+        subnet.routes(),
+    ) {
+        Ok(text) => Ok(text),
+        Err(_) => Err(Stop::NoMemory),
+    }
+}
+
+/// The way of a packet from the port that a word names.
+fn traced<'a>(
+    alloc: Global,
+    subnet: &Subnet,
+    port: &str,
+    dlid: u16,
+    p_key: u16,
+) -> Result<Vec<u8>, Stop<'a>>
+    ensures exact { ComesTo (λ text. text.items)
+        (Err (traced subnet.now.roster (up_in subnet.now) dlid p_key (adapter_place subnet.now.roster.plan port.now))) result }
+    ensures fault { IfErr result IsOfRun }
+{
+    let roster = subnet.roster();
+    match roster.adapter_place(port.as_bytes()) {
+        Ok(from) => match trace_text(alloc, roster.topology(), subnet.fabric(), from, dlid, p_key) {
+            Ok(text) => Ok(text),
+            Err(_) => Err(Stop::NoMemory),
+        },
+        Err(cause) => Err(Stop::Port(cause)),
+    }
+}
+
 /// The report of a script in a subnet.
 fn reported<'a>(
     alloc: Global,
@@ -364,6 +471,17 @@ fn read_if_named<'a, F: Files>(
     }
 }
 
+fn copy_of<'a>(what: &Inspection<&'a str>) -> Inspection<&'a str>
+    ensures { named_inspection result ≡ named_inspection what.now }
+{
+    match what {
+        Inspection::Tables => Inspection::Tables,
+        Inspection::Keys => Inspection::Keys,
+        Inspection::Trace(port, dlid, p_key) => Inspection::Trace(*port, *dlid, *p_key),
+        Inspection::Graph => Inspection::Graph,
+    }
+}
+
 /// The work with the bytes of its file, if it has one.
 fn read_work<'a, F: Files>(
     alloc: Global,
@@ -383,6 +501,7 @@ fn read_work<'a, F: Files>(
         Work::Check => Ok(Work::Check),
         Work::Shares(port) => Ok(Work::Shares(*port)),
         Work::Diff(second) => Ok(Work::Diff(read_if_named(alloc, files, *second)?)),
+        Work::Inspect(what) => Ok(Work::Inspect(copy_of(what))),
         Work::Run(script) => Ok(Work::Run(read_file(alloc, files, *script)?)),
     }
 }

@@ -4,9 +4,9 @@ ghost use Rattle.std.specs.Prelude.{◌≡◌, false, Some, codes, map, string_b
 ghost use Rattle.clap.specs.Words.{app_of, rule_of, subcommand_rows_of};
 ghost use Rattle.clap.specs.declared.builder.command.Command.TheViews.{out-Command as fields_of};
 ghost use Rattle.fabric_cli.specs.Faults.{IsOfGiven, IsOfWords, IsRefusalOf, TellsAll};
-ghost use Rattle.fabric_cli.specs.Help.{about_check, about_diff, about_explain, about_program, about_run, about_shares, help_of_code, help_of_partitions, help_of_port, help_of_script, help_of_second_partitions, help_of_topology, program_name, program_version, text_in};
-ghost use Rattle.fabric_cli.specs.Words.{asked_by, asked_in, asked_of, call_by, check_command, diff_by, diff_command, explain_by, explain_command, fabric_command, file_in, given_items, named_call, named_work, names, optional, run_command, shares_command, subnet_command, wanted, work_in};
-ghost use Rattle.fabric_cli.specs.declared.words.TheConstants.{CHANGES, CODES, LISTING, REPORT, SHARES, STATUSES};
+ghost use Rattle.fabric_cli.specs.Help.{about_check, about_diff, about_explain, about_graph, about_keys, about_program, about_run, about_shares, about_tables, about_trace, help_of_code, help_of_dlid, help_of_key, help_of_partitions, help_of_port, help_of_script, help_of_second_partitions, help_of_sender, help_of_topology, program_name, program_version, text_in};
+ghost use Rattle.fabric_cli.specs.Words.{asked_by, asked_in, asked_of, call_by, check_command, diff_by, diff_command, explain_by, explain_command, fabric_command, file_in, given_items, graph_command, keys_command, named_call, named_work, names, not_understood, optional, run_by, run_command, shares_command, subnet_command, tables_command, text_for, trace_by, trace_command, u16_by, u16_in, wanted, work_in};
+ghost use Rattle.fabric_cli.specs.declared.words.TheConstants.{CHANGES, CODES, GRAPH, KEYS, LISTING, REPORT, SHARES, STATUSES, TABLES, TRACE};
 
 use crate::faults::Stop;
 use clap::error::ErrorKind;
@@ -16,6 +16,7 @@ use std::alloc::{AllocError, Global};
 use std::env::Args;
 use std::fmt::Display;
 use std::io;
+use text_words::number_in;
 
 /// What to do in a subnet.
 #[derive(Drop)]
@@ -26,8 +27,23 @@ pub enum Work<W, S> {
     Shares(Option<W>),
     /// List what another partition file changes, or none where the word is `-`.
     Diff(Option<S>),
+    /// Look at what its fabric holds.
+    Inspect(Inspection<W>),
     /// Run a script.
     Run(S),
+}
+
+/// What to look at in the fabric of a subnet.
+#[derive(Drop)]
+pub enum Inspection<W> {
+    /// The linear forwarding tables of its switches.
+    Tables,
+    /// The key tables of its ports.
+    Keys,
+    /// The way of a packet from a port, that a word names, to a LID under a key.
+    Trace(W, u16, u16),
+    /// A picture of its nodes and cables.
+    Graph,
 }
 
 /// What a call is for.
@@ -58,6 +74,15 @@ const ABOUT_CHECK: &str =
 const ABOUT_SHARES: &str = "Lists which two ports may talk to one another, and in which partitions";
 
 const ABOUT_DIFF: &str = "Lists what a second partition file in place of the first changes";
+
+const ABOUT_TABLES: &str =
+    "Prints the linear forwarding tables of a subnet's switches, as dump_fts does";
+
+const ABOUT_KEYS: &str = "Prints the key tables of a subnet's ports";
+
+const ABOUT_TRACE: &str = "Prints the way of one packet, and why it ends";
+
+const ABOUT_GRAPH: &str = "Draws a subnet's fabric, as a text for Graphviz";
 
 const ABOUT_RUN: &str = "Runs a script in a subnet, and prints what its ports receive";
 
@@ -99,6 +124,11 @@ const NOT_TEXT: &str = "error: a word is not text\n";
 const NO_SUCH_CODE: &str = "error: there is no such code
 
 For the list of all codes, try 'fabric explain'.
+";
+
+const NO_SUCH_NUMBER: &str = "error: DLID or PKEY is no number of 16 bits
+
+For what they are, try 'fabric trace --help'.
 ";
 
 const LISTING: &str = with_statuses!(
@@ -152,6 +182,76 @@ For example, where `P1=0x0001: 0x111=full, 0x121, 0x131;` gets `0x121=full`:
     ""
 );
 
+const TABLES: &str = with_statuses!(
+    "For each switch, by LID, its table stands as `dump_fts` of infiniband-diags prints one: a line with
+LinearFDBTop, the path by which the sweep found it, its GUID and name; a line for each LID of an
+end port to which the table leads, with the port by which; and their count.
+
+For example, of switch B, which is two hops away:
+  Unicast lids [0x0-0x6] of switch DR path slid 0; dlid 0; 0,1,3 guid 0x0000000000000020 (B):
+    Lid  Out   Destination
+         Port     Info
+  0x0001 003 : (Channel Adapter portguid 0x0000000000000101: 'h0')
+
+",
+    "help",
+    ""
+);
+
+const KEYS: &str = with_statuses!(
+    "There is a line for each end port, by LID, and behind a switch's own one for each of its ports that
+is cabled to a channel adapter, by number:
+  keys PORT KEY ..    the keys of its table, in their order; empty places are left out
+
+For example, for `P1=0x0001: 0x111=full, 0x121;` in PARTS:
+  keys A/2 0xffff 0x8001
+  keys h1/1 0x7fff 0x8001
+
+",
+    "help",
+    ""
+);
+
+const TRACE: &str = with_statuses!(
+    "The first line tells what the port makes of the packet, and each other one what becomes of it where
+it comes in; the first of these reasons that holds ends its way:
+  PORT stamps SLID DLID PKEY        the port sends it
+  PORT refuses CODE                 the port does not
+  NODE in IN drops inbound          the port lets nothing under this key in
+  NODE in IN drops top              the LID is over LinearFDBTop
+  NODE in IN drops entry ENTRY      the table's entry for it is no port of the switch
+  NODE in IN takes                  the LID is the switch's own
+  NODE in IN out OUT drops outbound the port lets nothing under this key out
+  NODE in IN out OUT no cable       the port leads nowhere
+  NODE in IN again                  it came in there before
+  NODE in IN out OUT                it goes on
+  PORT accepts                      the port takes it
+  PORT drops key                    no key of the port matches this one
+
+For example, for `h1/1 5 0xffff`:
+  h1/1 stamps 0x0004 0x0005 0xffff
+  A in 2 out 3
+  B in 3 out 1
+  h2/1 accepts
+
+",
+    "help",
+    ""
+);
+
+const GRAPH: &str = with_statuses!(
+    "The text is in DOT, and `dot` of Graphviz makes a picture of it:
+  fabric graph TOPO PARTS | dot -Tsvg >fabric.svg
+
+Switches are boxes, by rank, the roots on top; channel adapters are ellipses with the LIDs of their
+ports, in the colours of their partitions, the default one aside. At the ends of cables stand the
+numbers of ports. The subnet manager's node has a double line.
+
+",
+    "help",
+    ""
+);
+
 const REPORT: &str = with_statuses!(
     "The report has one line for each event, in order:
   PORT recv SLID DLID PKEY QP N:HEX     the port receives a packet
@@ -171,7 +271,7 @@ const CODES: &str = with_statuses!(
     "A code stands behind `fault` where a call does not complete, and behind `refused` in a report:
   TF1 to TF12            a fault of the topology
   PF1 to PF9             a fault of a partition file
-  SF1 to SF6             a fault of the script, or of the PORT of `shares`
+  SF1 to SF6             a fault of the script, or of the PORT of `shares` or `trace`
   AR1 to AR4             why a port refuses to send a packet
   SW1 to SW4, UR1, TP1 to TP3
                          why the fabric of a topology is not brought up
@@ -220,6 +320,42 @@ fn wanted_partitions<'a>(alloc: Global) -> Arg<'a>
         alloc,
         "PARTS",
         "The partitions and their members, or `-` for the default one alone",
+    )
+}
+
+fn wanted_port<'a>(alloc: Global) -> Arg<'a>
+    ensures global { result.global ≡ false }
+    ensures rule { rule_of result ≡ wanted (codes "PORT") }
+    ensures help { text_in result.help ≡ Some help_of_sender }
+{
+    wanted(
+        alloc,
+        "PORT",
+        "The port that sends, of a channel adapter: `h1/1`",
+    )
+}
+
+fn wanted_dlid<'a>(alloc: Global) -> Arg<'a>
+    ensures global { result.global ≡ false }
+    ensures rule { rule_of result ≡ wanted (codes "DLID") }
+    ensures help { text_in result.help ≡ Some help_of_dlid }
+{
+    wanted(
+        alloc,
+        "DLID",
+        "The LID that it is sent to: a number of 16 bits, as `5` or `0xc000`",
+    )
+}
+
+fn wanted_key<'a>(alloc: Global) -> Arg<'a>
+    ensures global { result.global ≡ false }
+    ensures rule { rule_of result ≡ wanted (codes "PKEY") }
+    ensures help { text_in result.help ≡ Some help_of_key }
+{
+    wanted(
+        alloc,
+        "PKEY",
+        "The key under which it is sent: a number of 16 bits, as `0x8001`",
     )
 }
 
@@ -303,6 +439,49 @@ fn diff_command<'a>(alloc: Global) -> Result<Command<'a>, AllocError>
     Ok(command.about(ABOUT_DIFF).after_help(CHANGES))
 }
 
+/// The command that prints linear forwarding tables.
+fn tables_command<'a>(alloc: Global) -> Result<Command<'a>, AllocError>
+    ensures words { IfOk result (λ command. app_of command ≡ tables_command) }
+    ensures about { IfOk result (λ command. text_in (fields_of command).about ≡ Some about_tables) }
+    ensures help { IfOk result (λ command. text_in (fields_of command).after_help ≡ Some TABLES.now) }
+{
+    let command = subnet_command(alloc, "tables")?;
+    Ok(command.about(ABOUT_TABLES).after_help(TABLES))
+}
+
+/// The command that prints key tables.
+fn keys_command<'a>(alloc: Global) -> Result<Command<'a>, AllocError>
+    ensures words { IfOk result (λ command. app_of command ≡ keys_command) }
+    ensures about { IfOk result (λ command. text_in (fields_of command).about ≡ Some about_keys) }
+    ensures help { IfOk result (λ command. text_in (fields_of command).after_help ≡ Some KEYS.now) }
+{
+    let command = subnet_command(alloc, "keys")?;
+    Ok(command.about(ABOUT_KEYS).after_help(KEYS))
+}
+
+/// The command that follows a packet.
+fn trace_command<'a>(alloc: Global) -> Result<Command<'a>, AllocError>
+    ensures words { IfOk result (λ command. app_of command ≡ trace_command) }
+    ensures about { IfOk result (λ command. text_in (fields_of command).about ≡ Some about_trace) }
+    ensures help { IfOk result (λ command. text_in (fields_of command).after_help ≡ Some TRACE.now) }
+{
+    let command = subnet_command(alloc, "trace")?
+        .arg(wanted_port(alloc))?
+        .arg(wanted_dlid(alloc))?
+        .arg(wanted_key(alloc))?;
+    Ok(command.about(ABOUT_TRACE).after_help(TRACE))
+}
+
+/// The command that draws a fabric.
+fn graph_command<'a>(alloc: Global) -> Result<Command<'a>, AllocError>
+    ensures words { IfOk result (λ command. app_of command ≡ graph_command) }
+    ensures about { IfOk result (λ command. text_in (fields_of command).about ≡ Some about_graph) }
+    ensures help { IfOk result (λ command. text_in (fields_of command).after_help ≡ Some GRAPH.now) }
+{
+    let command = subnet_command(alloc, "graph")?;
+    Ok(command.about(ABOUT_GRAPH).after_help(GRAPH))
+}
+
 /// The command that runs a script in a subnet.
 fn run_command<'a>(alloc: Global) -> Result<Command<'a>, AllocError>
     ensures words { IfOk result (λ command. app_of command ≡ run_command) }
@@ -336,6 +515,10 @@ fn fabric_command<'a>(alloc: Global) -> Result<Command<'a>, AllocError>
         .subcommand(check_command(alloc)?)?
         .subcommand(shares_command(alloc)?)?
         .subcommand(diff_command(alloc)?)?
+        .subcommand(tables_command(alloc)?)?
+        .subcommand(keys_command(alloc)?)?
+        .subcommand(trace_command(alloc)?)?
+        .subcommand(graph_command(alloc)?)?
         .subcommand(run_command(alloc)?)?
         .subcommand(explain_command(alloc)?)?
         .bin_name("fabric")?;
@@ -363,13 +546,33 @@ pub fn read_words<'a>(alloc: Global, words: &'a [String]) -> Result<Call<Asked<'
     match command.try_get_matches_from(words) {
         Ok(matches) => match call_in(&matches) {
             Some(call) => Ok(call),
-            None => Err(Stop::Words(String::from_str(alloc, NO_SUCH_CODE)?)),
+            None => Err(Stop::Words(String::from_str(alloc, not_understood(&matches))?)),
         },
         Err(error) => Err(refusal(alloc, &error)),
     }
 }
 
-/// What is asked for in what clap found; nothing where the word for a code is none.
+/// What is told where a word that clap takes is none.
+fn not_understood(matches: &ArgMatches<'_>) -> &'static str
+    ensures { result.now ≡ not_understood (option_map (λ found. found.0) (subcommand_rows_of matches.now)) }
+{
+    match matches.subcommand() {
+        Some((command, _)) => text_for(command),
+        None => NO_SUCH_CODE,
+    }
+}
+
+fn text_for(command: &str) -> &'static str
+    ensures { result.now ≡ text_for command.now }
+{
+    if command == "trace" {
+        NO_SUCH_NUMBER
+    } else {
+        NO_SUCH_CODE
+    }
+}
+
+/// What is asked for in what clap found; nothing where the word for a code or a number is none.
 fn call_in<'a>(matches: &ArgMatches<'a>) -> Option<Call<Asked<'a>>>
     ensures { option_map named_call result ≡ asked_in (subcommand_rows_of matches.now) }
 {
@@ -380,7 +583,14 @@ fn call_in<'a>(matches: &ArgMatches<'a>) -> Option<Call<Asked<'a>>>
     let second = found.get_str("PARTS2");
     let script = found.get_str("SCRIPT");
     let code = found.get_str("CODE");
-    let asked = asked_by(topology, partitions, work_in(command, port, second, script));
+    let dlid = found.get_str("DLID");
+    let p_key = found.get_str("PKEY");
+    let trace = trace_by(port, dlid, p_key);
+    let asked = asked_by(
+        topology,
+        partitions,
+        work_in(command, port, second, trace, script),
+    );
     call_by(command, code, asked)
 }
 
@@ -415,15 +625,16 @@ fn explain_by<'a>(word: Option<&str>) -> Option<Call<Asked<'a>>>
     }
 }
 
-/// What a command does, with its port, its second partition file or its script if it has one.
+/// What a command does, with its port, its second partition file, its packet or its script if it has one.
 fn work_in<'a>(
     command: &str,
     port: Option<&'a str>,
     second: Option<&'a str>,
+    trace: Option<Work<&'a str, &'a str>>,
     script: Option<&'a str>,
 ) -> Option<Work<&'a str, &'a str>>
     ensures { option_map named_work result ≡ work_in command.now (option_map (λ word. word.now) port.entry)
-        (option_map (λ word. word.now) second.entry) (option_map (λ word. word.now) script.entry) }
+        (option_map (λ word. word.now) second.entry) (option_map named_work trace.entry) (option_map (λ word. word.now) script.entry) }
 {
     if command == "check" {
         return Some(Work::Check);
@@ -434,9 +645,60 @@ fn work_in<'a>(
     if command == "diff" {
         return diff_by(second);
     }
+    if command == "tables" {
+        return Some(Work::Inspect(Inspection::Tables));
+    }
+    if command == "keys" {
+        return Some(Work::Inspect(Inspection::Keys));
+    }
+    if command == "trace" {
+        return trace;
+    }
+    if command == "graph" {
+        return Some(Work::Inspect(Inspection::Graph));
+    }
+    run_by(script)
+}
+
+fn run_by(script: Option<&str>) -> Option<Work<&str, &str>>
+    ensures { option_map named_work result ≡ run_by (option_map (λ word. word.now) script.entry) }
+{
     match script {
         Some(script) => Some(Work::Run(script)),
         None => None,
+    }
+}
+
+/// A packet from a port, if all of it is given and the numbers have 16 bits.
+fn trace_by<'a>(
+    port: Option<&'a str>,
+    dlid: Option<&'a str>,
+    p_key: Option<&'a str>,
+) -> Option<Work<&'a str, &'a str>>
+    ensures { option_map named_work result ≡ trace_by (option_map (λ word. word.now) port.entry)
+        (option_map (λ word. word.now) dlid.entry) (option_map (λ word. word.now) p_key.entry) }
+{
+    match (port, u16_by(dlid), u16_by(p_key)) {
+        (Some(port), Some(dlid), Some(p_key)) => {
+            Some(Work::Inspect(Inspection::Trace(port, dlid, p_key)))
+        }
+        _ => None,
+    }
+}
+
+fn u16_by(word: Option<&str>) -> Option<u16>
+    ensures { result ≡ u16_by (option_map (λ word. word.now) word.entry) }
+{
+    u16_in(word?.as_bytes())
+}
+
+/// A number of 16 bits, as scripts write it.
+fn u16_in(word: &[u8]) -> Option<u16>
+    ensures { result ≡ u16_in word.now }
+{
+    match number_in(word) {
+        Some(number) if number < 1 << 16 => Some(number as u16),
+        _ => None,
     }
 }
 

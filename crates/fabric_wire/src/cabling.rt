@@ -49,6 +49,13 @@ impl Cabling {
         self.far_ends.get(here)
     }
 
+    /// The cables.
+    pub(crate) fn as_slice(&self) -> &[Cable]
+        ensures { result.now ≡ self.now }
+    {
+        &self.cables
+    }
+
     /// How many ends its cables have.
     pub(crate) fn count_ends(&self) -> usize
         ensures { result ≡ 2 * length self.now }

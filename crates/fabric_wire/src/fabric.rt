@@ -19,7 +19,7 @@ use crate::end_ports::{adapter_at, places_by_guid};
 use crate::hopping::{come_home, go_out};
 use crate::power_up::nodes_of;
 use data_packet::{Packet, QueuePair, Refusal};
-use fabric_parts::PortRef;
+use fabric_parts::{Cable, PortRef};
 use indexmap::IndexMap;
 use mad_layout::{Mad, known_bytes};
 use port_model::AdapterPort;
@@ -85,6 +85,13 @@ impl Fabric {
         ensures { result.now ≡ self.now.nodes }
     {
         &self.nodes
+    }
+
+    /// Its cables.
+    pub fn cables(&self) -> &[Cable]
+        ensures { result.now ≡ self.now.cables }
+    {
+        self.cabling.as_slice()
     }
 
     /// The other end of the cable at a port, if it has one.

@@ -6,12 +6,11 @@ use Rattle.std.proofs.lemmas.Option.{none-some, slice_get_within}
 use Rattle.std.proofs.lemmas.Bool.Decides.{nat_tests}
 use Rattle.fabric_parts.specs.declared.cable.PortRef.{PortRef}
 use Rattle.result_words.specs.Gives.{Fails}
-use Rattle.smp_wire.specs.FabricState.{FabricState}
 use Rattle.subnet_core.specs.BringUp.{Becomes, ComesTo, FailsWith, IsUp, WithFabric, up_from}
 use Rattle.subnet_core.specs.Roster.{IsRostered, Rostered, fault_in}
 use Rattle.subnet_core.specs.declared.fault.RunFault.{RunFault}
 use Rattle.subnet_core.specs.declared.fault.RunFault.TheVariants.{NoMemory, Topology, Partitions, Sweep, NoLegalPath, Push, Script}
-use Rattle.subnet_fabric.specs.BringUp.{AreAssigned, HasNoPath, IsFound}
+use Rattle.subnet_fabric.specs.BringUp.{AreAssigned, HasNoPath, IsFound, Up}
 use Rattle.subnet_fabric.specs.Laws.{all_keys}
 use Rattle.subnet_model.specs.declared.subnet_port.SubnetPort.{SubnetPort}
 use Rattle.subnet_ports.proofs.EndPortLemmas.{end_ports_stand_in_order}
@@ -54,10 +53,10 @@ fabric_fails given roster (Push fault) is comes = absurd comes
 fabric_fails given roster (Script line cause) is comes = absurd comes
 
 -- it is brought up
-pub comes_up : (given : Result Rostered RunFault) (roster : Rostered) (fabric : FabricState) → given ≡ Ok roster → IsUp roster fabric
+pub comes_up : (given : Result Rostered RunFault) (roster : Rostered) (up : Up) → given ≡ Ok roster → IsUp roster up
     → WithFabric given (λ stop. up_from given stop ≡ Ok roster)
 unfolding up_from
-comes_up given roster fabric is up = record { stop = None; becomes = rw is (fabric, up); is = rw is refl }
+comes_up given roster up is by = record { stop = None; becomes = rw is (up, by); is = rw is refl }
 
 -- ---- ports in order
 pub keys_more : (ports : List SubnetPort) (i : ℕ) (port : SubnetPort) → i < length ports → get_or ports i port ≡ port

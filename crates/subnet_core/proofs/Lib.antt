@@ -7,3 +7,5 @@ pub mod StepLemmas
 pub mod ListingLemmas
 pub mod PayloadLemmas
 pub mod EventLinesLemmas
+pub mod TopologyLemmas
+pub mod FateLemmas

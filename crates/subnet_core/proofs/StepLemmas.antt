@@ -2,12 +2,11 @@
 use Rattle.std.proofs.Common.{◌≡◌, ◌∙◌, ap, sym, List, ◌∷◌, ◌++◌, append_assoc, map, Result, Ok, Err, IfOk, Vec, Global}
 use Rattle.std.specs.declared.alloc.AllocError.{AllocError}
 use Rattle.std.proofs.lemmas.List.{map-append}
-use Rattle.smp_wire.specs.FabricState.{FabricState}
 use Rattle.subnet_core.specs.BringUp.{IsUp}
 use Rattle.subnet_core.specs.Roster.{IsRostered, Rostered}
 use Rattle.subnet_core.specs.Senders.{NamesSender}
 use Rattle.subnet_fabric.proofs.ListedLemmas.{a_fabric_is_brought_up_as_listed}
-use Rattle.subnet_fabric.specs.BringUp.{IsBroughtUpOf}
+use Rattle.subnet_fabric.specs.BringUp.{IsBroughtUpBy, Up}
 use Rattle.subnet_fabric.specs.Laws.{all_keys}
 use Rattle.subnet_model.specs.Configuration.{Configured}
 use Rattle.subnet_model.specs.Report.{events_from, sent_from, step}
@@ -22,24 +21,24 @@ use Rattle.subnet_sends.specs.declared.event.Event.{Event}
 use Rattle.subnet_ways.specs.OfFabric.{IsFabricOf}
 
 -- a fabric that is up is that of the roster's ports
-fabric_of_roster : (roster : Rostered) (fabric : FabricState) → IsRostered roster → IsUp roster fabric → IsFabricOf roster.configuration.ports fabric
-fabric_of_roster roster fabric is up =
-    let there : IsBroughtUpOf roster.plan (all_keys (ports_of is.partitions roster.plan)) fabric = rw is.listed at up in
-    rw is.listed (a_fabric_is_brought_up_as_listed roster.plan is.partitions fabric is.topology is.sound there)
+fabric_of_roster : (roster : Rostered) (up : Up) → IsRostered roster → IsUp roster up → IsFabricOf roster.configuration.ports up.fabric
+fabric_of_roster roster up is by =
+    let there : IsBroughtUpBy roster.plan (all_keys (ports_of is.partitions roster.plan)) up.routes up.fabric = rw is.listed at by in
+    rw is.listed (a_fabric_is_brought_up_as_listed roster.plan is.partitions up.fabric is.topology is.sound (record { routes = up.routes; by = there }))
 
-pub told_as_listed : (roster : Rostered) (fabric : FabricState) (state : State) (command : SendCommand) (events : List Event) → IsRostered roster → IsUp roster fabric
-    → AreAsListed fabric command events → NamesSender roster.configuration.ports (Send command)
+pub told_as_listed : (roster : Rostered) (up : Up) (state : State) (command : SendCommand) (events : List Event) → IsRostered roster → IsUp roster up
+    → AreAsListed up.fabric command events → NamesSender roster.configuration.ports (Send command)
     → map event_of events ≡ (step roster.configuration state (Send command)).0
-told_as_listed roster fabric state command events is up told names =
+told_as_listed roster up state command events is by told names =
     let sender = names.0 in
-    told roster.configuration.ports sender (fabric_of_roster roster fabric is up) names.1
+    told roster.configuration.ports sender (fabric_of_roster roster up is by) names.1
     ∙ ap (λ from. sent_from from roster.configuration.ports command) (sym names.1.named)
 
-pub told_if_ok : (roster : Rostered) (fabric : FabricState) (state : State) (command : SendCommand) (result : Result (Vec Event Global) AllocError)
-    → IsRostered roster → IsUp roster fabric → IfOk result (λ events. AreAsListed fabric command events.items)
+pub told_if_ok : (roster : Rostered) (up : Up) (state : State) (command : SendCommand) (result : Result (Vec Event Global) AllocError)
+    → IsRostered roster → IsUp roster up → IfOk result (λ events. AreAsListed up.fabric command events.items)
     → IfOk result (λ events. NamesSender roster.configuration.ports (Send command) → map event_of events.items ≡ (step roster.configuration state (Send command)).0)
-told_if_ok roster fabric state command (Ok events) is up told = told_as_listed roster fabric state command events.items is up told
-told_if_ok roster fabric state command (Err refused) is up told = tt
+told_if_ok roster up state command (Ok events) is by told = told_as_listed roster up state command events.items is by told
+told_if_ok roster up state command (Err refused) is by told = tt
 
 -- one command more
 pub carried_more : (configuration : Configured) (so_far more : List Event) (state next : State) (command : Command) (rest : List Command) (all : List SubnetEvent)

@@ -6,27 +6,33 @@ use Rattle.smp_wire.specs.FabricState.{FabricState}
 use Rattle.subnet_core.specs.declared.fault.RunFault.{RunFault}
 use Rattle.subnet_core.specs.declared.fault.RunFault.TheVariants.{NoMemory, Topology, Partitions, Sweep, NoLegalPath, Push, Script}
 use Rattle.subnet_core.specs.Roster.{Rostered, fault_in}
-use Rattle.subnet_fabric.specs.BringUp.{HasNoPath, IsBroughtUpOf, IsUnfound}
+use Rattle.subnet_fabric.specs.BringUp.{HasNoPath, IsBroughtUpBy, IsUnfound, Up}
 use Rattle.subnet_fabric.specs.Laws.{all_keys}
 use Rattle.subnet_model.specs.declared.state.State.{State}
 use Rattle.subnet_model.specs.declared.subnet_port.SubnetPort.{SubnetPort}
 use Rattle.subnet_model.specs.State.{start}
+use Rattle.updn_routes.specs.Subnet.{SubnetRoutes}
 
 -- ---- a fabric that is up
--- it is that of the topology, brought up with the keys of the end ports
-abbrev pub IsUp : Rostered → FabricState → Type 0
-IsUp roster fabric = IsBroughtUpOf roster.plan (all_keys roster.configuration.ports) fabric
+-- it is that of the topology, brought up by its routes with the keys of the end ports
+abbrev pub IsUp : Rostered → Up → Type 0
+IsUp roster up = IsBroughtUpBy roster.plan (all_keys roster.configuration.ports) up.routes up.fabric
 
--- a subnet that runs: who is in it, its fabric, and what it remembers; after memory was refused it is broken
+-- a subnet that runs: who is in it, its fabric and the routes in that, and what it remembers; after memory was refused it is
+-- broken
 pub record Running : Type 0 where
   pub roster : Rostered
+  pub routes : SubnetRoutes
   pub fabric : FabricState
   pub state : State
   pub is_broken : Bool
 
+abbrev pub up_in : Running → Up
+up_in subnet = record { routes = subnet.routes; fabric = subnet.fabric }
+
 -- before its first command
 pub record IsStarted (subnet : Running) : Type 0 where
-  pub up : IsUp subnet.roster subnet.fabric
+  pub up : IsUp subnet.roster (up_in subnet)
   pub state : subnet.state ≡ start subnet.roster.configuration
   pub whole : subnet.is_broken ≡ false
 
@@ -52,16 +58,26 @@ IsStopped roster (Topology line cause) = ⊥
 IsStopped roster (Partitions line cause) = ⊥
 IsStopped roster (Script line cause) = ⊥
 
-abbrev pub ComesTo : Rostered → Result FabricState RunFault → Type 0
-ComesTo roster (Ok fabric) = IsUp roster fabric
+abbrev pub ComesTo : Rostered → Result Up RunFault → Type 0
+ComesTo roster (Ok up) = IsUp roster up
 ComesTo roster (Err NoMemory) = Unit {0}
 ComesTo roster (Err fault) = IsStopped roster fault
 
 -- ---- what becomes of it: nothing stops it, or this fault; of texts that give no roster nothing is asked
 abbrev pub Becomes : Result Rostered RunFault → Option RunFault → Type 0
-Becomes (Ok roster) None = (fabric : FabricState) × IsUp roster fabric
+Becomes (Ok roster) None = (up : Up) × IsUp roster up
 Becomes (Ok roster) (Some fault) = IsStopped roster fault
 Becomes (Err fault) stop = Unit {0}
+
+-- the same, with the fabric and the routes in it where it is up
+abbrev pub Turns : Result Rostered RunFault → Result Up RunFault → Type 0
+Turns (Ok roster) (Ok up) = IsUp roster up
+Turns (Ok roster) (Err fault) = IsStopped roster fault
+Turns (Err fault) outcome = Unit {0}
+
+abbrev pub stop_of : Result Up RunFault → Option RunFault
+stop_of (Ok up) = None
+stop_of (Err fault) = Some fault
 
 -- the roster, unless this fault stops its fabric
 abbrev pub unless_stopped : Option RunFault → Rostered → Result Rostered RunFault

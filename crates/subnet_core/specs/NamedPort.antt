@@ -1,4 +1,4 @@
--- The end port that a word names: its GUID, or why there is none.
+-- The end port that a word names: its GUID or its place, or why there is none.
 use Rattle.std.specs.Prelude.{ℕ, ◌==◌, List, Result, Ok, Err, if◌then◌else◌}
 use Rattle.std.specs.Option.{ok_or}
 use Rattle.text_words.specs.Words.{port_in}
@@ -23,6 +23,22 @@ cabled_port plan at = if is_cabled plan.cables at then Ok (port_guid_at plan.nod
 abbrev pub adapter_port : Plan → ℕ → ℕ → Result ℕ ScriptCause
 adapter_port plan place number = ok_or (port_at plan.nodes place number) UnknownPort >>= λ at. cabled_port plan at
 
+-- ---- of channel adapters alone
+-- the place of a port of a channel adapter that has a cable
+abbrev pub place_if_cabled : Plan → PortRef → Result PortRef ScriptCause
+place_if_cabled plan at =
+    if is_switch_at plan.nodes at.node then Err UnknownPort
+    else if is_cabled plan.cables at then Ok at
+    else Err UncabledPort
+
+unfoldable pub adapter_place : Plan → List ℕ → Result PortRef ScriptCause
+adapter_place plan word = do
+  port ← ok_or (port_in word) UnknownPort
+  place ← ok_or (place_of port.name plan.nodes) UnknownPort
+  at ← ok_or (port_at plan.nodes place port.number) UnknownPort
+  place_if_cabled plan at
+
+-- ---- of all
 unfoldable pub named_port : Plan → List ℕ → Result ℕ ScriptCause
 named_port plan word = do
   port ← ok_or (port_in word) UnknownPort

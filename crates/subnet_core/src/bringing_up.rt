@@ -12,10 +12,9 @@ ghost use Rattle.subnet_ports.specs.EndPorts.{HaveLidsInOrder};
 use crate::fault::RunFault;
 use crate::roster::{Roster, read_roster};
 use crate::subnet::Subnet;
-use fabric_wire::Fabric;
 use pkey_rules::{KeyTable, PARTITIONS};
 use std::alloc::{AllocError, Global};
-use subnet_fabric::{FabricFault, bring_up_fabric};
+use subnet_fabric::{BroughtUp, FabricFault, bring_up_fabric};
 use subnet_model::{NodeName, SubnetPort};
 
 /// Brings up the subnet of a topology under a partition file: names its ports by LIDs, and has their LIDs, their keys and
@@ -32,18 +31,18 @@ pub fn bring_up(
     ensures lids { IfOk result (λ subnet. HaveLidsInOrder subnet.roster.configuration.ports) }
 {
     let roster = read_roster(alloc, topology, partitions)?;
-    let fabric = fabric_of(alloc, &roster)?;
+    let up = fabric_of(alloc, &roster)?;
     roster.known_listed();
-    Ok(Subnet::new(alloc, roster, fabric))
+    Ok(Subnet::new(alloc, roster, up))
 }
 
 /// The fabric of a roster, brought up.
-fn fabric_of(alloc: Global, roster: &Roster) -> Result<Fabric, RunFault>
+fn fabric_of(alloc: Global, roster: &Roster) -> Result<BroughtUp, RunFault>
     ensures { ComesTo roster.now result }
 {
     let keys = keys_of(alloc, roster.configuration().ports())?;
     match bring_up_fabric(alloc, roster.topology(), &keys) {
-        Ok(fabric) => Ok(fabric),
+        Ok(up) => Ok(up),
         Err(fault) => Err(told(roster, fault)),
     }
 }

@@ -6,8 +6,9 @@ ghost use Rattle.subnet_core.specs.EventLines.{name_text, trimmed, payload_text,
 
 use data_packet::{PAYLOAD_BYTES, Packet};
 use line_parts::{digits_of, push_decimal, push_hex, push_port};
+use port_index::PortIndex;
 use std::alloc::{AllocError, Global};
-use subnet_model::{SubnetPort, port_with_guid};
+use subnet_model::SubnetPort;
 use subnet_sends::Event;
 
 /// The lines of these events, one each.
@@ -18,14 +19,15 @@ pub(crate) fn report_text(
 ) -> Result<Vec<u8>, AllocError>
     ensures { IfOk result (λ text. text.items ≡ report_text ports.now (map event_of events.now)) }
 {
+    let ports = PortIndex::new(alloc, ports)?;
     let mut text = Vec::new(alloc);
     for event in events {
-        push_line(&mut text, ports, event)?;
+        push_line(&mut text, &ports, event)?;
     }
     Ok(text)
 }
 
-fn push_line(text: &mut Vec<u8>, ports: &[SubnetPort], event: &Event) -> Result<(), AllocError>
+fn push_line(text: &mut Vec<u8>, ports: &PortIndex<'_>, event: &Event) -> Result<(), AllocError>
     ensures { OnOk result (text.new.items ≡ text.old.items ++ line_text ports.now (event_of event.now)) }
 {
     push_name(text, ports, event.port_guid())?;
@@ -34,10 +36,10 @@ fn push_line(text: &mut Vec<u8>, ports: &[SubnetPort], event: &Event) -> Result<
     Ok(())
 }
 
-fn push_name(text: &mut Vec<u8>, ports: &[SubnetPort], guid: u64) -> Result<(), AllocError>
+fn push_name(text: &mut Vec<u8>, ports: &PortIndex<'_>, guid: u64) -> Result<(), AllocError>
     ensures { OnOk result (text.new.items ≡ text.old.items ++ name_text (port_with_guid ports.now guid)) }
 {
-    match port_with_guid(ports, guid) {
+    match ports.port_with_guid(guid) {
         Some(port) => push_port(text, port),
         None => Ok(()),
     }

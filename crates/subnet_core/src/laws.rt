@@ -1,8 +1,20 @@
-//! The law of scripts that are accepted. The function's contract is its law; it does nothing.
+//! The laws of scripts that are accepted, and of what becomes of a fabric. Each function's contract is its law; it
+//! does nothing.
 
-ghost use Rattle.subnet_core.specs.Laws.{EachCommandNamesASender};
+ghost use Rattle.subnet_core.specs.Laws.{EachCommandNamesASender, OneThingBecomesOfAFabric, TextsHaveOneAnswer};
 
 /// Each command that a script gives names a port of a channel adapter that the roster lists.
 pub fn each_command_names_a_sender()
     ensures { EachCommandNamesASender }
+{}
+
+/// The fabric of a roster that texts give never both comes up and is stopped, and no two faults stop it: what becomes of it
+/// depends on the texts alone, and not on the order in which a sweep finds switches.
+pub fn one_thing_becomes_of_a_fabric()
+    ensures { OneThingBecomesOfAFabric }
+{}
+
+/// What a run answers by `report_of` depends on its three texts alone.
+pub fn texts_have_one_answer()
+    ensures { TextsHaveOneAnswer }
 {}

@@ -23,7 +23,9 @@ mod subnet;
 
 pub use crate::bringing_up::bring_up;
 pub use crate::fault::{RunFault, ScriptCause, StepFault};
-pub use crate::laws::each_command_names_a_sender;
+pub use crate::laws::{
+    each_command_names_a_sender, one_thing_becomes_of_a_fabric, texts_have_one_answer,
+};
 pub use crate::report::Report;
 pub use crate::roster::{Roster, read_roster};
 pub use crate::running::run;

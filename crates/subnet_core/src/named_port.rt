@@ -2,7 +2,7 @@
 
 ghost use Rattle.std.specs.Prelude.{◌≡◌, ◌≤◌, false};
 ghost use Rattle.topo_file.specs.Node.{is_switch_at, ports_at};
-ghost use Rattle.subnet_core.specs.NamedPort.{adapter_port, cabled_port, named_port, switch_port};
+ghost use Rattle.subnet_core.specs.NamedPort.{adapter_place, adapter_port, cabled_port, named_port, place_if_cabled, switch_port};
 
 use crate::fault::ScriptCause;
 use fabric_parts::PortRef;
@@ -23,6 +23,33 @@ pub(crate) fn named_port(topology: &Topology, word: &[u8]) -> Result<u64, Script
         switch_port(topology, place, port.number)
     } else {
         adapter_port(topology, place, port.number)
+    }
+}
+
+/// Where the port of a channel adapter is that a word names, if it has a cable.
+#[tactic(auto, unfolding(crate::specs::NamedPort::adapter_place))]
+pub(crate) fn adapter_place(topology: &Topology, word: &[u8]) -> Result<PortRef, ScriptCause>
+    ensures { result ≡ adapter_place topology.now word.now }
+{
+    let port = port_in(word).ok_or(ScriptCause::UnknownPort)?;
+    let place = topology
+        .index_of(port.name)
+        .ok_or(ScriptCause::UnknownPort)?;
+    let at = topology
+        .port_at(place, port.number)
+        .ok_or(ScriptCause::UnknownPort)?;
+    place_if_cabled(topology, at)
+}
+
+fn place_if_cabled(topology: &Topology, at: PortRef) -> Result<PortRef, ScriptCause>
+    ensures { result ≡ place_if_cabled topology.now at }
+{
+    if topology.is_switch_at(at.node) {
+        Err(ScriptCause::UnknownPort)
+    } else if topology.is_cabled(at) {
+        Ok(at)
+    } else {
+        Err(ScriptCause::UncabledPort)
     }
 }
 

@@ -3,14 +3,15 @@
 ghost use Rattle.std.specs.Prelude.{◌≡◌, IfOk};
 ghost use Rattle.std.specs.Option.{option_copied};
 ghost use Rattle.subnet_core.specs.Listing.{listing_text};
-ghost use Rattle.subnet_core.specs.NamedPort.{named_port};
+ghost use Rattle.subnet_core.specs.NamedPort.{adapter_place, named_port};
 ghost use Rattle.subnet_core.specs.Roster.{IsRostered, RunGives, of_text, partitions_for, roster_of};
 ghost use Rattle.subnet_core.specs.declared.fault.RunFault.TheVariants as run;
 ghost use Rattle.topo_file.specs.Topology.{topology_of};
 
 use crate::fault::{RunFault, ScriptCause};
 use crate::listing;
-use crate::named_port::named_port;
+use crate::named_port::{adapter_place, named_port};
+use fabric_parts::PortRef;
 use partition_file::{PartFault, Partitions, no_file};
 use std::alloc::{AllocError, Global};
 use std::marker::Model;
@@ -103,6 +104,13 @@ impl Roster {
         ensures { result ≡ named_port self.now.plan word.now }
     {
         named_port(&self.topology, word)
+    }
+
+    /// Where the port of a channel adapter is that a word names: one that has a cable.
+    pub fn adapter_place(&self, word: &[u8]) -> Result<PortRef, ScriptCause>
+        ensures { result ≡ adapter_place self.now.plan word.now }
+    {
+        adapter_place(&self.topology, word)
     }
 
     /// Who is in the subnet, as it is printed in ASCII: a line for each end port by LID, then for each

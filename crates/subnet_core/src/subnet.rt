@@ -1,7 +1,7 @@
 ghost use Rattle.std.specs.Prelude.{◌≡◌, true, ◌↔◌, ◌++◌, map, All, IsErrOf, IfOk, IfSome, OnOk, OnErr};
 ghost use Rattle.subnet_model.specs.Report.{events_from, step};
 ghost use Rattle.subnet_model.specs.State.{start};
-ghost use Rattle.subnet_core.specs.BringUp.{IsStarted, IsUp};
+ghost use Rattle.subnet_core.specs.BringUp.{IsStarted, IsUp, up_in};
 ghost use Rattle.subnet_core.specs.Listing.{listing_text};
 ghost use Rattle.subnet_core.specs.Roster.{RunGives};
 ghost use Rattle.subnet_core.specs.Run.{parsed, told_of};
@@ -16,14 +16,17 @@ use crate::script;
 use fabric_wire::Fabric;
 use std::alloc::{AllocError, Global};
 use std::marker::Model;
+use subnet_fabric::BroughtUp;
 use subnet_model::{Command, SendCommand, State};
 use subnet_sends::{Event, send};
+use updn_routes::Routes;
 
 /// A subnet that was brought up and takes commands one by one.
 #[derive(Debug, Drop)]
 pub struct Subnet {
     alloc: Global,
     roster: Roster,
+    routes: Routes,
     fabric: Fabric,
     state: State,
     is_broken: bool,
@@ -36,18 +39,19 @@ impl Model for Subnet {
 
     ghost view = { λ subnet. record {
       roster = subnet.roster;
+      routes = subnet.routes;
       fabric = subnet.fabric;
       state = subnet.state;
       is_broken = subnet.is_broken;
     } };
 
-    ghost invariant = { λ subnet. IsUp subnet.roster subnet.fabric };
+    ghost invariant = { λ subnet. IsUp subnet.roster (record { routes = subnet.routes; fabric = subnet.fabric }) };
 }
 
 impl Subnet {
     /// The subnet of a fabric that is up, before its first command.
-    pub(crate) fn new(alloc: Global, roster: Roster, fabric: Fabric) -> Subnet
-        requires { IsUp roster fabric }
+    pub(crate) fn new(alloc: Global, roster: Roster, up: BroughtUp) -> Subnet
+        requires { IsUp roster up }
         ensures started { IsStarted result }
         ensures roster { result.roster ≡ roster }
     {
@@ -55,7 +59,8 @@ impl Subnet {
         Subnet {
             alloc,
             roster,
-            fabric,
+            routes: up.routes,
+            fabric: up.fabric,
             state,
             is_broken: false,
         }
@@ -71,15 +76,22 @@ impl Subnet {
     /// Its one fabric, as it was brought up: commands change nothing of it.
     pub fn fabric(&self) -> &Fabric
         ensures value { result.now ≡ self.now.fabric }
-        ensures up { IsUp self.now.roster result.now }
+        ensures up { IsUp self.now.roster (up_in self.now) }
     {
         &self.fabric
+    }
+
+    /// The routes in it, with the graph that the sweep found and the LIDs.
+    pub fn routes(&self) -> &Routes
+        ensures { result.now ≡ self.now.routes }
+    {
+        &self.routes
     }
 
     /// Who is in it, and its fabric, which then can be asked by SMPs; no command is taken any more.
     pub fn into_parts(self) -> (Roster, Fabric)
         ensures parts { (result.0 ≡ self.roster) × (result.1 ≡ self.fabric) }
-        ensures up { IsUp result.0 result.1 }
+        ensures up { IsUp result.0 (record { routes = self.routes; fabric = result.1 }) }
     {
         (self.roster, self.fabric)
     }
@@ -123,7 +135,7 @@ impl Subnet {
         ensures broken { IsErrOf result StepFault.Broken ↔ (self.old.is_broken ≡ true) }
         ensures for_good { OnErr result (self.new.is_broken ≡ true) }
         ensures roster { OnErr result (self.new.roster ≡ self.old.roster) }
-        ensures fabric { OnErr result (self.new.fabric ≡ self.old.fabric) }
+        ensures fabric { OnErr result (up_in self.new ≡ up_in self.old) }
     {
         if self.is_broken {
             return Err(StepFault::Broken);

@@ -3,3 +3,4 @@ pub mod RootLemmas
 pub mod LimitLemmas
 pub mod ListedLemmas
 pub mod FoundLemmas
+pub mod OneFateLemmas

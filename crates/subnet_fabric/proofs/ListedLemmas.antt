@@ -283,4 +283,4 @@ module _ (plan : Plan) (partitions : List Partition) (sound : IsSound plan) (who
 
 pub a_fabric_is_brought_up_as_listed : AFabricIsBroughtUpAsListed
 a_fabric_is_brought_up_as_listed plan partitions state sound whole up =
-    subst (IsFabricOf (ports_of partitions plan)) (sym up.is) (is_fabric plan partitions sound whole up.routes up.are up.home up.pushed)
+    subst (IsFabricOf (ports_of partitions plan)) (sym up.by.is) (is_fabric plan partitions sound whole up.routes up.by.are up.by.home up.by.pushed)

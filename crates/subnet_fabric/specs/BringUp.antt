@@ -42,12 +42,20 @@ pub record AreRoutesOfPlan (plan : Plan) (routes : SubnetRoutes) : Type 0 where
   pub reached : AllReached (rows_of routes.graph) (order_of routes.between) (homes_of routes.graph routes.lids)
 
 -- the fabric at power-up, to which all is pushed that these routes and keys give
-pub record IsBroughtUpOf (plan : Plan) (keys : List (List ℕ)) (fabric : FabricState) : Type 0 where
-  pub routes : SubnetRoutes
+pub record IsBroughtUpBy (plan : Plan) (keys : List (List ℕ)) (routes : SubnetRoutes) (fabric : FabricState) : Type 0 where
   pub are : AreRoutesOfPlan plan routes
   pub home : RoutesLeadHome routes
   pub pushed : ArePushed routes keys (fabric_of plan)
   pub is : fabric ≡ all_pushed routes keys (fabric_of plan)
+
+pub record IsBroughtUpOf (plan : Plan) (keys : List (List ℕ)) (fabric : FabricState) : Type 0 where
+  pub routes : SubnetRoutes
+  pub by : IsBroughtUpBy plan keys routes fabric
+
+-- a fabric that is up, and the routes that brought it there
+pub record Up : Type 0 where
+  pub routes : SubnetRoutes
+  pub fabric : FabricState
 
 -- ---- why it does not
 -- between a switch and a port there is no legal path, and between no earlier pair, by their LIDs
@@ -77,5 +85,5 @@ abbrev pub Gives : {X : Type 0} → Plan → (X → Type 0) → Result X FabricF
 Gives plan Is (Ok x) = Is x
 Gives plan Is (Err fault) = Stops plan fault
 
-abbrev pub ComesUp : Plan → List (List ℕ) → Result FabricState FabricFault → Type 0
-ComesUp plan keys = Gives plan (IsBroughtUpOf plan keys)
+abbrev pub ComesUp : Plan → List (List ℕ) → Result Up FabricFault → Type 0
+ComesUp plan keys = Gives plan (λ up. IsBroughtUpBy plan keys up.routes up.fabric)

@@ -1,14 +1,17 @@
--- What holds of every fabric that is brought up: the statement of the law of `src/laws.rt`.
-use Rattle.std.specs.Prelude.{ℕ, List, map}
+-- What holds of every fabric that is brought up, and of what becomes of a topology's: the statements of the laws of
+-- `src/laws.rt`.
+use Rattle.std.specs.Prelude.{ℕ, ◌≡◌, List, map}
+use Rattle.fabric_wire.specs.OfTopology.{fabric_of}
 use Rattle.partition_file.specs.Sound.{IsSound as ArePartitions}
 use Rattle.partition_file.specs.declared.partition.Partition.{Partition}
 use Rattle.smp_wire.specs.FabricState.{FabricState}
 use Rattle.subnet_model.specs.declared.subnet_port.SubnetPort.{SubnetPort}
 use Rattle.subnet_ports.specs.Ports.{ports_of}
 use Rattle.subnet_ways.specs.OfFabric.{IsFabricOf}
+use Rattle.sweep.specs.Hops.{IsTooFar}
 use Rattle.topo_file.specs.Sound.{IsSound}
 use Rattle.topo_file.specs.Topology.{Plan}
-use Rattle.subnet_fabric.specs.BringUp.{IsBroughtUpOf}
+use Rattle.subnet_fabric.specs.BringUp.{HasNoPath, IsBroughtUpOf}
 
 -- the keys of listed ports, in order of LID
 abbrev pub all_keys : List SubnetPort → List (List ℕ)
@@ -19,3 +22,21 @@ abbrev pub AFabricIsBroughtUpAsListed : Type 0
 AFabricIsBroughtUpAsListed =
     (plan : Plan) (partitions : List Partition) (fabric : FabricState) → IsSound plan → ArePartitions partitions
     → IsBroughtUpOf plan (all_keys (ports_of partitions plan)) fabric → IsFabricOf (ports_of partitions plan) fabric
+
+-- ---- one thing becomes of a topology's fabric
+-- where a cable is too far, no pair is told that has no path, and the fabric does not come up
+abbrev pub TooFarExcludesTheRest : Type 0
+TooFarExcludesTheRest =
+    (plan : Plan) (keys : List (List ℕ)) (fabric : FabricState) (switch port : ℕ) → IsTooFar (fabric_of plan)
+    → (HasNoPath plan switch port → ⊥) × (IsBroughtUpOf plan keys fabric → ⊥)
+
+-- where a pair has no path, the fabric does not come up, whatever the keys
+abbrev pub NoPathExcludesComingUp : Type 0
+NoPathExcludesComingUp =
+    (plan : Plan) (keys : List (List ℕ)) (fabric : FabricState) (switch port : ℕ) → IsSound plan
+    → HasNoPath plan switch port → IsBroughtUpOf plan keys fabric → ⊥
+
+-- the pair that is told is one
+abbrev pub OnePairHasNoPath : Type 0
+OnePairHasNoPath =
+    (plan : Plan) (a b c d : ℕ) → IsSound plan → HasNoPath plan a b → HasNoPath plan c d → (a ≡ c) × (b ≡ d)

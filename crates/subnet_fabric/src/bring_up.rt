@@ -10,10 +10,28 @@ use lid_assign::assign;
 use pkey_rules::{KeyTable, PARTITIONS};
 use pushed_ways::{push_all, routes_lead_home};
 use std::alloc::{AllocError, Global};
+use std::marker::Model;
 use subnet_ports::guid_at;
 use sweep::{Graph, sweep};
 use topo_file::Topology;
 use updn_routes::{Routes, routes};
+
+/// A fabric that is up, and the routes that brought it there.
+#[derive(Debug, Drop)]
+pub struct BroughtUp {
+    /// The routes, with the graph that a sweep found and the LIDs.
+    pub routes: Routes,
+    /// The fabric.
+    pub fabric: Fabric,
+}
+
+impl Model for BroughtUp {
+    ghost use Rattle.subnet_fabric.specs.BringUp.{Up};
+
+    ghost Value = { Up };
+
+    ghost view = { λ up. record { routes = up.routes; fabric = up.fabric } };
+}
 
 /// The fabric of a topology, with the keys of its end ports, which stand in order of LID.
 ///
@@ -23,7 +41,7 @@ pub fn bring_up_fabric(
     alloc: Global,
     topology: &Topology,
     keys: &[KeyTable<PARTITIONS>],
-) -> Result<Fabric, FabricFault>
+) -> Result<BroughtUp, FabricFault>
     ensures { ComesUp topology.now keys.now result }
 {
     let mut fabric = Fabric::new(alloc, topology)?;
@@ -31,7 +49,7 @@ pub fn bring_up_fabric(
     let routes = routes_of(alloc, topology, graph)?;
     routes_lead_home(&routes);
     match push_all(&mut fabric, &routes, keys) {
-        Ok(()) => Ok(fabric),
+        Ok(()) => Ok(BroughtUp { routes, fabric }),
         Err(fault) => Err(FabricFault::Push(fault)),
     }
 }

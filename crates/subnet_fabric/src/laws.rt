@@ -1,10 +1,28 @@
-//! The law of fabrics that are brought up. The function's contract is its law; it does nothing.
+//! The laws of fabrics that are brought up, and of what becomes of a topology's. Each function's contract is its law; it
+//! does nothing.
 
-ghost use Rattle.subnet_fabric.specs.Laws.{AFabricIsBroughtUpAsListed};
+ghost use Rattle.subnet_fabric.specs.Laws.{AFabricIsBroughtUpAsListed, NoPathExcludesComingUp, OnePairHasNoPath, TooFarExcludesTheRest};
 
 /// The fabric of a topology, brought up with the keys of its end ports, is the fabric of their list: each listed port of a
 /// channel adapter is there, set up as listed, and no other; and packets go by their LIDs. So what its ports stamp and
 /// what it delivers is what the list tells.
 pub fn a_fabric_is_brought_up_as_listed()
     ensures { AFabricIsBroughtUpAsListed }
+{}
+
+/// Where some cable of a topology's fabric is too far for any SMP, no pair is told that has no legal path, and the fabric
+/// does not come up.
+pub fn too_far_excludes_the_rest()
+    ensures { TooFarExcludesTheRest }
+{}
+
+/// Where some pair of a sound topology has no legal path, its fabric does not come up, in whatever order a sweep may find
+/// its switches.
+pub fn no_path_excludes_coming_up()
+    ensures { NoPathExcludesComingUp }
+{}
+
+/// The pair of LIDs that is told to have no legal path is one, in whatever order a sweep may find the switches.
+pub fn one_pair_has_no_path()
+    ensures { OnePairHasNoPath }
 {}

@@ -16,3 +16,5 @@ mod neighbours;
 mod partitions;
 #[cfg(test)]
 mod runs;
+#[cfg(test)]
+mod traces;

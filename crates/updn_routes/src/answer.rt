@@ -93,6 +93,16 @@ impl SwitchRoutes {
         let _ = &self.rows;
     }
 
+    /// How far a switch is from the nearest root; 0 where there is no such switch.
+    pub fn rank_of(&self, switch: usize) -> usize
+        ensures { result ≡ get_or self.now.ranks switch 0 }
+    {
+        match self.ranks.get(switch) {
+            Some(rank) => *rank,
+            None => 0,
+        }
+    }
+
     /// How far a switch is from the first root; 0 where there is no such switch.
     pub fn depth_of(&self, switch: usize) -> usize
         ensures { result ≡ get_or self.now.depths switch 0 }

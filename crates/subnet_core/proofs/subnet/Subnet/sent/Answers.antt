@@ -3,4 +3,4 @@ use Rattle.subnet_core.proofs.StepLemmas.{told_if_ok}
 use Rattle.subnet_core.proofs.subnet.Subnet.sent.Goals as goal
 
 pub returns-clause-events : goal.returns-clause-events
-returns-clause-events c = rw (sym c.self.view_is) (told_if_ok c.self.inside.roster c.self.inside.fabric c.self.inside.state c.args.command.now c.send.result c.known_listed.ensures c.self.invariant c.send.ensures.told)
+returns-clause-events c = rw (sym c.self.view_is) (told_if_ok c.self.inside.roster (record { routes = c.self.inside.routes; fabric = c.self.inside.fabric }) c.self.inside.state c.args.command.now c.send.result c.known_listed.ensures c.self.invariant c.send.ensures.told)

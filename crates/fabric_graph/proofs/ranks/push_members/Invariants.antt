@@ -1,0 +1,7 @@
+use Rattle.std.proofs.Common.{◌≡◌, ◌++◌, take}
+use Rattle.std.specs.List.{flat_map}
+use Rattle.fabric_graph.specs.Ranks.{member}
+use Rattle.fabric_graph.proofs.ranks.push_members.Given as goal
+
+abbrev pub invariant-loop-node : goal.invariant-loop-node
+invariant-loop-node l = l.text.items ≡ l.fn.text.items ++ flat_map (member l.fn.routes l.fn.rank) (take l.node-index l.fn.nodes)

@@ -1,0 +1,49 @@
+-- The cables of a topology in DOT, as edges with the numbers of the ports at both ends. DOT draws the first end of an edge
+-- above the second where they are not in one row, so that each row of switches stands below that of the rank before, and
+-- adapters stand below their switches.
+use Rattle.std.specs.Prelude.{ℕ, Bool, true, false, nat_lt, if◌then◌else◌, List, [], ◌++◌, codes, decimal, slice_get, Option, Some, None}
+use Rattle.std.specs.Option.{option_and_then, option_map_or}
+use Rattle.fabric_graph.specs.Nodes.{quoted}
+use Rattle.fabric_graph.specs.Ranks.{rank_of}
+use Rattle.fabric_parts.specs.declared.cable.Cable.{Cable}
+use Rattle.topo_file.specs.declared.node.Node.{Node}
+use Rattle.updn_routes.specs.Subnet.{SubnetRoutes}
+
+-- ---- which end is first
+-- the lesser rank is above, and any rank is above none, as an adapter has
+abbrev pub is_above : Option ℕ → Option ℕ → Bool
+is_above (Some rank) (Some other) = nat_lt rank other
+is_above (Some rank) None = true
+is_above None other = false
+
+abbrev pub rank_at : SubnetRoutes → List Node → ℕ → Option ℕ
+rank_at routes nodes place = option_and_then (rank_of routes) (slice_get nodes place)
+
+-- the cable from its upper end, and as its line names the ends where neither is above the other
+abbrev pub downward : SubnetRoutes → List Node → Cable → Cable
+downward routes nodes cable =
+    if is_above (rank_at routes nodes cable.second.node) (rank_at routes nodes cable.first.node)
+    then record { first = cable.second; second = cable.first }
+    else cable
+
+-- ---- its line
+abbrev pub name_at : List Node → ℕ → List ℕ
+name_at nodes place = option_map_or (λ node. node.name) (slice_get nodes place) []
+
+abbrev pub ends : List Node → Cable → List ℕ
+ends nodes cable = quoted (name_at nodes cable.first.node) ++ codes " -- " ++ quoted (name_at nodes cable.second.node)
+
+-- the number of a port, at its end of the edge
+abbrev pub end_label : List ℕ → ℕ → List ℕ
+end_label end number = end ++ codes "=\"" ++ decimal number ++ codes "\""
+
+abbrev pub end_labels : Cable → List ℕ
+end_labels cable =
+    end_label (codes "taillabel") cable.first.port ++ codes ", " ++ end_label (codes "headlabel") cable.second.port
+
+abbrev pub edge_line : List Node → Cable → List ℕ
+edge_line nodes cable = codes "  " ++ ends nodes cable ++ codes " [" ++ end_labels cable ++ codes "];\n"
+
+-- as `"A" -- "h1" [taillabel="2", headlabel="1"];`
+abbrev pub cable_line : SubnetRoutes → List Node → Cable → List ℕ
+cable_line routes nodes cable = edge_line nodes (downward routes nodes cable)

@@ -1,0 +1,5 @@
+pub mod Partitions
+pub mod Nodes
+pub mod Ranks
+pub mod Cables
+pub mod Graph

@@ -1,0 +1,2 @@
+pub mod TraceLemmas
+pub mod DeliveryLemmas

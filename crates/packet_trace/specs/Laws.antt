@@ -1,0 +1,19 @@
+-- What holds of all traces: the statement of the law of `src/laws.rt`.
+use Rattle.std.specs.Prelude.{◌≡◌, ◌↔◌, Some}
+use Rattle.std.specs.List.{Contains}
+use Rattle.data_packet.specs.declared.packet.Packet.{Packet}
+use Rattle.fabric_parts.specs.Cable.{far_end}
+use Rattle.fabric_parts.specs.declared.cable.PortRef.{PortRef}
+use Rattle.packet_trace.specs.Trace.{step, steps_of}
+use Rattle.packet_trace.specs.declared.turn.Turn.TheVariants.{Accepts}
+use Rattle.packet_ways.specs.Deliveries.{IsDelivered, adapter_at}
+use Rattle.port_model.specs.AdapterState.{AdapterState}
+use Rattle.smp_wire.specs.FabricState.{FabricState}
+
+-- what leaves by the port `from`, whose cable leads to `first`, is delivered at a port exactly where that accepts it in the
+-- trace
+abbrev pub TracesTellDeliveries : Type 0
+TracesTellDeliveries =
+    (fabric : FabricState) (packet : Packet) (from first at : PortRef) (port : AdapterState)
+    → far_end fabric.cables from ≡ Some first → adapter_at fabric.nodes at ≡ Some port
+    → IsDelivered fabric.nodes fabric.cables from packet at port ↔ Contains (steps_of fabric packet first) (step at Accepts)

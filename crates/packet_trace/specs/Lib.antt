@@ -1,0 +1,3 @@
+pub mod Trace
+pub mod Lines
+pub mod Laws

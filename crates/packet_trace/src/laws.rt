@@ -1,0 +1,17 @@
+//! What holds of all traces, and a number that definitions and code share. Each function's contract is its law; it does
+//! nothing.
+
+ghost use Rattle.std.specs.Prelude.{◌≡◌};
+ghost use Rattle.packet_trace.specs.Laws.{TracesTellDeliveries};
+ghost use Rattle.packet_trace.specs.declared.lines.TheConstants.{DATA_QP};
+
+/// A port accepts a packet in its trace exactly where the packet is delivered there. So a trace tells the ports to which
+/// the fabric carries a packet, and no others.
+pub fn traces_tell_deliveries()
+    ensures { TracesTellDeliveries }
+{}
+
+/// The queue pair of a packet that is traced, written out.
+pub fn the_numbers()
+    ensures { DATA_QP ≡ 2 }
+{}

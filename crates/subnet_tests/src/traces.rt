@@ -1,0 +1,117 @@
+//! Ways that no subnet manager of ours leaves: a byte of a table is spoilt by an SMP, and the trace tells why the packet is
+//! lost.
+
+use attr_tables::SmpAttribute;
+use example_texts::TWO_SWITCHES;
+use fabric_parts::PortRef;
+use fabric_wire::{Fabric, get_attribute, set_attribute};
+use packet_trace::trace_text;
+use std::alloc::Global;
+use std::process::Abort;
+use std::test::Fail;
+use subnet_core::bring_up;
+
+/// A byte of an attribute of the node at the end of a path, and what is told of a packet from h1 to LID 5 then.
+struct Spoilt {
+    attribute: SmpAttribute,
+    modifier: u32,
+    path: &'static [u8],
+    place: usize,
+    byte: u8,
+    told: &'static str,
+}
+
+/// In a linear forwarding table byte 5 is the entry for LID 5; in SwitchInfo byte 7 is the low one of LinearFDBTop; in the
+/// key table of port 2 byte 1 is of the default partition's key.
+const SPOILT: [Spoilt; 5] = [
+    Spoilt {
+        attribute: SmpAttribute::LinearForwardingTable,
+        modifier: 0,
+        path: &[1, 3],
+        place: 5,
+        byte: 3,
+        told: "A in 2 out 3\nB in 3 out 3\nA in 3 out 3\nB in 3 again\n",
+    },
+    Spoilt {
+        attribute: SmpAttribute::LinearForwardingTable,
+        modifier: 0,
+        path: &[1],
+        place: 5,
+        byte: 5,
+        told: "A in 2 drops entry 5\n",
+    },
+    Spoilt {
+        attribute: SmpAttribute::LinearForwardingTable,
+        modifier: 0,
+        path: &[1],
+        place: 5,
+        byte: 4,
+        told: "A in 2 out 4 no cable\n",
+    },
+    Spoilt {
+        attribute: SmpAttribute::SwitchInfo,
+        modifier: 0,
+        path: &[1],
+        place: 7,
+        byte: 4,
+        told: "A in 2 drops top\n",
+    },
+    Spoilt {
+        attribute: SmpAttribute::PKeyTable,
+        modifier: 2 << 16,
+        path: &[1],
+        place: 1,
+        byte: 0,
+        told: "A in 2 drops inbound\n",
+    },
+];
+
+const STAMPS: &str = "h1/1 stamps 0x0004 0x0005 0xffff\n";
+
+fn spoil(fabric: &mut Fabric, spoilt: &Spoilt) -> Result<(), Fail> {
+    if spoilt.path.len() > 63 {
+        return Err("a path of 63 hops at most")?;
+    }
+    let mut bytes = get_attribute(fabric, 1, spoilt.attribute, spoilt.modifier, spoilt.path).or(Err(
+        "a Get",
+    ))?;
+    *bytes.get_mut(spoilt.place).ok_or("a byte")? = spoilt.byte;
+    set_attribute(
+        fabric,
+        2,
+        spoilt.attribute,
+        spoilt.modifier,
+        spoilt.path,
+        &bytes,
+    )
+    .or(Err("a Set"))?;
+    Ok(())
+}
+
+/// The way of a packet from h1 to LID 5, behind the line of the port that sends it.
+fn trace(alloc: Global, fabric: &Fabric) -> Result<Vec<u8>, Fail> {
+    let topology = topo_file::read(alloc, TWO_SWITCHES.as_bytes()).or(Err("the topology"))?;
+    let node = topology.index_of(b"h1").ok_or("h1")?;
+    let from = PortRef { node, port: 1 };
+    Ok(trace_text(alloc, &topology, fabric, from, 5, 0xffff)?)
+}
+
+fn is_told(rt: &impl Abort, alloc: Global, spoilt: &Spoilt) -> Result<(), Fail> {
+    let mut fabric = bring_up(alloc, TWO_SWITCHES.as_bytes(), None)?
+        .into_parts()
+        .1;
+    spoil(&mut fabric, spoilt)?;
+    let told = trace(alloc, &fabric)?;
+    assert_eq!(rt; told.len(), STAMPS.len() + spoilt.told.len());
+    assert!(rt; told.starts_with(STAMPS.as_bytes()));
+    assert!(rt; told.ends_with(spoilt.told.as_bytes()));
+    Ok(())
+}
+
+#[test]
+fn what_spoilt_tables_make_of_a_packet_is_told(rt: HostRuntime) -> Result<(), Fail> {
+    for spoilt in &SPOILT {
+        is_told(&rt, rt.alloc(), spoilt)?;
+    }
+    Ok(())
+}
