@@ -4,5 +4,6 @@ pub mod AlikeLemmas
 pub mod OtherLemmas
 pub mod RunLemmas
 pub mod SourceLemmas
+pub mod JoinSourceLemmas
 pub mod WrongLemmas
 pub mod ExampleLemmas

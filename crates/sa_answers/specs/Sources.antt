@@ -1,11 +1,20 @@
--- Where the records come from that are in an open table, whatever ports sent before.
-use Rattle.std.specs.Prelude.{ℕ, ◌≡◌, true, List, [], ◌∷◌, Option, Some, None, fold}
+-- Where the records come from that are in an open table, whatever ports sent before, and that which answers a join.
+use Rattle.std.specs.Prelude.{ℕ, ◌≡◌, true, List, [], ◌∷◌, Option, Some, None, Ok, fold}
 use Rattle.std.specs.List.{flat_map}
+use Rattle.pkey_rules.specs.PKey.{base_of}
 use Rattle.rmpp_core.specs.Segments.{Transfer}
+use Rattle.sa_model.specs.Groups.{MulticastGroup}
+use Rattle.sa_model.specs.Sound.{is_sound}
+use Rattle.sa_records.specs.McMemberRecord.{mc_member_record_bytes}
+use Rattle.sa_records.specs.declared.mc_member_record.McMemberRecord.{McMemberRecord}
+use Rattle.subnet_model.specs.Delivery.{port_with_guid}
 use Rattle.subnet_model.specs.declared.subnet_port.SubnetPort.{SubnetPort}
 use Rattle.subnet_model.specs.Configuration.{Configured}
 use Rattle.sa_queries.specs.Shown.{Entry}
-use Rattle.sa_queries.specs.Laws.{come_from_near}
+use Rattle.sa_queries.specs.Laws.{come_from_near, is_source_near}
+use Rattle.sa_queries.specs.Visible.{SaState}
+use Rattle.sa_answers.specs.Joins.{group_named, join_outcome, member_record}
+use Rattle.sa_answers.specs.Success.{Success}
 use Rattle.sa_answers.specs.Transfers.{PortTransfer}
 use Rattle.sa_answers.specs.Answer.{Administration, record_bytes}
 use Rattle.sa_answers.specs.Runs.{MadSent, at_start, administer}
@@ -33,3 +42,18 @@ abbrev pub OpenTablesComeFromNear : Type 0
 OpenTablesComeFromNear =
     (configuration : Configured) (sent : List MadSent)
     → TablesComeFromNear configuration.ports (remembered_after configuration sent).transfers
+
+-- ---- joins
+-- these bytes are the port's record of this group, and the group comes from a port near it or from the partition file
+pub record IsOfGroupFromNear (ports : List SubnetPort) (own : SubnetPort) (base : ℕ) (group : MulticastGroup) (bytes : List ℕ) : Type 0 where
+  pub spelt : bytes ≡ mc_member_record_bytes (member_record own base group)
+  pub source : is_source_near ports own.guid group.creator ≡ true
+
+-- so it is with the reply to a join, of the group that is there then
+abbrev pub JoinRepliesComeFromNear : Type 0
+JoinRepliesComeFromNear =
+    (ports : List SubnetPort) (own : SubnetPort) (state next : SaState) (mask : ℕ) (asked : McMemberRecord) (bytes : List ℕ)
+    (group : MulticastGroup) → port_with_guid ports own.guid ≡ Some own → is_sound ports state.partitions ≡ true
+    → join_outcome ports own state mask asked ≡ Ok (Success.one_reply bytes next)
+    → group_named (base_of asked.p_key) asked.mgid next.partitions ≡ Some group
+    → IsOfGroupFromNear ports own (base_of asked.p_key) group bytes

@@ -2,7 +2,7 @@
 
 ghost use Rattle.sa_answers.specs.Laws.{AnswersAreSeenAlike, AnswersKeepSound, FarRequestsAreNotSeen, RefusedChangeNothing, RequestersAreAnsweredAlike};
 ghost use Rattle.sa_answers.specs.Runs.{WhatIsReceivedDependsOnNear};
-ghost use Rattle.sa_answers.specs.Sources.{OpenTablesComeFromNear};
+ghost use Rattle.sa_answers.specs.Sources.{JoinRepliesComeFromNear, OpenTablesComeFromNear};
 
 /// Whatever comes to subnet administration, what it remembers stays sound.
 pub fn answers_keep_sound()
@@ -41,4 +41,10 @@ pub fn what_is_received_depends_on_near()
 /// the partition file.
 pub fn open_tables_come_from_near()
     ensures { OpenTablesComeFromNear }
+{}
+
+/// The record by which a join is answered is that of a group which comes from a port near the one that joins,
+/// or from the partition file.
+pub fn join_replies_come_from_near()
+    ensures { JoinRepliesComeFromNear }
 {}
