@@ -294,7 +294,7 @@ table_same ports own s t None a = refl
 groups_alike : (ports : List SubnetPort) (own : SubnetPort) (s t : SaState) → Alikes ports own s t → Alike ports own.guid s.partitions t.partitions
 groups_alike ports own s t a = record { left_sound = a.left_sound; right_sound = a.right_sound; same = a.same.groups }
 
-same_number : (n : ℕ) → (n == n) ≡ true
+pub same_number : (n : ℕ) → (n == n) ≡ true
 same_number n = grind (arith, nat_tests)
 
 fourth_not_so : (a b c d : Question) (rest : List Question) → first_refusal (a ∷ b ∷ c ∷ d ∷ rest) ≡ None → d.is_so ≡ false

@@ -4,6 +4,6 @@ pub mod AlikeLemmas
 pub mod OtherLemmas
 pub mod RunLemmas
 pub mod SourceLemmas
-pub mod JoinSourceLemmas
+pub mod ReplySourceLemmas
 pub mod WrongLemmas
 pub mod ExampleLemmas

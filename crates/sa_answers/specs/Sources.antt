@@ -1,4 +1,4 @@
--- Where the records come from that are in an open table, whatever ports sent before, and that which answers a join.
+-- Where the records come from that answer: those of open tables, whatever ports sent before, of joins and of services that are set.
 use Rattle.std.specs.Prelude.{ℕ, ◌≡◌, true, List, [], ◌∷◌, Option, Some, None, Ok, fold}
 use Rattle.std.specs.List.{flat_map}
 use Rattle.pkey_rules.specs.PKey.{base_of}
@@ -7,13 +7,17 @@ use Rattle.sa_model.specs.Groups.{MulticastGroup}
 use Rattle.sa_model.specs.Sound.{is_sound}
 use Rattle.sa_records.specs.McMemberRecord.{mc_member_record_bytes}
 use Rattle.sa_records.specs.declared.mc_member_record.McMemberRecord.{McMemberRecord}
+use Rattle.sa_records.specs.ServiceRecord.{service_record_bytes}
+use Rattle.sa_records.specs.declared.service_record.ServiceRecord.{ServiceRecord}
 use Rattle.subnet_model.specs.Delivery.{port_with_guid}
 use Rattle.subnet_model.specs.declared.subnet_port.SubnetPort.{SubnetPort}
 use Rattle.subnet_model.specs.Configuration.{Configured}
-use Rattle.sa_queries.specs.Shown.{Entry}
+use Rattle.subnet_model.specs.Near.{is_near}
+use Rattle.sa_queries.specs.Shown.{Entry, service_record_of}
 use Rattle.sa_queries.specs.Laws.{come_from_near, is_source_near}
-use Rattle.sa_queries.specs.Visible.{SaState}
+use Rattle.sa_queries.specs.Visible.{SaState, ServiceOfPort}
 use Rattle.sa_answers.specs.Joins.{group_named, join_outcome, member_record}
+use Rattle.sa_answers.specs.ServiceRequests.{service_set}
 use Rattle.sa_answers.specs.Success.{Success}
 use Rattle.sa_answers.specs.Transfers.{PortTransfer}
 use Rattle.sa_answers.specs.Answer.{Administration, record_bytes}
@@ -57,3 +61,16 @@ JoinRepliesComeFromNear =
     → join_outcome ports own state mask asked ≡ Ok (Success.one_reply bytes next)
     → group_named (base_of asked.p_key) asked.mgid next.partitions ≡ Some group
     → IsOfGroupFromNear ports own (base_of asked.p_key) group bytes
+
+-- ---- services that are set
+-- these bytes are the record of a service of a port near this one
+pub record IsOfServiceFromNear (ports : List SubnetPort) (p : ℕ) (bytes : List ℕ) : Type 0 where
+  pub service : ServiceOfPort
+  pub spelt : bytes ≡ service_record_bytes (service_record_of service)
+  pub source : is_near ports p service.port ≡ true
+
+-- so it is with the reply to the Set of a service
+abbrev pub ServiceRepliesComeFromNear : Type 0
+ServiceRepliesComeFromNear =
+    (ports : List SubnetPort) (own : SubnetPort) (state next : SaState) (mask : ℕ) (asked : ServiceRecord) (bytes : List ℕ)
+    → service_set own state mask asked ≡ Ok (Success.one_reply bytes next) → IsOfServiceFromNear ports own.guid bytes

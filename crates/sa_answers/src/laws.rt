@@ -2,7 +2,7 @@
 
 ghost use Rattle.sa_answers.specs.Laws.{AnswersAreSeenAlike, AnswersKeepSound, FarRequestsAreNotSeen, RefusedChangeNothing, RequestersAreAnsweredAlike};
 ghost use Rattle.sa_answers.specs.Runs.{WhatIsReceivedDependsOnNear};
-ghost use Rattle.sa_answers.specs.Sources.{JoinRepliesComeFromNear, OpenTablesComeFromNear};
+ghost use Rattle.sa_answers.specs.Sources.{JoinRepliesComeFromNear, OpenTablesComeFromNear, ServiceRepliesComeFromNear};
 
 /// Whatever comes to subnet administration, what it remembers stays sound.
 pub fn answers_keep_sound()
@@ -47,4 +47,9 @@ pub fn open_tables_come_from_near()
 /// or from the partition file.
 pub fn join_replies_come_from_near()
     ensures { JoinRepliesComeFromNear }
+{}
+
+/// The record by which the Set of a service is answered is that of a service of a port near the one that sets it.
+pub fn service_replies_come_from_near()
+    ensures { ServiceRepliesComeFromNear }
 {}

@@ -1,11 +1,12 @@
--- The reply to a join is the record of a group that comes from near.
-use Rattle.std.proofs.Common.{ℕ, ◌≡◌, ◌∙◌, ◌==◌, ◌&&◌, Bool, true, false, ap, refl, sym, subst, if◌then◌else◌, List, [], ◌∷◌, ◌++◌, filter, find, map, Option, Some, None, Result, Ok, Err}
+-- Replies are records that come from near: of a group, to a join; of a service, to its Set.
+use Rattle.std.proofs.Common.{ℕ, ◌≡◌, ◌∙◌, ◌==◌, ◌&&◌, Bool, true, false, not, ap, refl, sym, subst, if◌then◌else◌, List, [], ◌∷◌, ◌++◌, filter, find, map, Option, Some, None, Result, Ok, Err}
 use Rattle.std.specs.List.{flat_map, list_all}
-use Rattle.std.proofs.lemmas.Bool.{and_parts, and_from, eqb-true}
+use Rattle.std.proofs.lemmas.Bool.{and_parts, and_from, eqb-true, or_left}
 use Rattle.std.proofs.lemmas.List.{map-append}
 use Rattle.std.proofs.lemmas.List.Folds.{list_all-append}
 use Rattle.std.proofs.lemmas.Option.{same_Some}
 use Rattle.mad_layout.specs.declared.status.MadStatus.{MadStatus}
+use Rattle.mad_layout.specs.declared.status.MadStatus.TheVariants.{NoResources}
 use Rattle.pkey_rules.specs.PKey.{base_of}
 use Rattle.sa_model.proofs.JoinSoundLemmas.{joined_sound}
 use Rattle.sa_model.specs.Groups.{MulticastGroup, PartitionGroups}
@@ -14,16 +15,19 @@ use Rattle.sa_model.specs.Sound.{is_sound}
 use Rattle.sa_queries.proofs.NearLemmas.{visible_from_near}
 use Rattle.sa_queries.specs.Laws.{is_source_near}
 use Rattle.sa_queries.specs.Outcome.{unless_refused}
-use Rattle.sa_queries.specs.Refusals.{first_refusal}
+use Rattle.sa_queries.specs.Refusals.{first_refusal, refused_if}
 use Rattle.sa_queries.specs.Shown.{Entry, group_entry}
 use Rattle.sa_queries.specs.Visible.{GroupOfBase, SaState, groups_of, is_in, visible_groups}
 use Rattle.sa_records.specs.McMemberRecord.{mc_member_record_bytes}
 use Rattle.sa_records.specs.declared.mc_member_record.McMemberRecord.{McMemberRecord}
+use Rattle.sa_requests.specs.ServiceChange.{Deed, has_room}
 use Rattle.subnet_model.specs.Delivery.{port_with_guid}
+use Rattle.subnet_model.specs.Near.{ports_share}
 use Rattle.subnet_model.specs.declared.subnet_port.SubnetPort.{SubnetPort}
-use Rattle.sa_answers.proofs.AlikeLemmas.{join_is_in}
+use Rattle.sa_answers.proofs.AlikeLemmas.{join_is_in, same_number}
 use Rattle.sa_answers.specs.Joins.{after_join, group_named, join_asked, join_done, join_outcome, join_questions, join_refusal, member_bytes, member_record}
-use Rattle.sa_answers.specs.Sources.{IsOfGroupFromNear, JoinRepliesComeFromNear}
+use Rattle.sa_answers.specs.ServiceRequests.{change_asked, owner_questions, service_asked, services_at}
+use Rattle.sa_answers.specs.Sources.{IsOfGroupFromNear, IsOfServiceFromNear, JoinRepliesComeFromNear, ServiceRepliesComeFromNear}
 use Rattle.sa_answers.specs.Success.{Success}
 
 -- ---- what an outcome that is no refusal says
@@ -117,4 +121,17 @@ join_replies_come_from_near ports own state next mask asked bytes group there so
       spelt = sym told ∙ ap (member_bytes own (base_of asked.p_key)) found;
       source = found_near ports own (has_mgid asked.mgid) (named_in ports own (base_of asked.p_key) after.partitions) group
           (named_near ports own (base_of asked.p_key) after.partitions (join_is_in own mask asked one.0) all) found;
+    }
+
+pub service_replies_come_from_near : ServiceRepliesComeFromNear
+service_replies_come_from_near ports own state next mask asked bytes is =
+    let one = not_refused (first_refusal (owner_questions own mask asked)) _ (Success.one_reply bytes next) is in
+    let service = service_asked mask asked in
+    let change = change_asked own asked (Deed.sets service) in
+    let two = not_refused (first_refusal (refused_if (not (has_room service.service_id (services_at change state.services))) NoResources ∷ [])) _
+    (Success.one_reply bytes next) one.1 in
+    record {
+      service = record { port = own.guid; base = base_of asked.service_p_key; service = service };
+      spelt = sym (ap bytes_in two.1);
+      source = or_left (own.guid == own.guid) (ports_share ports own.guid own.guid) (same_number own.guid);
     }
