@@ -1,8 +1,8 @@
 -- A requester is answered by what it sees.
-use Rattle.std.proofs.Common.{ℕ, Bool, true, false, ◌==◌, ◌&&◌, ◌||◌, not, List, [], ◌∷◌, ◌++◌, Option, Some, None, is_none, Result, Ok, Err, map, filter, find, option_map}
+use Rattle.std.proofs.Common.{ℕ, zero, suc, Bool, true, false, ◌==◌, ◌&&◌, ◌||◌, not, List, [], ◌∷◌, ◌++◌, Option, Some, None, is_none, Result, Ok, Err, map, filter, find, option_map}
 use Rattle.std.proofs.Common.{◌≡◌, ◌∙◌, ap, refl, sym, inl, inr, if◌then◌else◌, length, bit_and}
 use Rattle.std.specs.List.{list_all, list_any, flat_map}
-use Rattle.std.proofs.lemmas.Bool.{cases_Bool, both_ways, false_from_ne_true, and_parts, or_from, or_left, eqb-true}
+use Rattle.std.proofs.lemmas.Bool.{cases_Bool, both_ways, false_from_ne_true, and_parts, or_from, or_left, eqb-true, eq-eqb}
 use Rattle.std.proofs.lemmas.List.{map-append}
 use Rattle.mad_layout.specs.Bits.{field}
 use Rattle.mad_layout.specs.Method.{method_code}
@@ -40,19 +40,16 @@ use Rattle.sa_queries.specs.Outcome.{unless_refused, got, table}
 use Rattle.sa_queries.specs.Laws.{SeesSame}
 use Rattle.sa_queries.proofs.NearLemmas.{member_if_in}
 use Rattle.sa_queries.proofs.QueryLemmas.{queries_end_alike}
-use Rattle.mad_layout.specs.declared.status.MadStatus.TheVariants.{NoRecords, NoResources, RequestInvalid, InvalidGid, InsufficientComponents}
-use Rattle.std.proofs.Common.{arith}
-use Rattle.std.proofs.lemmas.Bool.Decides.{nat_tests}
+use Rattle.mad_layout.specs.declared.status.MadStatus.TheVariants.{NoRecords, NoResources}
 use Rattle.rmpp_core.specs.Segments.{opened, segment_mad}
 use Rattle.sa_requests.specs.ServiceChange.{has_id, has_room}
 use Rattle.sa_queries.specs.Gid.{gid_of}
-use Rattle.sa_queries.specs.Selected.{asks}
-use Rattle.sa_queries.specs.Refusals.{refused_if, asks_unknown_mtu, asks_unknown_rate}
+use Rattle.sa_queries.specs.Refusals.{refused_if}
 use Rattle.sa_answers.specs.Request.{Request, request_in, is_response, has_versions, group_in, service_in}
 use Rattle.sa_answers.specs.Reply.{reply, refusal_reply, table_header}
 use Rattle.sa_answers.specs.Transfers.{PortTransfer, with_table, place_of, table_at, table_of, on_rmpp}
 use Rattle.sa_answers.specs.Success.{Success}
-use Rattle.sa_answers.specs.Joins.{join_asked, leave_asked, is_multicast, is_join_state, join_questions, founding_by, join_refusal, group_questions, group_named, bits_of_member, member_bytes, has_free_mlid}
+use Rattle.sa_answers.specs.Joins.{join_asked, leave_asked, join_questions, founding_by, join_refusal, group_questions, group_named, bits_of_member, member_bytes, has_free_mlid}
 use Rattle.sa_answers.specs.Joins.{join_done, join_outcome, after_join, has_bit_of, is_taken_from, takes_some, leaving_by, leave_questions, leave_outcome}
 use Rattle.sa_answers.specs.ServiceRequests.{owner_questions, service_asked, change_asked, services_at, service_set, service_deleted}
 use Rattle.sa_answers.specs.Answer.{Administration, Answered, query_of, record_bytes, one_record, all_records, get_outcome, table_outcome}
@@ -92,7 +89,7 @@ find_map test f same (x ∷ xs) = elim (cases_Bool (test x)) [
 ]
 
 -- ---- the group that is named, by what is seen
-abbrev groups_in : ℕ → List PartitionGroups → List MulticastGroup
+abbrev pub groups_in : ℕ → List PartitionGroups → List MulticastGroup
 groups_in base partitions = flat_map (λ partition. partition.groups) (filter (λ partition. partition.base == base) partitions)
 
 groups_in_seen : (ports : List SubnetPort) (p base : ℕ) → is_member ports base p ≡ true → (partitions : List PartitionGroups)
@@ -256,7 +253,18 @@ none_refused question questions e = elim (cases_Bool question.is_so) [
   | inr not_so ↦ (not_so, rw not_so at e)
 ]
 
-unless_not : (b : Bool) → not b ≡ false → b ≡ true
+-- where none of the questions refuses, the one at each place is answered by no
+abbrev pub is_so_at : ℕ → List Question → Bool
+is_so_at n [] = false
+is_so_at zero (question ∷ questions) = question.is_so
+is_so_at (suc n) (question ∷ questions) = is_so_at n questions
+
+pub none_so : (n : ℕ) (questions : List Question) → first_refusal questions ≡ None → is_so_at n questions ≡ false
+none_so n [] e = refl
+none_so zero (question ∷ questions) e = (none_refused question questions e).0
+none_so (suc n) (question ∷ questions) e = none_so n questions (none_refused question questions e).1
+
+pub unless_not : (b : Bool) → not b ≡ false → b ≡ true
 unless_not true e = refl
 unless_not false e = absurd (cc)
 
@@ -294,34 +302,16 @@ table_same ports own s t None a = refl
 groups_alike : (ports : List SubnetPort) (own : SubnetPort) (s t : SaState) → Alikes ports own s t → Alike ports own.guid s.partitions t.partitions
 groups_alike ports own s t a = record { left_sound = a.left_sound; right_sound = a.right_sound; same = a.same.groups }
 
-pub same_number : (n : ℕ) → (n == n) ≡ true
-same_number n = grind (arith, nat_tests)
-
-fourth_not_so : (a b c d : Question) (rest : List Question) → first_refusal (a ∷ b ∷ c ∷ d ∷ rest) ≡ None → d.is_so ≡ false
-fourth_not_so a b c d rest e =
-    let one = none_refused a (b ∷ c ∷ d ∷ rest) e in
-    let two = none_refused b (c ∷ d ∷ rest) one.1 in
-    let three = none_refused c (d ∷ rest) two.1 in
-    (none_refused d rest three.1).0
-
 pub join_is_in : (own : SubnetPort) (mask : ℕ) (asked : McMemberRecord) → first_refusal (join_questions own mask asked) ≡ None
     → is_in own (base_of asked.p_key) ≡ true
-join_is_in own mask asked e =
-    unless_not (is_in own (base_of asked.p_key))
-    (fourth_not_so (refused_if (not (asks mask 65667)) InsufficientComponents) (refused_if (not (asked.port_gid == gid_of own.guid)) InvalidGid)
-    (refused_if (not (is_multicast asked.mgid)) RequestInvalid) (refused_if (not (is_in own (base_of asked.p_key))) RequestInvalid)
-    (refused_if (not (is_join_state asked.join_state)) RequestInvalid
-    ∷ refused_if (asks mask 131072 && asked.proxy_join) RequestInvalid
-    ∷ refused_if (asks_unknown_mtu mask 48 asked.mtu) RequestInvalid
-    ∷ refused_if (asks_unknown_rate mask 768 asked.rate) RequestInvalid
-    ∷ []) e)
+join_is_in own mask asked e = unless_not (is_in own (base_of asked.p_key)) (none_so 3 (join_questions own mask asked) e)
 
 join_same : (ports : List SubnetPort) (own : SubnetPort) (s t : SaState) (mask : ℕ) (asked : McMemberRecord) → Alikes ports own s t
     → Same (SeesSame ports own.guid) (join_outcome ports own s mask asked) (join_outcome ports own t mask asked)
 join_same ports own s t mask asked a =
     let join = join_asked own mask asked in
     let base = base_of asked.p_key in
-    let after = near_join ports own.guid join s.partitions t.partitions (or_left (own.guid == own.guid) (ports_share ports own.guid own.guid) (same_number own.guid)) (groups_alike ports own s t a) in
+    let after = near_join ports own.guid join s.partitions t.partitions (or_left (own.guid == own.guid) (ports_share ports own.guid own.guid) (eq-eqb own.guid own.guid refl)) (groups_alike ports own s t a) in
     unless_then (SeesSame ports own.guid) (first_refusal (join_questions own mask asked)) _ _ (λ e.
     let member = member_if_in ports own base a.found (join_is_in own mask asked e) in
     unless_same (SeesSame ports own.guid) (join_refusal ports own mask asked s.partitions) (join_refusal ports own mask asked t.partitions) (Ok (join_done own join (after_join ports join s))) (Ok (join_done own join (after_join ports join t)))
@@ -402,7 +392,7 @@ own_place : (p : ℕ) (table : Option Transfer) (transfers : List PortTransfer)
     → place_of p (with_table p table transfers) ≡ option_map (λ place. record { port = p; open_table = table }) (place_of p transfers)
 own_place p table [] = refl
 own_place p table (x ∷ xs) = elim (cases_Bool (x.port == p)) [
-  | inl this ↦ rw (this, same_number p) refl
+  | inl this ↦ rw (this, eq-eqb p p refl) refl
   | inr other ↦ rw (other, other) (own_place p table xs)
 ]
 

@@ -144,7 +144,7 @@ told_leaves Q own request state (Err status) same tables leaves = same
 told_leaves Q own request state (Ok (Success.one_reply bytes next)) same tables leaves = leaves
 told_leaves Q own request state (Ok (Success.whole_table offset bytes)) same tables leaves = tables _
 
-second_if : {A B : Type 0} (Q : B → Type 0) (test : Bool) (a b : A × B) → Q a.1 → Q b.1 → Q (if test then a else b).1
+pub second_if : {A B : Type 0} (Q : B → Type 0) (test : Bool) (a b : A × B) → Q a.1 → Q b.1 → Q (if test then a else b).1
 second_if Q true a b first second = first
 second_if Q false a b first second = second
 

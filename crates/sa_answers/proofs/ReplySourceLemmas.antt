@@ -1,7 +1,7 @@
 -- Replies are records that come from near: of a group, to a join; of a service, to its Set.
 use Rattle.std.proofs.Common.{ℕ, ◌≡◌, ◌∙◌, ◌==◌, ◌&&◌, Bool, true, false, not, ap, refl, sym, subst, if◌then◌else◌, List, [], ◌∷◌, ◌++◌, filter, find, map, Option, Some, None, Result, Ok, Err}
 use Rattle.std.specs.List.{flat_map, list_all}
-use Rattle.std.proofs.lemmas.Bool.{and_parts, and_from, eqb-true, or_left}
+use Rattle.std.proofs.lemmas.Bool.{and_parts, and_from, eqb-true, or_left, eq-eqb}
 use Rattle.std.proofs.lemmas.List.{map-append}
 use Rattle.std.proofs.lemmas.List.Folds.{list_all-append}
 use Rattle.std.proofs.lemmas.Option.{same_Some}
@@ -10,24 +10,21 @@ use Rattle.mad_layout.specs.declared.status.MadStatus.TheVariants.{NoResources}
 use Rattle.pkey_rules.specs.PKey.{base_of}
 use Rattle.sa_model.proofs.JoinSoundLemmas.{joined_sound}
 use Rattle.sa_model.specs.Groups.{MulticastGroup, PartitionGroups}
-use Rattle.sa_model.specs.Joining.{has_mgid, joined}
-use Rattle.sa_model.specs.Sound.{is_sound}
+use Rattle.sa_model.specs.Joining.{has_mgid}
 use Rattle.sa_queries.proofs.NearLemmas.{visible_from_near}
 use Rattle.sa_queries.specs.Laws.{is_source_near}
 use Rattle.sa_queries.specs.Outcome.{unless_refused}
 use Rattle.sa_queries.specs.Refusals.{first_refusal, refused_if}
 use Rattle.sa_queries.specs.Shown.{Entry, group_entry}
 use Rattle.sa_queries.specs.Visible.{GroupOfBase, SaState, groups_of, is_in, visible_groups}
-use Rattle.sa_records.specs.McMemberRecord.{mc_member_record_bytes}
-use Rattle.sa_records.specs.declared.mc_member_record.McMemberRecord.{McMemberRecord}
 use Rattle.sa_requests.specs.ServiceChange.{Deed, has_room}
-use Rattle.subnet_model.specs.Delivery.{port_with_guid}
 use Rattle.subnet_model.specs.Near.{ports_share}
 use Rattle.subnet_model.specs.declared.subnet_port.SubnetPort.{SubnetPort}
-use Rattle.sa_answers.proofs.AlikeLemmas.{join_is_in, same_number}
-use Rattle.sa_answers.specs.Joins.{after_join, group_named, join_asked, join_done, join_outcome, join_questions, join_refusal, member_bytes, member_record}
+use Rattle.sa_answers.proofs.AlikeLemmas.{groups_in, join_is_in}
+use Rattle.sa_answers.proofs.JoinedLemmas.{join_is_there}
+use Rattle.sa_answers.specs.Joins.{after_join, group_named, join_asked, join_questions, join_refusal, member_bytes}
 use Rattle.sa_answers.specs.ServiceRequests.{change_asked, owner_questions, service_asked, services_at}
-use Rattle.sa_answers.specs.Sources.{IsOfGroupFromNear, IsOfServiceFromNear, JoinRepliesComeFromNear, ServiceRepliesComeFromNear}
+use Rattle.sa_answers.specs.Sources.{JoinRepliesComeFromNear, ServiceRepliesComeFromNear}
 use Rattle.sa_answers.specs.Success.{Success}
 
 -- ---- what an outcome that is no refusal says
@@ -79,25 +76,22 @@ module _ (ports : List SubnetPort) (own : SubnetPort) where
       (sym (list_all-append (λ (entry : Entry). is_source_near ports own.guid entry.source) (map group_entry some) (map group_entry more))
       ∙ ap (list_all (λ (entry : Entry). is_source_near ports own.guid entry.source)) (sym (map-append group_entry some more)) ∙ all)
 
-  abbrev named_in : ℕ → List PartitionGroups → List MulticastGroup
-  named_in base partitions = flat_map (λ partition. partition.groups) (filter (λ partition. partition.base == base) partitions)
-
   -- b: whether the partition is that of the base; c: whether it is shown
   named_by : (b c : Bool) (base : ℕ) (partition : PartitionGroups) (partitions : List PartitionGroups) → (b ≡ true → c ≡ true)
-      → (shown_near (flat_map groups_of (filter (λ partition. is_in own partition.base) partitions)) ≡ true → list_all near (named_in base partitions) ≡ true)
+      → (shown_near (flat_map groups_of (filter (λ partition. is_in own partition.base) partitions)) ≡ true → list_all near (groups_in base partitions) ≡ true)
       → shown_near (flat_map groups_of (if c then partition ∷ filter (λ partition. is_in own partition.base) partitions else filter (λ partition. is_in own partition.base) partitions)) ≡ true
       → list_all near (flat_map (λ partition. partition.groups) (if b then partition ∷ filter (λ partition. partition.base == base) partitions else filter (λ partition. partition.base == base) partitions)) ≡ true
   named_by true true base partition partitions shown more all =
       let parts = split (groups_of partition) (flat_map groups_of (filter (λ partition. is_in own partition.base) partitions)) all in
-      list_all-append near partition.groups (named_in base partitions)
-      ∙ and_from (list_all near partition.groups) (list_all near (named_in base partitions)) (sym (of_one partition.base partition.groups) ∙ parts.0) (more parts.1)
+      list_all-append near partition.groups (groups_in base partitions)
+      ∙ and_from (list_all near partition.groups) (list_all near (groups_in base partitions)) (sym (of_one partition.base partition.groups) ∙ parts.0) (more parts.1)
   named_by true false base partition partitions shown more all = let none = shown refl in absurd cc
   named_by false true base partition partitions shown more all =
       more (split (groups_of partition) (flat_map groups_of (filter (λ partition. is_in own partition.base) partitions)) all).1
   named_by false false base partition partitions shown more all = more all
 
   named_near : (base : ℕ) (partitions : List PartitionGroups) → is_in own base ≡ true → shown_near (visible_groups own partitions) ≡ true
-      → list_all near (named_in base partitions) ≡ true
+      → list_all near (groups_in base partitions) ≡ true
   named_near base [] member all = refl
   named_near base (partition ∷ partitions) member all =
       named_by (partition.base == base) (is_in own partition.base) base partition partitions
@@ -106,21 +100,23 @@ module _ (ports : List SubnetPort) (own : SubnetPort) where
 
 -- ---- the law
 pub join_replies_come_from_near : JoinRepliesComeFromNear
-join_replies_come_from_near ports own state next mask asked bytes group there sound is named =
+join_replies_come_from_near ports own state next mask asked bytes found sound is =
     let join = join_asked own mask asked in
     let after = after_join ports join state in
     let one = not_refused (first_refusal (join_questions own mask asked)) _ (Success.one_reply bytes next) is in
     let two = not_refused (join_refusal ports own mask asked state.partitions) _ (Success.one_reply bytes next) one.1 in
     let told : member_bytes own join.base (group_named join.base join.mgid after.partitions) ≡ bytes = ap bytes_in two.1 in
     let then_is : after ≡ next = ap (state_in state) two.1 in
-    let found : group_named (base_of asked.p_key) asked.mgid after.partitions ≡ Some group =
-    ap (λ (s : SaState). group_named (base_of asked.p_key) asked.mgid s.partitions) then_is ∙ named in
+    let there = join_is_there ports own mask asked state.partitions found one.0 two.0 in
     let kept = joined_sound ports join state.partitions sound in
-    let all = (visible_from_near ports own after there kept).groups in
+    let all = (visible_from_near ports own after found kept).groups in
     record {
-      spelt = sym told ∙ ap (member_bytes own (base_of asked.p_key)) found;
-      source = found_near ports own (has_mgid asked.mgid) (named_in ports own (base_of asked.p_key) after.partitions) group
-          (named_near ports own (base_of asked.p_key) after.partitions (join_is_in own mask asked one.0) all) found;
+      group = there.group;
+      there = ap (λ (s : SaState). group_named join.base join.mgid s.partitions) (sym then_is) ∙ there.found;
+      takes_part = there.takes_part;
+      spelt = sym told ∙ ap (member_bytes own join.base) there.found;
+      source = found_near ports own (has_mgid join.mgid) (groups_in join.base after.partitions) there.group
+          (named_near ports own join.base after.partitions (join_is_in own mask asked one.0) all) there.found;
     }
 
 pub service_replies_come_from_near : ServiceRepliesComeFromNear
@@ -133,5 +129,5 @@ service_replies_come_from_near ports own state next mask asked bytes is =
     record {
       service = record { port = own.guid; base = base_of asked.service_p_key; service = service };
       spelt = sym (ap bytes_in two.1);
-      source = or_left (own.guid == own.guid) (ports_share ports own.guid own.guid) (same_number own.guid);
+      source = or_left (own.guid == own.guid) (ports_share ports own.guid own.guid) (eq-eqb own.guid own.guid refl);
     }

@@ -1,8 +1,10 @@
 -- Answers keep what is remembered sound, and no port sees what a port far from it asked.
-use Rattle.std.proofs.Common.{ℕ, true, false, ◌==◌, List, [], ◌∷◌, Option}
+use Rattle.std.proofs.Common.{ℕ, true, false, not, ◌==◌, ◌&&◌, List, [], ◌∷◌, Option, length, bit_and}
 use Rattle.std.proofs.Common.{◌≡◌, ◌∙◌, ap, refl, inl, inr}
 use Rattle.std.proofs.lemmas.Bool.{cases_Bool, or_parts, eqb-true}
+use Rattle.mad_layout.specs.Bits.{field}
 use Rattle.rmpp_core.specs.Segments.{Transfer}
+use Rattle.subnet_model.specs.declared.subnet_port.SubnetPort.{SubnetPort}
 use Rattle.subnet_model.specs.Near.{is_near, ports_share}
 use Rattle.sa_model.proofs.JoinSoundLemmas.{joined_sound}
 use Rattle.sa_model.proofs.LeaveSoundLemmas.{left_sound}
@@ -10,10 +12,11 @@ use Rattle.sa_model.proofs.JoinSightLemmas.{far_join}
 use Rattle.sa_model.proofs.SightLemmas.{far_leave}
 use Rattle.sa_requests.proofs.ServiceLemmas.{far_services}
 use Rattle.sa_requests.proofs.ServiceSoundLemmas.{services_stay_sound}
-use Rattle.sa_answers.specs.Transfers.{PortTransfer, with_table, place_of}
-use Rattle.sa_answers.specs.Answer.{told}
+use Rattle.sa_answers.specs.Request.{Request, request_in, has_versions}
+use Rattle.sa_answers.specs.Transfers.{PortTransfer, with_table, place_of, table_of, on_rmpp}
+use Rattle.sa_answers.specs.Answer.{Administration, told, version_refused, answer_to, answer}
 use Rattle.sa_answers.specs.Laws.{IsSound, AnswersKeepSound, RefusedChangeNothing, SeesAlike, FarRequestsAreNotSeen}
-use Rattle.sa_answers.proofs.AnswerLemmas.{answer_leaves}
+use Rattle.sa_answers.proofs.AnswerLemmas.{answer_leaves, second_if}
 
 pub answers_keep_sound : AnswersKeepSound
 answers_keep_sound ports own payload state sound =
@@ -73,3 +76,24 @@ far_requests ports p own payload state far sound =
         own_table = refl;
       };
     })
+
+-- a MAD of a transfer is seen by its sender alone
+pub transfers_are_unseen : (ports : List SubnetPort) (p : ℕ) (own : SubnetPort) (payload : List ℕ) (state : Administration) → (own.guid == p) ≡ false
+    → (bit_and (request_in payload).rmpp.flags 1 == 1) ≡ true → SeesAlike ports p (answer ports own payload state).1 state
+transfers_are_unseen ports p own payload state other active =
+    second_if Seen ((length payload == 256) && (field payload 8 8 == 3)) (answer_to ports own request state) ([], state)
+    (second_if Seen (not (has_versions request.header)) (version_refused request, state) _ same
+    (rw active (record {
+      remembered = record { groups = refl; services = refl };
+      own_table = other_table p own.guid (on_rmpp request (table_of own.guid state.transfers)).1 state.transfers other;
+    })))
+    same
+  where
+    request : Request
+    request = request_in payload
+
+    Seen : Administration → Type 0
+    Seen next = SeesAlike ports p next state
+
+    same : SeesAlike ports p state state
+    same = record { remembered = record { groups = refl; services = refl }; own_table = refl }

@@ -1,5 +1,5 @@
 -- The records of open tables come from ports near, whatever ports send.
-use Rattle.std.proofs.Common.{ℕ, Bool, true, false, ◌==◌, ◌&&◌, not, List, [], ◌∷◌, Option, Some, None, Result, Ok, Err, fold, length, bit_and, if◌then◌else◌}
+use Rattle.std.proofs.Common.{ℕ, Bool, true, false, ◌==◌, ◌&&◌, not, List, [], ◌∷◌, Option, Some, None, Result, Ok, Err, length, bit_and, if◌then◌else◌}
 use Rattle.std.proofs.Common.{◌≡◌, refl, subst, inl, inr}
 use Rattle.std.specs.List.{list_any}
 use Rattle.std.specs.Result.{IfOk}
@@ -32,17 +32,13 @@ use Rattle.sa_queries.specs.Outcome.{unless_refused, got, table}
 use Rattle.sa_queries.specs.Laws.{come_from_near}
 use Rattle.sa_queries.proofs.QueryLemmas.{answers_from_near}
 use Rattle.sa_answers.specs.Request.{Request, request_in, is_response, has_versions, group_in, service_in}
-use Rattle.sa_answers.specs.Transfers.{PortTransfer, no_transfers, with_table, table_of, acknowledged, on_ack, is_of_table, by_kind, on_rmpp}
+use Rattle.sa_answers.specs.Transfers.{PortTransfer, with_table, table_of, acknowledged, on_ack, is_of_table, by_kind, on_rmpp}
 use Rattle.sa_answers.specs.Success.{Success}
 use Rattle.sa_answers.specs.Joins.{join_asked, leave_asked, join_questions, join_refusal, join_done, join_outcome, after_join, leave_questions, leave_outcome}
 use Rattle.sa_answers.specs.ServiceRequests.{owner_questions, service_asked, change_asked, services_at, shown_bytes, set_outcome, service_set, delete_outcome, service_deleted, after_change}
 use Rattle.sa_answers.specs.Answer.{Administration, Answered, query_of, one_record, all_records, get_outcome, table_outcome}
-use Rattle.sa_answers.specs.Answer.{set_or_refused, delete_or_refused, outcome, told, version_refused, after_rmpp, answer_to, answer}
-use Rattle.sa_answers.specs.Laws.{IsSound}
-use Rattle.sa_answers.specs.Runs.{MadSent, at_start, administer, answered_from}
-use Rattle.sa_answers.specs.Sources.{HasRecordsFromNear, AreRecordsFromNear, TablesComeFromNear, OpenTablesComeFromNear}
-use Rattle.sa_answers.proofs.SightLemmas.{answers_keep_sound}
-use Rattle.sa_answers.proofs.RunLemmas.{found_by_own, start_is_sound}
+use Rattle.sa_answers.specs.Answer.{set_or_refused, delete_or_refused, outcome, told, version_refused, after_rmpp, answer_to}
+use Rattle.sa_answers.specs.Sources.{HasRecordsFromNear, AreRecordsFromNear, TablesComeFromNear, TablesKeepTheirSources}
 
 -- ---- a table that takes its place
 with_table_near : (ports : List SubnetPort) (p : ℕ) (table : Option Transfer) (places : List PortTransfer) → HasRecordsFromNear ports p table
@@ -192,7 +188,7 @@ outcome_near ports own state request found sound =
     (near_if ports own.guid (request.header.method == method_code Delete) (delete_or_refused ports own state request) (Err MethodNotSupported)
     (delete_or_refused_near ports own state request) tt)))
 
--- ---- each answer, and a run of them
+-- ---- each answer
 told_near : (ports : List SubnetPort) (own : SubnetPort) (request : Request) (state : Administration) (result : Result Success MadStatus)
     → TablesComeFromNear ports state.transfers → TableNear ports own.guid result → TablesComeFromNear ports (told own request state result).1.transfers
 told_near ports own request state (Err status) near it = near
@@ -204,10 +200,8 @@ tables_if : (ports : List SubnetPort) (test : Bool) (a b : Answered) → TablesC
 tables_if ports true a b first second = first
 tables_if ports false a b first second = second
 
-answer_near : (ports : List SubnetPort) (own : SubnetPort) (payload : List ℕ) (state : Administration) → port_with_guid ports own.guid ≡ Some own
-    → is_sound ports state.remembered.partitions ≡ true → TablesComeFromNear ports state.transfers
-    → TablesComeFromNear ports (answer ports own payload state).1.transfers
-answer_near ports own payload state found sound near =
+pub tables_keep_their_sources : TablesKeepTheirSources
+tables_keep_their_sources ports own payload state found sound near =
     tables_if ports ((length payload == 256) && (field payload 8 8 == 3)) (answer_to ports own request state) ([], state)
     (tables_if ports (not (has_versions request.header)) (version_refused request, state) _ near
     (tables_if ports (bit_and request.rmpp.flags 1 == 1) (after_rmpp own state (on_rmpp request (table_of own.guid state.transfers))) _
@@ -218,31 +212,3 @@ answer_near ports own payload state found sound near =
   where
     request : Request
     request = request_in payload
-
-record IsGood (ports : List SubnetPort) (state : Administration) : Type 0 where
-  sound : IsSound ports state
-  near : TablesComeFromNear ports state.transfers
-
-step_good : (ports : List SubnetPort) (guid : ℕ) (payload : List ℕ) (state : Administration) (sender : Option SubnetPort) → port_with_guid ports guid ≡ sender
-    → IsGood ports state → IsGood ports (answered_from ports sender payload state).1
-step_good ports guid payload state None found good = good
-step_good ports guid payload state (Some own) found good = record {
-  sound = answers_keep_sound ports own payload state good.sound;
-  near = answer_near ports own payload state (found_by_own ports guid own found) good.sound.groups good.near;
-}
-
-run_good : (ports : List SubnetPort) (sent : List MadSent) (state : Administration) → IsGood ports state
-    → IsGood ports (fold (λ before one. (administer ports before one).1) state sent)
-run_good ports [] state good = good
-run_good ports (one ∷ sent) state good =
-    run_good ports sent (administer ports state one).1
-    (step_good ports one.port_guid one.payload state (port_with_guid ports one.port_guid) refl good)
-
-none_open : (ports all : List SubnetPort) → TablesComeFromNear ports (no_transfers all)
-none_open ports [] = tt
-none_open ports (port ∷ all) = (tt, none_open ports all)
-
-pub open_tables_near : OpenTablesComeFromNear
-open_tables_near configuration sent =
-    (run_good configuration.ports sent (at_start configuration)
-    (record { sound = start_is_sound configuration; near = none_open configuration.ports configuration.ports })).near

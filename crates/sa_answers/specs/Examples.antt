@@ -1,5 +1,5 @@
 -- MADs that ports of the examples send to subnet administration, and what it answers.
-use Rattle.std.specs.Prelude.{ℕ, ◌-◌, false, List, [], ◌∷◌, ◌++◌, length, replicate, map, take, fold}
+use Rattle.std.specs.Prelude.{ℕ, ◌-◌, false, List, [], ◌++◌, length, replicate, map, take, fold}
 use Rattle.mad_layout.specs.Bits.{number}
 use Rattle.mad_layout.specs.declared.mad_header.Header.{Header}
 use Rattle.mad_layout.specs.declared.rmpp_header.RmppHeader.{RmppHeader}

@@ -6,7 +6,6 @@ pub mod Joins
 pub mod ServiceRequests
 pub mod Answer
 pub mod Laws
-pub mod Runs
 pub mod Sources
 pub mod WrongRules
 pub mod Examples

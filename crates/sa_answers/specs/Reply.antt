@@ -1,5 +1,5 @@
 -- How subnet administration replies (InfiniBand volume 1, 13.4.2, 13.4.5 and 15.2.1.1).
-use Rattle.std.specs.Prelude.{ℕ, ◌+◌, ◌-◌, ◌==◌, if◌then◌else◌, List, [], ◌∷◌, ◌++◌, length, replicate}
+use Rattle.std.specs.Prelude.{ℕ, ◌+◌, ◌-◌, ◌==◌, if◌then◌else◌, List, [], ◌++◌, length, replicate}
 use Rattle.mad_layout.specs.declared.mad_header.Header.{Header}
 use Rattle.mad_layout.specs.declared.method.Method.TheVariants.{Set, GetResp}
 use Rattle.mad_layout.specs.declared.rmpp_header.RmppHeader.{RmppHeader}

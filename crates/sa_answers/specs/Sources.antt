@@ -1,9 +1,11 @@
--- Where the records come from that answer: those of open tables, whatever ports sent before, of joins and of services that are set.
-use Rattle.std.specs.Prelude.{ℕ, ◌≡◌, true, List, [], ◌∷◌, Option, Some, None, Ok, fold}
+-- Where the records come from that answer: those of open tables, of joins and of services that are set.
+use Rattle.std.specs.Prelude.{ℕ, ◌≡◌, Bool, true, false, not, ◌&&◌, ◌||◌, List, [], ◌∷◌, find, Option, Some, None, Ok}
 use Rattle.std.specs.List.{flat_map}
 use Rattle.pkey_rules.specs.PKey.{base_of}
 use Rattle.rmpp_core.specs.Segments.{Transfer}
-use Rattle.sa_model.specs.Groups.{MulticastGroup}
+use Rattle.sa_model.specs.Groups.{Membership, MulticastGroup}
+use Rattle.sa_model.specs.Joining.{is_of}
+use Rattle.sa_model.specs.JoinState.{JoinState}
 use Rattle.sa_model.specs.Sound.{is_sound}
 use Rattle.sa_records.specs.McMemberRecord.{mc_member_record_bytes}
 use Rattle.sa_records.specs.declared.mc_member_record.McMemberRecord.{McMemberRecord}
@@ -11,17 +13,15 @@ use Rattle.sa_records.specs.ServiceRecord.{service_record_bytes}
 use Rattle.sa_records.specs.declared.service_record.ServiceRecord.{ServiceRecord}
 use Rattle.subnet_model.specs.Delivery.{port_with_guid}
 use Rattle.subnet_model.specs.declared.subnet_port.SubnetPort.{SubnetPort}
-use Rattle.subnet_model.specs.Configuration.{Configured}
 use Rattle.subnet_model.specs.Near.{is_near}
 use Rattle.sa_queries.specs.Shown.{Entry, service_record_of}
 use Rattle.sa_queries.specs.Laws.{come_from_near, is_source_near}
 use Rattle.sa_queries.specs.Visible.{SaState, ServiceOfPort}
-use Rattle.sa_answers.specs.Joins.{group_named, join_outcome, member_record}
+use Rattle.sa_answers.specs.Joins.{group_named, join_outcome, join_state_of, member_record}
 use Rattle.sa_answers.specs.ServiceRequests.{service_set}
 use Rattle.sa_answers.specs.Success.{Success}
 use Rattle.sa_answers.specs.Transfers.{PortTransfer}
-use Rattle.sa_answers.specs.Answer.{Administration, record_bytes}
-use Rattle.sa_answers.specs.Runs.{MadSent, at_start, administer}
+use Rattle.sa_answers.specs.Answer.{Administration, answer, record_bytes}
 
 -- these bytes are those of records that come from ports near p or from the partition file
 pub record AreRecordsFromNear (ports : List SubnetPort) (p : ℕ) (bytes : List ℕ) : Type 0 where
@@ -38,29 +38,40 @@ abbrev pub TablesComeFromNear : List SubnetPort → List PortTransfer → Type 0
 TablesComeFromNear ports [] = Unit {0}
 TablesComeFromNear ports (place ∷ places) = HasRecordsFromNear ports place.port place.open_table × TablesComeFromNear ports places
 
--- what is remembered after all that ports sent
-abbrev pub remembered_after : Configured → List MadSent → Administration
-remembered_after configuration sent = fold (λ state one. (administer configuration.ports state one).1) (at_start configuration) sent
-
-abbrev pub OpenTablesComeFromNear : Type 0
-OpenTablesComeFromNear =
-    (configuration : Configured) (sent : List MadSent)
-    → TablesComeFromNear configuration.ports (remembered_after configuration sent).transfers
+-- every answer leaves it so
+abbrev pub TablesKeepTheirSources : Type 0
+TablesKeepTheirSources =
+    (ports : List SubnetPort) (own : SubnetPort) (payload : List ℕ) (state : Administration) → port_with_guid ports own.guid ≡ Some own
+    → is_sound ports state.remembered.partitions ≡ true → TablesComeFromNear ports state.transfers
+    → TablesComeFromNear ports (answer ports own payload state).1.transfers
 
 -- ---- joins
--- these bytes are the port's record of this group, and the group comes from a port near it or from the partition file
-pub record IsOfGroupFromNear (ports : List SubnetPort) (own : SubnetPort) (base : ℕ) (group : MulticastGroup) (bytes : List ℕ) : Type 0 where
-  pub spelt : bytes ≡ mc_member_record_bytes (member_record own base group)
+-- each bit that is asked is held
+abbrev pub has_each_bit_of : JoinState → JoinState → Bool
+has_each_bit_of asked held =
+    (not asked.full_member || held.full_member)
+    && ((not asked.non_member || held.non_member) && (not asked.send_only_non_member || held.send_only_non_member))
+
+-- this membership is there, with each bit that is asked
+abbrev pub takes_part_with : JoinState → Option Membership → Bool
+takes_part_with asked (Some membership) = has_each_bit_of asked membership.join_state
+takes_part_with asked None = false
+
+-- after this join the group is there, and the port takes part in it with each bit that it asked for; these bytes are the
+-- port's record of it, and the group comes from a port near it or from the partition file
+pub record IsJoined (ports : List SubnetPort) (own : SubnetPort) (asked : McMemberRecord) (next : SaState) (bytes : List ℕ) : Type 0 where
+  pub group : MulticastGroup
+  pub there : group_named (base_of asked.p_key) asked.mgid next.partitions ≡ Some group
+  pub takes_part : takes_part_with (join_state_of asked.join_state) (find (is_of own.guid) group.memberships) ≡ true
+  pub spelt : bytes ≡ mc_member_record_bytes (member_record own (base_of asked.p_key) group)
   pub source : is_source_near ports own.guid group.creator ≡ true
 
--- so it is with the reply to a join, of the group that is there then
+-- so it is with the reply to a join
 abbrev pub JoinRepliesComeFromNear : Type 0
 JoinRepliesComeFromNear =
     (ports : List SubnetPort) (own : SubnetPort) (state next : SaState) (mask : ℕ) (asked : McMemberRecord) (bytes : List ℕ)
-    (group : MulticastGroup) → port_with_guid ports own.guid ≡ Some own → is_sound ports state.partitions ≡ true
-    → join_outcome ports own state mask asked ≡ Ok (Success.one_reply bytes next)
-    → group_named (base_of asked.p_key) asked.mgid next.partitions ≡ Some group
-    → IsOfGroupFromNear ports own (base_of asked.p_key) group bytes
+    → port_with_guid ports own.guid ≡ Some own → is_sound ports state.partitions ≡ true
+    → join_outcome ports own state mask asked ≡ Ok (Success.one_reply bytes next) → IsJoined ports own asked next bytes
 
 -- ---- services that are set
 -- these bytes are the record of a service of a port near this one

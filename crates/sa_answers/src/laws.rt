@@ -1,8 +1,7 @@
 //! The laws of answers, over the definitions alone. Each function does nothing: its contract is the law.
 
 ghost use Rattle.sa_answers.specs.Laws.{AnswersAreSeenAlike, AnswersKeepSound, FarRequestsAreNotSeen, RefusedChangeNothing, RequestersAreAnsweredAlike};
-ghost use Rattle.sa_answers.specs.Runs.{WhatIsReceivedDependsOnNear};
-ghost use Rattle.sa_answers.specs.Sources.{JoinRepliesComeFromNear, OpenTablesComeFromNear, ServiceRepliesComeFromNear};
+ghost use Rattle.sa_answers.specs.Sources.{JoinRepliesComeFromNear, ServiceRepliesComeFromNear, TablesKeepTheirSources};
 
 /// Whatever comes to subnet administration, what it remembers stays sound.
 pub fn answers_keep_sound()
@@ -31,20 +30,15 @@ pub fn answers_are_seen_alike()
     ensures { AnswersAreSeenAlike }
 {}
 
-/// Whatever ports send to subnet administration, the MADs that come back to a port are those that would
-/// come back to it if the ports near it alone had sent.
-pub fn what_is_received_depends_on_near()
-    ensures { WhatIsReceivedDependsOnNear }
+/// Where each table that is open to a port has records that come from ports near it or from the partition file, so it
+/// is after whatever a port sends.
+pub fn tables_keep_their_sources()
+    ensures { TablesKeepTheirSources }
 {}
 
-/// Whatever ports sent, the table that is open to a port has records that come from ports near it or from
+/// After a join that is answered by a record its group is there, and the port takes part in it with each bit that it
+/// asked for. The record is the port's record of that group, which comes from a port near the one that joins, or from
 /// the partition file.
-pub fn open_tables_come_from_near()
-    ensures { OpenTablesComeFromNear }
-{}
-
-/// The record by which a join is answered is that of a group which comes from a port near the one that joins,
-/// or from the partition file.
 pub fn join_replies_come_from_near()
     ensures { JoinRepliesComeFromNear }
 {}

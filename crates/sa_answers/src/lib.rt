@@ -14,8 +14,7 @@ mod wrong_rules;
 pub use crate::examples::{which_path, which_segments, who_is_in_groups, who_is_refused};
 pub use crate::laws::{
     answers_are_seen_alike, answers_keep_sound, far_requests_are_not_seen,
-    join_replies_come_from_near, open_tables_come_from_near, refused_change_nothing,
-    requesters_are_answered_alike, service_replies_come_from_near,
-    what_is_received_depends_on_near,
+    join_replies_come_from_near, refused_change_nothing, requesters_are_answered_alike,
+    service_replies_come_from_near, tables_keep_their_sources,
 };
 pub use crate::wrong_rules::one_table_tells;

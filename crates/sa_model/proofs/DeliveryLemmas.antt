@@ -1,17 +1,15 @@
 -- Whom a packet reaches by groups: only ports near its sender, and by what they see.
-use Rattle.std.proofs.Common.{ℕ, Bool, true, false, not, ◌==◌, ◌&&◌, ◌||◌, List, [], ◌∷◌, find, Some, None}
+use Rattle.std.proofs.Common.{ℕ, Bool, true, false, not, ◌==◌, ◌&&◌, ◌||◌, List, [], ◌∷◌, Some, None}
 use Rattle.std.proofs.Common.{◌≡◌, ◌∙◌, ap, refl, sym, inl, inr}
 use Rattle.std.specs.List.{list_all, list_any}
-use Rattle.std.proofs.lemmas.Bool.{cases_Bool, both_ways, false_from_ne_true, and_from, and_left, and_right, and_parts, or_from, or_left, or_right, eqb-true}
-use Rattle.result_words.proofs.ListLemmas.{list_any_weaker}
+use Rattle.std.proofs.lemmas.Bool.{cases_Bool, both_ways, false_from_ne_true, and_left, and_right, and_parts, or_from, or_left, eqb-true}
 use Rattle.fabric_parts.specs.NodeType.{is_switch_type}
-use Rattle.pkey_rules.specs.KeyTable.{accepts, holds, shares}
-use Rattle.data_packet.specs.declared.refusal.Refusal.TheVariants.{KeyNotHeld}
+use Rattle.pkey_rules.specs.KeyTable.{accepts}
 use Rattle.subnet_model.specs.declared.subnet_port.SubnetPort.{SubnetPort}
 use Rattle.subnet_model.specs.declared.command.SendCommand.{SendCommand}
 use Rattle.subnet_model.specs.Delivery.{port_with_guid, refusal_of}
-use Rattle.subnet_model.specs.Near.{is_near, ports_share, shares_with}
-use Rattle.subnet_model.proofs.IsolationLemmas.{shares_from_holder}
+use Rattle.subnet_model.specs.Near.{is_near, ports_share}
+use Rattle.subnet_model.proofs.IsolationLemmas.{held_unless_refused, reached_is_near as joined_is_near}
 use Rattle.sa_model.specs.JoinState.{is_joined, is_receiver}
 use Rattle.sa_model.specs.Members.{is_member}
 use Rattle.sa_model.specs.Groups.{Membership, MulticastGroup, PartitionGroups}
@@ -23,38 +21,11 @@ use Rattle.sa_model.proofs.SoundLemmas.{sound_parts, partition_parts}
 use Rattle.sa_model.proofs.SightListLemmas.{any_within, any_map_same}
 
 -- ---- only ports near the sender
-found_in : {X : Type 0} (test other : X → Bool) (xs : List X) (x : X) → find test xs ≡ Some x → ((y : X) → test y ≡ true → y ≡ x → other y ≡ true) → list_any other xs ≡ true
-found_in test other [] x h passes = absurd (cc)
-found_in test other (y ∷ ys) x h passes = elim (cases_Bool (test y)) [
-  | inl here ↦ let same : Some y ≡ Some x = rw here at h in let e : y ≡ x = cc in or_left (other y) (list_any other ys) (passes y here e)
-  | inr not_here ↦ let later : find test ys ≡ Some x = rw not_here at h in or_right (other y) (list_any other ys) (found_in test other ys x later passes)
-]
-
-held_unless_refused : (sender : SubnetPort) (command : SendCommand) → refusal_of sender command ≡ None → holds command.p_key sender.keys ≡ true
-held_unless_refused sender command e = elim (cases_Bool (holds command.p_key sender.keys)) [
-  | inl held ↦ held
-  | inr not_held ↦ let told : Some KeyNotHeld ≡ None = rw not_held at e in absurd (cc)
-]
-
-accepting_shares : (ports : List SubnetPort) (command : SendCommand) (sender port : SubnetPort) → port_with_guid ports command.port_guid ≡ Some sender
-    → holds command.p_key sender.keys ≡ true → accepts command.p_key port.keys ≡ true → shares_with ports port command.port_guid ≡ true
-accepting_shares ports command sender port found held accepted =
-    found_in (λ other. other.guid == command.port_guid) (λ other. (other.guid == command.port_guid) && shares port.keys other.keys) ports sender found
-    (λ other here same. and_from (other.guid == command.port_guid) (shares port.keys other.keys) here
-    (ap (λ q. shares port.keys q.keys) same ∙ shares_from_holder command.p_key sender.keys port.keys held accepted))
-
 pub reached_is_near : (ports : List SubnetPort) (partitions : List PartitionGroups) (p : ℕ) (command : SendCommand) (sender : SubnetPort)
     → port_with_guid ports command.port_guid ≡ Some sender → refusal_of sender command ≡ None
     → list_any (λ port. (port.guid == p) && reaches partitions command port) ports ≡ true → is_near ports p command.port_guid ≡ true
 reached_is_near ports partitions p command sender found sends reached =
-    or_right (command.port_guid == p) (ports_share ports p command.port_guid)
-    (list_any_weaker (λ port. (port.guid == p) && reaches partitions command port) (λ port. (port.guid == p) && shares_with ports port command.port_guid)
-    (λ port e. let parts : ((port.guid == p) ≡ true) × (reaches partitions command port ≡ true) = and_parts (port.guid == p) (reaches partitions command port) e in
-    and_from (port.guid == p) (shares_with ports port command.port_guid) parts.0
-    (accepting_shares ports command sender port found (held_unless_refused sender command sends)
-    (and_parts (not (is_switch_type port.node_type)) (accepts command.p_key port.keys)
-    (and_parts ((port.lid == command.dlid) || (not (port.guid == command.port_guid) && is_receiver_of partitions command.dlid port.guid)) _ parts.1).1).1))
-    ports reached)
+    joined_is_near ports (is_receiver_of partitions command.dlid) p sender command found (held_unless_refused sender command sends) reached
 
 -- ---- what is seen says who receives
 none_of : {X : Type 0} (p test : X → Bool) → ((x : X) → p x ≡ true → test x ≡ false) → (xs : List X) → list_all p xs ≡ true → list_any test xs ≡ false
@@ -104,12 +75,12 @@ seen_receives ports p mlid (x ∷ xs) sound =
       | inr outside ↦ rw (outside, outside_receives ports p mlid x outside both.0) (seen_receives ports p mlid xs both.1)
     ]
 
-receives_alike : (ports : List SubnetPort) (p mlid : ℕ) (s t : List PartitionGroups) → Alike ports p s t → is_receiver_of s mlid p ≡ is_receiver_of t mlid p
+pub receives_alike : (ports : List SubnetPort) (p mlid : ℕ) (s t : List PartitionGroups) → Alike ports p s t → is_receiver_of s mlid p ≡ is_receiver_of t mlid p
 receives_alike ports p mlid s t alike =
     sym (seen_receives ports p mlid s alike.left_sound) ∙ (ap (λ partitions. is_receiver_of partitions mlid p) alike.same ∙ seen_receives ports p mlid t alike.right_sound)
 
 pub reaches_alike : (ports : List SubnetPort) (s t : List PartitionGroups) (command : SendCommand) (port : SubnetPort) → Alike ports port.guid s t
     → reaches s command port ≡ reaches t command port
 reaches_alike ports s t command port alike =
-    ap (λ receiver. ((port.lid == command.dlid) || (not (port.guid == command.port_guid) && receiver)) && (not (is_switch_type port.node_type) && accepts command.p_key port.keys))
+    ap (λ receiver. ((receiver && not (port.guid == command.port_guid)) || (port.lid == command.dlid)) && (not (is_switch_type port.node_type) && accepts command.p_key port.keys))
     (receives_alike ports port.guid command.dlid s t alike)

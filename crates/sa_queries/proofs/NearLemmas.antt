@@ -1,9 +1,8 @@
 -- What a port can be shown comes from ports near it.
-use Rattle.std.proofs.Common.{ℕ, Bool, true, ◌==◌, ◌&&◌, List, [], ◌∷◌, Some, All, find, filter, map}
-use Rattle.std.proofs.Common.{◌≡◌, ◌∙◌, ap, refl, sym, inl, inr, arith}
+use Rattle.std.proofs.Common.{ℕ, Bool, true, ◌==◌, ◌&&◌, List, [], ◌∷◌, Some, All, filter, map}
+use Rattle.std.proofs.Common.{◌≡◌, ◌∙◌, refl, sym, inl, inr}
 use Rattle.std.specs.List.{list_all, list_any, flat_map}
-use Rattle.std.proofs.lemmas.Bool.{cases_Bool, and_from, and_parts, or_cases, or_left, or_right}
-use Rattle.std.proofs.lemmas.Bool.Decides.{nat_tests}
+use Rattle.std.proofs.lemmas.Bool.{cases_Bool, and_from, and_parts, or_cases, or_left, or_right, eq-eqb}
 use Rattle.std.proofs.lemmas.List.Elements.{All-nil, All-cons, All-head, All-tail, All-weaker}
 use Rattle.std.proofs.lemmas.List.Folds.{list_all-append, list_all-map}
 use Rattle.pkey_rules.specs.PKey.{key_of}
@@ -11,6 +10,7 @@ use Rattle.pkey_rules.specs.KeyTable.{accepts, shares}
 use Rattle.subnet_model.specs.declared.subnet_port.SubnetPort.{SubnetPort}
 use Rattle.subnet_model.specs.Delivery.{port_with_guid}
 use Rattle.subnet_model.specs.Near.{is_near, ports_share, shares_with}
+use Rattle.subnet_model.proofs.IsolationLemmas.{found_in}
 use Rattle.sa_model.specs.Members.{is_member}
 use Rattle.sa_model.specs.Groups.{Creator, MulticastGroup, PartitionGroups}
 use Rattle.sa_model.specs.Sound.{may_have_made, is_sound_group, is_sound_partition, is_sound}
@@ -28,29 +28,19 @@ use Rattle.sa_queries.specs.Shown.{node_entry, path_entry, group_entry, service_
 use Rattle.sa_queries.specs.Laws.{is_source_near, come_from_near, VisibleComesFromNear}
 use Rattle.sa_queries.specs.WrongRules.{PathsLeadToNear}
 
-same_number : (n : ℕ) → (n == n) ≡ true
-same_number n = grind (arith, nat_tests)
-
 -- ---- a port of the subnet, found by its GUID
-found_in : {X : Type 0} (test other : X → Bool) (xs : List X) (x : X) → find test xs ≡ Some x → other x ≡ true → list_any other xs ≡ true
-found_in test other [] x h p = absurd (cc)
-found_in test other (y ∷ ys) x h p = elim (cases_Bool (test y)) [
-  | inl here ↦ let same : Some y ≡ Some x = rw here at h in let e : y ≡ x = cc in or_left (other y) (list_any other ys) (ap other e ∙ p)
-  | inr not_here ↦ let later : find test ys ≡ Some x = rw not_here at h in or_right (other y) (list_any other ys) (found_in test other ys x later p)
-]
-
 pub member_if_in : (ports : List SubnetPort) (own : SubnetPort) (base : ℕ) → port_with_guid ports own.guid ≡ Some own → is_in own base ≡ true
     → is_member ports base own.guid ≡ true
 member_if_in ports own base found within =
     found_in (λ port. port.guid == own.guid) (λ port. (port.guid == own.guid) && accepts (key_of base true) port.keys) ports own found
-    (and_from (own.guid == own.guid) (is_in own base) (same_number own.guid) within)
+    (and_from (own.guid == own.guid) (is_in own base) (eq-eqb own.guid own.guid refl) within)
 
 sharing_is_near : (ports : List SubnetPort) (own : SubnetPort) (q : ℕ) → port_with_guid ports own.guid ≡ Some own → shares_with ports own q ≡ true
     → is_near ports own.guid q ≡ true
 sharing_is_near ports own q found shared =
     or_right (q == own.guid) (ports_share ports own.guid q)
     (found_in (λ port. port.guid == own.guid) (λ port. (port.guid == own.guid) && shares_with ports port q) ports own found
-    (and_from (own.guid == own.guid) (shares_with ports own q) (same_number own.guid) shared))
+    (and_from (own.guid == own.guid) (shares_with ports own q) (eq-eqb own.guid own.guid refl) shared))
 
 -- ---- a port of the subnet with which it shares a partition is near it
 abbrev IsAmong : List SubnetPort → SubnetPort → SubnetPort → Type 0
@@ -61,7 +51,7 @@ sharing_are_among own [] = All-nil (IsAmong [] own)
 sharing_are_among own (port ∷ ports) =
     All-cons (IsAmong (port ∷ ports) own) port ports
     (λ e. or_left ((port.guid == port.guid) && shares own.keys port.keys) (shares_with ports own port.guid)
-    (and_from (port.guid == port.guid) (shares own.keys port.keys) (same_number port.guid) e))
+    (and_from (port.guid == port.guid) (shares own.keys port.keys) (eq-eqb port.guid port.guid refl) e))
     (All-weaker (IsAmong ports own) (IsAmong (port ∷ ports) own)
     (λ other among e. or_right ((port.guid == other.guid) && shares own.keys port.keys) (shares_with ports own other.guid) (among e))
     ports (sharing_are_among own ports))

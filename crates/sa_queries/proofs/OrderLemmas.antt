@@ -2,7 +2,7 @@
 use Rattle.std.proofs.Common.{ℕ, Bool, true, ◌==◌, ◌&&◌, nat_lt, nat_le, List, [], ◌∷◌, filter, map}
 use Rattle.std.proofs.Common.{◌≡◌, ◌∙◌, refl, arith}
 use Rattle.std.specs.List.{list_all, flat_map}
-use Rattle.std.proofs.lemmas.Bool.{and_from, and_parts, or_left, or_right}
+use Rattle.std.proofs.lemmas.Bool.{and_from, and_parts, or_left, or_right, eq-eqb}
 use Rattle.std.proofs.lemmas.Bool.Decides.{nat_tests}
 use Rattle.std.proofs.lemmas.List.Folds.{list_all-append}
 use Rattle.pkey_rules.specs.PKey.{base_of}
@@ -68,9 +68,6 @@ all_true [] = refl
 all_true (x ∷ xs) = all_true xs
 
 -- ---- paths
-same_number : (n : ℕ) → (n == n) ≡ true
-same_number n = grind (arith, nat_tests)
-
 abbrev path_under : SubnetPort → SubnetPort → ℕ → Path
 path_under own other key = record { origin = own; destination = other; key = key }
 
@@ -78,7 +75,7 @@ in_one : (own other : SubnetPort) → pairwise goes_before (paths_to own other) 
 in_one own other =
     pairwise_of_map is_lower_base goes_before (path_under own other)
     (λ a b e. or_right (nat_lt other.lid other.lid) ((other.lid == other.lid) && is_lower_base a b)
-    (and_from (other.lid == other.lid) (is_lower_base a b) (same_number other.lid) e))
+    (and_from (other.lid == other.lid) (is_lower_base a b) (eq-eqb other.lid other.lid refl) e))
     (keys_to own other) (pairwise_filter is_lower_base (λ key. accepts key other.keys) (by_base own.keys) (stand_by_base own.keys).order)
 
 to_lower : (own a b : SubnetPort) → lower_lid a b ≡ true → list_all (λ path. list_all (goes_before path) (paths_to own b)) (paths_to own a) ≡ true

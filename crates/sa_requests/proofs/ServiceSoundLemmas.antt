@@ -2,7 +2,7 @@
 use Rattle.std.proofs.Common.{ℕ, suc, ◌+◌, ◌≤◌, Bool, true, false, not, ◌==◌, ◌&&◌, nat_lt, nat_le, List, [], ◌∷◌, ◌++◌, length, filter}
 use Rattle.std.proofs.Common.{◌≡◌, ◌∙◌, refl, inl, inr, arith, length-append}
 use Rattle.std.specs.List.{list_all, list_any, flat_map}
-use Rattle.std.proofs.lemmas.Bool.{cases_Bool, and_from, and_parts, or_cases, or_left, or_right}
+use Rattle.std.proofs.lemmas.Bool.{cases_Bool, and_from, and_parts, or_cases, or_left, or_right, eq-eqb}
 use Rattle.std.proofs.lemmas.Bool.Decides.{nat_tests}
 use Rattle.std.proofs.lemmas.List.Folds.{list_all-append}
 use Rattle.pkey_rules.specs.PKey.{base_of}
@@ -201,14 +201,11 @@ services_stay_sound ports services change sound =
     all_map (is_sound_place ports) (is_sound_place ports) (changed_in change) (λ place e. place_sound ports change place e) services sound
 
 -- ---- the start
-same_number : (n : ℕ) → (n == n) ≡ true
-same_number n = grind (arith, nat_tests)
-
 keys_are_held : (keys : List ℕ) → list_all (λ key. has_base (base_of key) keys) keys ≡ true
 keys_are_held [] = refl
 keys_are_held (key ∷ keys) =
     and_from (has_base (base_of key) (key ∷ keys)) (list_all (λ k. has_base (base_of k) (key ∷ keys)) keys)
-    (or_left (base_of key == base_of key) (has_base (base_of key) keys) (same_number (base_of key)))
+    (or_left (base_of key == base_of key) (has_base (base_of key) keys) (eq-eqb (base_of key) (base_of key) refl))
     (all_weaker (λ k. has_base (base_of k) keys) (λ k. has_base (base_of k) (key ∷ keys))
     (λ k e. or_right (base_of key == base_of k) (has_base (base_of k) keys) e) keys (keys_are_held keys))
 
@@ -220,7 +217,7 @@ first_is_in : (port : SubnetPort) (ports : List SubnetPort) → is_in_its_partit
 first_is_in port ports =
     all_weaker (λ key. has_base (base_of key) port.keys) (λ key. holds_base (port ∷ ports) (base_of key) port.guid)
     (λ key e. or_left ((port.guid == port.guid) && has_base (base_of key) port.keys) (holds_base ports (base_of key) port.guid)
-    (and_from (port.guid == port.guid) (has_base (base_of key) port.keys) (same_number port.guid) e)) port.keys (keys_are_held port.keys)
+    (and_from (port.guid == port.guid) (has_base (base_of key) port.keys) (eq-eqb port.guid port.guid refl) e)) port.keys (keys_are_held port.keys)
 
 all_are_in : (ports : List SubnetPort) → list_all (is_in_its_partitions ports) ports ≡ true
 all_are_in [] = refl

@@ -14,9 +14,9 @@ use Rattle.result_words.proofs.ListLemmas.{all_have}
 use Rattle.result_words.proofs.StepLemmas.{bind_done, bind_ok, let_through, not_stopped, same_ok}
 use Rattle.result_words.specs.AtLine.{after_lines, on_line}
 use Rattle.subnet_model.specs.Configuration.{Configured}
+use Rattle.subnet_model.specs.Delivery.{port_with_guid}
 use Rattle.subnet_model.specs.declared.command.Command.{Command}
-use Rattle.subnet_model.specs.declared.command.Command.TheVariants.{Send}
-use Rattle.subnet_model.specs.declared.command.SendCommand.{SendCommand}
+use Rattle.subnet_model.specs.declared.command.Command.TheVariants.{Ask, Send}
 use Rattle.subnet_model.specs.declared.subnet_port.SubnetPort.{SubnetPort}
 use Rattle.subnet_ports.proofs.EndPortLemmas.{end_ports_stand_in_order}
 use Rattle.subnet_ports.proofs.OwnEndLemmas.{one_end}
@@ -67,6 +67,7 @@ record IsSendingPort (plan : Plan) (guid : ℕ) : Type 0 where
 
 abbrev IsSentFrom : Plan → Command → Type 0
 IsSentFrom plan (Send command) = IsSendingPort plan command.port_guid
+IsSentFrom plan (Ask command) = IsSendingPort plan command.port_guid
 
 port_there : (plan : Plan) (place number : ℕ) (at : PortRef) → port_at plan.nodes place number ≡ Some at → is_port plan.nodes at ≡ true
 port_there plan place number at is = by (nat_le 1 number && nat_le number (ports_at plan.nodes place)) refl is
@@ -167,20 +168,30 @@ module _ (roster : Rostered) (is : IsRostered roster) where
       subst (λ (configuration : Configured). AreEndPorts is.partitions plan configuration.ports) (sym is.listed)
       (end_ports_stand_in_order is.partitions plan is.topology)
 
-  adapter_listed : (command : SendCommand) → IsSendingPort plan command.port_guid → NamesSender ports (Send command)
-  adapter_listed command from =
-      let named : SubnetPort → Bool = λ port. port.guid == command.port_guid in
-      let any = subst (λ (guid : ℕ). list_any (λ (port : SubnetPort). port.guid == guid) ports ≡ true) from.guid_is (ends.all from.at from.there) in
+  -- the port of a GUID, and that it is a channel adapter's
+  record IsListed (guid : ℕ) (port : SubnetPort) : Type 0 where
+    named : port_with_guid ports guid ≡ Some port
+    adapter : is_switch_type port.node_type ≡ false
+
+  adapter_listed : (guid : ℕ) → IsSendingPort plan guid → (port : SubnetPort) × IsListed guid port
+  adapter_listed guid from =
+      let named : SubnetPort → Bool = λ port. port.guid == guid in
+      let any = subst (λ (g : ℕ). list_any (λ (port : SubnetPort). port.guid == g) ports ≡ true) from.guid_is (ends.all from.at from.there) in
       let one = found named ports any in
       let among = found_among named ports one.0 one.1 in
       let end = all_have (IsEndPort is.partitions plan) ports among.place one.0 ends.only among.there in
-      let guid = sym end.guid ∙ eqb-true one.0.guid command.port_guid among.passes ∙ sym from.guid_is in
-      let same = one_end plan end.at from.at is.topology end.there from.there guid in
+      let ours = sym end.guid ∙ eqb-true one.0.guid guid among.passes ∙ sym from.guid_is in
+      let same = one_end plan end.at from.at is.topology end.there from.there ours in
       let kind = ap is_switch_type end.node_type ∙ type_kept (is_switch_at plan.nodes end.at.node) in
       (one.0, record { named = one.1; adapter = kind ∙ ap (λ (at : PortRef). is_switch_at plan.nodes at.node) same ∙ from.adapter })
 
   names_sender : (command : Command) → IsSentFrom plan command → NamesSender ports command
-  names_sender (Send command) from = adapter_listed command from
+  names_sender (Send command) from =
+      let listed = adapter_listed command.port_guid from in
+      (listed.0, record { named = listed.1.named; adapter = listed.1.adapter })
+  names_sender (Ask command) from =
+      let listed = adapter_listed command.port_guid from in
+      (listed.0, record { named = listed.1.named; adapter = listed.1.adapter })
 
 -- what a line gives, if it gives a command
 pub line_names_sender : (roster : Rostered) → IsRostered roster → (line : List ℕ) (given : Option Command)

@@ -6,8 +6,8 @@ ghost use Rattle.subnet_core.specs.Listing.{listing_text};
 ghost use Rattle.subnet_core.specs.Roster.{RunGives};
 ghost use Rattle.subnet_core.specs.Run.{parsed, told_of};
 ghost use Rattle.subnet_core.specs.Senders.{Comes, NamesSender};
-ghost use Rattle.subnet_model.specs.declared.command.Command.TheVariants.{Send};
-ghost use Rattle.subnet_sends.specs.Sends.{ComesOf, event_of};
+ghost use Rattle.subnet_model.specs.declared.command.Command.TheVariants.{Ask, Send};
+ghost use Rattle.subnet_sends.specs.Sends.{ComesOf, ComesOfAsk, event_of};
 
 use crate::fault::{RunFault, StepFault};
 use crate::report::Report;
@@ -17,8 +17,8 @@ use fabric_wire::Fabric;
 use std::alloc::{AllocError, Global};
 use std::marker::Model;
 use subnet_fabric::BroughtUp;
-use subnet_model::{Command, SendCommand, State};
-use subnet_sends::{Event, send};
+use subnet_model::{AskCommand, Command, SendCommand, State};
+use subnet_sends::{Event, ask, send};
 use updn_routes::Routes;
 
 /// A subnet that was brought up and takes commands one by one.
@@ -157,6 +157,7 @@ impl Subnet {
     {
         match command {
             Command::Send(command) => self.sent(command),
+            Command::Ask(command) => self.asked(command),
         }
     }
 
@@ -168,6 +169,16 @@ impl Subnet {
     {
         self.roster.known_listed();
         send(self.alloc, &self.fabric, command)
+    }
+
+    /// What comes of a command to ask.
+    fn asked(&self, command: &AskCommand) -> Result<Vec<Event>, AllocError>
+        ensures comes { IfOk result (λ events. ComesOfAsk self.now.fabric command.now events.items) }
+        ensures events { IfOk result (λ events. NamesSender self.now.roster.configuration.ports (Ask command.now)
+            → map event_of events.items ≡ (step self.now.roster.configuration self.now.state (Ask command.now)).0) }
+    {
+        self.roster.known_listed();
+        ask(self.alloc, &self.fabric, command)
     }
 
     /// What is told of commands that are carried out one after another from the start.

@@ -1,11 +1,13 @@
 -- Whether a packet may be sent, and whom it reaches.
-use Rattle.std.specs.Prelude.{ℕ, Bool, not, ◌==◌, ◌&&◌, List, Option, Some, None, if◌then◌else◌, find}
+use Rattle.std.specs.Prelude.{ℕ, Bool, true, false, not, ◌==◌, ◌&&◌, ◌||◌, List, Option, Some, None, if◌then◌else◌, find}
 use Rattle.fabric_parts.specs.Lid.{is_reserved}
 use Rattle.fabric_parts.specs.NodeType.{is_switch_type}
 use Rattle.pkey_rules.specs.KeyTable.{accepts, holds}
+use Rattle.pkey_rules.specs.PKey.{default_base, key_of, matches}
 use Rattle.data_packet.specs.declared.refusal.Refusal.{Refusal}
 use Rattle.data_packet.specs.declared.refusal.Refusal.TheVariants.{KeyNotHeld, QpZero, ReservedDlid}
 use Rattle.subnet_model.specs.declared.subnet_port.SubnetPort.{SubnetPort}
+use Rattle.subnet_model.specs.declared.command.AskCommand.{AskCommand}
 use Rattle.subnet_model.specs.declared.command.SendCommand.{SendCommand}
 
 -- the port of this GUID, by which commands and events name it
@@ -23,10 +25,45 @@ refusal_of sender command =
     then Some ReservedDlid
     else None
 
--- a packet reaches the adapter port of its destination LID, if that port holds a key that matches the packet's
-abbrev pub reaches : SendCommand → SubnetPort → Bool
-reaches command port = (port.lid == command.dlid) && (not (is_switch_type port.node_type) && accepts command.p_key port.keys)
+-- a packet reaches the adapter port of its destination LID, and another than its sender that has joined a multicast
+-- group of that LID, if that port holds a key that matches the packet's
+abbrev pub reaches_joined : (ℕ → Bool) → SendCommand → SubnetPort → Bool
+reaches_joined has_joined command port =
+    ((has_joined port.guid && not (port.guid == command.port_guid)) || (port.lid == command.dlid))
+    && (not (is_switch_type port.node_type) && accepts command.p_key port.keys)
 
--- what is sent to LID 1, which is the subnet manager's port's, and to queue pair 1 is for the subnet administration
+-- whom it reaches where no port has joined a group
+abbrev pub reaches : SendCommand → SubnetPort → Bool
+reaches command port = reaches_joined (λ guid. false) command port
+
+-- ---- subnet administration
+-- what is sent to LID 1, which is the subnet manager's port's, and to queue pair 1 is for it
 abbrev pub is_for_sa : SendCommand → Bool
 is_for_sa command = (command.dlid == 1) && (command.destination_qp == 1)
+
+-- the key by which the subnet manager's port answers what travels under this key: the one of its own that matches
+abbrev pub key_that_matches : ℕ → Option SubnetPort → Option ℕ
+key_that_matches key (Some manager) = find (λ held. matches held key) manager.keys
+key_that_matches key None = None
+
+abbrev pub manager_key : List SubnetPort → ℕ → Option ℕ
+manager_key ports key = key_that_matches key (find (λ port. port.lid == 1) ports)
+
+-- a port asks under the key of the default partition that it holds
+abbrev pub asking_key : List ℕ → Option ℕ
+asking_key keys =
+    if holds (key_of default_base true) keys
+    then Some (key_of default_base true)
+    else if holds (key_of default_base false) keys
+    then Some (key_of default_base false)
+    else None
+
+-- the packet by which it asks
+abbrev pub sent_to_ask : AskCommand → ℕ → SendCommand
+sent_to_ask command key = record {
+  port_guid = command.port_guid;
+  dlid = 1;
+  p_key = key;
+  destination_qp = 1;
+  payload = command.mad;
+}

@@ -1,12 +1,39 @@
 -- What a port receives depends only on the ports that share a partition with it.
-use Rattle.std.specs.Prelude.{ℕ, ◌≡◌, Bool, true, false, List, [], ◌++◌}
+use Rattle.std.specs.Prelude.{ℕ, ◌≡◌, ◌==◌, Bool, true, false, List, [], ◌++◌, Some}
+use Rattle.subnet_model.specs.declared.subnet_port.SubnetPort.{SubnetPort}
 use Rattle.subnet_model.specs.declared.command.Command.{Command}
 use Rattle.subnet_model.specs.declared.event.Event.{Event}
+use Rattle.subnet_model.specs.Administrator.{Administrator, silent}
 use Rattle.subnet_model.specs.Configuration.{Configured}
+use Rattle.subnet_model.specs.Delivery.{port_with_guid}
 use Rattle.subnet_model.specs.Near.{is_near}
-use Rattle.subnet_model.specs.Report.{report}
+use Rattle.subnet_model.specs.Report.{answered_in_turn, report_by}
 use Rattle.subnet_model.specs.Restriction.{commands_of, events_at}
 use Rattle.subnet_model.specs.Source.{HaveSlidsNear}
+use Rattle.subnet_model.specs.State.{Alike}
+
+-- An administrator keeps ports apart, where some states are sound and each port sees something of a state: what a port
+-- far from another sends changes nothing that the other sees; a port that sees the same in two states is answered the
+-- same, and receives what is sent to the same groups; and what two states show alike, they show alike after a MAD.
+pub record KeepsApart {S V : Type 0} (configuration : Configured) (administrator : Administrator S) (is_sound : S → Bool)
+    (sees : ℕ → S → V) : Type 0 where
+  pub begins : is_sound (administrator.begins configuration) ≡ true
+  pub stays_sound : (own : SubnetPort) (mad : List ℕ) (s : S) → is_sound s ≡ true
+      → is_sound (administrator.answer configuration own mad s).1 ≡ true
+  pub far_unseen : (p : ℕ) (own : SubnetPort) (mad : List ℕ) (s : S) → is_near configuration.ports p own.guid ≡ false
+      → is_sound s ≡ true → sees p (administrator.answer configuration own mad s).1 ≡ sees p s
+  pub same_answers : (own : SubnetPort) (mad : List ℕ) (s t : S) → port_with_guid configuration.ports own.guid ≡ Some own
+      → Alike is_sound sees own.guid s t
+      → (administrator.answer configuration own mad s).0 ≡ (administrator.answer configuration own mad t).0
+  pub same_after : (p : ℕ) (own : SubnetPort) (mad : List ℕ) (s t : S) → port_with_guid configuration.ports own.guid ≡ Some own
+      → Alike is_sound sees p s t
+      → sees p (administrator.answer configuration own mad s).1 ≡ sees p (administrator.answer configuration own mad t).1
+  pub same_groups : (p mlid : ℕ) (s t : S) → Alike is_sound sees p s t
+      → administrator.receives s mlid p ≡ administrator.receives t mlid p
+  -- that a port acknowledges what answers it is not seen by any other
+  pub acknowledged_unseen : (p : ℕ) (own : SubnetPort) (mads : List (List ℕ)) (s : S) → (own.guid == p) ≡ false
+      → is_sound s ≡ true
+      → sees p (answered_in_turn (administrator.answer configuration own) (administrator.acknowledgements mads) s).1 ≡ sees p s
 
 -- A step keeps a port to itself, where some states are alike to that port: a command of a port that is far from it
 -- brings it no event, and leaves a state that is alike to whatever was alike before; a near one brings it the same
@@ -23,11 +50,18 @@ pub record Isolates {S C E : Type 0} (start : S) (step : S → C → List E × S
   pub nothing : own_events [] ≡ []
 
 -- the events at p are those that the commands of the ports near p alone would bring it
-abbrev pub DependsOnNear : Configured → ℕ → List Command → List Event → Type 0
-DependsOnNear configuration p commands events =
-    events_at p events ≡ events_at p (report configuration (commands_of (is_near configuration.ports p) commands))
+abbrev pub DependsOnNearBy : {S : Type 0} → Administrator S → Configured → ℕ → List Command → List Event → Type 0
+DependsOnNearBy administrator configuration p commands events =
+    events_at p events ≡ events_at p (report_by administrator configuration (commands_of (is_near configuration.ports p) commands))
 
 -- so it is at every port, and what each receives has the SLID of a port near it
+abbrev pub IsIsolatedBy : {S : Type 0} → Administrator S → Configured → List Command → List Event → Type 0
+IsIsolatedBy administrator configuration commands events =
+    (p : ℕ) → DependsOnNearBy administrator configuration p commands events × HaveSlidsNear configuration.ports p events
+
+-- as long as nobody answers what is asked of subnet administration
+abbrev pub DependsOnNear : Configured → ℕ → List Command → List Event → Type 0
+DependsOnNear configuration p commands events = DependsOnNearBy silent configuration p commands events
+
 abbrev pub IsIsolated : Configured → List Command → List Event → Type 0
-IsIsolated configuration commands events =
-    (p : ℕ) → DependsOnNear configuration p commands events × HaveSlidsNear configuration.ports p events
+IsIsolated configuration commands events = IsIsolatedBy silent configuration commands events

@@ -1,24 +1,44 @@
 -- What holds of every subnet and every list of commands.
-use Rattle.std.specs.Prelude.{ℕ, ◌≡◌, true, List, All}
+use Rattle.std.specs.Prelude.{ℕ, ◌≡◌, Bool, true, List, All}
 use Rattle.std.specs.List.{IsDistinct}
 use Rattle.subnet_model.specs.declared.subnet_port.SubnetPort.{SubnetPort}
 use Rattle.subnet_model.specs.declared.command.Command.{Command}
 use Rattle.subnet_model.specs.declared.event.Event.{Event}
+use Rattle.subnet_model.specs.Administrator.{Administrator, silent}
 use Rattle.subnet_model.specs.Configuration.{Configured}
-use Rattle.subnet_model.specs.State.{Alike, start}
+use Rattle.subnet_model.specs.State.{Alike}
 use Rattle.subnet_model.specs.Near.{is_near}
-use Rattle.subnet_model.specs.Report.{step, report}
-use Rattle.subnet_model.specs.Restriction.{actor, events_at}
+use Rattle.subnet_model.specs.Report.{step_by, report_by, report, state_from}
+use Rattle.subnet_model.specs.Restriction.{actor, commands_of, events_at}
 use Rattle.subnet_model.specs.Source.{ComesFromNear, HaveSlidsNear, is_lid_near, same_lid}
-use Rattle.subnet_model.specs.Isolation.{Isolates, IsIsolated}
+use Rattle.subnet_model.specs.Isolation.{Isolates, IsIsolated, IsIsolatedBy, KeepsApart}
 
--- the step of a subnet keeps each port to itself and to those near it
-abbrev pub StepsKeepToThoseNear : Type 0
-StepsKeepToThoseNear = (configuration : Configured) (p : ℕ)
-    → Isolates (start configuration) (step configuration) (Alike configuration p)
-    (λ command. is_near configuration.ports p (actor command)) (events_at p)
+-- Whoever answers what is asked of subnet administration, and keeps ports apart: the step of a subnet keeps each port to
+-- itself and to those near it, so does every run, and what is remembered after it is to each port as if the ports near
+-- it alone had done anything
+pub record Isolated {S V : Type 0} (configuration : Configured) (administrator : Administrator S) (is_sound : S → Bool)
+    (sees : ℕ → S → V) : Type 0 where
+  pub steps : (p : ℕ)
+      → Isolates (administrator.begins configuration) (step_by administrator configuration) (Alike is_sound sees p)
+      (λ command. is_near configuration.ports p (actor command)) (events_at p)
+  pub runs : (commands : List Command)
+      → IsIsolatedBy administrator configuration commands (report_by administrator configuration commands)
+  pub states : (p : ℕ) (commands : List Command)
+      → Alike is_sound sees p
+      (state_from (step_by administrator configuration) (administrator.begins configuration) commands)
+      (state_from (step_by administrator configuration) (administrator.begins configuration)
+      (commands_of (is_near configuration.ports p) commands))
 
--- so does every run, whatever the ports and the commands
+abbrev pub EveryKeeperIsolates : Type 0 → Type 0 → Type 0
+EveryKeeperIsolates S V =
+    (configuration : Configured) (administrator : Administrator S) (is_sound : S → Bool) (sees : ℕ → S → V)
+    → KeepsApart configuration administrator is_sound sees → Isolated configuration administrator is_sound sees
+
+-- who never answers keeps ports apart
+abbrev pub SilenceKeepsApart : Type 0
+SilenceKeepsApart = (configuration : Configured) → KeepsApart configuration silent (λ state. true) (λ p state. state)
+
+-- so that every run is isolated as long as nobody answers, whatever the ports and the commands
 abbrev pub EveryRunIsIsolated : Type 0
 EveryRunIsIsolated =
     (configuration : Configured) (commands : List Command) → IsIsolated configuration commands (report configuration commands)

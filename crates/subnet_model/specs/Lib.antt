@@ -2,8 +2,10 @@ pub mod Configuration
 pub mod EndPorts
 pub mod Near
 pub mod State
+pub mod Administrator
 pub mod Delivery
 pub mod Report
+pub mod Silent
 pub mod Restriction
 pub mod Source
 pub mod Isolation

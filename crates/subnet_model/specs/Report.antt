@@ -1,17 +1,18 @@
--- What happens in a subnet, command by command.
-use Rattle.std.specs.Prelude.{ℕ, if◌then◌else◌, List, [], ◌∷◌, ◌++◌, Option, Some, None, filter, map}
+-- What happens in a subnet, command by command, whoever answers what is asked of subnet administration.
+use Rattle.std.specs.Prelude.{ℕ, Bool, if◌then◌else◌, List, [], ◌∷◌, ◌++◌, Option, Some, None, filter, fold, map}
 use Rattle.data_packet.specs.declared.packet.Packet.{Packet}
 use Rattle.data_packet.specs.declared.refusal.Refusal.{Refusal}
+use Rattle.data_packet.specs.declared.refusal.Refusal.TheVariants.{KeyNotHeld}
 use Rattle.subnet_model.specs.declared.subnet_port.SubnetPort.{SubnetPort}
 use Rattle.subnet_model.specs.declared.command.Command.{Command}
-use Rattle.subnet_model.specs.declared.command.Command.TheVariants.{Send}
+use Rattle.subnet_model.specs.declared.command.Command.TheVariants.{Ask, Send}
 use Rattle.subnet_model.specs.declared.command.SendCommand.{SendCommand}
 use Rattle.subnet_model.specs.declared.event.Event.{Event}
 use Rattle.subnet_model.specs.declared.event.Outcome.TheVariants.{Received, Refused}
 use Rattle.subnet_model.specs.declared.state.State.{State}
+use Rattle.subnet_model.specs.Administrator.{Administrator, silent}
 use Rattle.subnet_model.specs.Configuration.{Configured}
-use Rattle.subnet_model.specs.State.{start}
-use Rattle.subnet_model.specs.Delivery.{port_with_guid, refusal_of, reaches, is_for_sa}
+use Rattle.subnet_model.specs.Delivery.{asking_key, is_for_sa, manager_key, port_with_guid, reaches_joined, refusal_of}
 
 -- the packet as it arrives
 abbrev pub packet_of : SubnetPort → SendCommand → Packet
@@ -24,35 +25,93 @@ packet_of sender command = record {
 }
 
 -- each port that the packet reaches receives it
-abbrev pub received : List SubnetPort → SubnetPort → SendCommand → List Event
-received ports sender command =
-    map (λ port. record { port_guid = port.guid; what = Received (packet_of sender command) })
-    (filter (λ port. reaches command port) ports)
+abbrev pub received_by : (SubnetPort → Bool) → List SubnetPort → SubnetPort → SendCommand → List Event
+received_by is_reached ports sender command =
+    map (λ port. record { port_guid = port.guid; what = Received (packet_of sender command) }) (filter is_reached ports)
 
--- but what is for the subnet administration gives no event
-abbrev pub delivered : List SubnetPort → SubnetPort → SendCommand → List Event
-delivered ports sender command = if is_for_sa command then [] else received ports sender command
+abbrev pub unless_refused : {S : Type 0} → Option Refusal → ℕ → S → List Event × S → List Event × S
+unless_refused (Some refusal) guid state happens = (record { port_guid = guid; what = Refused refusal } ∷ [], state)
+unless_refused None guid state happens = happens
 
-abbrev pub unless_refused : Option Refusal → ℕ → List Event → List Event
-unless_refused (Some refusal) guid events = record { port_guid = guid; what = Refused refusal } ∷ []
-unless_refused None guid events = events
+-- ---- what is for subnet administration comes to it at the subnet manager's port, and its answers to the port that asked
+-- one MAD after another, each answered from what is remembered after the one before
+abbrev pub answered_in_turn : {S : Type 0} → (List ℕ → S → List (List ℕ) × S) → List (List ℕ) → S → List (List ℕ) × S
+answered_in_turn answer [] state = ([], state)
+answered_in_turn answer (mad ∷ mads) state =
+    ((answer mad state).0 ++ (answered_in_turn answer mads (answer mad state).1).0, (answered_in_turn answer mads (answer mad state).1).1)
 
-abbrev pub sent_from : Option SubnetPort → List SubnetPort → SendCommand → List Event
-sent_from (Some sender) ports command =
-    unless_refused (refusal_of sender command) command.port_guid (delivered ports sender command)
-sent_from None ports command = []
+-- a MAD, and then what acknowledges its answers
+abbrev pub answered_whole : {S : Type 0} → (List ℕ → S → List (List ℕ) × S) → (List (List ℕ) → List (List ℕ)) → List ℕ → S
+    → List (List ℕ) × S
+answered_whole answer acknowledgements mad state = (
+  (answer mad state).0 ++ (answered_in_turn answer (acknowledgements (answer mad state).0) (answer mad state).1).0,
+  (answered_in_turn answer (acknowledgements (answer mad state).0) (answer mad state).1).1,
+)
+
+-- a MAD as the port that asked receives it
+abbrev pub reply_to : SubnetPort → ℕ → List ℕ → Event
+reply_to own key mad = record {
+  port_guid = own.guid;
+  what = Received (record { slid = 1; dlid = own.lid; p_key = key; destination_qp = 1; payload = mad });
+}
+
+-- where no key of the subnet manager's port matches the packet's, it does not come to subnet administration
+abbrev pub replied : {S : Type 0} → SubnetPort → Option ℕ → S → List (List ℕ) × S → List Event × S
+replied own (Some key) state answered = (map (reply_to own key) answered.0, answered.1)
+replied own None state answered = ([], state)
+
+-- ---- one command
+abbrev pub delivered : {S : Type 0} → Administrator S → Configured → SubnetPort → SendCommand → S → List Event × S
+delivered administrator configuration sender command state =
+    if is_for_sa command
+    then replied sender (manager_key configuration.ports command.p_key) state
+    (administrator.answer configuration sender command.payload state)
+    else (received_by (reaches_joined (administrator.receives state command.dlid) command) configuration.ports sender command, state)
+
+abbrev pub sent : {S : Type 0} → Administrator S → Configured → Option SubnetPort → SendCommand → S → List Event × S
+sent administrator configuration (Some sender) command state =
+    unless_refused (refusal_of sender command) command.port_guid state (delivered administrator configuration sender command state)
+sent administrator configuration None command state = ([], state)
+
+-- a port that asks acknowledges what answers it
+abbrev pub conversation : {S : Type 0} → Administrator S → Configured → SubnetPort → Option ℕ → List ℕ → S → List Event × S
+conversation administrator configuration own (Some key) mad state =
+    replied own (manager_key configuration.ports key) state
+    (answered_whole (administrator.answer configuration own) administrator.acknowledgements mad state)
+conversation administrator configuration own None mad state =
+    (record { port_guid = own.guid; what = Refused KeyNotHeld } ∷ [], state)
+
+abbrev pub asked : {S : Type 0} → Administrator S → Configured → Option SubnetPort → List ℕ → S → List Event × S
+asked administrator configuration (Some own) mad state =
+    conversation administrator configuration own (asking_key own.keys) mad state
+asked administrator configuration None mad state = ([], state)
 
 -- the events of one command, and the state after it
-abbrev pub step : Configured → State → Command → List Event × State
-step configuration state (Send command) =
-    (sent_from (port_with_guid configuration.ports command.port_guid) configuration.ports command, state)
+abbrev pub step_by : {S : Type 0} → Administrator S → Configured → S → Command → List Event × S
+step_by administrator configuration state (Send command) =
+    sent administrator configuration (port_with_guid configuration.ports command.port_guid) command state
+step_by administrator configuration state (Ask command) =
+    asked administrator configuration (port_with_guid configuration.ports command.port_guid) command.mad state
 
+-- ---- many
 -- the events of commands that follow one another from a state
 abbrev pub events_from : {S C E : Type 0} → (S → C → List E × S) → S → List C → List E
 events_from step state [] = []
 events_from step state (command ∷ commands) =
     (step state command).0 ++ events_from step (step state command).1 commands
 
+-- and the state after them
+abbrev pub state_from : {S C E : Type 0} → (S → C → List E × S) → S → List C → S
+state_from step state commands = fold (λ before command. (step before command).1) state commands
+
 -- the report of a list of commands
+abbrev pub report_by : {S : Type 0} → Administrator S → Configured → List Command → List Event
+report_by administrator configuration commands =
+    events_from (step_by administrator configuration) (administrator.begins configuration) commands
+
+-- ---- as long as nobody answers
+abbrev pub step : Configured → State → Command → List Event × State
+step configuration state command = step_by silent configuration state command
+
 abbrev pub report : Configured → List Command → List Event
-report configuration commands = events_from (step configuration) (start configuration) commands
+report configuration commands = report_by silent configuration commands

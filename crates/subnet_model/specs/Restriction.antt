@@ -1,12 +1,13 @@
 -- What of a run concerns a port: its events, and the commands of a set of ports.
 use Rattle.std.specs.Prelude.{ℕ, Bool, ◌==◌, List, filter}
 use Rattle.subnet_model.specs.declared.command.Command.{Command}
-use Rattle.subnet_model.specs.declared.command.Command.TheVariants.{Send}
+use Rattle.subnet_model.specs.declared.command.Command.TheVariants.{Ask, Send}
 use Rattle.subnet_model.specs.declared.event.Event.{Event}
 
 -- the port that acts, by its GUID
 abbrev pub actor : Command → ℕ
 actor (Send command) = command.port_guid
+actor (Ask command) = command.port_guid
 
 -- the commands of the ports of a set of GUIDs, in order
 abbrev pub commands_of : (ℕ → Bool) → List Command → List Command

@@ -1,16 +1,14 @@
--- What a subnet remembers between two commands: nothing yet.
-use Rattle.std.specs.Prelude.{ℕ, ◌≡◌}
+-- What a subnet remembers between two commands, and when two such states are alike to a port.
+use Rattle.std.specs.Prelude.{ℕ, ◌≡◌, Bool, true}
 use Rattle.subnet_model.specs.declared.state.State.{State}
 use Rattle.subnet_model.specs.Configuration.{Configured}
 
--- the state before the first command
+-- as long as nobody answers, nothing is remembered
 abbrev pub start : Configured → State
 start configuration = record {}
 
--- what of the state the port of this GUID can be shown, or be reached by: all of it, while it is empty
-abbrev pub shown : Configured → ℕ → State → State
-shown configuration p state = state
-
--- two states are alike to the port of this GUID
-pub record Alike (configuration : Configured) (p : ℕ) (s t : State) : Type 0 where
-  pub same : shown configuration p s ≡ shown configuration p t
+-- two sound states are alike to the port of this GUID where it sees the same of them
+pub record Alike {S V : Type 0} (is_sound : S → Bool) (sees : ℕ → S → V) (p : ℕ) (s t : S) : Type 0 where
+  pub left_sound : is_sound s ≡ true
+  pub right_sound : is_sound t ≡ true
+  pub same : sees p s ≡ sees p t

@@ -1,21 +1,23 @@
 ghost use Rattle.std.specs.Prelude.{◌≡◌, [], ◌∷◌, ◌++◌, Some, None, IfOk, OnOk, MatchResult};
 ghost use Rattle.std.specs.Option.{option_copied};
 ghost use Rattle.subnet_model.specs.declared.event.Outcome.TheVariants.{Received, Refused};
-ghost use Rattle.subnet_model.specs.Delivery.{port_with_guid, refusal_of, reaches, is_for_sa};
+ghost use Rattle.subnet_model.specs.Delivery.{asking_key, port_with_guid, refusal_of, reaches, is_for_sa};
 ghost use Rattle.subnet_model.specs.Isolation.{IsIsolated};
-ghost use Rattle.subnet_model.specs.Report.{events_from, packet_of, received, sent_from, step, report};
+ghost use Rattle.subnet_model.specs.Report.{events_from, packet_of, step, report};
+ghost use Rattle.subnet_model.specs.Silent.{asked_from, received, sent_from};
 
-use crate::command::{Command, SendCommand};
+use crate::command::{AskCommand, Command, SendCommand};
 use crate::configuration::Configuration;
 use crate::event::{Event, Outcome};
 use crate::state::State;
 use crate::subnet_port::SubnetPort;
 use data_packet::{Packet, Payload, Refusal};
 use fabric_parts::{NodeType, is_reserved};
-use pkey_rules::PKey;
+use pkey_rules::{DEFAULT_BASE, KeyTable, PARTITIONS, PKey, key_of};
 use std::alloc::{AllocError, Global};
 
-/// What the commands bring about, one after another, in a subnet of this configuration.
+/// What the commands bring about, one after another, in a subnet of this configuration, as long as nobody answers what is
+/// asked of the subnet administration.
 pub fn report(
     alloc: Global,
     configuration: &Configuration,
@@ -57,6 +59,7 @@ pub fn step(
 {
     match command {
         Command::Send(send) => push_sent(events, configuration.ports(), send),
+        Command::Ask(ask) => push_asked(events, configuration.ports(), ask),
     }
 }
 
@@ -75,6 +78,33 @@ fn push_sent(
         Ok(_) if is_for_sa(command) => Ok(()),
         Ok(key) => push_received(events, ports, sender, key, command),
         Err(refusal) => push_refused(events, command.port_guid, refusal),
+    }
+}
+
+/// As long as nobody answers, a port that asks has only a refusal to tell.
+fn push_asked(
+    events: &mut Vec<Event>,
+    ports: &[SubnetPort],
+    command: &AskCommand,
+) -> Result<(), AllocError>
+    ensures { OnOk result (events.new.items ≡ events.old.items ++ asked_from (port_with_guid ports.now command.now.port_guid)) }
+{
+    let Some(own) = port_with_guid(ports, command.port_guid) else {
+        return Ok(());
+    };
+    match asking_key(&own.keys) {
+        Some(_) => Ok(()),
+        None => push_refused(events, own.guid, Refusal::KeyNotHeld),
+    }
+}
+
+/// The key under which a port of these keys asks.
+fn asking_key(keys: &KeyTable<PARTITIONS>) -> Option<PKey>
+    ensures { result ≡ asking_key keys.now }
+{
+    match keys.find(key_of(DEFAULT_BASE, true)) {
+        Some(key) => Some(key),
+        None => keys.find(key_of(DEFAULT_BASE, false)),
     }
 }
 

@@ -3,12 +3,24 @@
 
 ghost use Rattle.std.specs.Prelude.{◌≡◌};
 ghost use Rattle.subnet_model.specs.declared.node_name.TheConstants.{NODE_NAME_BYTES};
-ghost use Rattle.subnet_model.specs.Laws.{EveryRunIsIsolated, SlidsNameTheirPorts, StepsKeepToThoseNear, ThePortOfALidIsNear};
+ghost use Rattle.subnet_model.specs.Laws.{EveryKeeperIsolates, EveryRunIsIsolated, SilenceKeepsApart, SlidsNameTheirPorts, ThePortOfALidIsNear};
+ghost use Rattle.subnet_model.specs.Silent.{StepsWhileSilent};
 
-/// A command of a port that is far from another brings that one no event, and leaves a state that is alike
-/// to it; one of a port near it brings it the same events in states that are alike, and leaves them alike.
-pub fn steps_keep_to_those_near()
-    ensures { StepsKeepToThoseNear }
+/// Whoever answers what is asked of the subnet administration: where it keeps ports apart, so does a subnet. A command
+/// of a port that is far from another brings that one no event, and leaves a state that is alike to it; one of a port
+/// near it brings it the same events in states that are alike, and leaves them alike.
+pub fn every_keeper_isolates<S, V>()
+    ensures { EveryKeeperIsolates S V }
+{}
+
+/// Who never answers keeps ports apart.
+pub fn silence_keeps_apart()
+    ensures { SilenceKeepsApart }
+{}
+
+/// What each command brings as long as nobody answers, in plain words.
+pub fn steps_while_silent()
+    ensures { StepsWhileSilent }
 {}
 
 /// Whatever the ports, their keys and the commands, what a port receives depends only on the ports near it,

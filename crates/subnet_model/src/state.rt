@@ -3,7 +3,7 @@ ghost use Rattle.std.specs.Prelude.{◌≡◌};
 use crate::configuration::Configuration;
 
 /// What a subnet remembers between two commands. It is empty for now: a packet leaves no trace, and
-/// no port can ask the subnet administration for anything yet.
+/// nobody answers yet what is asked of the subnet administration.
 #[derive(Debug, Drop, PartialEq, Eq)]
 pub struct State {}
 

@@ -1,4 +1,4 @@
-//! A command to send, carried out over the simulated fabric.
+//! A command, carried out over the simulated fabric.
 //!
 //! [`send`] is the one call: the port that the command names stamps the packet, the fabric's switches forward it
 //! (InfiniBand Architecture Specification, volume 1, chapter 14), and each port that gets it is an [`Event`]. What comes
@@ -10,4 +10,4 @@ mod event;
 mod sending;
 
 pub use crate::event::Event;
-pub use crate::sending::send;
+pub use crate::sending::{ask, send};

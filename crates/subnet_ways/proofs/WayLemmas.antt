@@ -19,7 +19,8 @@ use Rattle.port_model.specs.Packets.{packet_from, refusal_of as port_refusal, st
 use Rattle.result_words.proofs.ListLemmas.{all_have}
 use Rattle.smp_wire.specs.FabricState.{FabricState}
 use Rattle.subnet_model.specs.Delivery.{reaches, refusal_of}
-use Rattle.subnet_model.specs.Report.{packet_of, received}
+use Rattle.subnet_model.specs.Report.{packet_of}
+use Rattle.subnet_model.specs.Silent.{received}
 use Rattle.subnet_model.specs.declared.command.SendCommand.{SendCommand}
 use Rattle.subnet_model.specs.declared.subnet_port.SubnetPort.{SubnetPort}
 use Rattle.subnet_ways.specs.Laws.{DeliveriesAreWhatIsTold, IsSender, PortsStampAsTold, told}

@@ -7,7 +7,8 @@ use Rattle.port_model.specs.AdapterState.{AdapterState}
 use Rattle.port_model.specs.Packets.{packet_from, refusal_of as port_refusal}
 use Rattle.smp_wire.specs.FabricState.{FabricState}
 use Rattle.subnet_model.specs.Delivery.{port_with_guid, refusal_of}
-use Rattle.subnet_model.specs.Report.{packet_of, received}
+use Rattle.subnet_model.specs.Report.{packet_of}
+use Rattle.subnet_model.specs.Silent.{received}
 use Rattle.subnet_model.specs.declared.command.SendCommand.{SendCommand}
 use Rattle.subnet_model.specs.declared.event.Event.{Event}
 use Rattle.subnet_model.specs.declared.event.Outcome.TheVariants.{Received}

@@ -1,5 +1,5 @@
 use Rattle.std.proofs.Common.{◌≡◌, ◌++◌, take}
-use Rattle.subnet_model.specs.Report.{received}
+use Rattle.subnet_model.specs.Silent.{received}
 use Rattle.subnet_model.proofs.evaluation.push_received.Given as goal
 
 abbrev pub invariant-loop-port : goal.invariant-loop-port

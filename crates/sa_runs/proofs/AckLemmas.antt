@@ -1,0 +1,85 @@
+-- What a port acknowledges is seen by no other.
+use Rattle.std.proofs.Common.{ℕ, zero, suc, ◌+◌, ◌^◌, ◌<◌, ◌==◌, Bool, true, false, bit_and, if◌then◌else◌, List, [], ◌∷◌, map, replicate}
+use Rattle.std.proofs.Common.{◌≡◌, ◌∙◌, refl, subst, sym, arith}
+use Rattle.std.specs.List.{range_with_len}
+use Rattle.mad_layout.proofs.LayoutLemmas.{field_narrow, number_zeros}
+use Rattle.mad_layout.specs.Bits.{field, number as number_of}
+use Rattle.mad_layout.specs.Layout.{Fits, Holds}
+use Rattle.mad_layout.specs.declared.mad_header.Header.{Header}
+use Rattle.rmpp_core.proofs.ReplyLemmas.{reply_fits, reply_spelled}
+use Rattle.rmpp_core.specs.Receiving.{rmpp_in}
+use Rattle.rmpp_core.specs.Reply.{reply_fields}
+use Rattle.subnet_model.specs.declared.subnet_port.SubnetPort.{SubnetPort}
+use Rattle.subnet_model.specs.Configuration.{Configured}
+use Rattle.subnet_model.specs.Report.{answered_in_turn}
+use Rattle.sa_answers.proofs.SightLemmas.{transfers_are_unseen}
+use Rattle.sa_answers.specs.Answer.{Administration, answer}
+use Rattle.sa_answers.specs.Laws.{SeesAlike}
+use Rattle.sa_answers.specs.Request.{header_in, request_in}
+use Rattle.sa_runs.specs.Asking.{ack_header, ack_mad, ack_rmpp, ack_sa, acknowledgements, is_first_segment, segments_told}
+
+-- ---- an ACK is of a transfer
+window_narrow : (last : Bool) (number : ℕ) → number + 1 < 2 ^ 32 → (if last then number else number + 1) < 2 ^ 32
+window_narrow true number low = omega (arith, low)
+window_narrow false number low = low
+
+is_active : (mad : List ℕ) (count number : ℕ) → number + 1 < 2 ^ 32
+    → (bit_and (request_in (ack_mad (header_in mad) count number)).rmpp.flags 1 == 1) ≡ true
+unfolding request_in
+is_active mad count number low =
+    let flags : field (ack_mad (header_in mad) count number) 213 3 ≡ 1 = sym held.1.1.1.1.1.1.1.1.1.1.1.1.0 in
+    rw flags refl
+  where
+    header : Header
+    header = ack_header (header_in mad)
+
+    zeros_fit : number_of (replicate 200 0) < 2 ^ 1600
+    zeros_fit = subst (λ (n : ℕ). n < 2 ^ 1600) (sym (number_zeros 200)) (omega arith)
+
+    fits : Fits (reply_fields header (ack_rmpp count number) ack_sa)
+    fits = reply_fits header (ack_rmpp count number) ack_sa
+        (field_narrow mad 0 8, (field_narrow mad 8 8, (field_narrow mad 16 8, (omega arith, (field_narrow mad 32 16, (field_narrow mad 48 16, (field_narrow mad 64 64, (field_narrow mad 128 16, (field_narrow mad 160 32, tt)))))))))
+        (omega arith, (omega arith, (omega arith, (omega arith, (omega arith, (omega (arith, low), (window_narrow (number == count) number low, tt)))))))
+        (omega arith, (omega arith, (omega arith, (zeros_fit, tt))))
+
+    held : Holds (ack_mad (header_in mad) count number) (reply_fields header (ack_rmpp count number) ack_sa)
+    held = (reply_spelled header (ack_rmpp count number) ack_sa fits).fields
+
+-- ---- so another sees the same after as many as a table has segments
+through : (ports : List SubnetPort) (p : ℕ) (a s t : Administration) → SeesAlike ports p a s → SeesAlike ports p s t → SeesAlike ports p a t
+through ports p a s t x y = record {
+  remembered = record { groups = x.remembered.groups ∙ y.remembered.groups; services = x.remembered.services ∙ y.remembered.services };
+  own_table = x.own_table ∙ y.own_table;
+}
+
+nothing_changed : (ports : List SubnetPort) (p : ℕ) (s : Administration) → SeesAlike ports p s s
+nothing_changed ports p s = record { remembered = record { groups = refl; services = refl }; own_table = refl }
+
+acks_unseen : (configuration : Configured) (p : ℕ) (own : SubnetPort) (mad : List ℕ) (count first left : ℕ) (s : Administration) → (own.guid == p) ≡ false
+    → first + left < 2 ^ 32
+    → SeesAlike configuration.ports p
+    (answered_in_turn (λ sent state. answer configuration.ports own sent state) (map (ack_mad (header_in mad) count) (range_with_len first left)) s).1 s
+acks_unseen configuration p own mad count first zero s other low = nothing_changed configuration.ports p s
+acks_unseen configuration p own mad count first (suc left) s other low =
+    let after = (answer configuration.ports own (ack_mad (header_in mad) count first) s).1 in
+    through configuration.ports p
+    (answered_in_turn (λ sent state. answer configuration.ports own sent state) (map (ack_mad (header_in mad) count) (range_with_len (first + 1) left)) after).1 after s
+    (acks_unseen configuration p own mad count (first + 1) left after other (omega (arith, low)))
+    (transfers_are_unseen configuration.ports p own (ack_mad (header_in mad) count first) s other (is_active mad count first (omega (arith, low))))
+
+few : (length : ℕ) → length < 2 ^ 32 → 1 + segments_told length < 2 ^ 32
+few length low = omega (arith, low)
+
+pub acknowledged_unseen : (configuration : Configured) (p : ℕ) (own : SubnetPort) (mads : List (List ℕ)) (s : Administration) → (own.guid == p) ≡ false
+    → SeesAlike configuration.ports p (answered_in_turn (λ sent state. answer configuration.ports own sent state) (acknowledgements mads) s).1 s
+acknowledged_unseen configuration p own [] s other = nothing_changed configuration.ports p s
+acknowledged_unseen configuration p own (mad ∷ mads) s other = by (is_first_segment (rmpp_in mad))
+  where
+    count : ℕ
+    count = segments_told (field mad 256 32)
+
+    by : (told : Bool)
+        → SeesAlike configuration.ports p
+        (answered_in_turn (λ sent state. answer configuration.ports own sent state) (if told then map (ack_mad (header_in mad) count) (range_with_len 1 count) else []) s).1 s
+    by true = acks_unseen configuration p own mad count 1 count s other (few (field mad 256 32) (field_narrow mad 256 32))
+    by false = nothing_changed configuration.ports p s

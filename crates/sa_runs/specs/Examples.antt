@@ -1,0 +1,64 @@
+-- Commands to the ports of the examples of groups, and what they bring.
+use Rattle.std.specs.Prelude.{ℕ, List, [], ◌∷◌, replicate, take}
+use Rattle.std.specs.List.{flat_map}
+use Rattle.mad_layout.specs.Bits.{number}
+use Rattle.subnet_model.specs.declared.command.Command.{Command}
+use Rattle.subnet_model.specs.declared.command.Command.TheVariants.{Ask, Send}
+use Rattle.subnet_model.specs.declared.event.Outcome.{Outcome}
+use Rattle.subnet_model.specs.declared.event.Outcome.TheVariants.{Received, Refused}
+use Rattle.subnet_model.specs.Configuration.{Configured}
+use Rattle.subnet_model.specs.Report.{events_from, state_from, step_by}
+use Rattle.sa_model.specs.Examples.{adapter, configuration}
+use Rattle.sa_records.specs.ServiceRecord.{service_record_bytes}
+use Rattle.sa_queries.specs.Gid.{gid_of}
+use Rattle.sa_answers.specs.Examples.{asking, header_of}
+use Rattle.sa_answers.specs.Reply.{no_rmpp}
+use Rattle.sa_runs.specs.Administration.{at_start, subnet_administration}
+
+-- ---- the commands: a port asks by a MAD, sends a MAD to subnet administration itself, or a byte to an MLID
+abbrev pub ask : ℕ → List ℕ → Command
+ask guid mad = Ask (record { port_guid = guid; mad = mad })
+
+abbrev pub send_mad : ℕ → List ℕ → Command
+send_mad guid mad = Send (record { port_guid = guid; dlid = 1; p_key = 0x7fff; destination_qp = 1; payload = mad })
+
+abbrev pub send_to_group : ℕ → ℕ → Command
+send_to_group guid p_key = Send (record { port_guid = guid; dlid = 0xc020; p_key = p_key; destination_qp = 7; payload = 1 ∷ [] })
+
+-- a service of the port, and a GetTable of all services, and of all groups
+abbrev pub setting : ℕ → List ℕ
+setting guid =
+    asking (header_of 2 10 49) no_rmpp 103
+    (service_record_bytes (record {
+      service_id = 1;
+      service_gid = gid_of guid;
+      service_p_key = 0x0001;
+      service_lease = 0;
+      service_key = 0x77;
+      service_name = 0x64 ∷ 0x62 ∷ 0x73 ∷ replicate 61 0;
+      service_data = replicate 64 0;
+    }))
+
+abbrev pub services_wanted : ℕ → List ℕ
+services_wanted transaction = asking (header_of 18 transaction 49) no_rmpp 0 []
+
+abbrev pub groups_wanted : ℕ → List ℕ
+groups_wanted transaction = asking (header_of 18 transaction 56) no_rmpp 0 []
+
+-- the same four ports, but that the second one holds no key of the default partition
+abbrev pub without_default : Configured
+without_default = record configuration { ports = adapter 1 0x101 (0xffff ∷ []) ∷ adapter 4 0x111 (0x8001 ∷ []) ∷ [] }
+
+-- ---- what the last command brings, after those before it: for each packet its receiver, SLID, DLID and key, and its
+-- first 56 bytes as one number; for each refusal the port alone
+abbrev pub heard_as : ℕ → Outcome → List (List ℕ)
+heard_as guid (Received packet) = (guid ∷ packet.slid ∷ packet.dlid ∷ packet.p_key ∷ number (take 56 packet.payload) ∷ []) ∷ []
+heard_as guid (Refused refusal) = (guid ∷ []) ∷ []
+
+abbrev pub heard_in : Configured → List Command → Command → List (List ℕ)
+heard_in subnet before command =
+    flat_map (λ event. heard_as event.port_guid event.what)
+    (events_from (step_by subnet_administration subnet) (state_from (step_by subnet_administration subnet) (at_start subnet) before) (command ∷ []))
+
+abbrev pub heard : List Command → Command → List (List ℕ)
+heard before command = heard_in configuration before command

@@ -1,0 +1,6 @@
+pub mod Asking
+pub mod Administration
+pub mod Sight
+pub mod Laws
+pub mod Examples
+pub mod ExampleLaws
