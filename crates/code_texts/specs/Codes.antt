@@ -1,6 +1,6 @@
 -- The codes that the program prints for faults and refusals, and how they are spelt.
-use Rattle.std.specs.Prelude.{ℕ, List, codes, Option}
-use Rattle.std.specs.List.{find}
+use Rattle.std.specs.Prelude.{ℕ, List, [], ◌∷◌, ◌++◌, codes, Option}
+use Rattle.std.specs.List.{find, flat_map}
 use Rattle.std.specs.Str.{bytes_eq}
 use Rattle.code_texts.specs.declared.code.Code.{Code}
 use Rattle.code_texts.specs.declared.code.Code.TheVariants.{Tf1, Tf2, Tf3, Tf4, Tf5, Tf6, Tf7, Tf8, Tf9, Tf10, Tf11, Tf12}
@@ -57,3 +57,15 @@ spelling Write = codes "write"
 -- the code that a word spells
 abbrev pub code_of : List ℕ → Option Code
 code_of word = find (λ code. bytes_eq (spelling code) word) ALL
+
+-- the codes as they are listed, each with a blank after it
+abbrev pub codes_listed : List ℕ
+codes_listed = flat_map (λ code. spelling code ++ 32 ∷ []) ALL
+
+abbrev pub codes_in_order : List ℕ
+codes_in_order =
+    codes "TF1 TF2 TF3 TF4 TF5 TF6 TF7 TF8 TF9 TF10 TF11 TF12 "
+    ++ codes "PF1 PF2 PF3 PF4 PF5 PF6 PF7 PF8 PF9 "
+    ++ codes "SF1 SF2 SF3 SF4 SF5 SF6 AR1 AR2 AR3 AR4 "
+    ++ codes "SW1 SW2 SW3 SW4 UR1 TP1 TP2 TP3 "
+    ++ codes "memory read write "

@@ -15,5 +15,5 @@ mod script_texts;
 mod topology_texts;
 
 pub use crate::code::Code;
-pub use crate::laws::every_code_is_read;
+pub use crate::laws::{codes_are_listed_in_order, every_code_is_read};
 pub use crate::lines::listing;

@@ -12,12 +12,15 @@ use Rattle.updn_routes.specs.Subnet.{SubnetRoutes}
 unfoldable pub head : List ℕ
 head = codes "graph fabric {\n  node [fontname=\"sans-serif\", fontsize=11];\n  edge [fontname=\"sans-serif\", fontsize=9];\n"
 
--- each node, each rank, each cable. A rank is less than the number of switches, since a shortest way to a root passes no
--- switch twice.
+-- the ranks of which rows are drawn: less than the number of switches, which a law says is enough
+abbrev pub ranks_drawn : SubnetRoutes → List ℕ
+ranks_drawn routes = range_with_len 0 (length routes.graph.switches)
+
+-- each node, each rank, each cable
 unfoldable pub graph_text : Plan → Configured → SubnetRoutes → List ℕ
 graph_text plan subnet routes =
     head
     ++ flat_map (node_line plan subnet) plan.nodes
-    ++ flat_map (rank_line routes plan.nodes) (range_with_len 0 (length routes.graph.switches))
+    ++ flat_map (rank_line routes plan.nodes) (ranks_drawn routes)
     ++ flat_map (cable_line routes plan.nodes) plan.cables
     ++ codes "}\n"

@@ -3,3 +3,4 @@ pub mod Nodes
 pub mod Ranks
 pub mod Cables
 pub mod Graph
+pub mod Laws

@@ -1,9 +1,8 @@
 //! The whole text.
 
-ghost use Rattle.std.specs.Prelude.{◌≡◌, ◌++◌, OnOk, IfOk, flat_map, length};
-ghost use Rattle.std.specs.List.{range_with_len};
+ghost use Rattle.std.specs.Prelude.{◌≡◌, ◌++◌, OnOk, IfOk, flat_map};
 ghost use Rattle.fabric_graph.specs.Cables.{cable_line};
-ghost use Rattle.fabric_graph.specs.Graph.{graph_text, head};
+ghost use Rattle.fabric_graph.specs.Graph.{graph_text, head, ranks_drawn};
 ghost use Rattle.fabric_graph.specs.Nodes.{node_line};
 ghost use Rattle.fabric_graph.specs.Ranks.{rank_line};
 
@@ -65,7 +64,7 @@ fn push_nodes(
 /// The rows of switches, from the roots down.
 fn push_ranks(text: &mut Vec<u8>, routes: &Routes, nodes: &[Node]) -> Result<(), AllocError>
     ensures { OnOk result (text.new.items
-        ≡ text.old.items ++ flat_map (rank_line routes.now nodes.now) (range_with_len 0 (length routes.now.graph.switches))) }
+        ≡ text.old.items ++ flat_map (rank_line routes.now nodes.now) (ranks_drawn routes.now)) }
 {
     for rank in 0..routes.graph().switches().len() {
         push_rank_line(text, routes, nodes, rank)?;

@@ -6,8 +6,10 @@
 
 mod cables;
 mod drawing;
+mod laws;
 mod nodes;
 mod partitions;
 mod ranks;
 
 pub use crate::drawing::graph_text;
+pub use crate::laws::each_rank_has_a_row;

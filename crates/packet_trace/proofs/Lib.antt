@@ -1,2 +1,3 @@
 pub mod TraceLemmas
 pub mod DeliveryLemmas
+pub mod EndLemmas

@@ -1,11 +1,12 @@
--- What holds of all traces: the statement of the law of `src/laws.rt`.
-use Rattle.std.specs.Prelude.{◌≡◌, ◌↔◌, Some}
+-- What holds of all traces: the statements of the laws of `src/laws.rt`.
+use Rattle.std.specs.Prelude.{ℕ, ◌≡◌, ◌↔◌, List, [], ◌∷◌, ◌++◌, Some}
 use Rattle.std.specs.List.{Contains}
 use Rattle.data_packet.specs.declared.packet.Packet.{Packet}
 use Rattle.fabric_parts.specs.Cable.{far_end}
 use Rattle.fabric_parts.specs.declared.cable.PortRef.{PortRef}
 use Rattle.packet_trace.specs.Trace.{step, steps_of}
-use Rattle.packet_trace.specs.declared.turn.Turn.TheVariants.{Accepts}
+use Rattle.packet_trace.specs.declared.turn.Step.{Step}
+use Rattle.packet_trace.specs.declared.turn.Turn.TheVariants.{Accepts, GoesOut}
 use Rattle.packet_ways.specs.Deliveries.{IsDelivered, adapter_at}
 use Rattle.port_model.specs.AdapterState.{AdapterState}
 use Rattle.smp_wire.specs.FabricState.{FabricState}
@@ -17,3 +18,16 @@ TracesTellDeliveries =
     (fabric : FabricState) (packet : Packet) (from first at : PortRef) (port : AdapterState)
     → far_end fabric.cables from ≡ Some first → adapter_at fabric.nodes at ≡ Some port
     → IsDelivered fabric.nodes fabric.cables from packet at port ↔ Contains (steps_of fabric packet first) (step at Accepts)
+
+-- there is a last step, and at its port the packet does not go out: so that step tells why the way ends
+pub record HasEnd (trace : List Step) : Type 0 where
+  pub before : List Step
+  pub last : Step
+  pub whole : trace ≡ before ++ last ∷ []
+  pub stays : (out : ℕ) → ¬ (last.turn ≡ GoesOut out)
+
+-- of what leaves by the port `from`, whose cable leads to `first`, however the tables lead it
+abbrev pub TracesHaveAnEnd : Type 0
+TracesHaveAnEnd =
+    (fabric : FabricState) (packet : Packet) (from first : PortRef)
+    → far_end fabric.cables from ≡ Some first → HasEnd (steps_of fabric packet first)

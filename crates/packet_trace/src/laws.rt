@@ -2,13 +2,19 @@
 //! nothing.
 
 ghost use Rattle.std.specs.Prelude.{◌≡◌};
-ghost use Rattle.packet_trace.specs.Laws.{TracesTellDeliveries};
+ghost use Rattle.packet_trace.specs.Laws.{TracesHaveAnEnd, TracesTellDeliveries};
 ghost use Rattle.packet_trace.specs.declared.lines.TheConstants.{DATA_QP};
 
 /// A port accepts a packet in its trace exactly where the packet is delivered there. So a trace tells the ports to which
 /// the fabric carries a packet, and no others.
 pub fn traces_tell_deliveries()
     ensures { TracesTellDeliveries }
+{}
+
+/// A trace has an end: its last step tells why the packet goes no further. So no trace is cut while the packet goes on, where
+/// the packet goes in a circle either.
+pub fn traces_have_an_end()
+    ensures { TracesHaveAnEnd }
 {}
 
 /// The queue pair of a packet that is traced, written out.

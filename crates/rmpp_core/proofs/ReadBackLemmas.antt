@@ -14,11 +14,11 @@ use Rattle.mad_layout.proofs.NumberLemmas.{below_append, number_below}
 use Rattle.rmpp_core.specs.Laws.{IsTransfer}
 use Rattle.rmpp_core.specs.Receiving.{rmpp_in, data_in}
 use Rattle.rmpp_core.specs.Reply.{reply_fields, reply_bytes}
-use Rattle.rmpp_core.specs.Segments.{Transfer, segment_count, segment_of, payload_size, payload_length, padded_segment, segment_rmpp, segment_sa, segment_mad}
+use Rattle.rmpp_core.specs.Segments.{Transfer, segment_count, segment_of, payload_size, payload_length, padded_segment, segment_rmpp, segment_sa, segment_fields, segment_mad}
 use Rattle.rmpp_core.proofs.CutLemmas.{segment_is, segment_length}
 use Rattle.rmpp_core.proofs.ReplyLemmas.{reply_fits, reply_spelled}
 
-rmpp_held : (mad : List ℕ) (header : Header) (rmpp : RmppHeader) (fields : SaMad) → Holds mad (reply_fields header rmpp fields) → rmpp_in mad ≡ rmpp
+pub rmpp_held : (mad : List ℕ) (header : Header) (rmpp : RmppHeader) (fields : SaMad) → Holds mad (reply_fields header rmpp fields) → rmpp_in mad ≡ rmpp
 rmpp_held mad header rmpp fields h =
     let r = h.1.1.1.1.1.1.1.1.1 in
     λ place. record {
@@ -49,7 +49,7 @@ reply_below : (header : Header) (rmpp : RmppHeader) (fields : SaMad) → AllBelo
 unfolding reply_bytes
 reply_below header rmpp fields = all_below (reply_fields header rmpp fields) (replicate 256 0) (zeros_below 256)
 
-reply_long : (header : Header) (rmpp : RmppHeader) (fields : SaMad) → length (reply_bytes header rmpp fields) ≡ 256
+pub reply_long : (header : Header) (rmpp : RmppHeader) (fields : SaMad) → length (reply_bytes header rmpp fields) ≡ 256
 unfolding reply_bytes
 reply_long header rmpp fields = length-put_all (replicate 256 0) (reply_fields header rmpp fields) ∙ length-replicate {A = ℕ} 256 0
 
@@ -94,13 +94,10 @@ padded_long bytes number first last =
     let zeros = length-replicate {A = ℕ} (200 - length part) 0 in
     omega (arith, both, zeros, short)
 
--- ---- so a receiver reads what the segment says
-pub record ReadsBack (transfer : Transfer) (number : ℕ) : Type 0 where
-  pub rmpp : rmpp_in (segment_mad transfer number) ≡ segment_rmpp transfer.bytes number
-  pub part : data_in (segment_mad transfer number) ≡ padded_segment transfer.bytes number
-
-pub reads_back : (transfer : Transfer) (number : ℕ) → IsTransfer transfer → 1 ≤ number → number ≤ segment_count transfer.bytes → ReadsBack transfer number
-reads_back transfer number is first last =
+-- ---- so the MAD holds them, and a receiver reads what the segment says
+pub segment_held : (transfer : Transfer) (number : ℕ) → IsTransfer transfer → 1 ≤ number → number ≤ segment_count transfer.bytes
+    → Holds (segment_mad transfer number) (segment_fields transfer number)
+segment_held transfer number is first last =
     let bytes = transfer.bytes in
     let header = transfer.header.header in
     let rmpp = segment_rmpp bytes number in
@@ -116,9 +113,21 @@ reads_back transfer number is first last =
     let fits = reply_fits header rmpp sa is.header
     (omega arith, (omega arith, (omega arith, (flags, (omega arith, (few, (told, tt)))))))
     (omega arith, (is.attribute_offset, (is.component_mask, (rw (ap (λ (n : ℕ). 2 ^ (8 * n)) long) at (number_below (padded_segment bytes number) narrow), tt)))) in
-    let held = (reply_spelled header rmpp sa fits).fields in
+    (reply_spelled header rmpp sa fits).fields
+
+pub record ReadsBack (transfer : Transfer) (number : ℕ) : Type 0 where
+  pub rmpp : rmpp_in (segment_mad transfer number) ≡ segment_rmpp transfer.bytes number
+  pub part : data_in (segment_mad transfer number) ≡ padded_segment transfer.bytes number
+
+pub reads_back : (transfer : Transfer) (number : ℕ) → IsTransfer transfer → 1 ≤ number → number ≤ segment_count transfer.bytes → ReadsBack transfer number
+reads_back transfer number is first last =
+    let header = transfer.header.header in
+    let rmpp = segment_rmpp transfer.bytes number in
+    let sa = segment_sa transfer number in
+    let held = segment_held transfer number is first last in
     let mad = segment_mad transfer number in
     record {
       rmpp = rmpp_held mad header rmpp sa held;
-      part = data_held mad header rmpp sa (reply_long header rmpp sa) (reply_below header rmpp sa) long narrow held;
+      part = data_held mad header rmpp sa (reply_long header rmpp sa) (reply_below header rmpp sa)
+          (padded_long transfer.bytes number first last) (padded_below transfer.bytes number first last is.bytes) held;
     }

@@ -18,13 +18,13 @@ use Rattle.rmpp_core.proofs.CutLemmas.{segment_is, segment_length}
 use Rattle.rmpp_core.proofs.ReadBackLemmas.{reads_back}
 
 -- ---- which flags are set
-active_set : (a b : Bool) → (bit_and (1 + 2 * bit_of a + 4 * bit_of b) 1 == 1) ≡ true
+pub active_set : (a b : Bool) → (bit_and (1 + 2 * bit_of a + 4 * bit_of b) 1 == 1) ≡ true
 active_set true true = refl
 active_set true false = refl
 active_set false true = refl
 active_set false false = refl
 
-first_set : (a b : Bool) → (bit_and (1 + 2 * bit_of a + 4 * bit_of b) 2 == 2) ≡ a
+pub first_set : (a b : Bool) → (bit_and (1 + 2 * bit_of a + 4 * bit_of b) 2 == 2) ≡ a
 first_set true true = refl
 first_set true false = refl
 first_set false true = refl

@@ -388,7 +388,7 @@ told_if : (ports : List SubnetPort) (p : ℕ) (test : Bool) (a b c d : Answered)
 told_if ports p true a b c d first second = first
 told_if ports p false a b c d first second = second
 
-own_place : (p : ℕ) (table : Option Transfer) (transfers : List PortTransfer)
+pub own_place : (p : ℕ) (table : Option Transfer) (transfers : List PortTransfer)
     → place_of p (with_table p table transfers) ≡ option_map (λ place. record { port = p; open_table = table }) (place_of p transfers)
 own_place p table [] = refl
 own_place p table (x ∷ xs) = elim (cases_Bool (x.port == p)) [

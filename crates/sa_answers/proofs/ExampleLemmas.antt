@@ -8,11 +8,15 @@ use Rattle.sa_records.specs.NodeRecord.{node_record_bytes, node_record_selected}
 use Rattle.sa_records.specs.PathRecord.{path_record_bytes, path_record_selected}
 use Rattle.sa_records.specs.McMemberRecord.{mc_member_record_bytes, mc_member_record_selected}
 use Rattle.sa_answers.specs.Request.{request_in, node_in, path_in, group_in}
-use Rattle.sa_answers.specs.ExampleLaws.{WhoIsInGroups, WhoIsRefused, WhichPath, WhichSegments}
+use Rattle.sa_answers.specs.ExampleLaws.{NoMlidIsFree, WhoIsInGroups, WhoIsRefused, WhichPath, WhichSegments}
+
+no_mlid : NoMlidIsFree
+unfolding field put_field reply_bytes request_in group_in mc_member_record_bytes mc_member_record_selected speed_of
+no_mlid = refl
 
 pub who_is_in_groups : WhoIsInGroups
 unfolding field put_field reply_bytes request_in group_in mc_member_record_bytes mc_member_record_selected speed_of
-who_is_in_groups = record { made = refl; joined = refl; not_made = refl; left = refl; ended = refl }
+who_is_in_groups = record { made = refl; joined = refl; not_made = refl; no_mlid = no_mlid; left = refl; ended = refl }
 
 pub who_is_refused : WhoIsRefused
 unfolding field put_field reply_bytes request_in

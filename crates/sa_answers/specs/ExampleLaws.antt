@@ -1,7 +1,16 @@
 -- What subnet administration answers to the MADs of our examples, each MAD as one number.
-use Rattle.std.specs.Prelude.{◌≡◌, ◌+◌, ◌*◌, ◌^◌, [], ◌∷◌, take}
+use Rattle.std.specs.Prelude.{◌≡◌, ◌+◌, ◌*◌, ◌^◌, [], ◌∷◌, map, take}
+use Rattle.mad_layout.specs.Bits.{number}
+use Rattle.sa_model.specs.Examples.{ports}
 use Rattle.sa_queries.specs.Examples.{full, limited}
-use Rattle.sa_answers.specs.Examples.{making, joining, leaving, path_wanted, nodes_wanted, ack, old_version, of_method, of_class, node_set, by, answered, fronts}
+use Rattle.sa_answers.specs.Answer.{answer}
+use Rattle.sa_answers.specs.Examples.{making, making_another, with_all_mlids, joining, leaving, path_wanted, nodes_wanted, ack, old_version, of_method, of_class, node_set, by, answered, fronts}
+
+-- no group is made where none of the partition's MLIDs is free
+abbrev pub NoMlidIsFree : Type 0
+NoMlidIsFree =
+    map number (answer ports full making_another with_all_mlids).0
+    ≡ (0x010302810100000000000000000000010038000000000000 * 2 ^ 1856 + 0x130c7 * 2 ^ 1600) ∷ []
 
 pub record WhoIsInGroups : Type 0 where
   -- a full member makes a group, and a limited member joins it; a limited member makes none
@@ -13,6 +22,7 @@ pub record WhoIsInGroups : Type 0 where
       + 0x0000000000010083ff12000000000000000000000000000afe80000000000000000000000000012100001234c0208400800183920000000021 * 2 ^ 1208) ∷ []
   pub not_made : answered [] limited (making 0x121 0x0001)
       ≡ (0x010302810200000000000000000000010038000000000000 * 2 ^ 1856 + 0x130c7 * 2 ^ 1600) ∷ []
+  pub no_mlid : NoMlidIsFree
   -- the full member's leave ends the group, so that the limited member has none to leave
   pub left : fronts (by full (making 0x111 0x8001) ∷ []) full (leaving 0x111)
       ≡ (0x010302950000000000000000000000030038000000000000 * 2 ^ 256 + 0x10003) ∷ []

@@ -1,5 +1,5 @@
 -- MADs that ports of the examples send to subnet administration, and what it answers.
-use Rattle.std.specs.Prelude.{ℕ, ◌-◌, false, List, [], ◌++◌, length, replicate, map, take, fold}
+use Rattle.std.specs.Prelude.{ℕ, ◌+◌, ◌-◌, false, List, [], ◌++◌, length, replicate, map, take, fold}
 use Rattle.mad_layout.specs.Bits.{number}
 use Rattle.mad_layout.specs.declared.mad_header.Header.{Header}
 use Rattle.mad_layout.specs.declared.rmpp_header.RmppHeader.{RmppHeader}
@@ -8,7 +8,7 @@ use Rattle.sa_records.specs.declared.mc_member_record.McMemberRecord.{McMemberRe
 use Rattle.sa_records.specs.McMemberRecord.{mc_member_record_bytes}
 use Rattle.sa_records.specs.PathRecord.{path_record_bytes}
 use Rattle.subnet_model.specs.declared.subnet_port.SubnetPort.{SubnetPort}
-use Rattle.sa_model.specs.Examples.{ports}
+use Rattle.sa_model.specs.Examples.{many, ports}
 use Rattle.sa_queries.specs.Gid.{gid_of}
 use Rattle.sa_queries.specs.Examples.{nothing, path_asked}
 use Rattle.sa_answers.specs.Reply.{no_rmpp}
@@ -65,6 +65,11 @@ group_asked guid q_key p_key = record {
 abbrev pub making : ℕ → ℕ → List ℕ
 making guid p_key = asking (header_of 2 1 56) no_rmpp 78023 (mc_member_record_bytes (group_asked guid 0x1234 p_key))
 
+-- one group more than a partition has MLIDs for
+abbrev pub making_another : List ℕ
+making_another =
+    asking (header_of 2 1 56) no_rmpp 78023 (mc_member_record_bytes (record (group_asked 0x111 0x1234 0x8001) { mgid = group_mgid + 32 }))
+
 abbrev pub joining : ℕ → ℕ → List ℕ
 joining guid p_key = asking (header_of 2 2 56) no_rmpp 65667 (mc_member_record_bytes (group_asked guid 0 p_key))
 
@@ -115,6 +120,10 @@ by sender mad = record { sender = sender; mad = mad }
 
 abbrev pub at_first : Administration
 at_first = record { remembered = nothing; transfers = no_transfers ports }
+
+-- where the partition has a group of each of its MLIDs
+abbrev pub with_all_mlids : Administration
+with_all_mlids = record { remembered = record nothing { partitions = many }; transfers = no_transfers ports }
 
 abbrev pub after : List Sent → Administration
 after sent = fold (λ state one. (answer ports one.sender one.mad state).1) at_first sent

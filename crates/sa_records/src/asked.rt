@@ -4,7 +4,8 @@
 //! has, and how it constrains which records are selected: `equal`, by its `base`, by a `(code ..)` or a `(rate ..)`
 //! under the selector that is named beside it with the bits of both, or `alone` not at all.
 
-ghost use Rattle.std.specs.Prelude.{◌≡◌, ◌<◌};
+ghost use Rattle.std.specs.Prelude.{◌≡◌, ◌<◌, true};
+ghost use Rattle.std.specs.Str.{bytes_eq};
 ghost use Rattle.mad_layout.specs.Bits.{bit_of};
 
 /// Whether a record agrees with what is asked: `TABLE!(selected!(shown asked mask))`. A row that is `alone` is passed
@@ -46,7 +47,7 @@ macro_rules! set_asked {
     ($record:ident $name:ident $value:ident;
         $($word:literal, $bits:expr, $field:ident: $kind:ident, $len:tt, $how:tt;)+) => {
         {
-            $(if $name == $word.as_slice() {
+            $(if is_word($name, $word.as_slice()) {
                 return set_field!($record $value $field $kind $len $bits);
             })+
             None
@@ -89,7 +90,7 @@ pub(crate) use set_field;
 macro_rules! set_number {
     ($bytes:ident $name:ident $value:ident; $($word:literal, $bits:expr, $off:literal, $len:literal;)+) => {
         {
-            $(if $name == $word.as_slice() {
+            $(if is_word($name, $word.as_slice()) {
                 return if $value < 1 << $len {
                     put_bits::<$off, $len>($bytes, $value as u64);
                     Some($bits)
@@ -103,6 +104,14 @@ macro_rules! set_number {
 }
 
 pub(crate) use set_number;
+
+/// Whether a name is that word.
+pub(crate) fn is_word(name: &[u8], word: &[u8]) -> bool
+    ensures is { result ≡ bytes_eq name.now word.now }
+    ensures same { result ≡ true → name.now ≡ word.now }
+{
+    name == word
+}
 
 /// The flag of one bit.
 pub(crate) fn flag(value: u128) -> bool

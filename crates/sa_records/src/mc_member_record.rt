@@ -3,7 +3,7 @@ ghost use Rattle.mad_layout.specs.Layout.{Holds, Fits, put_all, Spells};
 ghost use Rattle.sa_records.specs.Asked.{asked_by, bits_of, with_value};
 ghost use Rattle.sa_records.specs.McMemberRecord.{mc_member_record, mc_member_record_asked, mc_member_record_bytes, mc_member_record_selected};
 
-use crate::asked::{component_agrees, flag, selected, set_asked, set_field};
+use crate::asked::{component_agrees, flag, is_word, selected, set_asked, set_field};
 use crate::component::{agrees, code_satisfies, rate_satisfies, same_base};
 use mad_layout::{JoinState, read_fields, write_fields};
 

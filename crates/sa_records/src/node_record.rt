@@ -3,7 +3,7 @@ ghost use Rattle.mad_layout.specs.Layout.{Holds, Fits, put_all, Spells};
 ghost use Rattle.sa_records.specs.Asked.{asked_by, bits_of, with_value};
 ghost use Rattle.sa_records.specs.NodeRecord.{node_record, node_record_asked, node_record_bytes, node_record_selected};
 
-use crate::asked::{component_agrees, selected, set_asked, set_field};
+use crate::asked::{component_agrees, is_word, selected, set_asked, set_field};
 use crate::component::agrees;
 use mad_layout::{read_fields, write_fields};
 

@@ -3,7 +3,7 @@ ghost use Rattle.mad_layout.specs.Layout.{Holds, Fits, put_all, Spells};
 ghost use Rattle.sa_records.specs.Asked.{asked_by, bits_of, with_value};
 ghost use Rattle.sa_records.specs.PathRecord.{path_record, path_record_asked, path_record_bytes, path_record_selected};
 
-use crate::asked::{component_agrees, flag, selected, set_asked, set_field};
+use crate::asked::{component_agrees, flag, is_word, selected, set_asked, set_field};
 use crate::component::{agrees, code_satisfies, rate_satisfies, same_base};
 use mad_layout::{read_fields, write_fields};
 

@@ -4,7 +4,7 @@ ghost use Rattle.std.specs.Option.{option_or};
 ghost use Rattle.sa_records.specs.Asked.{asked_by, bits_of, with_number, with_value};
 ghost use Rattle.sa_records.specs.ServiceRecord.{service_record, service_fields, service_record_asked, service_data_asked, service_record_bytes, service_record_selected, names_selected, data8_front_selected, data8_back_selected, data16_selected, data32_selected, data64_selected};
 
-use crate::asked::{component_agrees, selected, set_asked, set_field, set_number};
+use crate::asked::{component_agrees, is_word, selected, set_asked, set_field, set_number};
 use crate::component::{agrees, same_base, same_part};
 use mad_layout::{put_bits, read_fields, write_fields};
 

@@ -1,14 +1,14 @@
 -- What a port acknowledges is seen by no other.
-use Rattle.std.proofs.Common.{ℕ, zero, suc, ◌+◌, ◌^◌, ◌<◌, ◌==◌, Bool, true, false, bit_and, if◌then◌else◌, List, [], ◌∷◌, map, replicate}
-use Rattle.std.proofs.Common.{◌≡◌, ◌∙◌, refl, subst, sym, arith}
+use Rattle.std.proofs.Common.{ℕ, zero, suc, ◌+◌, ◌^◌, ◌<◌, ◌==◌, Bool, true, false, bit_and, if◌then◌else◌, List, [], ◌∷◌, map}
+use Rattle.std.proofs.Common.{◌≡◌, ◌∙◌, refl, ap, arith}
 use Rattle.std.specs.List.{range_with_len}
-use Rattle.mad_layout.proofs.LayoutLemmas.{field_narrow, number_zeros}
-use Rattle.mad_layout.specs.Bits.{field, number as number_of}
-use Rattle.mad_layout.specs.Layout.{Fits, Holds}
-use Rattle.mad_layout.specs.declared.mad_header.Header.{Header}
-use Rattle.rmpp_core.proofs.ReplyLemmas.{reply_fits, reply_spelled}
+use Rattle.mad_layout.proofs.LayoutLemmas.{field_narrow}
+use Rattle.mad_layout.specs.Bits.{field}
+use Rattle.mad_layout.specs.Layout.{Fits}
+use Rattle.mad_layout.specs.MadHeader.{mad_header}
+use Rattle.mad_layout.specs.declared.rmpp_header.RmppHeader.{RmppHeader}
+use Rattle.rmpp_core.proofs.ReadBackLemmas.{rmpp_held}
 use Rattle.rmpp_core.specs.Receiving.{rmpp_in}
-use Rattle.rmpp_core.specs.Reply.{reply_fields}
 use Rattle.subnet_model.specs.declared.subnet_port.SubnetPort.{SubnetPort}
 use Rattle.subnet_model.specs.Configuration.{Configured}
 use Rattle.subnet_model.specs.Report.{answered_in_turn}
@@ -16,34 +16,23 @@ use Rattle.sa_answers.proofs.SightLemmas.{transfers_are_unseen}
 use Rattle.sa_answers.specs.Answer.{Administration, answer}
 use Rattle.sa_answers.specs.Laws.{SeesAlike}
 use Rattle.sa_answers.specs.Request.{header_in, request_in}
+use Rattle.sa_runs.proofs.AckReadLemmas.{ack_held}
 use Rattle.sa_runs.specs.Asking.{ack_header, ack_mad, ack_rmpp, ack_sa, acknowledgements, is_first_segment, segments_told}
 
 -- ---- an ACK is of a transfer
-window_narrow : (last : Bool) (number : ℕ) → number + 1 < 2 ^ 32 → (if last then number else number + 1) < 2 ^ 32
-window_narrow true number low = omega (arith, low)
-window_narrow false number low = low
+header_narrow : (mad : List ℕ) → Fits (mad_header (header_in mad))
+header_narrow mad =
+    (field_narrow mad 0 8, (field_narrow mad 8 8, (field_narrow mad 16 8, (field_narrow mad 24 8, (field_narrow mad 32 16, (field_narrow mad 48 16, (field_narrow mad 64 64, (field_narrow mad 128 16, (field_narrow mad 160 32, tt)))))))))
 
 is_active : (mad : List ℕ) (count number : ℕ) → number + 1 < 2 ^ 32
     → (bit_and (request_in (ack_mad (header_in mad) count number)).rmpp.flags 1 == 1) ≡ true
 unfolding request_in
 is_active mad count number low =
-    let flags : field (ack_mad (header_in mad) count number) 213 3 ≡ 1 = sym held.1.1.1.1.1.1.1.1.1.1.1.1.0 in
-    rw flags refl
-  where
-    header : Header
-    header = ack_header (header_in mad)
-
-    zeros_fit : number_of (replicate 200 0) < 2 ^ 1600
-    zeros_fit = subst (λ (n : ℕ). n < 2 ^ 1600) (sym (number_zeros 200)) (omega arith)
-
-    fits : Fits (reply_fields header (ack_rmpp count number) ack_sa)
-    fits = reply_fits header (ack_rmpp count number) ack_sa
-        (field_narrow mad 0 8, (field_narrow mad 8 8, (field_narrow mad 16 8, (omega arith, (field_narrow mad 32 16, (field_narrow mad 48 16, (field_narrow mad 64 64, (field_narrow mad 128 16, (field_narrow mad 160 32, tt)))))))))
-        (omega arith, (omega arith, (omega arith, (omega arith, (omega arith, (omega (arith, low), (window_narrow (number == count) number low, tt)))))))
-        (omega arith, (omega arith, (omega arith, (zeros_fit, tt))))
-
-    held : Holds (ack_mad (header_in mad) count number) (reply_fields header (ack_rmpp count number) ack_sa)
-    held = (reply_spelled header (ack_rmpp count number) ack_sa fits).fields
+    let header = header_in mad in
+    let ack = ack_mad header count number in
+    let rmpp : rmpp_in ack ≡ ack_rmpp count number =
+    rmpp_held ack (ack_header header) (ack_rmpp count number) ack_sa (ack_held header count number (header_narrow mad) low) in
+    ap (λ (r : RmppHeader). bit_and r.flags 1 == 1) rmpp
 
 -- ---- so another sees the same after as many as a table has segments
 through : (ports : List SubnetPort) (p : ℕ) (a s t : Administration) → SeesAlike ports p a s → SeesAlike ports p s t → SeesAlike ports p a t

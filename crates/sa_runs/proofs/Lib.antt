@@ -1,5 +1,6 @@
+pub mod AckReadLemmas
 pub mod AckLemmas
 pub mod ApartLemmas
-pub mod KeptLemmas
+pub mod TableLemmas
 pub mod SourceLemmas
 pub mod ExampleLemmas

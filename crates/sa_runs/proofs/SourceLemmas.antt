@@ -8,7 +8,7 @@ use Rattle.sa_answers.specs.Laws.{IsSound}
 use Rattle.sa_answers.specs.Sources.{TablesComeFromNear}
 use Rattle.sa_answers.specs.Transfers.{no_transfers}
 use Rattle.sa_runs.proofs.ApartLemmas.{administration_keeps_apart, sound_parts}
-use Rattle.sa_runs.proofs.KeptLemmas.{run_keeps}
+use Rattle.subnet_model.proofs.KeptLemmas.{run_keeps}
 use Rattle.sa_runs.specs.Administration.{at_start, subnet_administration}
 use Rattle.sa_runs.specs.Laws.{OpenTablesComeFromNear}
 

@@ -16,59 +16,101 @@ pub record WhoHearsAGroup : Type 0 where
   pub ended : heard (ask 0x111 (making 0x111 0x8001) ∷ ask 0x121 (joining 0x121 0x8001) ∷ ask 0x111 (leaving 0x111) ∷ []) (send_to_group 0x111 0x8001)
       ≡ []
 
+-- ---- what asking brings
+-- all segments of a table within the command, under the key of the subnet manager's port that matches
+abbrev pub WholeTable : Type 0
+WholeTable =
+    heard [] (ask 0x111 (nodes_wanted 4))
+    ≡ (0x111 ∷ 1 ∷ 4 ∷ 0xffff
+    ∷ (0x010302920000000000000000000000040011000000000000 * 2 ^ 256 + 0x0101030000000001000001fc * 2 ^ 160 + 14 * 2 ^ 80)
+    ∷ [])
+    ∷ (0x111 ∷ 1 ∷ 4 ∷ 0xffff
+    ∷ (0x010302920000000000000000000000040011000000000000 * 2 ^ 256 + 0x010101000000000200000000 * 2 ^ 160 + 14 * 2 ^ 80)
+    ∷ [])
+    ∷ (0x111 ∷ 1 ∷ 4 ∷ 0xffff
+    ∷ (0x010302920000000000000000000000040011000000000000 * 2 ^ 256 + 0x010105000000000300000044 * 2 ^ 160 + 14 * 2 ^ 80)
+    ∷ [])
+    ∷ []
+
+-- a limited member is shown fewer nodes, so its table has two
+abbrev pub ShorterTable : Type 0
+ShorterTable =
+    heard [] (ask 0x121 (nodes_wanted 5))
+    ≡ (0x121 ∷ 1 ∷ 5 ∷ 0xffff
+    ∷ (0x010302920000000000000000000000050011000000000000 * 2 ^ 256 + 0x010103000000000100000178 * 2 ^ 160 + 14 * 2 ^ 80)
+    ∷ [])
+    ∷ (0x121 ∷ 1 ∷ 5 ∷ 0xffff
+    ∷ (0x010302920000000000000000000000050011000000000000 * 2 ^ 256 + 0x01010500000000020000009c * 2 ^ 160 + 14 * 2 ^ 80)
+    ∷ [])
+    ∷ []
+
+-- after it no table is open: an ACK that would abort one is not answered
+abbrev pub Closed : Type 0
+Closed =
+    heard (ask 0x121 (nodes_wanted 5) ∷ []) (send_mad 0x121 (ack 5 2 1)) ≡ []
+
+-- who sends the MAD itself, and acknowledges nothing, is sent the first segment
+abbrev pub FirstSegment : Type 0
+FirstSegment =
+    heard [] (send_mad 0x121 (nodes_wanted 5))
+    ≡ (0x121 ∷ 1 ∷ 5 ∷ 0xffff
+    ∷ (0x010302920000000000000000000000050011000000000000 * 2 ^ 256 + 0x010103000000000100000178 * 2 ^ 160 + 14 * 2 ^ 80)
+    ∷ [])
+    ∷ []
+
+-- what is shorter than a MAD is not answered
+abbrev pub NoMad : Type 0
+NoMad =
+    heard [] (send_mad 0x111 (take 255 (nodes_wanted 5))) ≡ []
+
+-- a table without records is one segment
+abbrev pub NoServices : Type 0
+NoServices =
+    heard [] (ask 0x111 (services_wanted 8))
+    ≡ (0x111 ∷ 1 ∷ 4 ∷ 0xffff
+    ∷ (0x010302920000000000000000000000080031000000000000 * 2 ^ 256 + 0x010107000000000100000014 * 2 ^ 160 + 22 * 2 ^ 80)
+    ∷ [])
+    ∷ []
+
+-- a limited member's service is shown to the full member, in a table of one record
+abbrev pub OneService : Type 0
+OneService =
+    heard (ask 0x121 (setting 0x121) ∷ []) (ask 0x111 (services_wanted 11))
+    ≡ (0x111 ∷ 1 ∷ 4 ∷ 0xffff
+    ∷ (0x0103029200000000000000000000000b0031000000000000 * 2 ^ 256 + 0x0101070000000001000000c4 * 2 ^ 160 + 22 * 2 ^ 80)
+    ∷ [])
+    ∷ []
+
+abbrev pub HiddenService : Type 0
+HiddenService =
+    heard (ask 0x121 (setting 0x121) ∷ []) (ask 0x131 (services_wanted 11))
+    ≡ (0x131 ∷ 1 ∷ 6 ∷ 0xffff
+    ∷ (0x0103029200000000000000000000000b0031000000000000 * 2 ^ 256 + 0x010107000000000100000014 * 2 ^ 160 + 22 * 2 ^ 80)
+    ∷ [])
+    ∷ []
+
+-- the partition file's group is there from the start
+abbrev pub GroupOfFile : Type 0
+GroupOfFile =
+    heard_in with_broadcast_group [] (ask 0x111 (groups_wanted 1))
+    ≡ (0x111 ∷ 1 ∷ 4 ∷ 0xffff
+    ∷ (0x010302920000000000000000000000010038000000000000 * 2 ^ 256 + 0x01010700000000010000004c * 2 ^ 160 + 7 * 2 ^ 80)
+    ∷ [])
+    ∷ []
+
+-- who holds no key of the default partition asks for nothing
+abbrev pub Refused : Type 0
+Refused =
+    heard_in without_default [] (ask 0x111 (nodes_wanted 4)) ≡ (0x111 ∷ []) ∷ []
+
 pub record WhatAskingBrings : Type 0 where
-  -- all segments of a table within the command, under the key of the subnet manager's port that matches
-  pub whole_table : heard [] (ask 0x111 (nodes_wanted 4))
-      ≡ (0x111 ∷ 1 ∷ 4 ∷ 0xffff
-      ∷ (0x010302920000000000000000000000040011000000000000 * 2 ^ 256 + 0x0101030000000001000001fc * 2 ^ 160 + 14 * 2 ^ 80)
-      ∷ [])
-      ∷ (0x111 ∷ 1 ∷ 4 ∷ 0xffff
-      ∷ (0x010302920000000000000000000000040011000000000000 * 2 ^ 256 + 0x010101000000000200000000 * 2 ^ 160 + 14 * 2 ^ 80)
-      ∷ [])
-      ∷ (0x111 ∷ 1 ∷ 4 ∷ 0xffff
-      ∷ (0x010302920000000000000000000000040011000000000000 * 2 ^ 256 + 0x010105000000000300000044 * 2 ^ 160 + 14 * 2 ^ 80)
-      ∷ [])
-      ∷ []
-  -- a limited member is shown fewer nodes, so its table has two
-  pub shorter_table : heard [] (ask 0x121 (nodes_wanted 5))
-      ≡ (0x121 ∷ 1 ∷ 5 ∷ 0xffff
-      ∷ (0x010302920000000000000000000000050011000000000000 * 2 ^ 256 + 0x010103000000000100000178 * 2 ^ 160 + 14 * 2 ^ 80)
-      ∷ [])
-      ∷ (0x121 ∷ 1 ∷ 5 ∷ 0xffff
-      ∷ (0x010302920000000000000000000000050011000000000000 * 2 ^ 256 + 0x01010500000000020000009c * 2 ^ 160 + 14 * 2 ^ 80)
-      ∷ [])
-      ∷ []
-  -- then none is open: an ACK that would abort it is not answered
-  pub closed : heard (ask 0x121 (nodes_wanted 5) ∷ []) (send_mad 0x121 (ack 5 2 1)) ≡ []
-  -- who sends the MAD itself, and acknowledges nothing, is sent the first segment
-  pub first_segment : heard [] (send_mad 0x121 (nodes_wanted 5))
-      ≡ (0x121 ∷ 1 ∷ 5 ∷ 0xffff
-      ∷ (0x010302920000000000000000000000050011000000000000 * 2 ^ 256 + 0x010103000000000100000178 * 2 ^ 160 + 14 * 2 ^ 80)
-      ∷ [])
-      ∷ []
-  pub no_mad : heard [] (send_mad 0x111 (take 255 (nodes_wanted 5))) ≡ []
-  -- a table without records is one segment
-  pub no_services : heard [] (ask 0x111 (services_wanted 8))
-      ≡ (0x111 ∷ 1 ∷ 4 ∷ 0xffff
-      ∷ (0x010302920000000000000000000000080031000000000000 * 2 ^ 256 + 0x010107000000000100000014 * 2 ^ 160 + 22 * 2 ^ 80)
-      ∷ [])
-      ∷ []
-  -- a limited member's service is shown to the full member, in a table of one record
-  pub one_service : heard (ask 0x121 (setting 0x121) ∷ []) (ask 0x111 (services_wanted 11))
-      ≡ (0x111 ∷ 1 ∷ 4 ∷ 0xffff
-      ∷ (0x0103029200000000000000000000000b0031000000000000 * 2 ^ 256 + 0x0101070000000001000000c4 * 2 ^ 160 + 22 * 2 ^ 80)
-      ∷ [])
-      ∷ []
-  pub hidden_service : heard (ask 0x121 (setting 0x121) ∷ []) (ask 0x131 (services_wanted 11))
-      ≡ (0x131 ∷ 1 ∷ 6 ∷ 0xffff
-      ∷ (0x0103029200000000000000000000000b0031000000000000 * 2 ^ 256 + 0x010107000000000100000014 * 2 ^ 160 + 22 * 2 ^ 80)
-      ∷ [])
-      ∷ []
-  -- the partition file's group is there from the start
-  pub group_of_file : heard_in with_broadcast_group [] (ask 0x111 (groups_wanted 1))
-      ≡ (0x111 ∷ 1 ∷ 4 ∷ 0xffff
-      ∷ (0x010302920000000000000000000000010038000000000000 * 2 ^ 256 + 0x01010700000000010000004c * 2 ^ 160 + 7 * 2 ^ 80)
-      ∷ [])
-      ∷ []
-  -- who holds no key of the default partition asks for nothing
-  pub refused : heard_in without_default [] (ask 0x111 (nodes_wanted 4)) ≡ (0x111 ∷ []) ∷ []
+  pub whole_table : WholeTable
+  pub shorter_table : ShorterTable
+  pub closed : Closed
+  pub first_segment : FirstSegment
+  pub no_mad : NoMad
+  pub no_services : NoServices
+  pub one_service : OneService
+  pub hidden_service : HiddenService
+  pub group_of_file : GroupOfFile
+  pub refused : Refused

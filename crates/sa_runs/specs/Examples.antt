@@ -45,7 +45,7 @@ services_wanted transaction = asking (header_of 18 transaction 49) no_rmpp 0 []
 abbrev pub groups_wanted : ℕ → List ℕ
 groups_wanted transaction = asking (header_of 18 transaction 56) no_rmpp 0 []
 
--- the same four ports, but that the second one holds no key of the default partition
+-- two ports alone, the second of which holds no key of the default partition
 abbrev pub without_default : Configured
 without_default = record configuration { ports = adapter 1 0x101 (0xffff ∷ []) ∷ adapter 4 0x111 (0x8001 ∷ []) ∷ [] }
 

@@ -1,6 +1,7 @@
 //! The laws of whole runs, over the definitions alone. Each function does nothing: its contract is the law.
 
 ghost use Rattle.sa_runs.specs.Laws.{AdministrationKeepsApart, OpenTablesComeFromNear, RunsAreIsolated, RunsStaySound};
+ghost use Rattle.sa_runs.specs.WholeTables.{TablesAreBroughtWhole};
 
 /// Subnet administration keeps ports apart: what a port far from another sends changes nothing that the other sees, and
 /// a port that sees the same in two states is answered the same.
@@ -23,4 +24,10 @@ pub fn runs_stay_sound()
 /// partition file.
 pub fn open_tables_come_from_near()
     ensures { OpenTablesComeFromNear }
+{}
+
+/// Whatever ports sent and asked, a port that asks for a table is brought all its segments within the command, in their
+/// order, and has its records; no table is open to it after that.
+pub fn tables_are_brought_whole()
+    ensures { TablesAreBroughtWhole }
 {}

@@ -12,4 +12,5 @@ mod laws;
 pub use crate::examples::{what_asking_brings, who_hears_a_group};
 pub use crate::laws::{
     administration_keeps_apart, open_tables_come_from_near, runs_are_isolated, runs_stay_sound,
+    tables_are_brought_whole,
 };

@@ -1,1 +1,3 @@
+pub mod GroupLemmas
 pub mod IsolationLemmas
+pub mod KeptLemmas

@@ -4,6 +4,7 @@ pub mod Near
 pub mod State
 pub mod Administrator
 pub mod Delivery
+pub mod Groups
 pub mod Report
 pub mod Silent
 pub mod Restriction

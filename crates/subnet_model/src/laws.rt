@@ -3,6 +3,7 @@
 
 ghost use Rattle.std.specs.Prelude.{◌≡◌};
 ghost use Rattle.subnet_model.specs.declared.node_name.TheConstants.{NODE_NAME_BYTES};
+ghost use Rattle.subnet_model.specs.Groups.{GroupsReachOthers};
 ghost use Rattle.subnet_model.specs.Laws.{EveryKeeperIsolates, EveryRunIsIsolated, SilenceKeepsApart, SlidsNameTheirPorts, ThePortOfALidIsNear};
 ghost use Rattle.subnet_model.specs.Silent.{StepsWhileSilent};
 
@@ -21,6 +22,11 @@ pub fn silence_keeps_apart()
 /// What each command brings as long as nobody answers, in plain words.
 pub fn steps_while_silent()
     ensures { StepsWhileSilent }
+{}
+
+/// A multicast group brings a packet to each port that has joined it and may receive the packet, but not to its sender.
+pub fn groups_reach_others()
+    ensures { GroupsReachOthers }
 {}
 
 /// Whatever the ports, their keys and the commands, what a port receives depends only on the ports near it,
