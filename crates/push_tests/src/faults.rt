@@ -194,3 +194,38 @@ fn a_state_that_was_not_asked_is_not_compared(rt: HostRuntime) -> Result<(), Fai
     }
     Ok(())
 }
+
+/// Answers a request only where its TransactionID is the number of the exchange, counted from 1. It stands for no fabric.
+#[derive(Drop)]
+struct NumberingWire {
+    wire: Fabric,
+    exchanges: u8,
+}
+
+impl SmpWire for NumberingWire {
+    ghost fabric = { λ _. None };
+
+    fn exchange(&mut self, smp: &Mad) -> Option<Mad> {
+        self.exchanges = self.exchanges.wrapping_add(1);
+        if smp[TRANSACTION_ID] == self.exchanges {
+            self.wire.exchange(smp)
+        } else {
+            None
+        }
+    }
+}
+
+fn pushed_by_number(alloc: Global, push: Push) -> Result<Result<(), PushFault>, Fail> {
+    let (wire, routes) = found(alloc)?;
+    let keys = keys_of_one_partition(alloc)?;
+    let mut numbering = NumberingWire { wire, exchanges: 0 };
+    Ok(push.over(&mut numbering, &routes, &keys))
+}
+
+#[test]
+fn each_request_of_a_push_has_the_next_number(rt: HostRuntime) -> Result<(), Fail> {
+    for (push, _, _) in PUSHES {
+        assert_eq!(rt; pushed_by_number(rt.alloc(), push)?, Ok(()));
+    }
+    Ok(())
+}

@@ -10,6 +10,7 @@ use std::alloc::Global;
 use std::process::Abort;
 use std::test::Fail;
 use subnet_core::bring_up;
+use topo_file::{Topology, read};
 
 /// A byte of an attribute of the node at the end of a path, and what is told of a packet from h1 to LID 5 then.
 struct Spoilt {
@@ -88,30 +89,44 @@ fn spoil(fabric: &mut Fabric, spoilt: &Spoilt) -> Result<(), Fail> {
     Ok(())
 }
 
-/// The way of a packet from h1 to LID 5, behind the line of the port that sends it.
-fn trace(alloc: Global, fabric: &Fabric) -> Result<Vec<u8>, Fail> {
-    let topology = topo_file::read(alloc, TWO_SWITCHES.as_bytes()).or(Err("the topology"))?;
-    let node = topology.index_of(b"h1").ok_or("h1")?;
-    let from = PortRef { node, port: 1 };
-    Ok(trace_text(alloc, &topology, fabric, from, 5, 0xffff)?)
+/// The fabric of the two switches, brought up.
+fn brought_up(alloc: Global) -> Result<Fabric, Fail> {
+    Ok(
+        bring_up(alloc, TWO_SWITCHES.as_bytes(), None)?
+            .into_parts()
+            .1,
+    )
 }
 
-fn is_told(rt: &impl Abort, alloc: Global, spoilt: &Spoilt) -> Result<(), Fail> {
-    let mut fabric = bring_up(alloc, TWO_SWITCHES.as_bytes(), None)?
-        .into_parts()
-        .1;
+/// The way of a packet from h1 to LID 5, behind the line of the port that sends it.
+fn trace(alloc: Global, topology: &Topology, fabric: &Fabric) -> Result<Vec<u8>, Fail> {
+    let node = topology.index_of(b"h1").ok_or("h1")?;
+    let from = PortRef { node, port: 1 };
+    Ok(trace_text(alloc, topology, fabric, from, 5, 0xffff)?)
+}
+
+fn spoilt_way(alloc: Global, topology: &Topology, spoilt: &Spoilt) -> Result<Vec<u8>, Fail> {
+    let mut fabric = brought_up(alloc)?;
     spoil(&mut fabric, spoilt)?;
-    let told = trace(alloc, &fabric)?;
-    assert_eq!(rt; told.len(), STAMPS.len() + spoilt.told.len());
-    assert!(rt; told.starts_with(STAMPS.as_bytes()));
-    assert!(rt; told.ends_with(spoilt.told.as_bytes()));
+    trace(alloc, topology, &fabric)
+}
+
+fn is_told(rt: &impl Abort, text: &[u8], told: &str) {
+    assert_eq!(rt; text.len(), STAMPS.len() + told.len());
+    assert!(rt; text.starts_with(STAMPS.as_bytes()));
+    assert!(rt; text.ends_with(told.as_bytes()));
+}
+
+fn all_are_told(rt: &impl Abort, alloc: Global, topology: &Topology) -> Result<(), Fail> {
+    for spoilt in &SPOILT {
+        let text = spoilt_way(alloc, topology, spoilt)?;
+        is_told(rt, &text, spoilt.told);
+    }
     Ok(())
 }
 
 #[test]
 fn what_spoilt_tables_make_of_a_packet_is_told(rt: HostRuntime) -> Result<(), Fail> {
-    for spoilt in &SPOILT {
-        is_told(&rt, rt.alloc(), spoilt)?;
-    }
-    Ok(())
+    let topology = read(rt.alloc(), TWO_SWITCHES.as_bytes()).or(Err("the topology"))?;
+    all_are_told(&rt, rt.alloc(), &topology)
 }

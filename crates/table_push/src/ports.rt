@@ -1,6 +1,6 @@
 //! PortInfo of all ports.
 
-ghost use Rattle.std.specs.Prelude.{ℕ, ◌≡◌, ◌≤◌, ◌<◌, ◌==◌, ◌&&◌, ◌||◌, Bool, IfOk, length, slice_get, Some, Ok};
+ghost use Rattle.std.specs.Prelude.{ℕ, ◌≡◌, ◌≤◌, ◌<◌, ◌==◌, ◌&&◌, ◌||◌, ◌+◌, ◌%◌, ◌^◌, Bool, IfOk, length, slice_get, Some, Ok};
 ghost use Rattle.std.specs.Option.{ForSome};
 ghost use Rattle.attr_tables.specs.PortInfo.{port_info, port_info_bytes};
 ghost use Rattle.attr_tables.specs.declared.port_info.PortInfo.{PortInfo};
@@ -254,6 +254,7 @@ fn held_info<W: SmpWire>(
         → gives_along fabric path.now attribute.PortInfo asked ≡ Some (Ok (port_info_bytes info)) → result ≡ Ok info) }
     ensures left { ForSome (W.fabric wire.old) (λ fabric. IsGood fabric → W.fabric wire.new ≡ Some fabric) }
     ensures fits { IfOk result (λ info. Fits (port_info info)) }
+    ensures counted { transaction_id.new ≡ (transaction_id.old + 1) % 2 ^ 64 }
 {
     *transaction_id = transaction_id.wrapping_add(1);
     match get_attribute(

@@ -1,6 +1,6 @@
 //! One Set, and what its reply means.
 
-ghost use Rattle.std.specs.Prelude.{◌≡◌, ◌≤◌, length, Some, Ok};
+ghost use Rattle.std.specs.Prelude.{◌≡◌, ◌≤◌, ◌+◌, ◌%◌, ◌^◌, length, Some, Ok};
 ghost use Rattle.std.specs.Option.{ForSome};
 ghost use Rattle.smp_wire.specs.FabricState.{FabricState};
 ghost use Rattle.smp_wire.specs.Good.{IsGood};
@@ -25,10 +25,11 @@ pub(crate) fn set<W: SmpWire>(
     wanted: &[u8; 64],
 ) -> Result<(), PushFault>
     requires { length path.now ≤ 63 }
-    ensures { ForSome (W.fabric wire.old) (λ fabric. (next : FabricState) → IsGood fabric
+    ensures left { ForSome (W.fabric wire.old) (λ fabric. (next : FabricState) → IsGood fabric
         → takes_along fabric path.now attribute modifier wanted.now ≡ Some (Ok next)
         → (IsSameShape fabric next → Gives next path.now attribute modifier wanted.now)
         → Leaves result (W.fabric wire.new) fabric next) }
+    ensures counted { transaction_id.new ≡ (transaction_id.old + 1) % 2 ^ 64 }
 {
     *transaction_id = transaction_id.wrapping_add(1);
     let told = set_attribute(wire, *transaction_id, attribute, modifier, path, wanted);

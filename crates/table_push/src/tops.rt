@@ -1,6 +1,6 @@
 //! SwitchInfo: how far linear forwarding tables reach.
 
-ghost use Rattle.std.specs.Prelude.{ℕ, ◌≤◌, ◌<◌, length};
+ghost use Rattle.std.specs.Prelude.{ℕ, ◌≡◌, ◌≤◌, ◌<◌, ◌+◌, ◌%◌, ◌^◌, length, OnOk};
 ghost use Rattle.std.specs.Option.{ForSome};
 ghost use Rattle.smp_wire.specs.Good.{IsGood};
 ghost use Rattle.sweep.specs.OfFabric.{IsGraphOf};
@@ -47,8 +47,9 @@ fn set_top<W: SmpWire>(
 ) -> Result<(), PushFault>
     requires path { length path.now ≤ 63 }
     requires lid { lid < 512 }
-    ensures { ForSome (W.fabric wire.old) (λ fabric. (guid : ℕ) → IsGood fabric → LeadsToSwitch fabric path.now guid
+    ensures left { ForSome (W.fabric wire.old) (λ fabric. (guid : ℕ) → IsGood fabric → LeadsToSwitch fabric path.now guid
         → Leaves result (W.fabric wire.new) fabric (with_switches (on_switch guid (set_top lid)) fabric)) }
+    ensures counted { OnOk result (transaction_id.new ≡ ((transaction_id.old + 1) % 2 ^ 64 + 1) % 2 ^ 64) }
 {
     *transaction_id = transaction_id.wrapping_add(1);
     let bytes = match get_attribute(wire, *transaction_id, SmpAttribute::SwitchInfo, 0, path) {

@@ -10,13 +10,13 @@ pub returns-in-Err : goal.returns-in-Err
 returns-in-Err g c x stands guid number good leads =
     absurd (no_fault c.in-Err.fault _ _ _ (table_more _ _ _ x c.args.path.now c.args.asked guid number c.loop-block.block c.args.table.now _
     c.loop-block-test.true (table_of c.args.table.now c.told-table c.fits-table) c.block_at-bytes.ensures leads
-    (c.loop-block.invariant x guid number stands good leads) c.in-Err.ensures))
+    (c.loop-block.invariant x guid number stands good leads) c.in-Err.ensures.left))
 
 pub loop-block-preserved : goal.loop-block-preserved
 loop-block-preserved g c fabric guid number stands good leads =
     (table_more _ _ _ fabric c.args.path.now c.args.asked guid number c.loop-block.block c.args.table.now _
     c.loop-block-test.true (table_of c.args.table.now c.told-table c.fits-table) c.block_at-bytes.ensures leads
-    (c.loop-block.invariant fabric guid number stands good leads) c.set.ensures).stands
+    (c.loop-block.invariant fabric guid number stands good leads) c.set.ensures.left).stands
 
 pub returns : goal.returns
 returns g c x stands guid number good leads =

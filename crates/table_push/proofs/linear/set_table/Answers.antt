@@ -10,13 +10,13 @@ pub returns-in-Err : goal.returns-in-Err
 returns-in-Err g c x stands guid good leads =
     absurd (no_fault c.in-Err.fault _ _ _ (table_more _ _ _ x c.args.path.now guid c.loop-block.block c.args.table.now c.block_at-entries.result
     c.loop-block-test.true c.told-table c.known_bytes.ensures c.block_at-entries.ensures leads
-    (c.loop-block.invariant x guid stands good leads) c.in-Err.ensures))
+    (c.loop-block.invariant x guid stands good leads) c.in-Err.ensures.left))
 
 pub loop-block-preserved : goal.loop-block-preserved
 loop-block-preserved g c fabric guid stands good leads =
     (table_more _ _ _ fabric c.args.path.now guid c.loop-block.block c.args.table.now c.block_at-entries.result
     c.loop-block-test.true c.told-table c.known_bytes.ensures c.block_at-entries.ensures leads
-    (c.loop-block.invariant fabric guid stands good leads) c.set.ensures).stands
+    (c.loop-block.invariant fabric guid stands good leads) c.set.ensures.left).stands
 
 pub returns : goal.returns
 returns g c x stands guid good leads =

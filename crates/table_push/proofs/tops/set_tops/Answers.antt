@@ -21,7 +21,7 @@ returns-in-Err g c x stands of good =
     c.graph-graph.ensures c.switches-switches.ensures c.ports.ensures in
     absurd (no_fault c.in-Err.fault _ x _
     (tops_more _ _ _ x (length c.args.routes.now.lids) c.loop-place.place graph.switches switch within home (graph_leads x graph c.loop-place.place switch of home)
-    (c.loop-place.invariant x stands of good) (top_along _ _ _ _ _ _ _ path lid c.in-Err.ensures)))
+    (c.loop-place.invariant x stands of good) (top_along _ _ _ _ _ _ _ path lid c.in-Err.ensures.left)))
 
 pub loop-place-preserved : goal.loop-place-preserved
 loop-place-preserved g c x stands of good =
@@ -34,7 +34,7 @@ loop-place-preserved g c x stands of good =
     let lid = greatest graph c.graph-graph.result.now c.switches-switches.result.now c.ports.result.now c.args.routes.now.lids c.are_of_graph.ensures.lids_are
     c.graph-graph.ensures c.switches-switches.ensures c.ports.ensures in
     (tops_more _ _ _ x (length c.args.routes.now.lids) c.loop-place.place graph.switches switch within home (graph_leads x graph c.loop-place.place switch of home)
-    (c.loop-place.invariant x stands of good) (top_along _ _ _ _ _ _ _ path lid c.in-Ok.ensures)).stands
+    (c.loop-place.invariant x stands of good) (top_along _ _ _ _ _ _ _ path lid c.in-Ok.ensures.left)).stands
 
 pub returns : goal.returns
 returns g c x stands of good =
