@@ -1,18 +1,10 @@
+use crate::fixtures::bytes_from;
 use agent_rules::{Link, node_info_of, port_info_at_power_up, switch_info_at_power_up};
 use attr_tables::{
     BlockPlace, Mtu, NodeDescription, NodeInfo, PortBlock, PortInfo, PortPhysicalState, PortState,
     SwitchInfo, WordBlock, block_count, block_place,
 };
 use fabric_parts::NodeType;
-
-/// An attribute of zero bytes but for these, from that byte on.
-fn attribute_with(first: usize, bytes: &[u8]) -> [u8; 64] {
-    let mut attribute = [0; 64];
-    for (place, byte) in attribute.iter_mut().skip(first).zip(bytes) {
-        *place = *byte;
-    }
-    attribute
-}
 
 /// PortInfo of a cabled port of a channel adapter at power-up, from byte 28 on.
 const CABLED_ADAPTER_PORT: [u8; 16] = [
@@ -36,7 +28,7 @@ const CABLED_ADAPTER_PORT: [u8; 16] = [
 
 #[test]
 fn a_cabled_adapter_port_at_power_up(rt: HostRuntime) {
-    let mut bytes = attribute_with(28, &CABLED_ADAPTER_PORT);
+    let mut bytes = bytes_from(28, &CABLED_ADAPTER_PORT);
     // GUIDCap
     bytes[50] = 0x01;
     let info = port_info_at_power_up(NodeType::ChannelAdapter, 1, Link::Cabled);
@@ -67,7 +59,7 @@ const SWITCH: [u8; 17] = [
 
 #[test]
 fn a_switch_at_power_up(rt: HostRuntime) {
-    let bytes = attribute_with(0, &SWITCH);
+    let bytes = bytes_from(0, &SWITCH);
     let info = switch_info_at_power_up();
     let mut written = [0xff; 64];
     info.write(&mut written);
@@ -119,19 +111,26 @@ const NODES: [([u8; 40], (NodeType, u8, u64, u64, u8), [u8; 2]); 2] = [
 
 #[test]
 fn nodes_say_what_they_are(rt: HostRuntime) {
-    for (bytes, (node_type, num_ports, node_guid, port_guid, port), name) in NODES {
-        let attribute = attribute_with(0, &bytes);
-        let read = NodeInfo::read(&attribute);
+    for (bytes, (node_type, num_ports, node_guid, port_guid, port), _) in NODES {
+        let attribute = bytes_from(0, &bytes);
         let info = node_info_of(node_type, num_ports, node_guid, port_guid, port);
-        assert_eq!(rt; read, info);
-        assert_eq!(rt; read.node_type(), Some(node_type));
+        assert_eq!(rt; NodeInfo::read(&attribute), info);
+        assert_eq!(rt; info.node_type(), Some(node_type));
         let mut written = [0xff; 64];
-        read.write(&mut written);
+        info.write(&mut written);
         assert_eq!(rt; written, attribute);
+    }
+}
+
+#[test]
+fn nodes_have_names(rt: HostRuntime) {
+    for (_, _, name) in NODES {
+        let attribute = bytes_from(0, &name);
         let description = NodeDescription::of_text(&name);
+        assert_eq!(rt; NodeDescription::read(&attribute), description);
+        let mut written = [0xff; 64];
         description.write(&mut written);
-        assert_eq!(rt; written, attribute_with(0, &name));
-        assert_eq!(rt; NodeDescription::read(&written), description);
+        assert_eq!(rt; written, attribute);
     }
 }
 
@@ -147,7 +146,7 @@ const WORDS: [([u8; 4], (u16, u16)); 4] = [
 #[test]
 fn blocks_of_keys_and_masks_read_and_write(rt: HostRuntime) {
     for (bytes, (first, second)) in WORDS {
-        let attribute = attribute_with(0, &bytes);
+        let attribute = bytes_from(0, &bytes);
         let mut words = [0; 32];
         words[0] = first;
         words[1] = second;

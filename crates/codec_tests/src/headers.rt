@@ -1,15 +1,6 @@
+use crate::fixtures::bytes_from;
 use bitflags::Flags;
 use mad_layout::{DrSmp, Header, Mad, MadStatus, Method, RmppFlags, RmppHeader, RmppKind, SaMad};
-use std::test::Fail;
-
-/// A MAD of zero bytes but for these, from that byte on.
-fn mad_with(first: usize, bytes: &[u8]) -> Mad {
-    let mut mad = [0; 256];
-    for (place, byte) in mad.iter_mut().skip(first).zip(bytes) {
-        *place = *byte;
-    }
-    mad
-}
 
 /// The bytes of a header, its fields, and the names of its method and status.
 const MAD_HEADERS: [([u8; 24], Header, Option<Method>, Option<MadStatus>); 3] = [
@@ -102,7 +93,7 @@ const MAD_HEADERS: [([u8; 24], Header, Option<Method>, Option<MadStatus>); 3] = 
 #[test]
 fn mad_headers_read_and_write(rt: HostRuntime) {
     for (bytes, header, method, status) in MAD_HEADERS {
-        let mad = mad_with(0, &bytes);
+        let mad = bytes_from(0, &bytes);
         let read = Header::read(&mad);
         assert_eq!(rt; read, header);
         assert_eq!(rt; read.method(), method);
@@ -148,7 +139,7 @@ const RMPP_HEADERS: [([u8; 12], (u8, u8, u8, u32, u32)); 6] = [
 #[test]
 fn rmpp_headers_read_and_write(rt: HostRuntime) {
     for (bytes, (kind, flags, status, segment_number, payload_length)) in RMPP_HEADERS {
-        let mad = mad_with(24, &bytes);
+        let mad = bytes_from(24, &bytes);
         let read = RmppHeader::read(&mad);
         let header = RmppHeader {
             version: 1,
@@ -210,7 +201,7 @@ fn written(fields: &SaMad) -> Mad {
 #[test]
 fn administration_fields_read_and_write(rt: HostRuntime) {
     for (bytes, attribute_offset, component_mask) in ADMINISTRATION_FIELDS {
-        let mad = mad_with(36, &bytes);
+        let mad = bytes_from(36, &bytes);
         let read = SaMad::read(&mad);
         assert_eq!(rt; (read.sm_key, read.data), (0, [0; 200]));
         assert_eq!(rt; read.attribute_offset, attribute_offset);
@@ -219,40 +210,51 @@ fn administration_fields_read_and_write(rt: HostRuntime) {
     }
 }
 
-#[test]
-fn directed_route_fields_stand_in_their_bytes(rt: HostRuntime) -> Result<(), Fail> {
-    // D and Status: an answer that an attribute's modifier or value is invalid
-    let mut mad = mad_with(4, &[0x80, 0x1c, 3, 2]);
-    assert_eq!(rt; Header::read(&mad).status, 0x801c);
-    // InitialPath 1, 3 and ReturnPath 1, 3, from entry 1 on
+/// An SMP that comes back over two hops, by ports 1 and 3 out and in; an agent says that an attribute's modifier or value
+/// is invalid.
+fn refused_smp() -> DrSmp {
+    let path = bytes_from(1, &[1, 3]);
+    let mut smp = DrSmp {
+        direction: true,
+        status: 0x1c,
+        hop_pointer: 3,
+        hop_count: 2,
+        m_key: 7,
+        dr_slid: 0xffff,
+        dr_dlid: 0xfffe,
+        data: [0; 64],
+        initial_path: path,
+        return_path: path,
+    };
+    smp.data[0] = 5;
+    smp.data[63] = 6;
+    smp
+}
+
+/// Its bytes.
+fn refused_bytes() -> Mad {
+    // D and Status, HopPointer, HopCount
+    let mut mad: Mad = bytes_from(4, &[0x80, 0x1c, 3, 2]);
+    // InitialPath and ReturnPath, from entry 1 on
     mad[129] = 1;
     mad[130] = 3;
     mad[193] = 1;
     mad[194] = 3;
-    // the last byte of M_Key, DrSLID and DrDLID, the first and the last byte of the data
+    // the last byte of M_Key, DrSLID and DrDLID
     mad[31] = 7;
     mad[32..36].copy_from_slice(&[0xff, 0xff, 0xff, 0xfe]);
+    // the first and the last byte of the data
     mad[64] = 5;
     mad[127] = 6;
-    let smp = DrSmp::read(&mad);
-    assert!(rt; smp.direction);
-    assert_eq!(rt; (smp.status, smp.hop_pointer, smp.hop_count), (0x1c, 3, 2));
-    assert_eq!(rt; (smp.m_key, smp.dr_slid, smp.dr_dlid), (7, 0xffff, 0xfffe));
-    assert_eq!(rt; (smp.data[0], smp.data[63]), (5, 6));
-    assert_eq!(rt;
-        (
-            smp.initial_path[1],
-            smp.initial_path[2],
-            smp.initial_path[3]
-        ),
-        (1, 3, 0)
-    );
-    assert_eq!(rt;
-        (smp.return_path[1], smp.return_path[2], smp.return_path[3]),
-        (1, 3, 0)
-    );
+    mad
+}
+
+#[test]
+fn directed_route_fields_stand_in_their_bytes(rt: HostRuntime) {
+    assert_eq!(rt; Header::read(&refused_bytes()).status, 0x801c);
+    let smp = DrSmp::read(&refused_bytes());
+    assert_eq!(rt; smp, refused_smp());
     let mut written = [0; 256];
     smp.write(&mut written);
-    assert_eq!(rt; written, mad);
-    Ok(())
+    assert_eq!(rt; written, refused_bytes());
 }

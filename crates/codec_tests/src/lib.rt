@@ -6,6 +6,8 @@ mod asking;
 #[cfg(test)]
 mod attributes;
 #[cfg(test)]
+mod fixtures;
+#[cfg(test)]
 mod headers;
 #[cfg(test)]
 mod records;

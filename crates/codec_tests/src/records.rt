@@ -1,15 +1,7 @@
+use crate::fixtures::filled;
 use bitflags::Flags;
 use mad_layout::JoinState;
 use sa_records::{McMemberRecord, NodeRecord, PathRecord, ServiceRecord};
-
-/// These bytes, and zero bytes after them.
-fn filled<const SIZE: usize>(bytes: &[u8]) -> [u8; SIZE] {
-    let mut all = [0; SIZE];
-    for (to, from) in all.iter_mut().zip(bytes) {
-        *to = *from;
-    }
-    all
-}
 
 /// The ports with GUID 0x111 and 0x121.
 const FIRST_GID: u128 = 0xfe80_0000_0000_0000_0000_0000_0000_0111;
@@ -171,38 +163,57 @@ fn path() -> PathRecord {
     }
 }
 
+/// Bytes whose fields all differ. Reserved bits are set, which are not read.
+const ODD_PATH: [u8; 64] = [
+    0x01, 0x02, 0x03, 0x04, 0x05, 0x06, 0x07, 0x08, // ServiceID
+    0x11, 0x12, 0x13, 0x14, 0x15, 0x16, 0x17, 0x18, // DGID
+    0x19, 0x1a, 0x1b, 0x1c, 0x1d, 0x1e, 0x1f, 0x20, //
+    0x21, 0x22, 0x23, 0x24, 0x25, 0x26, 0x27, 0x28, // SGID
+    0x29, 0x2a, 0x2b, 0x2c, 0x2d, 0x2e, 0x2f, 0x30, //
+    0x31, 0x32, 0x33, 0x34, // DLID, SLID
+    0xfa, 0xbc, 0xde, 0x35, // RawTraffic, FlowLabel, HopLimit
+    0x36, 0x85, // TClass; Reversible and NumbPath
+    0x37, 0x38, // P_Key
+    0x12, 0x3f, // QoSClass, SL
+    0x45, 0x86, 0xc7, // MTU, Rate, PacketLifeTime, each with its selector
+    0x39, // Preference
+    0xff, 0xff, 0xff, 0xff, 0xff, 0xff, // reserved
+];
+
+fn odd_path() -> PathRecord {
+    PathRecord {
+        service_id: 0x0102_0304_0506_0708,
+        dgid: 0x1112_1314_1516_1718_191a_1b1c_1d1e_1f20,
+        sgid: 0x2122_2324_2526_2728_292a_2b2c_2d2e_2f30,
+        dlid: 0x3132,
+        slid: 0x3334,
+        raw_traffic: true,
+        flow_label: 0xabcde,
+        hop_limit: 0x35,
+        t_class: 0x36,
+        reversible: true,
+        numb_path: 5,
+        p_key: 0x3738,
+        qos_class: 0x123,
+        sl: 15,
+        mtu_selector: 1,
+        mtu: 5,
+        rate_selector: 2,
+        rate: 6,
+        packet_life_time_selector: 3,
+        packet_life_time: 7,
+        preference: 0x39,
+    }
+}
+
 #[test]
 fn paths_read_and_write(rt: HostRuntime) {
-    let bytes = filled::<64>(&PATH);
+    let bytes = filled(&PATH);
     assert_eq!(rt; PathRecord::read(&bytes), path());
     let mut written = [0xff; 64];
     PathRecord::read(&bytes).write(&mut written);
     assert_eq!(rt; written, bytes);
-    // bytes whose fields all differ
-    let odd = PathRecord::read(&[
-        0x01, 0x02, 0x03, 0x04, 0x05, 0x06, 0x07, 0x08, 0x11, 0x12, 0x13, 0x14, 0x15, 0x16, 0x17,
-        0x18, 0x19, 0x1a, 0x1b, 0x1c, 0x1d, 0x1e, 0x1f, 0x20, 0x21, 0x22, 0x23, 0x24, 0x25, 0x26,
-        0x27, 0x28, 0x29, 0x2a, 0x2b, 0x2c, 0x2d, 0x2e, 0x2f, 0x30, 0x31, 0x32, 0x33, 0x34, 0xfa,
-        0xbc, 0xde, 0x35, 0x36, 0x85, 0x37, 0x38, 0x12, 0x3f, 0x45, 0x86, 0xc7, 0x39, 0, 0, 0, 0,
-        0, 0,
-    ]);
-    assert_eq!(rt; (odd.dlid, odd.slid), (0x3132, 0x3334));
-    assert_eq!(rt;
-        (odd.raw_traffic, odd.flow_label, odd.hop_limit),
-        (true, 0xabcde, 0x35)
-    );
-    assert_eq!(rt;
-        (odd.t_class, odd.reversible, odd.numb_path),
-        (0x36, true, 5)
-    );
-    assert_eq!(rt; (odd.p_key, odd.qos_class, odd.sl), (0x3738, 0x123, 15));
-    assert_eq!(rt; (odd.mtu_selector, odd.mtu), (1, 5));
-    assert_eq!(rt; (odd.rate_selector, odd.rate), (2, 6));
-    assert_eq!(rt;
-        (odd.packet_life_time_selector, odd.packet_life_time),
-        (3, 7)
-    );
-    assert_eq!(rt; odd.preference, 0x39);
+    assert_eq!(rt; PathRecord::read(&ODD_PATH), odd_path());
 }
 
 /// RateSelector, the code that is asked, and whether a path of 10 Gb/s, code 3, is selected: 5 Gb/s has code 5, 2.5
@@ -372,31 +383,52 @@ fn file_group() -> McMemberRecord {
     }
 }
 
+/// The first with other values in the bytes of SL, FlowLabel, HopLimit, Scope, JoinState and ProxyJoin.
+const ODD_GROUP: [u8; 50] = [
+    0xff, 0x12, 0, 0, 0, 0, 0, 0, 0, 0, 0, 0, 0, 0, 0x00, 0x0a, // MGID
+    0xfe, 0x80, 0, 0, 0, 0, 0, 0, 0, 0, 0, 0, 0, 0, 0x01, 0x11, // PortGID
+    0x00, 0x00, 0x12, 0x34, // Q_Key
+    0xc0, 0x20, // MLID
+    0x84, 0x00, // MTU with its selector, TClass
+    0x80, 0x01, // P_Key
+    0x83, 0x92, // Rate, PacketLifeTime, each with its selector
+    0x5a, 0xbc, 0xde, 0x0f, // SL, FlowLabel, HopLimit
+    0x36, // Scope, JoinState
+    0x80, // ProxyJoin
+];
+
+fn odd_group() -> McMemberRecord {
+    McMemberRecord {
+        sl: 5,
+        flow_label: 0xabcde,
+        hop_limit: 15,
+        scope: 3,
+        join_state: 6,
+        proxy_join: true,
+        ..joined_group()
+    }
+}
+
 #[test]
 fn groups_read_and_write(rt: HostRuntime) {
     for (bytes, record) in [
-        (filled::<56>(&JOINED_GROUP), joined_group()),
-        (filled::<56>(&FILE_GROUP), file_group()),
+        (JOINED_GROUP.as_slice(), joined_group()),
+        (FILE_GROUP.as_slice(), file_group()),
+        (ODD_GROUP.as_slice(), odd_group()),
     ] {
+        let bytes = filled(bytes);
         assert_eq!(rt; McMemberRecord::read(&bytes), record);
         let mut written = [0xff; 56];
         McMemberRecord::read(&bytes).write(&mut written);
         assert_eq!(rt; written, bytes);
     }
-    assert!(rt; joined_group().join_state().contains(JoinState::FULL_MEMBER));
-    assert!(rt; !joined_group().join_state().contains(JoinState::NON_MEMBER));
-    // the byte of SL and the two after it, HopLimit, Scope with JoinState, ProxyJoin
-    let mut odd = filled::<56>(&JOINED_GROUP);
-    for (to, from) in odd
-        .iter_mut()
-        .skip(44)
-        .zip([0x5a, 0xbc, 0xde, 0x0f, 0x36, 0x80])
-    {
-        *to = from;
-    }
-    let odd = McMemberRecord::read(&odd);
-    assert_eq!(rt; (odd.sl, odd.flow_label, odd.hop_limit), (5, 0xabcde, 15));
-    assert_eq!(rt; (odd.scope, odd.join_state, odd.proxy_join), (3, 6, true));
+}
+
+#[test]
+fn a_full_member_is_no_non_member(rt: HostRuntime) {
+    let state = joined_group().join_state();
+    assert!(rt; state.contains(JoinState::FULL_MEMBER));
+    assert!(rt; !state.contains(JoinState::NON_MEMBER));
 }
 
 #[test]
@@ -473,25 +505,42 @@ fn service() -> ServiceRecord {
     }
 }
 
+/// The same with a lease, a key and data.
+const ODD_SERVICE: [u8; 114] = [
+    0, 0, 0, 0, 0, 0, 0, 1, // ServiceID
+    0xfe, 0x80, 0, 0, 0, 0, 0, 0, 0, 0, 0, 0, 0, 0, 0x01, 0x21, // ServiceGID
+    0x80, 0x01, // ServiceP_Key
+    0x00, 0x00, // reserved
+    0x01, 0x02, 0x03, 0x04, // ServiceLease
+    0x05, 0, 0, 0, 0, 0, 0, 0, 0, 0, 0, 0, 0, 0, 0, 0, // ServiceKey
+    b'd', b'b', b's', 0, 0, 0, 0, 0, 0, 0, 0, 0, 0, 0, 0, 0, // ServiceName
+    0, 0, 0, 0, 0, 0, 0, 0, 0, 0, 0, 0, 0, 0, 0, 0, //
+    0, 0, 0, 0, 0, 0, 0, 0, 0, 0, 0, 0, 0, 0, 0, 0, //
+    0, 0, 0, 0, 0, 0, 0, 0, 0, 0, 0, 0, 0, 0, 0, 0, //
+    0x06, 0x07, // ServiceData
+];
+
+fn odd_service() -> ServiceRecord {
+    ServiceRecord {
+        service_lease: 0x0102_0304,
+        service_key: 0x05 << 120,
+        service_data: filled(&[0x06, 0x07]),
+        ..service()
+    }
+}
+
 #[test]
 fn services_read_and_write(rt: HostRuntime) {
-    let bytes = filled::<176>(&SERVICE);
-    assert_eq!(rt; ServiceRecord::read(&bytes), service());
-    let mut written = [0xff; 176];
-    ServiceRecord::read(&bytes).write(&mut written);
-    assert_eq!(rt; written, bytes);
-    // the lease, the key and the data stand behind one another
-    let mut odd = bytes;
-    for (to, from) in odd.iter_mut().skip(28).zip([0x01, 0x02, 0x03, 0x04, 0x05]) {
-        *to = from;
+    for (bytes, record) in [
+        (SERVICE.as_slice(), service()),
+        (ODD_SERVICE.as_slice(), odd_service()),
+    ] {
+        let bytes = filled(bytes);
+        assert_eq!(rt; ServiceRecord::read(&bytes), record);
+        let mut written = [0xff; 176];
+        ServiceRecord::read(&bytes).write(&mut written);
+        assert_eq!(rt; written, bytes);
     }
-    for (to, from) in odd.iter_mut().skip(112).zip([0x06, 0x07]) {
-        *to = from;
-    }
-    let odd = ServiceRecord::read(&odd);
-    assert_eq!(rt; odd.service_lease, 0x0102_0304);
-    assert_eq!(rt; odd.service_key, 0x05 << 120);
-    assert_eq!(rt; odd.service_data, filled(&[0x06, 0x07]));
 }
 
 #[test]

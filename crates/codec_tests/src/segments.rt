@@ -1,6 +1,7 @@
 use mad_layout::{Header, Mad};
-use rmpp_core::{AbortCause, Acknowledged, ReceiveFault, Receiver, ReplyHeader, Sender};
+use rmpp_core::{AbortCause, ReceiveFault, Receiver, ReplyHeader, Sender};
 use std::alloc::Global;
+use std::process::Abort;
 use std::test::Fail;
 
 /// A table of node records, 112 bytes from one to the next.
@@ -157,48 +158,54 @@ fn three_segments(alloc: Global) -> Result<Sender, Fail> {
     Ok(Sender::open(alloc, NODE_RECORDS, table().get(..448).unwrap_or(&[]))?)
 }
 
-const fn sends(first: u32, last: u32) -> Result<Acknowledged, AbortCause> {
-    Ok(Acknowledged {
-        first,
-        last,
-        is_complete: false,
-    })
+/// The segment and the window of an ACK; the first and the last segment that it brings, and whether all have come.
+type Ack = (u32, u32, Result<(u32, u32, bool), AbortCause>);
+
+/// ACKs of three segments, one after the other.
+const ACKS: [&[Ack]; 4] = [
+    // the window is too small, the segment too big; neither changes anything, so all are sent then
+    &[
+        (2, 1, Err(AbortCause::WindowTooSmall)),
+        (4, 9, Err(AbortCause::SegmentTooBig)),
+        (4, 3, Err(AbortCause::WindowTooSmall)),
+        (1, 9, Ok((2, 3, false))),
+        (3, 3, Ok((4, 3, true))),
+    ],
+    // the greatest window there is; after it a small one takes nothing back
+    &[
+        (1, 0xffff_ffff, Ok((2, 3, false))),
+        (2, 2, Ok((4, 3, false))),
+        (3, 0xffff_ffff, Ok((4, 3, true))),
+    ],
+    // one after the other; an ACK that comes again brings nothing again
+    &[
+        (0, 0, Ok((2, 1, false))),
+        (1, 2, Ok((2, 2, false))),
+        (1, 2, Ok((3, 2, false))),
+        (1, 1, Ok((3, 2, false))),
+        (2, 3, Ok((3, 3, false))),
+        (3, 3, Ok((4, 3, true))),
+    ],
+    // of a segment that was not sent yet
+    &[(2, 2, Ok((2, 2, false))), (3, 3, Ok((3, 3, true)))],
+];
+
+fn are_answered(rt: &impl Abort, sender: &mut Sender, acks: &[Ack]) {
+    for (segment, window, brings) in acks {
+        let answer = sender.on_ack(*segment, *window);
+        assert_eq!(rt;
+            answer.map(|sent| (sent.first, sent.last, sent.is_complete)),
+            *brings
+        );
+    }
 }
 
-/// Three segments, and ACKs one after the other: the segment and the window of each, and what it brings.
 #[test]
 fn an_ack_brings_the_segments_of_its_window(rt: HostRuntime) -> Result<(), Fail> {
-    let complete = |first, last| {
-        Ok(Acknowledged {
-            first,
-            last,
-            is_complete: true,
-        })
-    };
-    // the window is too small, the segment too big; neither changes anything, so all are sent then
-    let mut sender = three_segments(rt.alloc())?;
-    assert_eq!(rt; sender.on_ack(2, 1), Err(AbortCause::WindowTooSmall));
-    assert_eq!(rt; sender.on_ack(4, 9), Err(AbortCause::SegmentTooBig));
-    assert_eq!(rt; sender.on_ack(4, 3), Err(AbortCause::WindowTooSmall));
-    assert_eq!(rt; sender.on_ack(1, 9), sends(2, 3));
-    assert_eq!(rt; sender.on_ack(3, 3), complete(4, 3));
-    // the greatest window there is; after it a small one takes nothing back
-    let mut sender = three_segments(rt.alloc())?;
-    assert_eq!(rt; sender.on_ack(1, 0xffff_ffff), sends(2, 3));
-    assert_eq!(rt; sender.on_ack(2, 2), sends(4, 3));
-    assert_eq!(rt; sender.on_ack(3, 0xffff_ffff), complete(4, 3));
-    // one after the other; an ACK that comes again brings nothing again
-    let mut sender = three_segments(rt.alloc())?;
-    assert_eq!(rt; sender.on_ack(0, 0), sends(2, 1));
-    assert_eq!(rt; sender.on_ack(1, 2), sends(2, 2));
-    assert_eq!(rt; sender.on_ack(1, 2), sends(3, 2));
-    assert_eq!(rt; sender.on_ack(1, 1), sends(3, 2));
-    assert_eq!(rt; sender.on_ack(2, 3), sends(3, 3));
-    assert_eq!(rt; sender.on_ack(3, 3), complete(4, 3));
-    // of a segment that was not sent yet
-    let mut sender = three_segments(rt.alloc())?;
-    assert_eq!(rt; sender.on_ack(2, 2), sends(2, 2));
-    assert_eq!(rt; sender.on_ack(3, 3), complete(3, 3));
+    for acks in ACKS {
+        let mut sender = three_segments(rt.alloc())?;
+        are_answered(&rt, &mut sender, acks);
+    }
     Ok(())
 }
 
@@ -254,18 +261,30 @@ fn refuses(alloc: Global, sender: &Sender, numbers: &[u32], fault: ReceiveFault)
         && receiver.bytes().is_none()
 }
 
+/// The second first, one twice, one left out, one after the last; 0 is no segment at all.
+const OUT_OF_ORDER: [&[u32]; 7] = [
+    &[2],
+    &[1, 1],
+    &[1, 2, 2],
+    &[1, 3],
+    &[1, 2, 3, 3],
+    &[1, 2, 3, 4],
+    &[0],
+];
+
 #[test]
 fn segments_out_of_order_are_refused_for_good(rt: HostRuntime) -> Result<(), Fail> {
     let sender = three_segments(rt.alloc())?;
-    let fault = ReceiveFault::UnexpectedSegment;
-    // the second first, one twice, one left out, one after the last; 0 is no segment at all
-    assert!(rt; refuses(rt.alloc(), &sender, &[2], fault));
-    assert!(rt; refuses(rt.alloc(), &sender, &[1, 1], fault));
-    assert!(rt; refuses(rt.alloc(), &sender, &[1, 2, 2], fault));
-    assert!(rt; refuses(rt.alloc(), &sender, &[1, 3], fault));
-    assert!(rt; refuses(rt.alloc(), &sender, &[1, 2, 3, 3], fault));
-    assert!(rt; refuses(rt.alloc(), &sender, &[1, 2, 3, 4], fault));
-    assert!(rt; refuses(rt.alloc(), &sender, &[0], fault));
+    for numbers in OUT_OF_ORDER {
+        assert!(rt;
+            refuses(
+                rt.alloc(),
+                &sender,
+                numbers,
+                ReceiveFault::UnexpectedSegment
+            )
+        );
+    }
     Ok(())
 }
 

@@ -1,4 +1,4 @@
-//! The texts that tests of several crates share: the two-switch fabric of our examples, and fabrics with two roots.
+//! The texts that tests of several crates share: the two-switch fabric of our examples, and a partition file for it.
 #![tactic(auto)]
 
 /// Switches A and B, joined by a cable at port 3 of both; h0 and h1 on A, h2 and h3 on B, the subnet manager
@@ -22,41 +22,3 @@ sm h0/1
 /// Of partition 1, h1 is a full member and h2 and h3 are limited ones. Of the default partition the subnet
 /// manager's port is a full member, the others are limited ones.
 pub const ONE_PARTITION_FILE: &str = "P1=0x0001: 0x111=full, 0x121, 0x131;\n";
-
-/// Roots R1 and R2, and L1 and L2 below both; h0 on L1 and h1 on L2.
-pub const ADAPTERS_BELOW_ROOTS: &str = "\
-switch R1 0x10 4
-switch R2 0x20 4
-switch L1 0x30 4
-switch L2 0x40 4
-adapter h0 0x100 1
-adapter h1 0x110 1
-cable R1/1 L1/1
-cable R1/2 L2/1
-cable R2/1 L1/2
-cable R2/2 L2/2
-cable h0/1 L1/3
-cable h1/1 L2/3
-root R1
-root R2
-sm h0/1
-";
-
-/// The same, with h0 on R1 and h1 on R2: what leads down to a leaf may not lead up again.
-pub const ADAPTERS_ON_ROOTS: &str = "\
-switch R1 0x10 4
-switch R2 0x20 4
-switch L1 0x30 4
-switch L2 0x40 4
-adapter h0 0x100 1
-adapter h1 0x110 1
-cable R1/1 L1/1
-cable R1/2 L2/1
-cable R2/1 L1/2
-cable R2/2 L2/2
-cable h0/1 R1/3
-cable h1/1 R2/3
-root R1
-root R2
-sm h0/1
-";

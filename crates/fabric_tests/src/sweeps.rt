@@ -1,4 +1,4 @@
-//! Sweeps of the two-switch fabric, and of rows.
+//! Sweeps of the two-switch fabric.
 
 mod contradictions;
 mod fault_texts;
@@ -9,11 +9,10 @@ use example_texts::TWO_SWITCHES;
 use fabric_parts::PortRef;
 use fabric_wire::{CountingWire, SilencedWire};
 use lid_assign::assign;
-use std::alloc::Global;
 use std::process::Abort;
 use std::test::Fail;
 use sweep::{Graph, Link, SweepFault, sweep};
-use test_fabrics::{fabric_of, put, put_line, two_switch_wire};
+use test_fabrics::two_switch_wire;
 
 /// The switches of the two-switch fabric as they are found from h0: GUID, ports, and the path.
 const SWITCHES: [(u64, u8, &[u8]); 2] = [(0x10, 4, &[1]), (0x20, 4, &[1, 3])];
@@ -95,37 +94,6 @@ fn a_sweep_stops_where_no_reply_comes(rt: HostRuntime) -> Result<(), Fail> {
         let swept = sweep(rt.alloc(), &mut silenced);
         assert_eq!(rt; swept.err(), Some(SweepFault::NoReply));
     }
-    Ok(())
-}
-
-/// So many switches in a row, the subnet manager on the first.
-fn chain(alloc: Global, count: u16) -> Result<Vec<u8>, Fail> {
-    let mut text = Vec::new(alloc);
-    put(&mut text, b"adapter h0 0x100000 1\nsm h0/1\n")?;
-    for i in 0..count {
-        put_line(&mut text, &[(b"switch s", i), (b" 1", i)], b" 3\n")?;
-        if i == 0 {
-            put(&mut text, b"cable s000/3 h0/1\n")?;
-        } else {
-            put_line(&mut text, &[(b"cable s", i - 1)], b"/2")?;
-            put_line(&mut text, &[(b" s", i)], b"/1\n")?;
-        }
-    }
-    Ok(text)
-}
-
-/// How many switches a sweep of such a row finds, or its fault.
-fn found(alloc: Global, count: u16) -> Result<Result<usize, SweepFault>, Fail> {
-    let mut fabric = fabric_of(alloc, &chain(alloc, count)?)?;
-    let swept = sweep(alloc, &mut fabric);
-    Ok(swept.map(|graph| graph.switches().len()))
-}
-
-/// The cable to the 64th switch begins 63 hops away, so that no SMP goes over it.
-#[test]
-fn a_sweep_goes_63_hops_and_no_further(rt: HostRuntime) -> Result<(), Fail> {
-    assert_eq!(rt; found(rt.alloc(), 63)?, Ok(63));
-    assert_eq!(rt; found(rt.alloc(), 64)?, Err(SweepFault::TooManyHops));
     Ok(())
 }
 

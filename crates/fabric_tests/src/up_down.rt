@@ -3,16 +3,13 @@
 mod searches;
 
 use crate::fixtures::{graph_of_text, two_switch_graph};
-use example_texts::{ADAPTERS_BELOW_ROOTS, ADAPTERS_ON_ROOTS, TWO_SWITCHES};
+use example_texts::TWO_SWITCHES;
 use lid_assign::assign;
 use std::alloc::Global;
 use std::process::Abort;
 use std::test::Fail;
 use sweep::Graph;
 use updn_routes::{RouteFault, Routes, are_switches, routes};
-
-/// The roots of the fabrics with four switches.
-const ROOTS: [u64; 2] = [0x10, 0x20];
 
 /// The routes of a graph, with these roots named.
 pub fn routes_of(alloc: Global, graph: Graph, roots: &[u64]) -> Result<Routes, RouteFault> {
@@ -72,29 +69,6 @@ fn are_numbered(rt: &impl Abort, routes: &Routes) {
     for (switch, port) in TREE_PORTS {
         assert_eq!(rt; routes.tree_port(switch), port);
     }
-}
-
-#[test]
-fn of_two_equal_ways_the_lesser_port_is_taken(rt: HostRuntime) -> Result<(), Fail> {
-    let graph = graph_of_text(rt.alloc(), ADAPTERS_BELOW_ROOTS.as_bytes())?;
-    let routes = routes_of(rt.alloc(), graph, &ROOTS).or(Err("routes"))?;
-    // L1, on which the subnet manager's port hangs, is found first; h1 has LID 6.
-    sends(
-        &rt,
-        &routes,
-        0,
-        &[(1, 3), (2, 1), (3, 2), (4, 0), (5, 1), (6, 1)],
-    );
-    Ok(())
-}
-
-#[test]
-fn two_roots_that_switches_below_join_cannot_reach_each_other(rt: HostRuntime) -> Result<(), Fail> {
-    let graph = graph_of_text(rt.alloc(), ADAPTERS_ON_ROOTS.as_bytes())?;
-    // R1 has LID 2, and h1's port LID 6.
-    let fault = routes_of(rt.alloc(), graph, &ROOTS).err();
-    assert_eq!(rt; fault, Some(RouteFault::NoLegalPath { switch: 2, port: 6 }));
-    Ok(())
 }
 
 #[test]

@@ -1,4 +1,5 @@
-//! Tests of single nodes, through public calls alone: agents, packets at a port and in a switch, and the hops of SMPs.
+//! Tests of single nodes, through public calls alone: keys, agents, packets at a port and in a switch, and the hops of
+//! SMPs.
 //!
 //! They say what no clause says: that the definitions mean what users were told, by byte vectors and
 //! worked requests.
@@ -10,5 +11,7 @@ mod agents;
 mod forwarding;
 #[cfg(test)]
 mod hops;
+#[cfg(test)]
+mod keys;
 #[cfg(test)]
 mod sending;

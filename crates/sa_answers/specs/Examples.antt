@@ -6,6 +6,8 @@ use Rattle.mad_layout.specs.declared.rmpp_header.RmppHeader.{RmppHeader}
 use Rattle.rmpp_core.specs.Reply.{reply_bytes}
 use Rattle.sa_records.specs.declared.mc_member_record.McMemberRecord.{McMemberRecord}
 use Rattle.sa_records.specs.McMemberRecord.{mc_member_record_bytes}
+use Rattle.sa_records.specs.McMemberMask as member_mask
+use Rattle.sa_records.specs.PathMask as path_mask
 use Rattle.sa_records.specs.PathRecord.{path_record_bytes}
 use Rattle.subnet_model.specs.declared.subnet_port.SubnetPort.{SubnetPort}
 use Rattle.sa_model.specs.Examples.{many, ports}
@@ -61,24 +63,28 @@ group_asked guid q_key p_key = record {
   proxy_join = false;
 }
 
+abbrev pub making_mask : ℕ
+making_mask =
+    member_mask.mgid + member_mask.port_gid + member_mask.q_key + member_mask.t_class + member_mask.p_key + member_mask.sl + member_mask.flow_label + member_mask.join_state
+
 -- the first port makes a group, by all that this takes; another joins it; and each may leave it
 abbrev pub making : ℕ → ℕ → List ℕ
-making guid p_key = asking (header_of 2 1 56) no_rmpp 78023 (mc_member_record_bytes (group_asked guid 0x1234 p_key))
+making guid p_key = asking (header_of 2 1 56) no_rmpp making_mask (mc_member_record_bytes (group_asked guid 0x1234 p_key))
 
 -- one group more than a partition has MLIDs for
 abbrev pub making_another : List ℕ
 making_another =
-    asking (header_of 2 1 56) no_rmpp 78023 (mc_member_record_bytes (record (group_asked 0x111 0x1234 0x8001) { mgid = group_mgid + 32 }))
+    asking (header_of 2 1 56) no_rmpp making_mask (mc_member_record_bytes (record (group_asked 0x111 0x1234 0x8001) { mgid = group_mgid + 32 }))
 
 abbrev pub joining : ℕ → ℕ → List ℕ
-joining guid p_key = asking (header_of 2 2 56) no_rmpp 65667 (mc_member_record_bytes (group_asked guid 0 p_key))
+joining guid p_key = asking (header_of 2 2 56) no_rmpp (member_mask.mgid + member_mask.port_gid + member_mask.p_key + member_mask.join_state) (mc_member_record_bytes (group_asked guid 0 p_key))
 
 abbrev pub leaving : ℕ → List ℕ
-leaving guid = asking (header_of 21 3 56) no_rmpp 65539 (mc_member_record_bytes (group_asked guid 0 0))
+leaving guid = asking (header_of 21 3 56) no_rmpp (member_mask.mgid + member_mask.port_gid + member_mask.join_state) (mc_member_record_bytes (group_asked guid 0 0))
 
 -- a Get of a path, and a GetTable of all nodes
 abbrev pub path_wanted : List ℕ
-path_wanted = asking (header_of 1 7 53) no_rmpp 12 (path_record_bytes (path_asked 0x121 0x111 0 0 0))
+path_wanted = asking (header_of 1 7 53) no_rmpp (path_mask.dgid + path_mask.sgid) (path_record_bytes (path_asked 0x121 0x111 0 0 0))
 
 abbrev pub nodes_wanted : ℕ → List ℕ
 nodes_wanted transaction = asking (header_of 18 transaction 17) no_rmpp 0 []

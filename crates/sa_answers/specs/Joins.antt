@@ -10,6 +10,7 @@ use Rattle.sa_records.specs.declared.mc_member_record.McMemberRecord.{McMemberRe
 use Rattle.sa_records.specs.Component.{satisfies}
 use Rattle.sa_records.specs.Speed.{rate_satisfies}
 use Rattle.sa_records.specs.McMemberRecord.{mc_member_record_bytes, mc_member_record_selected}
+use Rattle.sa_records.specs.McMemberMask as member_mask
 use Rattle.subnet_model.specs.declared.subnet_port.SubnetPort.{SubnetPort}
 use Rattle.sa_model.specs.JoinState.{JoinState}
 use Rattle.sa_model.specs.Groups.{GroupParameters, Membership, MulticastGroup, PartitionGroups}
@@ -64,33 +65,38 @@ is_join_state bits = nat_le 1 bits && nat_lt bits 8
 
 abbrev pub join_questions : SubnetPort → ℕ → McMemberRecord → List Question
 join_questions own mask asked =
-    refused_if (not (asks mask 65667)) InsufficientComponents
+    refused_if (not (asks mask (member_mask.mgid + member_mask.port_gid + member_mask.p_key + member_mask.join_state))) InsufficientComponents
     ∷ refused_if (not (asked.port_gid == gid_of own.guid)) InvalidGid
     ∷ refused_if (not (is_multicast asked.mgid)) RequestInvalid
     ∷ refused_if (not (is_in own (base_of asked.p_key))) RequestInvalid
     ∷ refused_if (not (is_join_state asked.join_state)) RequestInvalid
-    ∷ refused_if (asks mask 131072 && asked.proxy_join) RequestInvalid
-    ∷ refused_if (asks_unknown_mtu mask 48 asked.mtu) RequestInvalid
-    ∷ refused_if (asks_unknown_rate mask 768 asked.rate) RequestInvalid
+    ∷ refused_if (asks mask member_mask.proxy_join && asked.proxy_join) RequestInvalid
+    ∷ refused_if (asks_unknown_mtu mask member_mask.mtu asked.mtu) RequestInvalid
+    ∷ refused_if (asks_unknown_rate mask member_mask.rate asked.rate) RequestInvalid
     ∷ []
 
 -- to a group that is there: all else that is asked agrees with it, but for MLID and ProxyJoin
+abbrev pub compared : ℕ
+compared =
+    member_mask.q_key + member_mask.mtu + member_mask.t_class + member_mask.rate + member_mask.packet_life_time + member_mask.sl + member_mask.flow_label + member_mask.hop_limit
+    + member_mask.scope
+
 abbrev pub agrees_with : ℕ → McMemberRecord → ℕ → MulticastGroup → Bool
 agrees_with mask asked base group =
-    mc_member_record_selected (bit_and mask 65396) (group_record_of (record { base = base; group = group })) asked
+    mc_member_record_selected (bit_and mask compared) (group_record_of (record { base = base; group = group })) asked
 
 -- to one that is not: it takes the greatest MTU, rate and life time that we have and that satisfies what is asked
 abbrev pub mtu_taken : ℕ → McMemberRecord → Option ℕ
 mtu_taken mask asked =
-    find (λ mtu. not (asks mask 48) || satisfies asked.mtu_selector mtu asked.mtu) (4 ∷ 3 ∷ 2 ∷ 1 ∷ [])
+    find (λ mtu. not (asks mask member_mask.mtu) || satisfies asked.mtu_selector mtu asked.mtu) (4 ∷ 3 ∷ 2 ∷ 1 ∷ [])
 
 abbrev pub rate_taken : ℕ → McMemberRecord → Option ℕ
 rate_taken mask asked =
-    find (λ rate. not (asks mask 768) || rate_satisfies asked.rate_selector rate asked.rate) (3 ∷ 5 ∷ 2 ∷ [])
+    find (λ rate. not (asks mask member_mask.rate) || rate_satisfies asked.rate_selector rate asked.rate) (3 ∷ 5 ∷ 2 ∷ [])
 
 abbrev pub life_taken : ℕ → McMemberRecord → Option ℕ
 life_taken mask asked =
-    find (λ life. not (asks mask 3072) || satisfies asked.packet_life_time_selector life asked.packet_life_time) (18 ∷ [])
+    find (λ life. not (asks mask member_mask.packet_life_time) || satisfies asked.packet_life_time_selector life asked.packet_life_time) (18 ∷ [])
 
 abbrev pub or_zero : Option ℕ → ℕ
 or_zero (Some n) = n
@@ -106,8 +112,8 @@ parameters_asked mask asked = record {
   packet_life_time = or_zero (life_taken mask asked);
   service_level = asked.sl;
   flow_label = asked.flow_label;
-  hop_limit = if asks mask 16384 then asked.hop_limit else 0;
-  scope = if asks mask 32768 then asked.scope else asked.mgid / 2 ^ 112 % 16;
+  hop_limit = if asks mask member_mask.hop_limit then asked.hop_limit else 0;
+  scope = if asks mask member_mask.scope then asked.scope else asked.mgid / 2 ^ 112 % 16;
 }
 
 abbrev pub join_asked : SubnetPort → ℕ → McMemberRecord → Join
@@ -126,7 +132,7 @@ has_free_mlid base partitions = list_any (λ partition. (partition.base == base)
 abbrev pub founding_by : List SubnetPort → SubnetPort → ℕ → McMemberRecord → Bool → List Question
 founding_by ports own mask asked has_free =
     refused_if (not (may_create ports (join_asked own mask asked))) RequestInvalid
-    ∷ refused_if (not (asks mask 12356)) InsufficientComponents
+    ∷ refused_if (not (asks mask (member_mask.q_key + member_mask.t_class + member_mask.sl + member_mask.flow_label))) InsufficientComponents
     ∷ refused_if (is_none (mtu_taken mask asked)) RequestInvalid
     ∷ refused_if (is_none (rate_taken mask asked)) RequestInvalid
     ∷ refused_if (is_none (life_taken mask asked)) RequestInvalid
@@ -161,7 +167,7 @@ join_outcome ports own state mask asked =
 abbrev pub leave_asked : SubnetPort → ℕ → McMemberRecord → Leave
 leave_asked own mask asked = record {
   port = own.guid;
-  base = if asks mask 128 then Some (base_of asked.p_key) else None;
+  base = if asks mask member_mask.p_key then Some (base_of asked.p_key) else None;
   mgid = asked.mgid;
   join_state = join_state_of asked.join_state;
 }
@@ -182,10 +188,10 @@ takes_some leave partitions =
 -- MGID, PortGID and JoinState are required, and some bit has to be taken
 abbrev pub leaving_by : SubnetPort → ℕ → McMemberRecord → Bool → List Question
 leaving_by own mask asked takes =
-    refused_if (not (asks mask 65539)) InsufficientComponents
+    refused_if (not (asks mask (member_mask.mgid + member_mask.port_gid + member_mask.join_state))) InsufficientComponents
     ∷ refused_if (not (asked.port_gid == gid_of own.guid)) InvalidGid
     ∷ refused_if (asked.join_state == 0) RequestInvalid
-    ∷ refused_if (asks mask 128 && not (is_in own (base_of asked.p_key))) RequestInvalid
+    ∷ refused_if (asks mask member_mask.p_key && not (is_in own (base_of asked.p_key))) RequestInvalid
     ∷ refused_if (not takes) RequestInvalid
     ∷ []
 

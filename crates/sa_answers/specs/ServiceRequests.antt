@@ -1,5 +1,5 @@
 -- What a Set and a Delete of a ServiceRecord do (InfiniBand volume 1, 15.2.2 and 15.2.5.14).
-use Rattle.std.specs.Prelude.{ℕ, ◌==◌, not, if◌then◌else◌, List, [], ◌∷◌, map, filter, replicate, Result, Ok}
+use Rattle.std.specs.Prelude.{ℕ, ◌+◌, ◌==◌, not, if◌then◌else◌, List, [], ◌∷◌, map, filter, replicate, Result, Ok}
 use Rattle.std.specs.List.{flat_map, list_any}
 use Rattle.mad_layout.specs.Bits.{field}
 use Rattle.mad_layout.specs.Layout.{at, put_all}
@@ -8,6 +8,7 @@ use Rattle.mad_layout.specs.declared.status.MadStatus.TheVariants.{RequestInvali
 use Rattle.pkey_rules.specs.PKey.{base_of}
 use Rattle.sa_records.specs.declared.service_record.ServiceRecord.{ServiceRecord}
 use Rattle.sa_records.specs.ServiceRecord.{service_record_bytes, service_data_asked}
+use Rattle.sa_records.specs.ServiceMask as service_mask
 use Rattle.subnet_model.specs.declared.subnet_port.SubnetPort.{SubnetPort}
 use Rattle.sa_requests.specs.Services.{Service, PortServices}
 use Rattle.sa_requests.specs.ServiceChange.{Deed, ServiceChange, is_place, has_id, has_room, services_changed}
@@ -28,8 +29,8 @@ numbers_asked mask numbers =
 abbrev pub service_asked : ℕ → ServiceRecord → Service
 service_asked mask asked = record {
   service_id = asked.service_id;
-  lease = if asks mask 16 then asked.service_lease else 0;
-  name = if asks mask 64 then asked.service_name else replicate 64 0;
+  lease = if asks mask service_mask.service_lease then asked.service_lease else 0;
+  name = if asks mask service_mask.service_name then asked.service_name else replicate 64 0;
   numbers = numbers_asked mask asked.service_data;
 }
 
@@ -39,7 +40,7 @@ change_asked own asked deed = record { port = own.guid; base = base_of asked.ser
 -- ---- why it is refused. ServiceID, ServiceGID and ServiceP_Key are required
 abbrev pub owner_questions : SubnetPort → ℕ → ServiceRecord → List Question
 owner_questions own mask asked =
-    refused_if (not (asks mask 7)) InsufficientComponents
+    refused_if (not (asks mask (service_mask.service_id + service_mask.service_gid + service_mask.service_p_key))) InsufficientComponents
     ∷ refused_if (not (asked.service_gid == gid_of own.guid)) InvalidGid
     ∷ refused_if (not (is_in own (base_of asked.service_p_key))) RequestInvalid
     ∷ []

@@ -1,6 +1,7 @@
 -- Requests over the four adapters of the examples of groups and services, and over two more that share two partitions.
-use Rattle.std.specs.Prelude.{ℕ, false, List, [], ◌∷◌, replicate}
+use Rattle.std.specs.Prelude.{ℕ, ◌+◌, false, List, [], ◌∷◌, replicate}
 use Rattle.sa_records.specs.declared.path_record.PathRecord.{PathRecord}
+use Rattle.sa_records.specs.PathMask as path_mask
 use Rattle.subnet_model.specs.declared.subnet_port.SubnetPort.{SubnetPort}
 use Rattle.sa_model.specs.Groups.{Creator, start_of}
 use Rattle.sa_model.specs.Examples.{adapter, ports, nobody, with_broadcast_group, parameters}
@@ -86,22 +87,22 @@ path_asked from to rate_selector rate most = record {
 
 -- by DGID and SGID
 abbrev pub path_between : ℕ → ℕ → Query
-path_between from to = Query.for_paths 12 (path_asked from to 0 0 0)
+path_between from to = Query.for_paths (path_mask.dgid + path_mask.sgid) (path_asked from to 0 0 0)
 
 -- by DGID alone, and by SGID alone
 abbrev pub path_to : ℕ → Query
-path_to to = Query.for_paths 4 (path_asked 0 to 0 0 0)
+path_to to = Query.for_paths path_mask.dgid (path_asked 0 to 0 0 0)
 
 abbrev pub paths_from : ℕ → Query
-paths_from from = Query.for_paths 8 (path_asked from 0 0 0 0)
+paths_from from = Query.for_paths path_mask.sgid (path_asked from 0 0 0 0)
 
 -- by DGID and SGID, and by RateSelector with Rate
 abbrev pub path_of_rate : ℕ → ℕ → Query
-path_of_rate selector rate = Query.for_paths 786444 (path_asked 0x121 0x111 selector rate 0)
+path_of_rate selector rate = Query.for_paths (path_mask.dgid + path_mask.sgid + path_mask.rate) (path_asked 0x121 0x111 selector rate 0)
 
 -- by SGID and NumbPath
 abbrev pub few_paths_from : ℕ → ℕ → Query
-few_paths_from from most = Query.for_paths 4104 (path_asked from 0 0 0 most)
+few_paths_from from most = Query.for_paths (path_mask.sgid + path_mask.numb_path) (path_asked from 0 0 0 most)
 
 -- ---- what may come of them
 abbrev pub under : SubnetPort → SubnetPort → ℕ → Path

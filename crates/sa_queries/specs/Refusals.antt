@@ -3,6 +3,8 @@ use Rattle.std.specs.Prelude.{ℕ, Bool, not, ◌==◌, ◌&&◌, nat_le, if◌t
 use Rattle.mad_layout.specs.declared.status.MadStatus.{MadStatus}
 use Rattle.mad_layout.specs.declared.status.MadStatus.TheVariants.{RequestInvalid, InvalidGid, InsufficientComponents}
 use Rattle.sa_records.specs.declared.path_record.PathRecord.{PathRecord}
+use Rattle.sa_records.specs.McMemberMask as member_mask
+use Rattle.sa_records.specs.PathMask as path_mask
 use Rattle.subnet_model.specs.declared.subnet_port.SubnetPort.{SubnetPort}
 use Rattle.sa_queries.specs.Gid.{gid_of}
 use Rattle.sa_queries.specs.Selected.{Query, asks}
@@ -36,15 +38,15 @@ asks_unknown_rate mask bits code = asks mask bits && not (is_rate_code code)
 -- ---- paths are asked for by who sends
 -- neither SGID nor SLID
 abbrev pub has_no_sender : ℕ → Bool
-has_no_sender mask = not (asks mask 8) && not (asks mask 32)
+has_no_sender mask = not (asks mask path_mask.sgid) && not (asks mask path_mask.slid)
 
 -- another port's SGID
 abbrev pub has_foreign_sgid : SubnetPort → ℕ → PathRecord → Bool
-has_foreign_sgid own mask asked = asks mask 8 && not (asked.sgid == gid_of own.guid)
+has_foreign_sgid own mask asked = asks mask path_mask.sgid && not (asked.sgid == gid_of own.guid)
 
 -- NumbPath 0
 abbrev pub wants_no_path : ℕ → PathRecord → Bool
-wants_no_path mask asked = asks mask 4096 && (asked.numb_path == 0)
+wants_no_path mask asked = asks mask path_mask.numb_path && (asked.numb_path == 0)
 
 -- ---- the questions of each kind
 abbrev pub questions : SubnetPort → Query → List Question
@@ -53,12 +55,12 @@ questions own (Query.for_paths mask asked) =
     refused_if (has_no_sender mask) InsufficientComponents
     ∷ refused_if (has_foreign_sgid own mask asked) InvalidGid
     ∷ refused_if (wants_no_path mask asked) RequestInvalid
-    ∷ refused_if (asks_unknown_mtu mask 196608 asked.mtu) RequestInvalid
-    ∷ refused_if (asks_unknown_rate mask 786432 asked.rate) RequestInvalid
+    ∷ refused_if (asks_unknown_mtu mask path_mask.mtu asked.mtu) RequestInvalid
+    ∷ refused_if (asks_unknown_rate mask path_mask.rate asked.rate) RequestInvalid
     ∷ []
 questions own (Query.for_groups mask asked) =
-    refused_if (asks_unknown_mtu mask 48 asked.mtu) RequestInvalid
-    ∷ refused_if (asks_unknown_rate mask 768 asked.rate) RequestInvalid
+    refused_if (asks_unknown_mtu mask member_mask.mtu asked.mtu) RequestInvalid
+    ∷ refused_if (asks_unknown_rate mask member_mask.rate asked.rate) RequestInvalid
     ∷ []
 questions own (Query.for_services mask asked) = []
 

@@ -7,6 +7,7 @@ use Rattle.sa_records.specs.declared.mc_member_record.McMemberRecord.{McMemberRe
 use Rattle.sa_records.specs.declared.service_record.ServiceRecord.{ServiceRecord}
 use Rattle.sa_records.specs.NodeRecord.{node_record_selected}
 use Rattle.sa_records.specs.PathRecord.{path_record_selected}
+use Rattle.sa_records.specs.PathMask as path_mask
 use Rattle.sa_records.specs.McMemberRecord.{mc_member_record_selected}
 use Rattle.sa_records.specs.ServiceRecord.{service_record_selected}
 use Rattle.subnet_model.specs.declared.subnet_port.SubnetPort.{SubnetPort}
@@ -50,7 +51,7 @@ few_paths most mask asked own other = at_most most (paths_selected mask asked (p
 -- as many as NumbPath says, where it is asked
 abbrev pub paths_wanted : Query → Option ℕ
 paths_wanted (Query.for_nodes mask asked) = None
-paths_wanted (Query.for_paths mask asked) = if asks mask 4096 then Some asked.numb_path else None
+paths_wanted (Query.for_paths mask asked) = if asks mask path_mask.numb_path then Some asked.numb_path else None
 paths_wanted (Query.for_groups mask asked) = None
 paths_wanted (Query.for_services mask asked) = None
 

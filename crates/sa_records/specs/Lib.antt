@@ -3,5 +3,8 @@ pub mod Asked
 pub mod Speed
 pub mod NodeRecord
 pub mod PathRecord
+pub mod PathMask
 pub mod McMemberRecord
+pub mod McMemberMask
 pub mod ServiceRecord
+pub mod ServiceMask

@@ -1,5 +1,5 @@
 -- Commands to the ports of the examples of groups, and what they bring.
-use Rattle.std.specs.Prelude.{ℕ, List, [], ◌∷◌, replicate, take}
+use Rattle.std.specs.Prelude.{ℕ, ◌+◌, List, [], ◌∷◌, replicate, take}
 use Rattle.std.specs.List.{flat_map}
 use Rattle.mad_layout.specs.Bits.{number}
 use Rattle.subnet_model.specs.declared.command.Command.{Command}
@@ -10,6 +10,7 @@ use Rattle.subnet_model.specs.Configuration.{Configured}
 use Rattle.subnet_model.specs.Report.{events_from, state_from, step_by}
 use Rattle.sa_model.specs.Examples.{adapter, configuration}
 use Rattle.sa_records.specs.ServiceRecord.{service_record_bytes}
+use Rattle.sa_records.specs.ServiceMask as service_mask
 use Rattle.sa_queries.specs.Gid.{gid_of}
 use Rattle.sa_answers.specs.Examples.{asking, header_of}
 use Rattle.sa_answers.specs.Reply.{no_rmpp}
@@ -25,10 +26,14 @@ send_mad guid mad = Send (record { port_guid = guid; dlid = 1; p_key = 0x7fff; d
 abbrev pub send_to_group : ℕ → ℕ → Command
 send_to_group guid p_key = Send (record { port_guid = guid; dlid = 0xc020; p_key = p_key; destination_qp = 7; payload = 1 ∷ [] })
 
+abbrev pub setting_mask : ℕ
+setting_mask =
+    service_mask.service_id + service_mask.service_gid + service_mask.service_p_key + service_mask.service_key + service_mask.service_name
+
 -- a service of the port, and a GetTable of all services, and of all groups
 abbrev pub setting : ℕ → List ℕ
 setting guid =
-    asking (header_of 2 10 49) no_rmpp 103
+    asking (header_of 2 10 49) no_rmpp setting_mask
     (service_record_bytes (record {
       service_id = 1;
       service_gid = gid_of guid;

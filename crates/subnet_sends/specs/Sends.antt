@@ -1,4 +1,5 @@
--- What comes of a command to send, by what the ports and switches of a fabric hold (InfiniBand volume 1, chapter 14).
+-- What comes of a command to send, and of one to ask, by what the ports and switches of a fabric hold (InfiniBand volume
+-- 1, chapter 14).
 use Rattle.std.specs.Prelude.{ℕ, ◌≡◌, Bool, true, false, List, [], ◌∷◌, map, Some, Result, Ok, Err}
 use Rattle.data_packet.specs.declared.packet.Packet.{Packet}
 use Rattle.data_packet.specs.declared.refusal.Refusal.{Refusal}

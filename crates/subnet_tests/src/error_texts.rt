@@ -3,6 +3,9 @@
 use data_packet::Refusal;
 use partition_file::{PartFault, PartitionCause};
 use pkey_rules::{InvalidBase, PushRefusal};
+use std::alloc::Global;
+use std::fmt::Display;
+use std::process::Abort;
 use std::test::Fail;
 use subnet_core::{RunFault, ScriptCause, StepFault};
 use subnet_model::NodeName;
@@ -109,93 +112,108 @@ const REFUSALS: [(Refusal, &str); 4] = [
     ),
 ];
 
+/// It says this text.
+fn says(rt: &impl Abort, alloc: Global, it: &impl Display, text: &str) -> Result<(), Fail> {
+    let told = format!(in alloc; "{it}")?;
+    assert_eq!(rt; told.as_str(), text);
+    Ok(())
+}
+
+/// It says this text behind a line's number.
+fn says_at_7(
+    rt: &impl Abort,
+    alloc: Global,
+    it: &impl Display,
+    kind: &str,
+    text: &str,
+) -> Result<(), Fail> {
+    let line = format!(in alloc; "{kind}line 7: {text}")?;
+    says(rt, alloc, it, &line)
+}
+
 #[test]
 fn a_fault_of_a_topology_tells_its_line_and_cause(rt: HostRuntime) -> Result<(), Fail> {
-    let alloc = rt.alloc();
     for (cause, text) in TOPOLOGIES {
-        let told = format!(in alloc; "{}", TopoFault::At { line: 7, cause })?;
-        assert_eq!(rt; told, format!(in alloc; "line 7: {text}")?);
-        let told = format!(in alloc; "{}", RunFault::Topology { line: 7, cause })?;
-        assert_eq!(rt; told, format!(in alloc; "topology line 7: {text}")?);
+        says_at_7(&rt, rt.alloc(), &TopoFault::At { line: 7, cause }, "", text)?;
+        let fault = RunFault::Topology { line: 7, cause };
+        says_at_7(&rt, rt.alloc(), &fault, "topology ", text)?;
     }
     Ok(())
 }
 
 #[test]
 fn a_fault_of_partitions_tells_its_line_and_cause(rt: HostRuntime) -> Result<(), Fail> {
-    let alloc = rt.alloc();
     for (cause, text) in PARTITIONS {
-        let told = format!(in alloc; "{}", PartFault::At { line: 7, cause })?;
-        assert_eq!(rt; told, format!(in alloc; "line 7: {text}")?);
-        let told = format!(in alloc; "{}", RunFault::Partitions { line: 7, cause })?;
-        assert_eq!(rt; told, format!(in alloc; "partitions line 7: {text}")?);
+        says_at_7(&rt, rt.alloc(), &PartFault::At { line: 7, cause }, "", text)?;
+        let fault = RunFault::Partitions { line: 7, cause };
+        says_at_7(&rt, rt.alloc(), &fault, "partitions ", text)?;
+    }
+    Ok(())
+}
+
+#[test]
+fn a_fault_of_a_script_tells_its_line_and_cause(rt: HostRuntime) -> Result<(), Fail> {
+    for (cause, text) in SCRIPTS {
+        let fault = RunFault::Script { line: 7, cause };
+        says_at_7(&rt, rt.alloc(), &fault, "script ", text)?;
     }
     Ok(())
 }
 
 #[test]
 fn a_fault_of_a_fabric_tells_its_cause(rt: HostRuntime) -> Result<(), Fail> {
-    let told = format!(in rt.alloc(); "{}", RunFault::Sweep(SweepFault::TooManyHops))?;
-    assert_eq!(rt; told.as_str(), "a cable is more than 63 hops away");
+    let too_far = RunFault::Sweep(SweepFault::TooManyHops);
+    says(
+        &rt,
+        rt.alloc(),
+        &too_far,
+        "a cable is more than 63 hops away",
+    )?;
     let no_path = RunFault::NoLegalPath {
         switch: NodeName::new(b"R1"),
         node: NodeName::new(b"h1"),
         number: 1,
     };
-    let told = format!(in rt.alloc(); "{no_path}")?;
-    assert_eq!(rt;
-        told.as_str(),
-        "no legal path leads from a switch to a port"
-    );
-    Ok(())
-}
-
-#[test]
-fn a_fault_of_a_script_tells_its_line_and_cause(rt: HostRuntime) -> Result<(), Fail> {
-    let alloc = rt.alloc();
-    for (cause, text) in SCRIPTS {
-        let told = format!(in alloc; "{}", RunFault::Script { line: 7, cause })?;
-        assert_eq!(rt; told, format!(in alloc; "script line 7: {text}")?);
-    }
-    Ok(())
+    says(
+        &rt,
+        rt.alloc(),
+        &no_path,
+        "no legal path leads from a switch to a port",
+    )
 }
 
 #[test]
 fn a_refusal_tells_its_cause(rt: HostRuntime) -> Result<(), Fail> {
-    let alloc = rt.alloc();
     for (refusal, text) in REFUSALS {
-        assert_eq!(rt; format!(in alloc; "{refusal}")?.as_str(), text);
+        says(&rt, rt.alloc(), &refusal, text)?;
     }
-    let base = format!(in alloc; "{}", InvalidBase)?;
-    assert_eq!(rt; base.as_str(), "a partition key has a base other than 0");
-    let full = format!(in alloc; "{}", PushRefusal::Full)?;
-    assert_eq!(rt; full.as_str(), "the table has no free place");
-    let twice = format!(in alloc; "{}", PushRefusal::DuplicateBase)?;
-    assert_eq!(rt;
-        twice.as_str(),
-        "the table holds a key of this partition already"
-    );
     Ok(())
+}
+
+const PUSH_REFUSALS: [(PushRefusal, &str); 2] = [
+    (PushRefusal::Full, "the table has no free place"),
+    (
+        PushRefusal::DuplicateBase,
+        "the table holds a key of this partition already",
+    ),
+];
+
+#[test]
+fn a_key_that_is_refused_tells_why(rt: HostRuntime) -> Result<(), Fail> {
+    for (refusal, text) in PUSH_REFUSALS {
+        says(&rt, rt.alloc(), &refusal, text)?;
+    }
+    let text = "a partition key has a base other than 0";
+    says(&rt, rt.alloc(), &InvalidBase, text)
 }
 
 #[test]
 fn want_of_memory_is_told_as_such(rt: HostRuntime) -> Result<(), Fail> {
-    let alloc = rt.alloc();
     let text = "out of memory";
-    assert_eq!(rt;
-        format!(in alloc; "{}", TopoFault::NoMemory)?.as_str(),
-        text
-    );
-    assert_eq!(rt;
-        format!(in alloc; "{}", PartFault::NoMemory)?.as_str(),
-        text
-    );
-    assert_eq!(rt; format!(in alloc; "{}", RunFault::NoMemory)?.as_str(), text);
-    assert_eq!(rt;
-        format!(in alloc; "{}", StepFault::NoMemory)?.as_str(),
-        text
-    );
-    let broken = format!(in alloc; "{}", StepFault::Broken)?;
-    assert_eq!(rt; broken.as_str(), "memory was refused in an earlier step");
-    Ok(())
+    says(&rt, rt.alloc(), &TopoFault::NoMemory, text)?;
+    says(&rt, rt.alloc(), &PartFault::NoMemory, text)?;
+    says(&rt, rt.alloc(), &RunFault::NoMemory, text)?;
+    says(&rt, rt.alloc(), &StepFault::NoMemory, text)?;
+    let text = "memory was refused in an earlier step";
+    says(&rt, rt.alloc(), &StepFault::Broken, text)
 }

@@ -1,8 +1,4 @@
-ghost use Rattle.std.specs.Prelude.{◌≤◌, length};
-
-use attr_tables::SmpAttribute;
-use example_texts::{ONE_PARTITION_FILE, TWO_SWITCHES};
-use fabric_wire::{Fabric, get_attribute};
+use example_texts::TWO_SWITCHES;
 use std::alloc::Global;
 use std::process::Abort;
 use std::test::Fail;
@@ -82,31 +78,4 @@ fn a_subnet_that_ran_out_of_memory_is_broken(rt: HostRuntime) -> Result<(), Fail
             Ok(())
         }
     }
-}
-
-/// What a Get tells of the node at the end of a path.
-fn told(fabric: &mut Fabric, attribute: SmpAttribute, path: &[u8]) -> Result<[u8; 64], Fail>
-    requires short { length path.now ≤ 63 }
-{
-    Ok(get_attribute(fabric, 1, attribute, 0, path).or(Err("a Get"))?)
-}
-
-/// The fabric that a subnet keeps, under a file with one partition.
-fn kept_fabric(alloc: Global) -> Result<Fabric, Fail> {
-    let subnet = bring_up(
-        alloc,
-        TWO_SWITCHES.as_bytes(),
-        Some(ONE_PARTITION_FILE.as_bytes()),
-    )?;
-    Ok(subnet.into_parts().1)
-}
-
-#[test]
-fn the_agents_of_a_subnet_hold_its_keys_and_its_ways(rt: HostRuntime) -> Result<(), Fail> {
-    let mut fabric = kept_fabric(rt.alloc())?;
-    let keys_of_h1 = told(&mut fabric, SmpAttribute::PKeyTable, &[1, 2])?;
-    assert!(rt; keys_of_h1.starts_with(&[0x7f, 0xff, 0x80, 0x01, 0, 0]));
-    let ways_of_b = told(&mut fabric, SmpAttribute::LinearForwardingTable, &[1, 3])?;
-    assert!(rt; ways_of_b.starts_with(&[0xff, 3, 3, 0, 3, 1, 2, 0xff]));
-    Ok(())
 }

@@ -12,5 +12,5 @@ mod plain;
 pub use crate::chance::Chance;
 pub use crate::fabrics::{fabric_of, fabric_over, two_switch_fabric};
 pub use crate::fat_tree::fat_tree_of;
-pub use crate::lines::{put, put_line};
+pub use crate::lines::{put, put_cable, put_line};
 pub use crate::plain::{plain_wire_of, two_switch_wire};

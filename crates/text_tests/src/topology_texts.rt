@@ -1,5 +1,7 @@
 use example_texts::TWO_SWITCHES;
 use fabric_parts::{Cable, NodeType, PortRef};
+use std::alloc::Global;
+use std::process::Abort;
 use std::test::Fail;
 use topo_file::{TopoFault, Topology, is_connected, read};
 
@@ -91,11 +93,18 @@ const THROUGH_AN_ADAPTER: [Cable; 2] = [
     },
 ];
 
+fn are_joined_by_switches(rt: &impl Abort, alloc: Global, topology: &Topology) -> Result<(), Fail> {
+    for (cables, joined) in [
+        (topology.cables(), true),
+        (THROUGH_AN_ADAPTER.as_slice(), false),
+    ] {
+        assert_eq!(rt; is_connected(alloc, topology.nodes(), cables)?, joined);
+    }
+    Ok(())
+}
+
 #[test]
 fn cables_between_switches_alone_join_switches(rt: HostRuntime) -> Result<(), Fail> {
     let topology = read(rt.alloc(), TWO_SWITCHES.as_bytes())?;
-    let nodes = topology.nodes();
-    assert!(rt; is_connected(rt.alloc(), nodes, topology.cables())?);
-    assert!(rt; !is_connected(rt.alloc(), nodes, &THROUGH_AN_ADAPTER)?);
-    Ok(())
+    are_joined_by_switches(&rt, rt.alloc(), &topology)
 }

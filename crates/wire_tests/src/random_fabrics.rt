@@ -6,41 +6,20 @@ use mad_layout::Mad;
 use std::alloc::Global;
 use std::process::Abort;
 use std::test::Fail;
-use test_fabrics::{Chance, fabric_over, plain_wire_of};
+use test_fabrics::{Chance, fabric_over, plain_wire_of, put, put_cable, put_line};
 use topo_file::{Topology, read};
 
-/// Adds a name or a number of which the last digit is that one.
-fn put(text: &mut Vec<u8>, start: &[u8], digit: u8) -> Result<(), Fail> {
-    text.extend_from_slice(start).ok().ok_or("memory")?;
-    text.push(digit.wrapping_add(b'0')).ok().ok_or("memory")?;
-    Ok(())
-}
-
-fn put_cable(text: &mut Vec<u8>, ends: [(&[u8], u8, u8); 2]) -> Result<(), Fail> {
-    text.extend_from_slice(b"cable").ok().ok_or("memory")?;
-    for (kind, node, port) in ends {
-        put(text, kind, node)?;
-        put(text, b"/", port)?;
-    }
-    text.push(b'\n').ok().ok_or("memory")?;
-    Ok(())
-}
-
-/// The text of a fabric of up to 3 switches and 4 adapters. Switch i is cabled to one before it; adapter
-/// i has a port on one switch, and now and then its other port on the next.
+/// The text of a fabric of up to 3 switches and 4 adapters. Switch i is cabled to one before it; adapter i has a port on one
+/// switch, and now and then its other port on the next.
 fn fabric_text(alloc: Global, chance: &mut Chance) -> Result<Vec<u8>, Fail> {
     let switches = 1 + chance.below(3);
     let adapters = 1 + chance.below(4);
     let mut text = Vec::new(alloc);
-    for i in 0..switches {
-        put(&mut text, b"switch s", i)?;
-        put(&mut text, b" 0x", i + 1)?;
-        text.extend_from_slice(b"00 8\n").ok().ok_or("memory")?;
+    for i in 0..u16::from(switches) {
+        put_line(&mut text, &[(b"switch s", i), (b" 1", i)], b" 8\n")?;
     }
-    for i in 0..adapters {
-        put(&mut text, b"adapter h", i)?;
-        put(&mut text, b" 0x", i + 1)?;
-        text.extend_from_slice(b"000 2\n").ok().ok_or("memory")?;
+    for i in 0..u16::from(adapters) {
+        put_line(&mut text, &[(b"adapter h", i), (b" 2", i)], b"0 2\n")?;
     }
     for i in 1..switches {
         let parent = chance.below(i);
@@ -53,7 +32,7 @@ fn fabric_text(alloc: Global, chance: &mut Chance) -> Result<Vec<u8>, Fail> {
             put_cable(&mut text, [(b" s", on + 1, 3 + i), (b" h", i, 2)])?;
         }
     }
-    text.extend_from_slice(b"sm h0/1\n").ok().ok_or("memory")?;
+    put(&mut text, b"sm h000/1\n")?;
     Ok(text)
 }
 

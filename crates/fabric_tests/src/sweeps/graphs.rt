@@ -8,7 +8,7 @@ use std::alloc::Global;
 use std::process::Abort;
 use std::test::Fail;
 use sweep::{Graph, GraphSwitch, Path};
-use test_fabrics::{Chance, fabric_over, put, put_line};
+use test_fabrics::{Chance, fabric_over, put, put_cable, put_line};
 use topo_file::{Node, Topology, read};
 
 /// A port of a switch of the topology, as the graph names it: the switch by its place there.
@@ -157,19 +157,6 @@ fn rings_parallel_cables_and_second_ports_are_found(rt: HostRuntime) -> Result<(
         is_swept(&rt, rt.alloc(), text.as_bytes())?;
     }
     Ok(())
-}
-
-/// Adds a cable between ports of two kinds of node.
-fn put_cable(text: &mut Vec<u8>, ends: [(&[u8], u8, u8); 2]) -> Result<(), Fail> {
-    put(text, b"cable")?;
-    for (kind, node, port) in ends {
-        put_line(
-            text,
-            &[(kind, u16::from(node)), (b"/", u16::from(port))],
-            b"",
-        )?;
-    }
-    put(text, b"\n")
 }
 
 /// The text of a fabric of up to 6 switches and 5 adapters. Switch i is cabled to one before it, by port i of

@@ -1,5 +1,6 @@
-use crate::key_table::{KeyTable, PushRefusal};
-use crate::p_key::{InvalidBase, PKey};
+//! Partition keys, and the tables in which ports hold them.
+
+use pkey_rules::{InvalidBase, KeyTable, PKey, PushRefusal};
 use std::test::Fail;
 
 #[test]
