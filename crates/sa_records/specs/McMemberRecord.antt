@@ -5,6 +5,7 @@ use Rattle.mad_layout.specs.Layout.{Field, at, put_all}
 use Rattle.sa_records.specs.declared.mc_member_record.McMemberRecord.{McMemberRecord}
 use Rattle.sa_records.specs.Component.{Component, on, is_selected, same_bit, same_base, satisfies}
 use Rattle.sa_records.specs.Asked.{Asked, by}
+use Rattle.sa_records.specs.McMemberMask as member_mask
 use Rattle.sa_records.specs.Speed.{rate_satisfies}
 
 abbrev pub mc_member_record : McMemberRecord → List Field
@@ -36,21 +37,21 @@ mc_member_record_bytes one = put_all (replicate 56 0) (mc_member_record one)
 -- the components by which groups are asked for
 abbrev pub mc_member_record_components : McMemberRecord → McMemberRecord → List Component
 mc_member_record_components shown asked =
-    on 1 (shown.mgid == asked.mgid)
-    ∷ on 2 (shown.port_gid == asked.port_gid)
-    ∷ on 4 (shown.q_key == asked.q_key)
-    ∷ on 8 (shown.mlid == asked.mlid)
-    ∷ on 48 (satisfies asked.mtu_selector shown.mtu asked.mtu)
-    ∷ on 64 (shown.t_class == asked.t_class)
-    ∷ on 128 (same_base shown.p_key asked.p_key)
-    ∷ on 768 (rate_satisfies asked.rate_selector shown.rate asked.rate)
-    ∷ on 3072 (satisfies asked.packet_life_time_selector shown.packet_life_time asked.packet_life_time)
-    ∷ on 4096 (shown.sl == asked.sl)
-    ∷ on 8192 (shown.flow_label == asked.flow_label)
-    ∷ on 16384 (shown.hop_limit == asked.hop_limit)
-    ∷ on 32768 (shown.scope == asked.scope)
-    ∷ on 65536 (shown.join_state == asked.join_state)
-    ∷ on 131072 (same_bit shown.proxy_join asked.proxy_join)
+    on member_mask.mgid (shown.mgid == asked.mgid)
+    ∷ on member_mask.port_gid (shown.port_gid == asked.port_gid)
+    ∷ on member_mask.q_key (shown.q_key == asked.q_key)
+    ∷ on member_mask.mlid (shown.mlid == asked.mlid)
+    ∷ on member_mask.mtu (satisfies asked.mtu_selector shown.mtu asked.mtu)
+    ∷ on member_mask.t_class (shown.t_class == asked.t_class)
+    ∷ on member_mask.p_key (same_base shown.p_key asked.p_key)
+    ∷ on member_mask.rate (rate_satisfies asked.rate_selector shown.rate asked.rate)
+    ∷ on member_mask.packet_life_time (satisfies asked.packet_life_time_selector shown.packet_life_time asked.packet_life_time)
+    ∷ on member_mask.sl (shown.sl == asked.sl)
+    ∷ on member_mask.flow_label (shown.flow_label == asked.flow_label)
+    ∷ on member_mask.hop_limit (shown.hop_limit == asked.hop_limit)
+    ∷ on member_mask.scope (shown.scope == asked.scope)
+    ∷ on member_mask.join_state (shown.join_state == asked.join_state)
+    ∷ on member_mask.proxy_join (same_bit shown.proxy_join asked.proxy_join)
     ∷ []
 
 unfoldable pub mc_member_record_selected : ℕ → McMemberRecord → McMemberRecord → Bool

@@ -5,6 +5,7 @@ use Rattle.mad_layout.specs.Layout.{Field, at, put_all}
 use Rattle.sa_records.specs.declared.path_record.PathRecord.{PathRecord}
 use Rattle.sa_records.specs.Component.{Component, on, is_selected, same_bit, same_base, satisfies}
 use Rattle.sa_records.specs.Asked.{Asked, by}
+use Rattle.sa_records.specs.PathMask as path_mask
 use Rattle.sa_records.specs.Speed.{rate_satisfies}
 
 abbrev pub path_record : PathRecord → List Field
@@ -40,20 +41,20 @@ path_record_bytes one = put_all (replicate 64 0) (path_record one)
 -- record: NumbPath says how many are wanted
 abbrev pub path_record_components : PathRecord → PathRecord → List Component
 path_record_components shown asked =
-    on 4 (shown.dgid == asked.dgid)
-    ∷ on 8 (shown.sgid == asked.sgid)
-    ∷ on 16 (shown.dlid == asked.dlid)
-    ∷ on 32 (shown.slid == asked.slid)
-    ∷ on 64 (same_bit shown.raw_traffic asked.raw_traffic)
-    ∷ on 256 (shown.flow_label == asked.flow_label)
-    ∷ on 512 (shown.hop_limit == asked.hop_limit)
-    ∷ on 1024 (shown.t_class == asked.t_class)
-    ∷ on 8192 (same_base shown.p_key asked.p_key)
-    ∷ on 16384 (shown.qos_class == asked.qos_class)
-    ∷ on 32768 (shown.sl == asked.sl)
-    ∷ on 196608 (satisfies asked.mtu_selector shown.mtu asked.mtu)
-    ∷ on 786432 (rate_satisfies asked.rate_selector shown.rate asked.rate)
-    ∷ on 3145728 (satisfies asked.packet_life_time_selector shown.packet_life_time asked.packet_life_time)
+    on path_mask.dgid (shown.dgid == asked.dgid)
+    ∷ on path_mask.sgid (shown.sgid == asked.sgid)
+    ∷ on path_mask.dlid (shown.dlid == asked.dlid)
+    ∷ on path_mask.slid (shown.slid == asked.slid)
+    ∷ on path_mask.raw_traffic (same_bit shown.raw_traffic asked.raw_traffic)
+    ∷ on path_mask.flow_label (shown.flow_label == asked.flow_label)
+    ∷ on path_mask.hop_limit (shown.hop_limit == asked.hop_limit)
+    ∷ on path_mask.t_class (shown.t_class == asked.t_class)
+    ∷ on path_mask.p_key (same_base shown.p_key asked.p_key)
+    ∷ on path_mask.qos_class (shown.qos_class == asked.qos_class)
+    ∷ on path_mask.sl (shown.sl == asked.sl)
+    ∷ on path_mask.mtu (satisfies asked.mtu_selector shown.mtu asked.mtu)
+    ∷ on path_mask.rate (rate_satisfies asked.rate_selector shown.rate asked.rate)
+    ∷ on path_mask.packet_life_time (satisfies asked.packet_life_time_selector shown.packet_life_time asked.packet_life_time)
     ∷ []
 
 unfoldable pub path_record_selected : ℕ → PathRecord → PathRecord → Bool
@@ -72,7 +73,7 @@ path_record_asked =
     ∷ by (codes "hop") 512 376 8
     ∷ by (codes "tclass") 1024 384 8
     ∷ by (codes "rev") 2048 392 1
-    ∷ by (codes "numb") 4096 393 7
+    ∷ by (codes "numb") path_mask.numb_path 393 7
     ∷ by (codes "pkey") 8192 400 16
     ∷ by (codes "qos") 16384 416 12
     ∷ by (codes "sl") 32768 428 4

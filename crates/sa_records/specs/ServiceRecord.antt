@@ -6,6 +6,7 @@ use Rattle.sa_records.specs.declared.service_record.ServiceRecord.{ServiceRecord
 use Rattle.std.specs.Str.{bytes_eq}
 use Rattle.sa_records.specs.Component.{Component, on, is_selected, same_base, same_part}
 use Rattle.sa_records.specs.Asked.{Asked, by}
+use Rattle.sa_records.specs.ServiceMask as service_mask
 
 abbrev pub service_record : ServiceRecord → List Field
 service_record one =
@@ -36,12 +37,12 @@ service_record_bytes one = put_all (replicate 176 0) (service_record one)
 -- ServiceName
 abbrev pub names_components : ServiceRecord → ServiceRecord → List Component
 names_components shown asked =
-    on 1 (shown.service_id == asked.service_id)
-    ∷ on 2 (shown.service_gid == asked.service_gid)
-    ∷ on 4 (same_base shown.service_p_key asked.service_p_key)
-    ∷ on 16 (shown.service_lease == asked.service_lease)
-    ∷ on 32 (shown.service_key == asked.service_key)
-    ∷ on 64 (bytes_eq shown.service_name asked.service_name)
+    on service_mask.service_id (shown.service_id == asked.service_id)
+    ∷ on service_mask.service_gid (shown.service_gid == asked.service_gid)
+    ∷ on service_mask.service_p_key (same_base shown.service_p_key asked.service_p_key)
+    ∷ on service_mask.service_lease (shown.service_lease == asked.service_lease)
+    ∷ on service_mask.service_key (shown.service_key == asked.service_key)
+    ∷ on service_mask.service_name (bytes_eq shown.service_name asked.service_name)
     ∷ []
 
 unfoldable pub names_selected : ℕ → ServiceRecord → ServiceRecord → Bool
