@@ -21,7 +21,7 @@ small_bytes (x ∷ xs) h =
     let less : x < 256 = grind (arith, nat_tests, one) in
     (less, small_bytes xs parts.1)
 
-block_long : (size block : ℕ) (table : List ℕ) → 0 < size → has_block size block table ≡ true → length (block_of size block table) ≡ size
+pub block_long : (size block : ℕ) (table : List ℕ) → 0 < size → has_block size block table ≡ true → length (block_of size block table) ≡ size
 unfolding block_of
 block_long size block table some there =
     let within = block_within size block table some there in

@@ -1,13 +1,13 @@
 -- What records and blocks spell fills an attribute.
-use Rattle.std.proofs.Common.{◌≡◌, ℕ, zero, suc, ◌*◌, ◌^◌, ◌<◌, List, [], ◌∷◌, length, replicate, refl, ◌∙◌, ap, arith, length-append}
+use Rattle.std.proofs.Common.{◌≡◌, ℕ, ◌*◌, ◌^◌, ◌<◌, List, [], ◌∷◌, length, replicate, refl, ◌∙◌, ap, arith, length-append}
 use Rattle.std.specs.Int.{bytes_high_first}
 use Rattle.std.specs.Int.Digits.{AllBelowBase}
 use Rattle.std.specs.List.{flat_map}
 use Rattle.std.proofs.lemmas.List.{length-replicate}
 use Rattle.byteorder.specs.Numbers.{length-bytes_high_first}
-use Rattle.mad_layout.specs.Bits.{number, put_field}
+use Rattle.mad_layout.specs.Bits.{number}
 use Rattle.mad_layout.specs.Layout.{Field, put_all}
-use Rattle.mad_layout.proofs.LayoutLemmas.{length-put_all, put_below}
+use Rattle.mad_layout.proofs.LayoutLemmas.{length-put_all, spelled_below}
 use Rattle.mad_layout.proofs.NumberLemmas.{below_append, below_bytes, number_below}
 use Rattle.attr_tables.specs.declared.node_info.NodeInfo.{NodeInfo}
 use Rattle.attr_tables.specs.declared.port_info.PortInfo.{PortInfo}
@@ -19,20 +19,11 @@ use Rattle.attr_tables.specs.NodeInfo.{node_info, node_info_bytes}
 use Rattle.attr_tables.specs.PortInfo.{port_info, port_info_bytes}
 use Rattle.attr_tables.specs.SwitchInfo.{switch_info, switch_info_bytes}
 
--- bytes over which fields were put
-all_below : (ps : List Field) (xs : List ℕ) → AllBelowBase 256 xs → AllBelowBase 256 (put_all xs ps)
-all_below [] xs below = below
-all_below (p ∷ ps) xs below = all_below ps (put_field xs p.off p.len p.value) (put_below xs p.off p.len p.value)
-
-zeros_below : (n : ℕ) → AllBelowBase 256 (replicate n 0)
-zeros_below zero = tt
-zeros_below (suc n) = (omega arith, zeros_below n)
-
 spelled : (ps : List Field) → IsAttribute (put_all (replicate 64 0) ps)
 spelled ps =
     record {
       count = length-put_all (replicate 64 0) ps ∙ length-replicate {A = ℕ} 64 0;
-      small = all_below ps (replicate 64 0) (zeros_below 64);
+      small = spelled_below ps 64;
     }
 
 node_info_is : (info : NodeInfo) → IsAttribute (node_info_bytes info)

@@ -1,4 +1,4 @@
-use crate::fixtures::bytes_from;
+use crate::fixtures::{bytes_from, filled};
 use agent_rules::{Link, node_info_of, port_info_at_power_up, switch_info_at_power_up};
 use attr_tables::{
     BlockPlace, Mtu, NodeDescription, NodeInfo, PortBlock, PortInfo, PortPhysicalState, PortState,
@@ -59,7 +59,7 @@ const SWITCH: [u8; 17] = [
 
 #[test]
 fn a_switch_at_power_up(rt: HostRuntime) {
-    let bytes = bytes_from(0, &SWITCH);
+    let bytes = filled(&SWITCH);
     let info = switch_info_at_power_up();
     let mut written = [0xff; 64];
     info.write(&mut written);
@@ -112,7 +112,7 @@ const NODES: [([u8; 40], (NodeType, u8, u64, u64, u8), [u8; 2]); 2] = [
 #[test]
 fn nodes_say_what_they_are(rt: HostRuntime) {
     for (bytes, (node_type, num_ports, node_guid, port_guid, port), _) in NODES {
-        let attribute = bytes_from(0, &bytes);
+        let attribute = filled(&bytes);
         let info = node_info_of(node_type, num_ports, node_guid, port_guid, port);
         assert_eq!(rt; NodeInfo::read(&attribute), info);
         assert_eq!(rt; info.node_type(), Some(node_type));
@@ -125,7 +125,7 @@ fn nodes_say_what_they_are(rt: HostRuntime) {
 #[test]
 fn nodes_have_names(rt: HostRuntime) {
     for (_, _, name) in NODES {
-        let attribute = bytes_from(0, &name);
+        let attribute = filled(&name);
         let description = NodeDescription::of_text(&name);
         assert_eq!(rt; NodeDescription::read(&attribute), description);
         let mut written = [0xff; 64];
@@ -146,7 +146,7 @@ const WORDS: [([u8; 4], (u16, u16)); 4] = [
 #[test]
 fn blocks_of_keys_and_masks_read_and_write(rt: HostRuntime) {
     for (bytes, (first, second)) in WORDS {
-        let attribute = bytes_from(0, &bytes);
+        let attribute = filled(&bytes);
         let mut words = [0; 32];
         words[0] = first;
         words[1] = second;

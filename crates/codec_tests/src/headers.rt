@@ -1,4 +1,4 @@
-use crate::fixtures::bytes_from;
+use crate::fixtures::{bytes_from, filled};
 use bitflags::Flags;
 use mad_layout::{DrSmp, Header, Mad, MadStatus, Method, RmppFlags, RmppHeader, RmppKind, SaMad};
 
@@ -93,7 +93,7 @@ const MAD_HEADERS: [([u8; 24], Header, Option<Method>, Option<MadStatus>); 3] = 
 #[test]
 fn mad_headers_read_and_write(rt: HostRuntime) {
     for (bytes, header, method, status) in MAD_HEADERS {
-        let mad = bytes_from(0, &bytes);
+        let mad = filled(&bytes);
         let read = Header::read(&mad);
         assert_eq!(rt; read, header);
         assert_eq!(rt; read.method(), method);

@@ -1,12 +1,13 @@
 -- The cables of a topology in DOT, as edges with the numbers of the ports at both ends. DOT draws the first end of an edge
 -- above the second where they are not in one row, so that each row of switches stands below that of the rank before, and
 -- adapters stand below their switches.
-use Rattle.std.specs.Prelude.{ℕ, Bool, true, false, nat_lt, if◌then◌else◌, List, [], ◌++◌, codes, decimal, slice_get, Option, Some, None}
-use Rattle.std.specs.Option.{option_and_then, option_map_or}
+use Rattle.std.specs.Prelude.{ℕ, Bool, true, false, nat_lt, if◌then◌else◌, List, ◌++◌, codes, decimal, slice_get, Option, Some, None}
+use Rattle.std.specs.Option.{option_and_then}
 use Rattle.fabric_graph.specs.Nodes.{quoted}
 use Rattle.fabric_graph.specs.Ranks.{rank_of}
 use Rattle.fabric_parts.specs.declared.cable.Cable.{Cable}
 use Rattle.topo_file.specs.declared.node.Node.{Node}
+use Rattle.topo_file.specs.Node.{name_at}
 use Rattle.updn_routes.specs.Subnet.{SubnetRoutes}
 
 -- ---- which end is first
@@ -27,9 +28,6 @@ downward routes nodes cable =
     else cable
 
 -- ---- its line
-abbrev pub name_at : List Node → ℕ → List ℕ
-name_at nodes place = option_map_or (λ node. node.name) (slice_get nodes place) []
-
 abbrev pub ends : List Node → Cable → List ℕ
 ends nodes cable = quoted (name_at nodes cable.first.node) ++ codes " -- " ++ quoted (name_at nodes cable.second.node)
 

@@ -1,14 +1,14 @@
 //! The cables of a topology, as edges.
 
 ghost use Rattle.std.specs.Prelude.{◌≡◌, ◌++◌, OnOk};
-ghost use Rattle.fabric_graph.specs.Cables.{cable_line, downward, edge_line, end_label, end_labels, ends, is_above, name_at, rank_at};
+ghost use Rattle.fabric_graph.specs.Cables.{cable_line, downward, edge_line, end_label, end_labels, ends, is_above, rank_at};
 
 use crate::nodes::push_quoted;
 use crate::ranks::rank_of;
 use fabric_parts::Cable;
 use line_parts::push_decimal;
 use std::alloc::AllocError;
-use topo_file::Node;
+use topo_file::{Node, name_at};
 use updn_routes::Routes;
 
 /// Adds the edge of a cable.
@@ -73,16 +73,6 @@ fn push_ends(text: &mut Vec<u8>, nodes: &[Node], cable: Cable) -> Result<(), All
     push_quoted(text, name_at(nodes, cable.first.node))?;
     text.extend_from_slice(b" -- ")?;
     push_quoted(text, name_at(nodes, cable.second.node))
-}
-
-/// The name of the node there.
-fn name_at(nodes: &[Node], place: usize) -> &[u8]
-    ensures { result.now ≡ name_at nodes.now place }
-{
-    match nodes.get(place) {
-        Some(node) => node.name.as_bytes(),
-        None => &[],
-    }
 }
 
 /// Adds the numbers of the ports at both ends.

@@ -1,8 +1,11 @@
 -- Ports of nodes, and the cables between them.
-use Rattle.std.specs.Prelude.{Bool, ◌==◌, ◌&&◌, ◌||◌, List, Option, option_map, find, if◌then◌else◌}
+use Rattle.std.specs.Prelude.{ℕ, Bool, ◌==◌, ◌&&◌, ◌||◌, List, Option, option_map, find, if◌then◌else◌}
 use Rattle.std.specs.List.{list_any}
 use Rattle.fabric_parts.specs.declared.cable.Cable.{Cable}
 use Rattle.fabric_parts.specs.declared.cable.PortRef.{PortRef}
+
+abbrev pub port : ℕ → ℕ → PortRef
+port node number = record { node = node; port = number }
 
 abbrev pub is_same_port : PortRef → PortRef → Bool
 is_same_port a b = (a.node == b.node) && (a.port == b.port)

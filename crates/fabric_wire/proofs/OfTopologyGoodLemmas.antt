@@ -3,13 +3,13 @@ use Rattle.std.proofs.Common.{ℕ, zero, suc, ◌≡◌, ◌≤◌, ◌+◌, ◌
 use Rattle.std.specs.List.{All, list_all, list_any, range_with_len, IsDistinct}
 use Rattle.std.specs.Str.{bytes_eq}
 use Rattle.std.proofs.lemmas.Bool.{and_from, and_left, and_parts, eq-eqb, not_from_false, not-true, or_from}
-use Rattle.std.proofs.lemmas.Bool.Decides.{nat_tests}
 use Rattle.std.proofs.Math.Bool.{or_assoc}
 use Rattle.std.proofs.lemmas.List.FromFn.{length-map-range_with_len}
 use Rattle.std.proofs.lemmas.Map.Keys.{IsDistinct-tail}
 use Rattle.agent_rules.specs.declared.power_up.TheConstants.{LINEAR_TABLE, MULTICAST_TABLE}
 use Rattle.attr_tables.specs.Attribute.{IsAttribute}
 use Rattle.std.proofs.lemmas.List.Elements.{All-cons, All-nil}
+use Rattle.result_words.proofs.TestLemmas.{same_either_way}
 use Rattle.port_model.specs.Good.{IsGoodPort}
 use Rattle.port_model.proofs.AgentLemmas.{new_ports_good}
 use Rattle.switch_model.proofs.GoodLemmas.{new_switches_good}
@@ -102,11 +102,8 @@ all_right built nodes (cable ∷ cables) ends joins =
     and_from (is_right (nodes_from built 0 nodes) cable) _ (right_there built nodes cable one.0 two.0) (all_right built nodes cables one.1 two.1)
 
 -- ---- no port has two cables
-same_back : (m n : ℕ) → (m == n) ≡ (n == m)
-same_back m n = grind (arith, nat_tests)
-
 port_back : (one other : PortRef) → is_same_port one other ≡ is_same_port other one
-port_back one other = rw (same_back one.node other.node, same_back one.port other.port) refl
+port_back one other = rw (same_either_way one.node other.node, same_either_way one.port other.port) refl
 
 ends_are : (port : PortRef) (cables : List Cable) → list_any (is_same_port port) (flat_map ends_of cables) ≡ is_cabled cables port
 ends_are port [] = refl

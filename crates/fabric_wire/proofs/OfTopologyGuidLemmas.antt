@@ -7,6 +7,7 @@ use Rattle.std.proofs.lemmas.List.Concat.{flat_map_single}
 use Rattle.std.proofs.lemmas.List.Elements.{recursion_from_All}
 use Rattle.std.proofs.lemmas.List.Folds.{flat_map-map, list_all-append, list_any-append}
 use Rattle.std.proofs.lemmas.Map.Keys.{IsDistinct-tail}
+use Rattle.result_words.proofs.ListLemmas.{list_all_weaker}
 use Rattle.fabric_parts.specs.declared.cable.Cable.{Cable}
 use Rattle.topo_file.specs.declared.node.Node.{Node as PlannedNode}
 use Rattle.fabric_parts.specs.declared.node_type.NodeType.{NodeType}
@@ -47,12 +48,6 @@ none_is guid first last [] out all = refl
 none_is guid first last (other ∷ guids) out all =
     let parts = and_parts (is_in first last other) _ all in
     or_from (guid == other) _ (other_guid guid first last other out parts.0) (none_is guid first last guids out parts.1)
-
-pub all_weaker : {X : Type 0} (p q : X → Bool) (xs : List X) → ((x : X) → p x ≡ true → q x ≡ true) → list_all p xs ≡ true → list_all q xs ≡ true
-all_weaker p q [] each all = refl
-all_weaker p q (x ∷ xs) each all =
-    let parts = and_parts (p x) (list_all p xs) all in
-    and_from (q x) _ (each x parts.0) (all_weaker p q xs each parts.1)
 
 differ_both : (xs ys : List ℕ) → differ xs ≡ true → differ ys ≡ true
     → list_all (λ x. not (list_any (λ y. x == y) ys)) xs ≡ true → differ (xs ++ ys) ≡ true
@@ -102,8 +97,8 @@ all_different of first (node ∷ nodes) own sized apart =
     let later = all_guids of (first + 1) nodes in
     let here = own first node sizes.0 in
     differ_both (of first node) later here.different (all_different of (first + 1) nodes own sizes.1 (IsDistinct-tail shares_guid node nodes apart))
-    (all_weaker (is_in node.guid (last_guid node)) (λ guid. not (list_any (λ other. guid == other) later)) (of first node)
-    (λ guid is. not_from_false _ (none_later of (first + 1) nodes node guid own sizes.1 (none_shares shares_guid node nodes apart) is)) here.within)
+    (list_all_weaker (is_in node.guid (last_guid node)) (λ guid. not (list_any (λ other. guid == other) later))
+    (λ guid is. not_from_false _ (none_later of (first + 1) nodes node guid own sizes.1 (none_shares shares_guid node nodes apart) is)) (of first node) here.within)
 
 right : (node : PlannedNode) (guid : ℕ) → is_sized node ≡ true → HasGuids node → is_in node.guid (last_guid node) guid ≡ true
     → is_guid guid ≡ true
@@ -121,7 +116,7 @@ all_right of first (node ∷ nodes) own sized has =
     let sizes = and_parts (is_sized node) _ sized in
     list_all-append is_guid (of first node) (all_guids of (first + 1) nodes)
     ∙ and_from (list_all is_guid (of first node)) _
-    (all_weaker (is_in node.guid (last_guid node)) is_guid (of first node) (λ guid is. right node guid sizes.0 has.0 is) (own first node sizes.0).within)
+    (list_all_weaker (is_in node.guid (last_guid node)) is_guid (λ guid is. right node guid sizes.0 has.0 is) (of first node) (own first node sizes.0).within)
     (all_right of (first + 1) nodes own sizes.1 has.1)
 
 guids_of : (of : ℕ → PlannedNode → List ℕ) (nodes : List PlannedNode) → HaveOwn of → list_all is_sized nodes ≡ true → All HasGuids nodes

@@ -14,17 +14,13 @@ use Rattle.port_model.specs.AdapterState.{AdapterState}
 use Rattle.switch_model.specs.SwitchState.{port_at_power_up, ports_from}
 use Rattle.switch_model.proofs.PortLemmas.{ports_have_links}
 use Rattle.fabric_parts.specs.declared.cable.Cable.{Cable}
-use Rattle.fabric_parts.specs.declared.cable.PortRef.{PortRef}
 use Rattle.topo_file.specs.declared.node.Node.{Node as PlannedNode}
 use Rattle.fabric_parts.specs.declared.node_type.NodeType.TheVariants as node_type
-use Rattle.fabric_parts.specs.Cable.{is_cabled}
+use Rattle.fabric_parts.specs.Cable.{is_cabled, port}
 use Rattle.smp_wire.specs.Good.{port_info_at}
 use Rattle.fabric_wire.specs.Laws.{TopologiesShowLinks}
 use Rattle.fabric_wire.specs.OfTopology.{adapter_port_of, link_of, links_of, node_of, node_of_type}
 use Rattle.fabric_wire.proofs.OfTopologyLemmas.{node_at}
-
-abbrev port : ℕ → ℕ → PortRef
-port node number = record { node = node; port = number }
 
 -- the port is Down where it has no cable
 abbrev Shows : List Cable → ℕ → ℕ → PortInfo → Type 0

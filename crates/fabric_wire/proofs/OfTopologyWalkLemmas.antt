@@ -6,7 +6,7 @@ use Rattle.std.proofs.lemmas.Map.Keys.{IsDistinct-tail}
 use Rattle.fabric_parts.specs.declared.cable.Cable.{Cable}
 use Rattle.fabric_parts.specs.declared.cable.PortRef.{PortRef}
 use Rattle.topo_file.specs.declared.node.Node.{Node as PlannedNode}
-use Rattle.fabric_parts.specs.Cable.{ends_at, is_cabled, is_same_port, far_end, other_end}
+use Rattle.fabric_parts.specs.Cable.{ends_at, far_end, is_cabled, is_same_port, other_end, port}
 use Rattle.topo_file.specs.Connectivity.{is_walk, joins}
 use Rattle.topo_file.specs.Node.{is_switch_at as is_planned_at}
 use Rattle.topo_file.specs.Sound.{IsSound, joins_right, shares_port}
@@ -21,9 +21,6 @@ use Rattle.smp_wire.proofs.CableLemmas.{itself, same_port}
 use Rattle.fabric_wire.proofs.HopLemmas.{hop_is_far_end}
 use Rattle.fabric_wire.proofs.OfTopologyGoodLemmas.{all_right}
 use Rattle.fabric_wire.proofs.OfTopologyLemmas.{free_ends, nodes_from, switch_there}
-
-abbrev port : ℕ → ℕ → PortRef
-port node number = record { node = node; port = number }
 
 -- ---- out of one node by a cable to the next
 pub record GoesOut (cables : List Cable) (a next : ℕ) : Type 0 where

@@ -4,6 +4,7 @@ use Rattle.fabric_parts.specs.declared.cable.Cable.{Cable}
 use Rattle.fabric_parts.specs.declared.cable.PortRef.{PortRef}
 use Rattle.topo_file.specs.declared.node.Node.{Node}
 use Rattle.fabric_parts.specs.declared.node_type.NodeType.TheVariants as node_type
+use Rattle.fabric_parts.specs.Cable.{port}
 use Rattle.topo_file.specs.Topology.{Plan}
 
 abbrev pub switch_of_four : List ℕ → ℕ → Node
@@ -11,9 +12,6 @@ switch_of_four name guid = record { name = name; node_type = node_type.Switch; g
 
 abbrev pub adapter_of_one : List ℕ → ℕ → Node
 adapter_of_one name guid = record { name = name; node_type = node_type.ChannelAdapter; guid = guid; ports = 1 }
-
-abbrev pub port : ℕ → ℕ → PortRef
-port node number = record { node = node; port = number }
 
 abbrev pub cable : PortRef → PortRef → Cable
 cable first second = record { first = first; second = second }

@@ -12,6 +12,7 @@ use Rattle.std.proofs.lemmas.Bool.Decides.{nat_tests}
 use Rattle.std.proofs.lemmas.List.Elements.{All-from_recursion}
 use Rattle.std.proofs.lemmas.List.Folds.{list_any_at}
 use Rattle.std.proofs.lemmas.List.Sorted.{list_any-IsPermutation, sum_by-IsPermutation}
+use Rattle.result_words.proofs.TestLemmas.{same_either_way}
 use Rattle.pkey_rules.specs.declared.end_port.EndPort.{EndPort}
 use Rattle.subnet_model.specs.EndPorts.{lid_of}
 use Rattle.sweep.specs.Graph.{GraphState, IsGraph, end_guids}
@@ -247,14 +248,11 @@ kept_distinct manager (x ∷ xs) h = by (is_other manager x) (kept_distinct mana
     by true later = (kept_apart manager x xs h.0, later)
     by false later = later
 
-either_way : (a b : ℕ) → (a == b) ≡ (b == a)
-either_way a b = grind (arith, nat_tests)
-
 pub sorted_rise : (manager : ℕ) (guids others : List ℕ) → IsDistinct (λ a b. a == b) guids → IsPermutation (filter (is_other manager) guids) others
     → IsSorted nat_cmp others → IsStrictlyIncreasing others
 sorted_rise manager guids others own moved sorted =
     IsStrictlyIncreasing-from_distinct others (IsNonDecreasingBy-from_sort (λ (x : ℕ). x) others sorted)
-    (IsDistinct-IsPermutation (λ a b. a == b) (λ a b. either_way a b) (filter (is_other manager) guids) others moved (kept_distinct manager guids own))
+    (IsDistinct-IsPermutation (λ a b. a == b) (λ a b. same_either_way a b) (filter (is_other manager) guids) others moved (kept_distinct manager guids own))
 
 -- ---- what `assign` makes
 count_all : (xs : List ℕ) → count_by (λ x. true) xs ≡ length xs

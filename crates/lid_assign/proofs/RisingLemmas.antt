@@ -10,6 +10,7 @@ use Rattle.std.proofs.lemmas.List.Folds.{list_any_none}
 use Rattle.std.proofs.lemmas.List.Kept.{AllPairs-from_increasing}
 use Rattle.std.proofs.lemmas.List.Sums.{position_or_len_is, sum_by-cons}
 use Rattle.result_words.proofs.PlaceLemmas.{list_any_place}
+use Rattle.result_words.proofs.ListLemmas.{all_above}
 
 abbrev pub Rises : List ℕ → Type 0
 Rises [] = Unit {0}
@@ -20,17 +21,13 @@ tail_rises x xs s = λ k h.
     let next : suc k + 1 ≡ suc (k + 1) = omega arith in
     subst (λ (j : ℕ). slice_index (x ∷ xs) (suc k) < slice_index (x ∷ xs) j) next (s (suc k) (omega (arith, h)))
 
-above : (x y : ℕ) (ys : List ℕ) → x < y → AllByRecursion (λ z. y < z) ys → AllByRecursion (λ z. x < z) ys
-above x y [] h k = tt
-above x y (z ∷ ys) h k = (omega (arith, h, k.0), above x y ys h k.1)
-
 pub rises : (xs : List ℕ) → IsStrictlyIncreasing xs → Rises xs
 rises [] s = tt
 rises (x ∷ []) s = (tt, tt)
 rises (x ∷ y ∷ ys) s =
     let first : x < y = s 0 (omega arith) in
     let rest = rises (y ∷ ys) (tail_rises x (y ∷ ys) s) in
-    ((first, above x y ys first rest.0), rest)
+    ((first, all_above x y ys first rest.0), rest)
 
 -- ---- counts
 pub counted : {X : Type 0} (p : X → Bool) (x : X) (xs : List X) → count_by p (x ∷ xs) ≡ cond (p x) 1 0 + count_by p xs

@@ -94,7 +94,7 @@ length-put_all xs [] = refl
 length-put_all xs (p ∷ ps) =
     length-put_all (put_field xs p.off p.len p.value) ps ∙ length-put_field xs p.off p.len p.value
 
-apart_parts : (off len : ℕ) (p : Field) → is_apart off len p ≡ true → (off + len ≤ p.off) ⊎ (p.off + p.len ≤ off)
+pub apart_parts : (off len : ℕ) (p : Field) → is_apart off len p ≡ true → (off + len ≤ p.off) ⊎ (p.off + p.len ≤ off)
 apart_parts off len p h =
     elim (or_cases (nat_le (off + len) p.off) (nat_le (p.off + p.len) off) h) [
       | inl before ↦ inl (leb-true (off + len) p.off before)
@@ -172,6 +172,18 @@ holds_both bytes (suc n) (p ∷ ps) front rest = (front.0, holds_both bytes n ps
 pub number_zeros : (n : ℕ) → number (replicate n 0) ≡ 0
 number_zeros zero = refl
 number_zeros (suc n) = let e = number_zeros n in number_cons 0 (replicate n 0) ∙ omega arith
+
+pub zeros_below : (n : ℕ) → AllBelowBase 256 (replicate n 0)
+zeros_below zero = tt
+zeros_below (suc n) = (omega arith, zeros_below n)
+
+-- and fields that were put over them
+pub spelled_below : (ps : List Field) (n : ℕ) → AllBelowBase 256 (put_all (replicate n 0) ps)
+spelled_below ps n = over ps (replicate n 0) (zeros_below n)
+  where
+    over : (ps : List Field) (xs : List ℕ) → AllBelowBase 256 xs → AllBelowBase 256 (put_all xs ps)
+    over [] xs below = below
+    over (p ∷ ps) xs below = over ps (put_field xs p.off p.len p.value) (put_below xs p.off p.len p.value)
 
 pub field_zeros : (n off len : ℕ) → field (replicate n 0) off len ≡ 0
 unfolding field

@@ -1,5 +1,5 @@
 -- A packet is accepted in its trace exactly where it is delivered.
-use Rattle.std.proofs.Common.{ℕ, zero, suc, ◌+◌, ◌*◌, ◌≡◌, ◌-◌, ◌==◌, ◌||◌, ◌<◌, ◌≤◌, ◌⊎◌, ◌∙◌, inl, inr, ap, refl, sym, subst, arith, Bool, true, false, is_some, if◌then◌else◌, List, [], ◌∷◌, ◌++◌, length, slice_get, Option, Some, None}
+use Rattle.std.proofs.Common.{ℕ, zero, suc, ◌+◌, ◌*◌, ◌≡◌, ◌-◌, ◌==◌, ◌||◌, ◌<◌, ◌⊎◌, ◌∙◌, inl, inr, ap, refl, sym, subst, arith, Bool, true, false, if◌then◌else◌, List, [], ◌∷◌, ◌++◌, length, slice_get, Option, Some, None}
 use Rattle.std.specs.List.{Contains, list_any, slice_index_or}
 use Rattle.std.specs.Option.{option_and_then, option_map_or}
 use Rattle.std.proofs.lemmas.List.Elements.{Contains-append_cases, Contains-append_right}
@@ -11,9 +11,8 @@ use Rattle.fabric_parts.specs.declared.cable.PortRef.{PortRef}
 use Rattle.packet_trace.specs.Laws.{TracesTellDeliveries}
 use Rattle.packet_trace.specs.Trace.{next_after, step, steps_from, steps_of, turn_after, turn_at, turn_by, turn_in, turn_of_fate}
 use Rattle.packet_trace.specs.declared.turn.Step.{Step}
-use Rattle.packet_trace.specs.declared.turn.Turn.{Turn}
 use Rattle.packet_trace.specs.declared.turn.Turn.TheVariants.{Accepts, DropsKey}
-use Rattle.packet_ways.proofs.WayLemmas.{adapter_stops, few_hops, from_next, no_longer, to_next}
+use Rattle.packet_ways.proofs.WayLemmas.{adapter_stops, few_hops, from_next, in_none, no_longer, to_next}
 use Rattle.packet_ways.specs.Deliveries.{Goes, IsDelivered, Passes, adapter_at, adapter_ports}
 use Rattle.packet_ways.specs.Unicast.{next_port, node_out_port}
 use Rattle.port_model.specs.AdapterState.{AdapterState}
@@ -24,7 +23,6 @@ use Rattle.smp_wire.specs.declared.node.Node.{Node}
 use Rattle.smp_wire.specs.declared.node.Node.TheVariants.{Switch, Adapter}
 use Rattle.switch_model.proofs.FateLemmas.{fates_tell_ways_out}
 use Rattle.switch_model.specs.Fate.{fate, way_out}
-use Rattle.switch_model.specs.Forwarding.{out_port}
 use Rattle.switch_model.specs.declared.fate.Fate.{Fate}
 use Rattle.switch_model.specs.declared.fate.Fate.TheVariants.{KeptOut, OverTop, NoPort, Taken, KeptIn, Leaves}
 
@@ -68,10 +66,6 @@ unfolding turn_at
 turns_lead fabric packet here = by_node fabric.cables packet here (slice_get fabric.nodes here.node)
 
 -- ---- ports of channel adapters
-in_none : (none : Bool) (place : ℕ) (port : AdapterState) → (if none then None else slice_get {X = AdapterState} [] place) ≡ Some port → ⊥
-in_none true place port is = cc
-in_none false place port is = cc
-
 by_port : (cables : List Cable) (packet : Packet) (at : PortRef) (port : AdapterState) (node : Option Node)
     → option_and_then (λ node. adapter_port (adapter_ports node) at.port) node ≡ Some port
     → option_map_or (turn_in cables packet at) node DropsKey ≡ turn_by packet port

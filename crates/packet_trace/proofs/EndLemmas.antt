@@ -1,11 +1,10 @@
 -- A trace has an end, at which the packet does not go out.
 use Rattle.std.proofs.Common.{ℕ, zero, suc, ◌+◌, ◌*◌, ◌≡◌, ◌||◌, ◌≤◌, ◌∙◌, not, ap, refl, sym, arith, Bool, true, false, if◌then◌else◌, List, [], ◌∷◌, ◌++◌, flat_map, length, slice_get, Option, Some, None}
-use Rattle.std.specs.Cmp.{IsEquivalence}
 use Rattle.std.specs.List.{list_any}
 use Rattle.std.specs.Option.{option_map_or}
 use Rattle.std.proofs.lemmas.Bool.{and_from, not_from_false}
-use Rattle.std.proofs.lemmas.Bool.Decides.{nat_tests}
 use Rattle.std.proofs.lemmas.Map.Made.{length-le_from_is_member}
+use Rattle.result_words.proofs.TestLemmas.{or_turned}
 use Rattle.data_packet.specs.declared.packet.Packet.{Packet}
 use Rattle.fabric_parts.specs.Cable.{far_end, is_same_port}
 use Rattle.fabric_parts.specs.declared.cable.Cable.{Cable}
@@ -17,7 +16,7 @@ use Rattle.packet_trace.specs.declared.turn.Turn.{Turn}
 use Rattle.packet_trace.specs.declared.turn.Turn.TheVariants.{Again, DropsInbound, DropsTop, DropsEntry, Takes, DropsOutbound, NoCable, GoesOut, Accepts, DropsKey}
 use Rattle.port_model.specs.AdapterState.{AdapterState}
 use Rattle.port_model.specs.Packets.{accepts_packet}
-use Rattle.smp_wire.proofs.CableLemmas.{far_is_end, itself, same_port}
+use Rattle.smp_wire.proofs.CableLemmas.{count_ends, far_is_end, ports_equiv, ports_turn}
 use Rattle.smp_wire.proofs.DistinctLemmas.{all_differ, distinct}
 use Rattle.smp_wire.specs.FabricState.{FabricState, adapter_port}
 use Rattle.smp_wire.specs.Good.{ends_of}
@@ -73,20 +72,6 @@ out_after fabric packet before here out true was told stops = let no = rw was at
 out_after fabric packet before here out false was told stops = out_at fabric packet here out (rw was at told) (rw was at stops)
 
 -- ---- ends of cables
-ports_turn : (a b : PortRef) → is_same_port a b ≡ is_same_port b a
-ports_turn a b = grind (arith, nat_tests)
-
-ports_equiv : IsEquivalence is_same_port
-ports_equiv = record {
-  refl = itself;
-  symm = ports_turn;
-  congr = λ a b c same. ap (λ (p : PortRef). is_same_port p c) (same_port a b same);
-}
-
-count_ends : (cables : List Cable) → length (flat_map ends_of cables) ≡ 2 * length cables
-count_ends [] = refl
-count_ends (cable ∷ cables) = let rest = count_ends cables in omega (arith, rest)
-
 module _ (cables : List Cable) where
   abbrev IsEnd : PortRef → Type 0
   IsEnd here = (p : PortRef) → is_same_port p here ≡ true → list_any (is_same_port p) (flat_map ends_of cables) ≡ true
@@ -122,12 +107,6 @@ module _ (cables : List Cable) where
   few seen differ are = rw (count_ends cables) at few_ends seen differ are
 
 -- ---- the ports to which it came
-either : (a b c : Bool) → (a || (b || c)) ≡ (b || (a || c))
-either true true c = refl
-either true false c = refl
-either false true c = refl
-either false false c = refl
-
 -- the ports of these steps are those
 abbrev AreAt : List Step → List PortRef → Type 0
 AreAt before seen = (p : PortRef) → list_any (λ one. is_same_port one.at p) before ≡ list_any (is_same_port p) seen
@@ -137,7 +116,7 @@ any_more : (before : List Step) (now : Step) (p : PortRef)
 any_more [] now p = ap (λ (b : Bool). b || false) (ports_turn now.at p)
 any_more (one ∷ before) now p =
     ap (λ (b : Bool). is_same_port one.at p || b) (any_more before now p)
-    ∙ either (is_same_port one.at p) (is_same_port p now.at) (list_any (λ one. is_same_port one.at p) before)
+    ∙ or_turned (is_same_port one.at p) (is_same_port p now.at) (list_any (λ one. is_same_port one.at p) before)
 
 at_more : (before : List Step) (seen : List PortRef) (now : Step) → AreAt before seen → AreAt (before ++ now ∷ []) (now.at ∷ seen)
 at_more before seen now are p = any_more before now p ∙ ap (λ (b : Bool). is_same_port p now.at || b) (are p)

@@ -1,5 +1,5 @@
 -- The way of a packet, as lines.
-use Rattle.std.specs.Prelude.{ℕ, List, [], ◌∷◌, ◌++◌, codes, decimal, flat_map, slice_get, Option, Result, Ok, Err}
+use Rattle.std.specs.Prelude.{ℕ, List, [], ◌∷◌, ◌++◌, codes, decimal, flat_map, Result, Ok, Err}
 use Rattle.std.specs.Int.{w16, to_be_bytes}
 use Rattle.std.specs.Option.{option_map_or}
 use Rattle.data_packet.specs.Refusal.{code_of}
@@ -18,12 +18,9 @@ use Rattle.port_model.specs.AdapterState.{AdapterState}
 use Rattle.port_model.specs.Packets.{stamped}
 use Rattle.smp_wire.specs.FabricState.{FabricState}
 use Rattle.topo_file.specs.declared.node.Node.{Node}
+use Rattle.topo_file.specs.Node.{name_at}
 
 -- ---- places
--- the nodes of a fabric stand as its topology lists them, and have their names there
-abbrev pub name_at : List Node → ℕ → List ℕ
-name_at nodes place = option_map_or (λ node. node.name) (slice_get nodes place) []
-
 -- a port of a channel adapter, as `h1/1`
 abbrev pub port_text : List Node → PortRef → List ℕ
 port_text nodes at = name_at nodes at.node ++ codes "/" ++ decimal at.port

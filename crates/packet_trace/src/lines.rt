@@ -2,7 +2,7 @@
 
 ghost use Rattle.std.specs.Prelude.{◌≡◌, ◌++◌, OnOk, IfOk, codes, decimal, flat_map};
 ghost use Rattle.std.specs.Option.{option_copied};
-ghost use Rattle.packet_trace.specs.Lines.{entry_text, name_at, place_text, port_text, refuses_line, stamps_line, step_line, text_from, trace_text, turn_text, way_text};
+ghost use Rattle.packet_trace.specs.Lines.{entry_text, place_text, port_text, refuses_line, stamps_line, step_line, text_from, trace_text, turn_text, way_text};
 ghost use Rattle.packet_trace.specs.declared.lines.TheConstants.{DATA_QP};
 ghost use Rattle.packet_ways.specs.Deliveries.{adapter_at};
 
@@ -14,7 +14,7 @@ use fabric_wire::{Fabric, Node};
 use line_parts::{push_decimal, push_hex};
 use port_model::AdapterPort;
 use std::alloc::{AllocError, Global};
-use topo_file::{Node as PlannedNode, Topology};
+use topo_file::{Topology, name_at};
 
 /// A queue pair for data: neither 0 nor 1, which are for management.
 const DATA_QP: u32 = 2;
@@ -188,16 +188,6 @@ fn push_entry(text: &mut Vec<u8>, topology: &Topology, at: PortRef) -> Result<()
     text.extend_from_slice(name_at(topology.nodes(), at.node))?;
     text.extend_from_slice(b" in ")?;
     push_decimal(text, usize::from(at.port))
-}
-
-/// The name of the node there.
-fn name_at(nodes: &[PlannedNode], place: usize) -> &[u8]
-    ensures { result.now ≡ name_at nodes.now place }
-{
-    match nodes.get(place) {
-        Some(node) => node.name.as_bytes(),
-        None => &[],
-    }
 }
 
 /// Adds `PORT stamps SLID DLID PKEY`.

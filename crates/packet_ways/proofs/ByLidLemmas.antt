@@ -25,6 +25,7 @@ use Rattle.packet_ways.specs.Deliveries.{Goes, IsDelivered, Passes, adapter_at, 
 use Rattle.packet_ways.specs.Forwards.{Follows, ForwardsByLid, IsCabledPort, Leads, entry_at, node_entry, switch_port_at}
 use Rattle.packet_ways.specs.Laws.{IsMeant, OtherLidsReachNobody, PacketsGoByLid}
 use Rattle.packet_ways.proofs.KeyLemmas.{HoldsFull, IsStamped, accepted_passes, held_passes, is_stamped}
+use Rattle.packet_ways.proofs.WayLemmas.{in_none}
 
 -- ---- a port of a switch
 record AtSwitch (nodes : List Node) (at : PortRef) : Type 0 where
@@ -55,10 +56,6 @@ port_there : (nodes : List Node) (at : PortRef) (here : AtSwitch nodes at) → s
 port_there nodes at here = rw (here.there) here.port_is
 
 -- ---- a port of a channel adapter
-in_none : (none : Bool) (place : ℕ) (port : AdapterState) → (if none then None else slice_get {X = AdapterState} [] place) ≡ Some port → ⊥
-in_none true place port is = cc
-in_none false place port is = cc
-
 no_switch_by : (found : Option Node) (number : ℕ) (port : AdapterState)
     → option_and_then (λ node. adapter_port (adapter_ports node) number) found ≡ Some port → option_map_or is_switch found false ≡ false
 no_switch_by None number port is = refl

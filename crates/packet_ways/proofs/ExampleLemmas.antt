@@ -17,7 +17,8 @@ use Rattle.smp_wire.specs.Good.{ends_of, is_right}
 use Rattle.smp_wire.specs.declared.node.Node.{Node}
 use Rattle.smp_wire.specs.declared.node.Node.TheVariants.{Switch, Adapter}
 use Rattle.packet_ways.specs.Deliveries.{adapter_at}
-use Rattle.packet_ways.specs.Forwards.{Follows, ForwardsByLid, Leads, entry_at, full_form, node_entry, switch_port_at}
+use Rattle.pkey_rules.specs.PKey.{full_form}
+use Rattle.packet_ways.specs.Forwards.{Follows, ForwardsByLid, Leads, entry_at, node_entry, switch_port_at}
 
 -- ---- the tests: of a port, the one at the far end of its cable, and a LID up to which entries count
 abbrev is_entry : Option ℕ → ℕ → Bool

@@ -10,11 +10,10 @@ use Rattle.data_packet.specs.declared.refusal.Refusal.TheVariants.{KeyNotHeld, P
 use Rattle.result_words.proofs.ListLemmas.{list_any_weaker}
 use Rattle.port_model.proofs.PacketLemmas.{holds_no_base_0}
 use Rattle.pkey_rules.specs.KeyTable.{accepts, holds}
-use Rattle.pkey_rules.specs.PKey.{base_of, matches}
+use Rattle.pkey_rules.specs.PKey.{base_of, full_form, matches}
 use Rattle.pkey_rules.specs.StoredKeys.{stored_keys}
 use Rattle.port_model.specs.AdapterState.{AdapterState}
 use Rattle.port_model.specs.Packets.{is_active, packet_from, refusal_of, stamped}
-use Rattle.packet_ways.specs.Forwards.{full_form}
 
 -- ---- keys
 base_some : (key : ℕ) (words : List ℕ) (b : Bool) → (base_of key == 0) ≡ b → holds key (stored_keys words) ≡ true → b ≡ false
@@ -23,7 +22,7 @@ base_some key words true is held =
     let nothing = holds_no_base_0 key words (λ other. other (eqb-true (base_of key) 0 is)) in
     absurd (none-some key (rw held at nothing))
 
-full_base : (key : ℕ) → base_of (full_form key) ≡ base_of key
+pub full_base : (key : ℕ) → base_of (full_form key) ≡ base_of key
 full_base key = omega arith
 
 full_matches : (key other : ℕ) → (base_of key == base_of other) ≡ true → (base_of key == 0) ≡ false → matches (full_form key) other ≡ true

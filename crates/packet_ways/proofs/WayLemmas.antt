@@ -1,8 +1,6 @@
 -- The way of a unicast packet: there is one, and one that ends is no longer than there are ends of cables.
 use Rattle.std.proofs.Common.{ℕ, ◌+◌, ◌-◌, ◌*◌, ◌≡◌, ◌<◌, ◌≤◌, ◌==◌, ◌∙◌, ap, refl, sym, subst, length-append, not, ◌||◌, Bool, true, false, List, [], ◌∷◌, ◌++◌, length, flat_map, slice_get, Option, Some, None, if◌then◌else◌, arith}
-use Rattle.std.specs.Cmp.{IsEquivalence}
 use Rattle.std.specs.List.{list_any}
-use Rattle.std.proofs.lemmas.Bool.Decides.{nat_tests}
 use Rattle.std.specs.Option.{option_and_then, option_map_or}
 use Rattle.std.proofs.lemmas.Bool.{and_from, eqb-true, eq-eqb, not_from_false}
 use Rattle.std.proofs.lemmas.Option.{same_Some}
@@ -13,7 +11,7 @@ use Rattle.fabric_parts.specs.declared.cable.PortRef.{PortRef}
 use Rattle.fabric_parts.specs.Cable.{far_end, is_same_port}
 use Rattle.port_model.specs.AdapterState.{AdapterState}
 use Rattle.switch_model.specs.Forwarding.{out_port}
-use Rattle.smp_wire.proofs.CableLemmas.{far_is_end, itself, same_port}
+use Rattle.smp_wire.proofs.CableLemmas.{count_ends, far_is_end, ports_equiv, same_port}
 use Rattle.smp_wire.proofs.DistinctLemmas.{all_differ, distinct}
 use Rattle.smp_wire.specs.FabricState.{adapter_port}
 use Rattle.smp_wire.specs.Good.{ends_of}
@@ -61,15 +59,15 @@ pub goes_one_way : UnicastGoesOneWay
 goes_one_way nodes cables packet here next = (to_next nodes cables packet here next, from_next nodes cables packet here next)
 
 -- ---- no channel adapter sends on
-no_port : (none : Bool) (place : ℕ) (port : AdapterState) → (if none then None else slice_get {X = AdapterState} [] place) ≡ Some port → ⊥
-no_port true place port is = cc
-no_port false place port is = cc
+pub in_none : (none : Bool) (place : ℕ) (port : AdapterState) → (if none then None else slice_get {X = AdapterState} [] place) ≡ Some port → ⊥
+in_none true place port is = cc
+in_none false place port is = cc
 
 node_stops : (found : Option Node) (number : ℕ) (packet : Packet) (port : AdapterState)
     → option_and_then (λ node. adapter_port (adapter_ports node) number) found ≡ Some port
     → option_and_then (λ node. node_out_port node number packet) found ≡ None
 node_stops None number packet port is = refl
-node_stops (Some (Switch held)) number packet port is = absurd (no_port (number == 0) (number - 1) port is)
+node_stops (Some (Switch held)) number packet port is = absurd (in_none (number == 0) (number - 1) port is)
 node_stops (Some (Adapter ports)) number packet port is = refl
 
 pub adapter_stops : (nodes : List Node) (cables : List Cable) (packet : Packet) (at : PortRef) (port : AdapterState)
@@ -77,21 +75,6 @@ pub adapter_stops : (nodes : List Node) (cables : List Cable) (packet : Packet) 
 adapter_stops nodes cables packet at port there =
     ap (option_and_then (λ out. far_end cables (record { node = at.node; port = out })))
     (node_stops (slice_get nodes at.node) at.port packet port there)
-
--- ---- ends of cables
-ports_turn : (a b : PortRef) → is_same_port a b ≡ is_same_port b a
-ports_turn a b = grind (arith, nat_tests)
-
-ports_equiv : IsEquivalence is_same_port
-ports_equiv = record {
-  refl = itself;
-  symm = ports_turn;
-  congr = λ a b c same. ap (λ (p : PortRef). is_same_port p c) (same_port a b same);
-}
-
-count_ends : (cables : List Cable) → length (flat_map ends_of cables) ≡ 2 * length cables
-count_ends [] = refl
-count_ends (cable ∷ cables) = let rest = count_ends cables in omega (arith, rest)
 
 -- ---- one way
 module _ (nodes : List Node) (cables : List Cable) (packet : Packet) where

@@ -7,7 +7,7 @@ use Rattle.fabric_parts.specs.declared.cable.Cable.{Cable}
 use Rattle.fabric_parts.specs.declared.cable.PortRef.{PortRef}
 use Rattle.fabric_parts.specs.Cable.{far_end, is_same_port}
 use Rattle.pkey_rules.specs.KeyTable.{holds}
-use Rattle.pkey_rules.specs.PKey.{base_of, key_of}
+use Rattle.pkey_rules.specs.PKey.{full_form}
 use Rattle.pkey_rules.specs.StoredKeys.{stored_keys}
 use Rattle.port_model.specs.AdapterState.{AdapterState}
 use Rattle.switch_model.specs.Forwarding.{linear_entry_of}
@@ -52,10 +52,6 @@ node_switch_port (Adapter ports) number = None
 -- the port of a switch there, if there is one
 abbrev pub switch_port_at : List Node → PortRef → Option SwitchPort
 switch_port_at nodes at = option_and_then (λ node. node_switch_port node at.port) (slice_get nodes at.node)
-
--- the key of a full member of the same partition
-abbrev pub full_form : ℕ → ℕ
-full_form key = key_of (base_of key) true
 
 -- ---- all of it
 pub record ForwardsByLid (fabric : FabricState) : Type 0 where

@@ -4,6 +4,8 @@ use Rattle.std.specs.List.{AllByRecursion, list_any}
 use Rattle.std.proofs.lemmas.Bool.{cases_Bool, eqb-true}
 use Rattle.std.proofs.lemmas.Bool.Decides.{nat_tests}
 use Rattle.std.specs.List.Sorted.{IsStrictlyIncreasing}
+use Rattle.result_words.proofs.TestLemmas.{or_turned}
+use Rattle.result_words.proofs.ListLemmas.{all_above}
 use Rattle.lid_assign.proofs.RisingLemmas.{Rises, rises, same_rising}
 use Rattle.partition_file.specs.declared.heading.Heading.{Heading}
 use Rattle.partition_changes.specs.Changes.{rising_bases, with_base}
@@ -18,16 +20,12 @@ above_all x base (first ∷ rest) less above = elim (cases_Bool (nat_lt base fir
   ])
 ]
 
-chained : (x y : ℕ) (ys : List ℕ) → x < y → AllByRecursion (λ z. y < z) ys → AllByRecursion (λ z. x < z) ys
-chained x y [] h k = tt
-chained x y (z ∷ ys) h k = (omega (arith, h, k.0), chained x y ys h k.1)
-
 rises_with : (base : ℕ) (bases : List ℕ) → Rises bases → Rises (with_base base bases)
 rises_with base [] rising = (tt, tt)
 rises_with base (first ∷ rest) rising = elim (cases_Bool (nat_lt base first)) [
   | inl here ↦
       let less : base < first = grind (arith, nat_tests, here) in
-      rw here ((less, chained base first rest less rising.0), rising)
+      rw here ((less, all_above base first rest less rising.0), rising)
   | inr later ↦ rw later (elim (cases_Bool (base == first)) [
     | inl same ↦ rw same rising
     | inr apart ↦
@@ -35,12 +33,6 @@ rises_with base (first ∷ rest) rising = elim (cases_Bool (nat_lt base first)) 
         rw apart (above_all first base rest more rising.0, rises_with base rest rising.1)
   ])
 ]
-
-swapped : (a b c : Bool) → (a || (b || c)) ≡ (b || (a || c))
-swapped true true c = refl
-swapped true false c = refl
-swapped false true c = refl
-swapped false false c = refl
 
 twice : (a c : Bool) → (a || c) ≡ (a || (a || c))
 twice true c = refl
@@ -54,7 +46,7 @@ there_with base (first ∷ rest) n = elim (cases_Bool (nat_lt base first)) [
     | inl same ↦
         let one : base ≡ first = eqb-true base first same in
         rw same (rw one (twice (first == n) (list_any (λ one. one == n) rest)))
-    | inr apart ↦ rw apart (rw (there_with base rest n) (swapped (first == n) (base == n) (list_any (λ one. one == n) rest)))
+    | inr apart ↦ rw apart (rw (there_with base rest n) (or_turned (first == n) (base == n) (list_any (λ one. one == n) rest)))
   ])
 ]
 

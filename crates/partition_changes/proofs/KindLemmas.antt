@@ -1,5 +1,5 @@
 -- Partitions, groups and members: what says the same, and of which base it is.
-use Rattle.std.proofs.Common.{◌≡◌, ℕ, Bool, true, false, ◌==◌, ◌&&◌, ◌||◌, List, [], ◌∷◌, ◌++◌, Option, Some, None, is_some, get_or, option_map, position, slice_get, refl, sym, ap, ◌∙◌, inl, inr}
+use Rattle.std.proofs.Common.{◌≡◌, ℕ, true, ◌==◌, ◌&&◌, ◌||◌, List, [], ◌∷◌, ◌++◌, Option, Some, None, is_some, get_or, option_map, position, slice_get, refl, sym, ap, ◌∙◌, inl, inr}
 use Rattle.std.specs.List.{list_any}
 use Rattle.std.specs.Option.{option_and_then}
 use Rattle.std.specs.Str.{bytes_eq}
@@ -8,6 +8,7 @@ use Rattle.std.proofs.lemmas.List.Folds.{list_any-append, list_any_at}
 use Rattle.std.proofs.lemmas.List.Quantifiers.{position-Some}
 use Rattle.std.proofs.lemmas.Option.{get_or_from_slice_get}
 use Rattle.std.proofs.lemmas.Slice.Eq.{bytes_eq-Decides}
+use Rattle.std.specs.Cmp.{both_ways}
 use Rattle.partition_file.specs.declared.broadcast_group.BroadcastGroup.{BroadcastGroup}
 use Rattle.partition_file.specs.declared.heading.Heading.{Heading}
 use Rattle.partition_changes.specs.Changes.{bases_named, grouped, partition_of, same_fields, same_group, same_groups, same_partition}
@@ -121,15 +122,9 @@ group_turned a b e =
     let one = and_parts (a.base == b.base) (same_groups a.group b.group) e in
     and_from (b.base == a.base) (same_groups b.group a.group) (eq-eqb b.base a.base (sym (eqb-true a.base b.base one.0))) (groups_turned a.group b.group one.1)
 
-pub either : (a b : Bool) → (a ≡ true → b ≡ true) → (b ≡ true → a ≡ true) → a ≡ b
-either true true f g = refl
-either true false f g = sym (f refl)
-either false true f g = g refl
-either false false f g = refl
-
 group_alike : (v w x : Heading) → same_group v w ≡ true → same_group x v ≡ same_group x w
 group_alike v w x e =
-    either (same_group x v) (same_group x w) (λ f. group_joined x w v (group_turned x v f) e) (λ f. group_joined x v w (group_turned x w f) (group_turned v w e))
+    both_ways (same_group x v) (same_group x w) (λ f. group_joined x w v (group_turned x v f) e) (λ f. group_joined x v w (group_turned x w f) (group_turned v w e))
 
 grouped_at : (headings : List Heading) (k : ℕ) (x : Heading) → says same_group x (grouped headings k) ≡ true
     → (list_any (λ heading. heading.base == k) headings ≡ true) × (x.base ≡ k)

@@ -2,6 +2,7 @@
 use Rattle.std.proofs.Common.{◌≡◌, ◌↔◌, ℕ, Bool, true, false, not, ◌==◌, ◌&&◌, ◌||◌, if◌then◌else◌, List, [], ◌∷◌, ◌++◌, Option, Some, None, is_some, refl, sym, ap, ◌∙◌, inl, inr}
 use Rattle.std.specs.List.{AllByRecursion, flat_map, list_any, zip}
 use Rattle.std.proofs.lemmas.Bool.{and_from, and_parts, cases_Bool, eq-eqb, false≢true, or_left, or_right}
+use Rattle.std.specs.Cmp.{both_ways}
 use Rattle.partition_file.specs.declared.broadcast_group.BroadcastGroup.{BroadcastGroup}
 use Rattle.partition_file.specs.declared.heading.Heading.{Heading}
 use Rattle.port_shares.proofs.NearLemmas.{near_is_to_share}
@@ -10,7 +11,7 @@ use Rattle.port_shares.specs.Shares.{Share, share_line, shares}
 use Rattle.subnet_model.specs.declared.subnet_port.SubnetPort.{SubnetPort}
 use Rattle.partition_changes.specs.Changes.{Change, bases_named, change_of_member_line, changes_of, changes_text, coming, going, group_changes, group_changes_at, group_line, grouped, member_changes, partition_changes, partition_line, same_group, same_groups, same_member, same_partition, same_share, share_changes, sign}
 use Rattle.partition_changes.specs.Laws.{NearStaysWhereNoShareIsTold, NothingIsToldOfTheSame, TellWhatChanges, comes, goes, has_group, has_member, has_partition, has_share, is_of}
-use Rattle.partition_changes.proofs.KindLemmas.{either, fields_if, groups_are_told, partitions_are_told, same_if}
+use Rattle.partition_changes.proofs.KindLemmas.{fields_if, groups_are_told, partitions_are_told, same_if}
 use Rattle.partition_changes.proofs.MemberLemmas.{members_are_told}
 use Rattle.partition_changes.proofs.ShareToldLemmas.{alike, shares_are_told}
 
@@ -194,7 +195,7 @@ near_stays_where_no_share_is_told before after are none p q =
     let of_shares = kind same_share (has_share before) (has_share after) changed (shares_are_told before after are) (own_always same_share own_share changed) in
     let same : (x : Share) → has_share before x ≡ has_share after x = of_shares.0 none in
     near_is_to_share before p q
-    ∙ ap (λ b. (q == p) || b) (either (list_any (is_of_both p q) (shares before)) (list_any (is_of_both p q) (shares after))
+    ∙ ap (λ b. (q == p) || b) (both_ways (list_any (is_of_both p q) (shares before)) (list_any (is_of_both p q) (shares after))
     (implies (is_of_both p q) (both_alike p q) (shares before) (shares after) same)
     (implies (is_of_both p q) (both_alike p q) (shares after) (shares before) (λ x. sym (same x))))
     ∙ sym (near_is_to_share after p q)

@@ -10,7 +10,8 @@ use Rattle.result_words.proofs.StepLemmas.{bind_after, bind_twice, fails_on}
 use Rattle.partition_file.specs.declared.fault.PartitionCause.{PartitionCause}
 use Rattle.result_words.specs.AtLine.{AtLine, on_line}
 use Rattle.result_words.specs.Steps.{◌>>=◌}
-use Rattle.partition_file.specs.Pieces.{folded, is_delimiter, is_line_end, line_after, piece_after, since}
+use Rattle.text_words.specs.Lines.{is_line_end}
+use Rattle.partition_file.specs.Pieces.{folded, is_delimiter, line_after, piece_after, since}
 use Rattle.partition_file.specs.Definitions.{after, after_byte, at_end, whole}
 use Rattle.partition_file.specs.Scanned.{Scanned, start}
 use Rattle.result_words.specs.Gives.{Fails}

@@ -10,6 +10,7 @@ use Rattle.std.proofs.lemmas.List.{length-map}
 use Rattle.std.proofs.lemmas.List.Folds.{list_all-append}
 use Rattle.std.proofs.lemmas.List.Sums.{sum_by-cons}
 use Rattle.std.proofs.lemmas.Map.Keys.{IsDistinct-push}
+use Rattle.result_words.proofs.TestLemmas.{same_either_way}
 use Rattle.pkey_rules.specs.PKey.{default_base, is_base}
 use Rattle.partition_file.specs.declared.definition.Definition.{Definition}
 use Rattle.partition_file.specs.declared.partition.Partition.{Partition}
@@ -36,9 +37,6 @@ bases_of_partitions rules [] = refl
 bases_of_partitions rules (base ∷ bases) = ap (λ (rest : List ℕ). base ∷ rest) (bases_of_partitions rules bases)
 
 -- ---- no base twice
-same_either_way : (a b : ℕ) → (a == b) ≡ (b == a)
-same_either_way a b = grind (arith, nat_tests)
-
 has_base-any : (base : ℕ) (seen : List ℕ) → has_base base seen ≡ list_any (nat_eq base) seen
 has_base-any base [] = refl
 has_base-any base (other ∷ seen) = rw (same_either_way other base, has_base-any base seen) refl

@@ -2,7 +2,7 @@
 use Rattle.std.specs.Prelude.{ℕ, ◌+◌, ◌/◌, ◌%◌, Bool, true, false, not, ◌==◌, if◌then◌else◌, List, [], ◌∷◌, ◌++◌, map, fold, find, filter_map}
 use Rattle.std.specs.Prelude.{flat_map, codes, Option, Some, None, Result, Ok, option_map, unwrap_or}
 use Rattle.std.specs.List.{list_any, range_with_len}
-use Rattle.pkey_rules.specs.PKey.{default_base, base_of, key_of}
+use Rattle.pkey_rules.specs.PKey.{default_base, full_form}
 use Rattle.partition_file.specs.declared.item.Ports.TheVariants.{All, Manager}
 use Rattle.partition_file.specs.declared.item.Item.{Item}
 use Rattle.partition_file.specs.declared.flag.Flags.{Flags}
@@ -120,9 +120,6 @@ partitions_of text = definitions_of text >>= λ definitions. Ok (partitions_in d
 
 -- ff1s:401b:kkkk:0000:0000:0000:ffff:ffff: the broadcast group of IP over InfiniBand (RFC 4391), with the scope s and the
 -- partition's full key k
-abbrev pub full_key : ℕ → ℕ
-full_key base = key_of (base_of base) true
-
 abbrev pub mgid_of : ℕ → ℕ → List ℕ
 mgid_of scope base =
-    255 ∷ (16 + scope % 16) ∷ 64 ∷ 27 ∷ (full_key base / 256) ∷ (full_key base % 256) ∷ 0 ∷ 0 ∷ 0 ∷ 0 ∷ 0 ∷ 0 ∷ 255 ∷ 255 ∷ 255 ∷ 255 ∷ []
+    255 ∷ (16 + scope % 16) ∷ 64 ∷ 27 ∷ (full_form base / 256) ∷ (full_form base % 256) ∷ 0 ∷ 0 ∷ 0 ∷ 0 ∷ 0 ∷ 0 ∷ 255 ∷ 255 ∷ 255 ∷ 255 ∷ []

@@ -1,13 +1,9 @@
 -- Comments, white space, delimiters, and the piece and the line of a place in a text.
 use Rattle.std.specs.Prelude.{ℕ, ◌+◌, Bool, true, false, not, ◌==◌, ◌&&◌, ◌||◌, nat_le, is_some, if◌then◌else◌, List, [], ◌∷◌, ◌++◌, reverse}
 use Rattle.std.specs.Prelude.{take_while, count_by, flat_map, Option, Some, None}
-use Rattle.text_words.specs.Lines.{words_between}
+use Rattle.text_words.specs.Lines.{is_line_end, words_between}
 use Rattle.partition_file.specs.declared.piece.Delimiter.{Delimiter}
 use Rattle.partition_file.specs.declared.piece.Delimiter.TheVariants.{Equals, Comma, Colon, Semicolon}
-
--- LF ends a line
-abbrev pub is_line_end : ℕ → Bool
-is_line_end byte = byte == 10
 
 -- `#` begins a comment, which lasts to the line's end and has any bytes
 abbrev pub is_commented : Bool → ℕ → Bool

@@ -1,16 +1,13 @@
 -- Tables of keys: what a push keeps, what is found, and when two tables share a partition.
-use Rattle.std.proofs.Common.{◌≡◌, ℕ, true, false, ◌==◌, ◌&&◌, List, find, is_some, IfSome, [], ◌∷◌, ◌++◌, refl, inl, inr, arith}
+use Rattle.std.proofs.Common.{◌≡◌, ℕ, true, false, ◌==◌, ◌&&◌, List, find, is_some, IfSome, [], ◌∷◌, ◌++◌, refl, inl, inr}
 use Rattle.std.specs.List.{IsDistinct, list_any}
 use Rattle.std.proofs.lemmas.Map.Keys.{IsDistinct-push}
 use Rattle.std.proofs.lemmas.Cmp.{nat_eq_equiv, on_equiv}
 use Rattle.std.proofs.lemmas.Bool.{and_parts, and_from, or_cases, or_left, or_right, eq-eqb, eqb-true, cases_Bool}
-use Rattle.std.proofs.lemmas.Bool.Decides.{nat_tests}
 use Rattle.result_words.proofs.ListLemmas.{list_any_weaker}
+use Rattle.result_words.proofs.TestLemmas.{same_either_way}
 use Rattle.pkey_rules.specs.PKey.{base_of, matches}
 use Rattle.pkey_rules.specs.KeyTable.{accepts, holds, has_base, same_base, shares, shares_base, SomeSharedBase}
-
-same_either_way : (a b : ℕ) → (a == b) ≡ (b == a)
-same_either_way a b = grind (arith, nat_tests)
 
 has_base-same_base : (key : ℕ) (keys : List ℕ) → has_base (base_of key) keys ≡ list_any (same_base key) keys
 has_base-same_base key [] = refl

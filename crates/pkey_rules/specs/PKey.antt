@@ -1,5 +1,5 @@
 -- A P_Key (InfiniBand volume 1, 14.2.5.7): 15 bits that name a partition, below one bit of membership.
-use Rattle.std.specs.Prelude.{ℕ, ◌+◌, ◌%◌, Bool, not, ◌==◌, ◌&&◌, ◌||◌, nat_le, if◌then◌else◌}
+use Rattle.std.specs.Prelude.{ℕ, ◌+◌, ◌%◌, Bool, true, not, ◌==◌, ◌&&◌, ◌||◌, nat_le, if◌then◌else◌}
 
 -- the partition that a key names; 0 names none
 abbrev pub base_of : ℕ → ℕ
@@ -16,6 +16,10 @@ is_base base = nat_le 1 base && nat_le base 32767
 -- the key that a full or a limited member holds in the partition of this base
 abbrev pub key_of : ℕ → Bool → ℕ
 key_of base full = if full then base + 32768 else base
+
+-- the key of a full member of the same partition
+abbrev pub full_form : ℕ → ℕ
+full_form key = key_of (base_of key) true
 
 -- the base of the default partition
 abbrev pub default_base : ℕ

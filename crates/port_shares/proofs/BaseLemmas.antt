@@ -1,5 +1,5 @@
 -- Lists of bases: what is kept when they are sorted and doubles are left out.
-use Rattle.std.proofs.Common.{◌≡◌, ℕ, Bool, true, false, ◌==◌, List, [], ◌∷◌, ◌++◌, map, refl, sym, ◌∙◌, arith}
+use Rattle.std.proofs.Common.{◌≡◌, ℕ, Bool, ◌==◌, List, [], ◌∷◌, ◌++◌, map, refl, sym, ◌∙◌, arith}
 use Rattle.std.specs.List.{dedup, list_any}
 use Rattle.std.specs.List.Sorted.{IsPermutation}
 use Rattle.std.proofs.lemmas.Bool.{eqb-true}
@@ -8,12 +8,7 @@ use Rattle.std.proofs.lemmas.Cmp.{nat_eq_equiv}
 use Rattle.std.proofs.lemmas.List.Kept.{Contains-dedup_nat, Contains-from_dedup}
 use Rattle.std.proofs.lemmas.List.Sorted.{list_any-IsPermutation}
 use Rattle.std.proofs.lemmas.Map.Views.{Contains-from_any, list_any-from_Contains}
-
-pub either : (a b : Bool) → (a ≡ true → b ≡ true) → (b ≡ true → a ≡ true) → a ≡ b
-either true true f g = refl
-either true false f g = sym (f refl)
-either false true f g = g refl
-either false false f g = refl
+use Rattle.std.specs.Cmp.{both_ways}
 
 turned : (xs : List ℕ) (b : ℕ) → list_any (λ x. x == b) xs ≡ list_any (λ x. b == x) xs
 turned [] b = refl
@@ -22,7 +17,7 @@ turned (x ∷ xs) b = let same : (x == b) ≡ (b == x) = grind (arith, nat_tests
 without_doubles : (xs : List ℕ) (b : ℕ) → list_any (λ x. b == x) (dedup (λ x y. x == y) xs) ≡ list_any (λ x. b == x) xs
 without_doubles xs b =
     let less : List ℕ = dedup (λ x y. x == y) xs in
-    either (list_any (λ x. b == x) less) (list_any (λ x. b == x) xs)
+    both_ways (list_any (λ x. b == x) less) (list_any (λ x. b == x) xs)
     (λ h. list_any-from_Contains nat_eq_equiv b xs (Contains-from_dedup (λ x y. x == y) xs b (Contains-from_any eqb-true b less h)))
     (λ h. list_any-from_Contains nat_eq_equiv b less (Contains-dedup_nat xs b (Contains-from_any eqb-true b xs h)))
 

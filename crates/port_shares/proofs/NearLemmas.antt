@@ -4,12 +4,13 @@ use Rattle.std.specs.List.{flat_map, list_any, range_with_len}
 use Rattle.std.proofs.lemmas.Bool.{cases_Bool}
 use Rattle.std.proofs.lemmas.Bool.Decides.{nat_tests}
 use Rattle.std.proofs.lemmas.List.Folds.{list_any-append}
+use Rattle.std.specs.Cmp.{both_ways}
 use Rattle.pkey_rules.specs.KeyTable.{accepts, shares as keys_share, shares_base}
 use Rattle.pkey_rules.specs.PKey.{matches}
 use Rattle.pkey_rules.proofs.KeyTableLemmas.{shared_base, shares_from_base}
 use Rattle.subnet_model.specs.Near.{ports_share, shares_with}
 use Rattle.subnet_model.specs.declared.subnet_port.SubnetPort.{SubnetPort}
-use Rattle.port_shares.proofs.BaseLemmas.{either}
+use Rattle.subnet_model.proofs.IsolationLemmas.{matches_either_way}
 use Rattle.port_shares.proofs.ShareLemmas.{any_kept, in_range, is_shared_base}
 use Rattle.port_shares.specs.Found.{share_of}
 use Rattle.port_shares.specs.Laws.{NearIsToShare, is_of_both}
@@ -48,13 +49,10 @@ any_flat p f [] = refl
 any_flat p f (x ∷ xs) = list_any-append p (f x) (flat_map f xs) ∙ ap (λ b. list_any p (f x) || b) (any_flat p f xs)
 
 -- ---- two ports and their shares
-matches_turned : (a b : ℕ) → matches a b ≡ matches b a
-matches_turned a b = grind (arith, nat_tests)
-
 keys_turned : (ps qs : List ℕ) → keys_share ps qs ≡ keys_share qs ps
 keys_turned ps qs =
     any_turned (λ p q. matches q p) ps qs
-    ∙ same_any (λ q. list_any (λ p. matches q p) ps) (λ q. accepts q ps) (λ q. same_any (λ p. matches q p) (λ p. matches p q) (λ p. matches_turned q p) ps) qs
+    ∙ same_any (λ q. list_any (λ p. matches q p) ps) (λ q. accepts q ps) (λ q. same_any (λ p. matches q p) (λ p. matches p q) (λ p. matches_either_way q p) ps) qs
 
 any_there : {X : Type 0} (p : X → Bool) (xs : List X) → list_any p xs ≡ true → list_any (λ x. true) xs ≡ true
 any_there p [] h = absurd (cc)
@@ -72,7 +70,7 @@ unfolding shared_bases
 some_base ps qs =
     let test : ℕ → Bool = λ base. shares_base base ps qs in
     let bases : List ℕ = filter test (range_with_len 1 32767) in
-    either (list_any (λ base. true) bases) (keys_share ps qs)
+    both_ways (list_any (λ base. true) bases) (keys_share ps qs)
     (λ h. let found = first_there test (range_with_len 1 32767) h in shares_from_base found.0 ps qs found.1)
     (λ h. let found = shared_base ps qs h in let fits = is_shared_base found.0 ps qs found.1 in
     any_there (λ base. base == found.0) bases (any_kept test found.0 (range_with_len 1 32767) found.1 ∙ in_range 1 32767 found.0 fits.0 (omega (arith, fits.1))))

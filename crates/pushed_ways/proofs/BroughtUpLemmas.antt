@@ -15,7 +15,7 @@ use Rattle.table_push.proofs.LawLemmas.{every_switch_has_its_table}
 use Rattle.updn_routes.specs.Subnet.{SubnetRoutes}
 use Rattle.pushed_ways.specs.BroughtUp.{IsBroughtUp, RoutesLeadHome}
 use Rattle.pushed_ways.specs.Pushed.{ArePushed, all_pushed, ports_and_keys}
-use Rattle.pushed_ways.proofs.NodeLemmas.{node_after, with_all}
+use Rattle.table_push.proofs.BringUpLemmas.{node_after, with_all}
 use Rattle.pushed_ways.proofs.PortLemmas.{faces_adapter, faces_switch, is_set}
 
 -- ---- LinearFDBTop

@@ -8,13 +8,14 @@ use Rattle.smp_wire.specs.FabricState.{FabricState, is_switch, port_count}
 use Rattle.smp_wire.specs.Good.{node_guid}
 use Rattle.smp_wire.specs.declared.node.Node.{Node}
 use Rattle.smp_wire.specs.declared.node.Node.TheVariants.{Switch, Adapter}
-use Rattle.sweep.specs.EndPorts.{FabricPort, end_port_in, held_in}
+use Rattle.sweep.specs.EndPorts.{FabricPort, end_port_in, held_in, port_held}
 use Rattle.table_push.specs.Nodes.{numbered}
-use Rattle.table_push.proofs.SightLemmas.{long_numbered}
+use Rattle.table_push.proofs.NumberedLemmas.{long_numbered}
 use Rattle.updn_routes.specs.Subnet.{SubnetRoutes}
 use Rattle.pushed_ways.specs.Pushed.{all_pushed}
 use Rattle.pushed_ways.proofs.BroughtUpLemmas.{kind_of}
-use Rattle.pushed_ways.proofs.NodeLemmas.{node_after, twice_at, with_all, with_info, with_table}
+use Rattle.table_push.proofs.BringUpLemmas.{node_after, with_all, with_info, with_table}
+use Rattle.pushed_ways.proofs.NodeLemmas.{twice_at}
 
 module _ (routes : SubnetRoutes) (keys : List (List ℕ)) where
   count_of : (was : Option Node) → option_map_or port_count (option_map (with_all routes keys) was) 0 ≡ option_map_or port_count was 0
@@ -22,26 +23,14 @@ module _ (routes : SubnetRoutes) (keys : List (List ℕ)) where
   count_of (Some (Switch held)) = ap (λ (n : ℕ). n - 1) (long_numbered _ 0 (numbered _ 0 held.ports) ∙ long_numbered _ 0 held.ports)
   count_of (Some (Adapter ports)) = long_numbered _ 1 (numbered _ 1 ports) ∙ long_numbered _ 1 ports
 
-  shown : ℕ → AdapterState → FabricPort
-  shown number port =
-      record {
-        guid = port.port_guid;
-        number = number;
-        node_guid = port.node_guid;
-        description = port.description;
-        num_ports = port.num_ports;
-        is_switch = false;
-      }
-
   shown_still : (number : ℕ) (info keys : ℕ → AdapterState → AdapterState) (o : Option AdapterState)
-      → ((n : ℕ) (port : AdapterState) → shown number (keys n (info n port)) ≡ shown number port)
-      → option_map (shown number) (option_map (λ port. keys (1 + (number - 1)) (info (1 + (number - 1)) port)) o) ≡ option_map (shown number) o
+      → ((n : ℕ) (port : AdapterState) → port_held number (keys n (info n port)) ≡ port_held number port)
+      → option_map (port_held number) (option_map (λ port. keys (1 + (number - 1)) (info (1 + (number - 1)) port)) o) ≡ option_map (port_held number) o
   shown_still number info keys None same = refl
   shown_still number info keys (Some port) same = ap (λ (one : FabricPort). Some one) (same (1 + (number - 1)) port)
 
   held_still : (number : ℕ) (was : Option Node)
       → option_and_then (λ node. held_in node number) (option_map (with_all routes keys) was) ≡ option_and_then (λ node. held_in node number) was
-  unfolding shown
   held_still number None = refl
   held_still number (Some (Switch held)) =
       ap (λ (n : ℕ). Some (record {
@@ -63,11 +52,11 @@ module _ (routes : SubnetRoutes) (keys : List (List ℕ)) where
       table : ℕ → ℕ → AdapterState → AdapterState
       table of n port = record port { keys = with_table routes keys of n port.keys }
 
-      by : (b : Bool) → option_map (shown number) (if b then None else slice_get (numbered (table (node_guid (Adapter (numbered info 1 ports)))) 1 (numbered info 1 ports)) (number - 1))
-          ≡ option_map (shown number) (if b then None else slice_get ports (number - 1))
+      by : (b : Bool) → option_map (port_held number) (if b then None else slice_get (numbered (table (node_guid (Adapter (numbered info 1 ports)))) 1 (numbered info 1 ports)) (number - 1))
+          ≡ option_map (port_held number) (if b then None else slice_get ports (number - 1))
       by true = refl
       by false =
-          ap (option_map (shown number)) (twice_at (table (node_guid (Adapter (numbered info 1 ports)))) info 1 ports (number - 1))
+          ap (option_map (port_held number)) (twice_at (table (node_guid (Adapter (numbered info 1 ports)))) info 1 ports (number - 1))
           ∙ shown_still number info (table (node_guid (Adapter (numbered info 1 ports)))) (slice_get ports (number - 1)) (λ n port. refl)
 
   pub end_ports_stay : (fabric : FabricState) (at : PortRef) → end_port_in (all_pushed routes keys fabric) at ≡ end_port_in fabric at

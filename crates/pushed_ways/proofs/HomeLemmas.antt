@@ -9,10 +9,11 @@ use Rattle.sweep.specs.declared.graph.GraphPort.{GraphPort}
 use Rattle.sweep.specs.declared.graph.GraphSwitch.{GraphSwitch}
 use Rattle.sweep.proofs.FoundLemmas.{one_place}
 use Rattle.sweep.proofs.PlaceLemmas.{position_at}
-use Rattle.table_push.proofs.GuidLemmas.{left_part, place_is}
+use Rattle.smp_wire.proofs.DistinctLemmas.{left_part}
+use Rattle.table_push.proofs.GuidLemmas.{place_is}
 use Rattle.table_push.proofs.HangLemmas.{found_is, found_own}
 use Rattle.updn_routes.specs.Routes.{home_of}
-use Rattle.updn_routes.specs.Subnet.{home_from, home_in, homes_of, place_of, seat_of}
+use Rattle.updn_routes.specs.Subnet.{guids_of, home_from, home_in, homes_of, place_of, seat_of}
 
 -- ---- by the GUID that has the LID
 pub home_at : (graph : GraphState) (lids : List ℕ) (lid guid : ℕ) → guid_in lids lid ≡ Some guid → home_of (homes_of graph lids) lid ≡ Some (home_in graph guid)
@@ -55,19 +56,16 @@ later (y ∷ xs) ys k x there =
     let same : length (y ∷ xs) + k ≡ suc (length xs + k) = omega arith in
     ap (slice_get (y ∷ (xs ++ ys))) same ∙ later xs ys k x there
 
-abbrev switch_guids : GraphState → List ℕ
-switch_guids graph = map (λ switch. switch.guid) graph.switches
-
 abbrev port_guids : GraphState → List ℕ
 port_guids graph = map (λ port. port.port_guid) graph.ports
 
 port_end : (graph : GraphState) (k : ℕ) (one : GraphPort) → slice_get graph.ports k ≡ Some one
-    → slice_get (end_guids graph.switches graph.ports) (length (switch_guids graph) + k) ≡ Some one.port_guid
+    → slice_get (end_guids graph.switches graph.ports) (length (guids_of graph) + k) ≡ Some one.port_guid
 port_end graph k one there =
-    later (switch_guids graph) (port_guids graph) k one.port_guid
+    later (guids_of graph) (port_guids graph) k one.port_guid
     (slice_get-map (λ (port : GraphPort). port.port_guid) graph.ports k ∙ ap (option_map (λ (port : GraphPort). port.port_guid)) there)
 
-switch_end : (graph : GraphState) (k : ℕ) (one : GraphSwitch) → slice_get graph.switches k ≡ Some one → slice_get (switch_guids graph) k ≡ Some one.guid
+switch_end : (graph : GraphState) (k : ℕ) (one : GraphSwitch) → slice_get graph.switches k ≡ Some one → slice_get (guids_of graph) k ≡ Some one.guid
 switch_end graph k one there =
     slice_get-map (λ (switch : GraphSwitch). switch.guid) graph.switches k ∙ ap (option_map (λ (switch : GraphSwitch). switch.guid)) there
 
@@ -78,11 +76,11 @@ no_switch graph k one is there = by (place_of graph.switches one.port_guid) refl
     by None at = refl
     by (Some place) at =
         let switch = position_at (λ switch. switch.guid == one.port_guid) graph.switches place at in
-        let guid : slice_get (switch_guids graph) place ≡ Some one.port_guid =
+        let guid : slice_get (guids_of graph) place ≡ Some one.port_guid =
         switch_end graph place switch.0 switch.1 ∙ ap (λ (g : ℕ). Some g) (eqb-true switch.0.guid one.port_guid switch.2) in
-        let same = one_place (end_guids graph.switches graph.ports) place (length (switch_guids graph) + k) one.port_guid is.guids
-        (earlier (switch_guids graph) (port_guids graph) place one.port_guid guid) (port_end graph k one there) in
-        absurd (omega (arith, same, slice_get_within (switch_guids graph) place one.port_guid guid))
+        let same = one_place (end_guids graph.switches graph.ports) place (length (guids_of graph) + k) one.port_guid is.guids
+        (earlier (guids_of graph) (port_guids graph) place one.port_guid guid) (port_end graph k one there) in
+        absurd (omega (arith, same, slice_get_within (guids_of graph) place one.port_guid guid))
 
 -- ---- of an adapter's port, and of a switch
 pub port_home : (graph : GraphState) (k : ℕ) (one : GraphPort) → IsGraph graph → slice_get graph.ports k ≡ Some one → home_in graph one.port_guid ≡ one.at
@@ -91,14 +89,14 @@ port_home graph k one is there =
     ap (option_map (λ (port : GraphPort). port.at))
     (found_own (λ port. port.port_guid == one.port_guid) graph.ports k one there (eq-eqb one.port_guid one.port_guid refl)
     (λ j other at passes.
-    let same = one_place (end_guids graph.switches graph.ports) (length (switch_guids graph) + j) (length (switch_guids graph) + k) one.port_guid is.guids
+    let same = one_place (end_guids graph.switches graph.ports) (length (guids_of graph) + j) (length (guids_of graph) + k) one.port_guid is.guids
     (port_end graph j other at ∙ ap (λ (g : ℕ). Some g) (eqb-true other.port_guid one.port_guid passes)) (port_end graph k one there) in
     let index : j ≡ k = omega (arith, same) in
     same_Some other one (sym at ∙ ap (slice_get graph.ports) index ∙ there))) in
     rw (no_switch graph k one is there, seat) refl
 
 pub own_switch : (graph : GraphState) (k : ℕ) (one : GraphSwitch) → IsGraph graph → slice_get graph.switches k ≡ Some one → place_of graph.switches one.guid ≡ Some k
-own_switch graph k one is there = place_is graph.switches k one (left_part (switch_guids graph) (port_guids graph) is.guids) there
+own_switch graph k one is there = place_is graph.switches k one (left_part (λ a b. a == b) (guids_of graph) (port_guids graph) is.guids) there
 
 pub switch_home : (graph : GraphState) (k : ℕ) (one : GraphSwitch) → IsGraph graph → slice_get graph.switches k ≡ Some one
     → home_in graph one.guid ≡ record { node = k; port = 0 }

@@ -1,9 +1,9 @@
 -- A port of a switch holds the full form of each key of the port before it.
-use Rattle.std.proofs.Common.{ℕ, zero, suc, ◌≡◌, ◌-◌, ◌==◌, ◌||◌, ◌∙◌, ap, refl, sym, not, Bool, true, false, List, [], ◌∷◌, ◌++◌, filter, length, map, replicate, arith}
+use Rattle.std.proofs.Common.{ℕ, zero, suc, ◌≡◌, ◌-◌, ◌==◌, ◌||◌, ◌∙◌, ap, refl, sym, not, Bool, true, false, List, [], ◌∷◌, ◌++◌, filter, length, map, replicate}
 use Rattle.std.proofs.lemmas.Bool.{eq-eqb, eqb-true, false≢true, or_left, or_right}
-use Rattle.packet_ways.specs.Forwards.{full_form}
+use Rattle.packet_ways.proofs.KeyLemmas.{full_base}
 use Rattle.pkey_rules.specs.KeyTable.{holds, same_base}
-use Rattle.pkey_rules.specs.PKey.{base_of}
+use Rattle.pkey_rules.specs.PKey.{base_of, full_form}
 use Rattle.pkey_rules.specs.StoredKeys.{stored_keys}
 use Rattle.pkey_rules.specs.declared.key_table.TheConstants.{PARTITIONS}
 use Rattle.table_push.specs.Keys.{held_as, key_table}
@@ -43,9 +43,6 @@ left p key (one ∷ keys) passes held = by (p one) refl (one == key) refl held (
     by false is false same held later = rw is (later (sym (ap (λ (b : Bool). b || holds key keys) same) ∙ held))
 
 -- ---- full forms
-full_base : (key : ℕ) → base_of (full_form key) ≡ base_of key
-full_base key = omega arith
-
 no_keys : (count key : ℕ) → holds key (stored_keys (replicate count 0)) ≡ false
 no_keys zero key = refl
 no_keys (suc count) key = no_keys count key

@@ -5,7 +5,7 @@ use Rattle.std.specs.Option.{option_map_or}
 use Rattle.std.proofs.lemmas.Bool.{and_from, and_parts, eq-eqb, eqb-true, false≢true}
 use Rattle.std.proofs.lemmas.Bool.Decides.{nat_tests}
 use Rattle.std.proofs.lemmas.Option.{none-some, same_Some, slice_get-map, slice_get_within}
-use Rattle.fabric_parts.specs.Cable.{far_end}
+use Rattle.fabric_parts.specs.Cable.{far_end, port}
 use Rattle.fabric_parts.specs.declared.cable.PortRef.{PortRef}
 use Rattle.lid_assign.specs.Lids.{adapter_end, end_ports, guid_in, lid_in, switch_end}
 use Rattle.lid_assign.proofs.LawLemmas.{lids_and_guids_name_each_other}
@@ -16,7 +16,6 @@ use Rattle.result_words.proofs.ListLemmas.{all_have}
 use Rattle.subnet_model.specs.EndPorts.{lid_of}
 use Rattle.smp_wire.proofs.CableLemmas.{far_is_port}
 use Rattle.smp_wire.specs.FabricState.{FabricState, is_switch_at}
-use Rattle.sweep.specs.Graph.{port}
 use Rattle.sweep.specs.OfFabric.{Found, nodes_of, place_of as found_place, switch_of}
 use Rattle.sweep.specs.declared.graph.GraphSwitch.{GraphSwitch}
 use Rattle.sweep.proofs.FoundLemmas.{among_place, any_by, place_is}

@@ -5,7 +5,7 @@ use Rattle.std.specs.Option.{option_map_or}
 use Rattle.std.proofs.lemmas.Bool.{and_parts, eqb-true, false≢true, leb-true}
 use Rattle.std.proofs.lemmas.Bool.Decides.{nat_tests}
 use Rattle.std.proofs.lemmas.Option.{none-some, same_Some}
-use Rattle.fabric_parts.specs.Cable.{far_end}
+use Rattle.fabric_parts.specs.Cable.{far_end, port}
 use Rattle.fabric_parts.specs.declared.cable.PortRef.{PortRef}
 use Rattle.lid_assign.specs.Lids.{lid_in}
 use Rattle.lid_assign.proofs.LawLemmas.{lids_and_guids_name_each_other}
@@ -17,7 +17,6 @@ use Rattle.smp_wire.specs.FabricState.{FabricState, is_switch_at, port_count}
 use Rattle.smp_wire.specs.Good.{has_a_right_count}
 use Rattle.smp_wire.specs.declared.node.Node.{Node}
 use Rattle.smp_wire.specs.declared.node.Node.TheVariants.{Switch, Adapter}
-use Rattle.sweep.specs.Graph.{port}
 use Rattle.sweep.specs.declared.graph.GraphPort.{GraphPort}
 use Rattle.sweep.proofs.LeastLemmas.{in_range}
 use Rattle.sweep.proofs.MetLemmas.{good_once}

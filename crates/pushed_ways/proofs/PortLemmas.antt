@@ -1,13 +1,13 @@
 -- What the pushes leave at each port.
-use Rattle.std.proofs.Common.{ℕ, ◌≡◌, ◌+◌, ◌-◌, ◌==◌, ◌&&◌, ◌∙◌, ap, refl, sym, subst, nat_le, nat_lt, not, Bool, true, false, if◌then◌else◌, List, [], ◌∷◌, length, map, slice_get, Option, Some, None, option_map, unwrap_or, arith}
+use Rattle.std.proofs.Common.{ℕ, ◌≡◌, ◌+◌, ◌-◌, ◌==◌, ◌&&◌, ◌∙◌, ap, refl, sym, subst, nat_le, nat_lt, Bool, true, false, if◌then◌else◌, List, [], ◌∷◌, length, map, slice_get, Option, Some, None, option_map, unwrap_or, arith}
 use Rattle.std.specs.List.{Contains, list_any}
 use Rattle.std.specs.Option.{option_and_then, option_map_or}
-use Rattle.std.proofs.lemmas.Bool.{and_parts, eq-eqb, false≢true}
+use Rattle.std.proofs.lemmas.Bool.{and_parts, eq-eqb, false≢true, not-true}
 use Rattle.std.proofs.lemmas.Bool.Decides.{nat_tests}
 use Rattle.std.proofs.lemmas.Option.{get_or_from_slice_get, same_Some, slice_get-map}
 use Rattle.attr_tables.specs.PortState.{port_state_code}
 use Rattle.attr_tables.specs.declared.port_state.PortState.TheVariants.{Active}
-use Rattle.fabric_parts.specs.Cable.{far_end, is_same_port}
+use Rattle.fabric_parts.specs.Cable.{far_end, is_same_port, port}
 use Rattle.fabric_parts.specs.declared.cable.PortRef.{PortRef}
 use Rattle.lid_assign.specs.Lids.{adapter_end, end_ports, lid_in, switch_end}
 use Rattle.packet_ways.specs.Deliveries.{adapter_at}
@@ -20,7 +20,7 @@ use Rattle.smp_wire.specs.FabricState.{FabricState, is_switch, is_switch_at}
 use Rattle.smp_wire.specs.Good.{IsGood, node_guid}
 use Rattle.smp_wire.specs.declared.node.Node.{Node}
 use Rattle.subnet_model.specs.EndPorts.{lid_of}
-use Rattle.sweep.specs.Graph.{hops_to, is_no_switch, is_right_port, is_switch_port, port}
+use Rattle.sweep.specs.Graph.{hops_to, is_no_switch, is_right_port, is_switch_port}
 use Rattle.sweep.specs.declared.path.TheConstants.{PATH_HOPS}
 use Rattle.fabric_parts.specs.NodeType.{most_ports}
 use Rattle.fabric_parts.specs.declared.node_type.NodeType.TheVariants as node_type
@@ -47,10 +47,6 @@ use Rattle.pushed_ways.proofs.HomeLemmas.{later, own_switch}
 use Rattle.pushed_ways.proofs.NodeLemmas.{SwitchPortAfter, adapter_port_after, switch_port_after}
 use Rattle.pushed_ways.proofs.SeatLemmas.{IsSeated, seated}
 
-was_false : (b : Bool) → not b ≡ true → b ≡ false
-was_false true is = absurd (false≢true is)
-was_false false is = refl
-
 fourth : (a b c d e : Bool) → (a && (b && (c && (d && e)))) ≡ true → d ≡ true
 fourth a b c d e all =
     let one = and_parts a (b && (c && (d && e))) all in
@@ -62,7 +58,7 @@ fourth a b c d e all =
 apart : (switches : List GraphSwitch) (one : GraphPort) → is_right_port switches one ≡ true → place_of switches one.node_guid ≡ None
 apart switches one right =
     no_place switches one.node_guid
-    (was_false (list_any (λ switch. switch.guid == one.node_guid) switches)
+    (not-true (list_any (λ switch. switch.guid == one.node_guid) switches)
     (fourth (is_switch_port switches one.at) (nat_le 1 one.number && nat_le one.number one.num_ports) (nat_le one.num_ports (most_ports node_type.ChannelAdapter))
     (is_no_switch switches one.node_guid) (nat_lt (hops_to switches one.at.node) PATH_HOPS) right))
 

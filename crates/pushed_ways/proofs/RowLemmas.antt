@@ -4,10 +4,10 @@ use Rattle.std.specs.List.{Contains, list_any}
 use Rattle.std.specs.Option.{option_map_or}
 use Rattle.std.proofs.lemmas.Bool.{and_parts, eqb-true}
 use Rattle.std.proofs.lemmas.Option.{get_or_from_slice_get, none-some, same_Some, slice_get-map, slice_get_within}
-use Rattle.fabric_parts.specs.Cable.{far_end}
+use Rattle.fabric_parts.specs.Cable.{far_end, port}
 use Rattle.fabric_parts.specs.declared.cable.PortRef.{PortRef}
 use Rattle.smp_wire.specs.FabricState.{FabricState, is_switch_at}
-use Rattle.sweep.specs.Graph.{GraphState, port}
+use Rattle.sweep.specs.Graph.{GraphState}
 use Rattle.sweep.specs.OfFabric.{Found, IsGraphOf, link_to, nodes_of, place_of, placed, ports_at, row_of as fabric_row}
 use Rattle.sweep.specs.declared.graph.Link.{Link as GraphLink}
 use Rattle.sweep.proofs.EndPortLemmas.{of_one, one_of, there_is}

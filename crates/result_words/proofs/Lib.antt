@@ -1,4 +1,5 @@
 pub mod StepLemmas
 pub mod LineLemmas
+pub mod TestLemmas
 pub mod ListLemmas
 pub mod PlaceLemmas

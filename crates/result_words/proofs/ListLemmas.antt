@@ -1,10 +1,11 @@
 -- Tests of the elements of lists, and lists whose elements differ.
-use Rattle.std.proofs.Common.{ℕ, zero, suc, ◌<◌, Bool, true, List, [], ◌∷◌, ◌++◌, length, take, drop, replicate, get_or, slice_get, slice_set, Some}
+use Rattle.std.proofs.Common.{ℕ, zero, suc, ◌+◌, ◌<◌, Bool, true, false, List, [], ◌∷◌, ◌++◌, length, take, drop, replicate, get_or, slice_get, slice_set, find, Some}
 use Rattle.std.proofs.Common.{None, ◌≤◌, ◌⊎◌, ◌≡◌, subst, ◌∙◌, ap, refl, sym, inl, inr, arith}
-use Rattle.std.specs.List.{All, IsDistinct, list_all, list_any}
-use Rattle.std.proofs.lemmas.Bool.{and_from, and_parts, or_cases, or_left, or_right}
+use Rattle.std.specs.List.{All, AllByRecursion, IsDistinct, list_all, list_any, range_with_len}
+use Rattle.std.proofs.lemmas.Bool.{and_from, and_parts, cases_Bool, or_cases, or_from, or_left, or_right}
 use Rattle.std.proofs.lemmas.List.{take-append-drop}
 use Rattle.std.proofs.lemmas.Option.{get_or_from_slice_get, slice_get_cases}
+use Rattle.std.proofs.Math.Nat.{add-zero}
 use Rattle.std.proofs.lemmas.List.Folds.{list_all-append}
 
 -- what passes a test passes a weaker one
@@ -15,6 +16,27 @@ list_any_weaker strong weak implies (x ∷ xs) h =
       | inl here ↦ or_left (weak x) (list_any weak xs) (implies x here)
       | inr later ↦ or_right (weak x) (list_any weak xs) (list_any_weaker strong weak implies xs later)
     ]
+
+pub list_all_weaker : {X : Type 0} (strong weak : X → Bool) → ((x : X) → strong x ≡ true → weak x ≡ true) → (xs : List X) → list_all strong xs ≡ true → list_all weak xs ≡ true
+list_all_weaker strong weak implies [] h = refl
+list_all_weaker strong weak implies (x ∷ xs) h =
+    let parts = and_parts (strong x) (list_all strong xs) h in
+    and_from (weak x) (list_all weak xs) (implies x parts.0) (list_all_weaker strong weak implies xs parts.1)
+
+-- where all pass a test, none passes one that excludes it
+pub none_passes : {X : Type 0} (p test : X → Bool) → ((x : X) → p x ≡ true → test x ≡ false) → (xs : List X) → list_all p xs ≡ true → list_any test xs ≡ false
+none_passes p test fails [] all = refl
+none_passes p test fails (x ∷ xs) all =
+    let parts = and_parts (p x) (list_all p xs) all in
+    or_from (test x) (list_any test xs) (fails x parts.0) (none_passes p test fails xs parts.1)
+
+-- what is found by a test passes it
+pub found_passes : {X : Type 0} (test : X → Bool) (xs : List X) (x : X) → find test xs ≡ Some x → test x ≡ true
+found_passes test [] x h = absurd (cc)
+found_passes test (y ∷ ys) x h = elim (cases_Bool (test y)) [
+  | inl here ↦ let same : Some y ≡ Some x = rw here at h in let e : y ≡ x = cc in ap test (sym e) ∙ here
+  | inr other ↦ let later : find test ys ≡ Some x = rw other at h in found_passes test ys x later
+]
 
 -- one more element that passes
 pub list_all_push : {X : Type 0} (p : X → Bool) (xs : List X) (x : X) → list_all p xs ≡ true → p x ≡ true → list_all p (xs ++ x ∷ []) ≡ true
@@ -68,3 +90,16 @@ all_have {X = X} P xs i x all there = by_place (slice_get_cases xs i).1
         → P x
     by_place (inl within) = subst P (get_or_from_slice_get xs i x x there) (all i x within.1)
     by_place (inr past) = let none = past.1 in absurd (cc)
+
+-- ---- numbers
+pub range_at : (first count k : ℕ) → k < count → slice_get (range_with_len first count) k ≡ Some (first + k)
+range_at first zero k h = absurd (omega arith)
+range_at first (suc count) zero h = ap (λ (n : ℕ). Some n) (sym (add-zero first))
+range_at first (suc count) (suc k) h =
+    let moved : (first + 1) + k ≡ first + suc k = omega arith in
+    range_at (first + 1) count k (omega arith) ∙ ap (λ (n : ℕ). Some n) moved
+
+-- what is below one number is below all above it
+pub all_above : (x y : ℕ) (ys : List ℕ) → x < y → AllByRecursion (λ z. y < z) ys → AllByRecursion (λ z. x < z) ys
+all_above x y [] h k = tt
+all_above x y (z ∷ ys) h k = (omega (arith, h, k.0), all_above x y ys h k.1)

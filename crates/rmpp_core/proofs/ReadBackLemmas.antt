@@ -6,10 +6,10 @@ use Rattle.std.proofs.lemmas.List.{length-replicate}
 use Rattle.mad_layout.specs.declared.mad_header.Header.{Header}
 use Rattle.mad_layout.specs.declared.rmpp_header.RmppHeader.{RmppHeader}
 use Rattle.mad_layout.specs.declared.sa_mad.SaMad.{SaMad}
-use Rattle.mad_layout.specs.Bits.{bit_of, put_field}
-use Rattle.mad_layout.specs.Layout.{Field, Holds, put_all}
+use Rattle.mad_layout.specs.Bits.{bit_of}
+use Rattle.mad_layout.specs.Layout.{Holds}
 use Rattle.mad_layout.proofs.AlignedLemmas.{bytes_stand}
-use Rattle.mad_layout.proofs.LayoutLemmas.{length-put_all, put_below}
+use Rattle.mad_layout.proofs.LayoutLemmas.{length-put_all, spelled_below, zeros_below}
 use Rattle.mad_layout.proofs.NumberLemmas.{below_append, number_below}
 use Rattle.rmpp_core.specs.Laws.{IsTransfer}
 use Rattle.rmpp_core.specs.Receiving.{rmpp_in, data_in}
@@ -37,17 +37,9 @@ data_held mad header rmpp fields long below size narrow h =
     let r = h.1.1.1.1.1.1.1.1.1 in
     bytes_stand mad fields.«data» 56 200 below narrow (omega (arith, long)) size r.1.1.1.1.1.1.1.1.1.1.0
 
-all_below : (ps : List Field) (xs : List ℕ) → AllBelowBase 256 xs → AllBelowBase 256 (put_all xs ps)
-all_below [] xs below = below
-all_below (p ∷ ps) xs below = all_below ps (put_field xs p.off p.len p.value) (put_below xs p.off p.len p.value)
-
-zeros_below : (n : ℕ) → AllBelowBase 256 (replicate n 0)
-zeros_below zero = tt
-zeros_below (suc n) = (omega arith, zeros_below n)
-
 reply_below : (header : Header) (rmpp : RmppHeader) (fields : SaMad) → AllBelowBase 256 (reply_bytes header rmpp fields)
 unfolding reply_bytes
-reply_below header rmpp fields = all_below (reply_fields header rmpp fields) (replicate 256 0) (zeros_below 256)
+reply_below header rmpp fields = spelled_below (reply_fields header rmpp fields) 256
 
 pub reply_long : (header : Header) (rmpp : RmppHeader) (fields : SaMad) → length (reply_bytes header rmpp fields) ≡ 256
 unfolding reply_bytes

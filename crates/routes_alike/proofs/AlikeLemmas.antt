@@ -1,5 +1,5 @@
 -- What is so of a cabling is so of one whose switches stand in another order.
-use Rattle.std.proofs.Common.{◌≡◌, ℕ, ◌-◌, ◌<◌, ◌≤◌, ◌⊎◌, Bool, true, false, if◌then◌else◌, not, ◌==◌, ◌&&◌, ◌||◌, nat_le, nat_lt, List, [], ◌∷◌, get_or, length, map, slice_get}
+use Rattle.std.proofs.Common.{◌≡◌, ℕ, ◌-◌, ◌<◌, ◌≤◌, ◌⊎◌, Bool, true, false, if◌then◌else◌, not, ◌==◌, ◌&&◌, nat_le, nat_lt, List, [], ◌∷◌, get_or, length, map, slice_get}
 use Rattle.std.proofs.Common.{Some, None, option_map, refl, sym, ap, subst, ◌∙◌, inl, inr, arith}
 use Rattle.std.specs.List.{list_all, list_any}
 use Rattle.std.proofs.lemmas.Bool.{and_parts, and_from, cases_lt, or_cases, or_left, or_right, eqb-true, eq-eqb, ltb-true, false≢true}
@@ -7,6 +7,7 @@ use Rattle.std.proofs.lemmas.List.{length-map}
 use Rattle.std.proofs.lemmas.Option.{get_or_from_slice_get, none-some, slice_get-map, slice_get_within}
 use Rattle.fabric_parts.specs.declared.cable.PortRef.{PortRef}
 use Rattle.result_words.proofs.ListLemmas.{all_at, all_there}
+use Rattle.result_words.proofs.TestLemmas.{same_and, same_or}
 use Rattle.sweep.proofs.FoundLemmas.{all_by}
 use Rattle.updn_routes.proofs.CablingLemmas.{some_of}
 use Rattle.updn_routes.specs.Cabling.{is_next_to, is_walk, links_of}
@@ -17,12 +18,6 @@ use Rattle.updn_routes.specs.UpDown.{goes_down, is_down, is_legal, is_up}
 use Rattle.updn_routes.specs.declared.link.Link.{Link}
 use Rattle.routes_alike.specs.Alike.{AreAlike, IsLayout, IsPlacedIn, Layout, placed_home}
 use Rattle.routes_alike.specs.Laws.{LegalPathsAreAlike, NoneIsReachedAndRefused, OnePairIsRefused, RanksAreAlike}
-
-same_and : (a b c e : Bool) → a ≡ b → c ≡ e → (a && c) ≡ (b && e)
-same_and a b c e h k = rw (h, k) refl
-
-same_or : (a b c e : Bool) → a ≡ b → c ≡ e → (a || c) ≡ (b || e)
-same_or a b c e h k = rw (h, k) refl
 
 -- what passes one test passes the other once it is changed
 any_moved : {X : Type 0} (p q : X → Bool) (f : X → X) (xs : List X) → ((x : X) → p x ≡ true → q (f x) ≡ true)

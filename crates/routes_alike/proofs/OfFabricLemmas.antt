@@ -9,12 +9,12 @@ use Rattle.std.proofs.lemmas.List.Folds.{list_any-append}
 use Rattle.std.proofs.lemmas.Option.{get_or_from_slice_get, none-some, same_Some, slice_get-get_or, slice_get-map, slice_get_within}
 use Rattle.result_words.proofs.ListLemmas.{all_joined}
 use Rattle.result_words.proofs.PlaceLemmas.{not_there}
-use Rattle.fabric_parts.specs.Cable.{far_end}
+use Rattle.fabric_parts.specs.Cable.{far_end, port}
 use Rattle.fabric_parts.specs.declared.cable.PortRef.{PortRef}
 use Rattle.lid_assign.specs.Lids.{AreLids, adapter_end, end_ports, switch_end}
 use Rattle.smp_wire.specs.FabricState.{FabricState, is_switch_at}
 use Rattle.smp_wire.specs.Good.{IsGood}
-use Rattle.sweep.specs.Graph.{GraphState, port}
+use Rattle.sweep.specs.Graph.{GraphState}
 use Rattle.sweep.specs.OfFabric.{Found, IsGraphOf, guid_at, link_to, node_at, nodes_of, place_of, port_seen, port_to, ports_at, all_ports, ports_up_to, row_of, switch_of}
 use Rattle.sweep.specs.Seen.{name_at, seen_at}
 use Rattle.sweep.specs.declared.graph.GraphPort.{GraphPort}

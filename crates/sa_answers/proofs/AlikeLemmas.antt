@@ -2,8 +2,9 @@
 use Rattle.std.proofs.Common.{ℕ, zero, suc, Bool, true, false, ◌==◌, ◌&&◌, ◌||◌, not, List, [], ◌∷◌, ◌++◌, Option, Some, None, is_none, Result, Ok, Err, map, filter, find, option_map}
 use Rattle.std.proofs.Common.{◌≡◌, ◌∙◌, ap, refl, sym, inl, inr, if◌then◌else◌, length, bit_and}
 use Rattle.std.specs.List.{list_all, list_any, flat_map}
-use Rattle.std.proofs.lemmas.Bool.{cases_Bool, both_ways, false_from_ne_true, and_parts, or_from, or_left, eqb-true, eq-eqb}
+use Rattle.std.proofs.lemmas.Bool.{cases_Bool, both_ways, false_from_ne_true, and_parts, or_left, eqb-true, eq-eqb}
 use Rattle.std.proofs.lemmas.List.{map-append}
+use Rattle.result_words.proofs.ListLemmas.{none_passes}
 use Rattle.mad_layout.specs.Bits.{field}
 use Rattle.mad_layout.specs.Method.{method_code}
 use Rattle.mad_layout.specs.declared.method.Method.TheVariants.{Get, Set, GetTable, Delete}
@@ -19,15 +20,15 @@ use Rattle.subnet_model.specs.Near.{is_near, ports_share}
 use Rattle.sa_model.specs.JoinState.{is_joined}
 use Rattle.sa_model.specs.Members.{is_member}
 use Rattle.sa_model.specs.Groups.{Membership, MulticastGroup, PartitionGroups}
-use Rattle.sa_model.specs.Anchor.{mlid_range, free_mlid}
+use Rattle.sa_model.specs.Anchor.{free_mlid}
 use Rattle.sa_model.specs.Joining.{has_mgid, is_of, joined}
 use Rattle.sa_model.specs.Leaving.{Leave, is_left}
 use Rattle.sa_model.specs.Sound.{is_sound_membership, is_sound_group, is_sound_partition, is_sound}
 use Rattle.sa_model.specs.Sight.{group_seen, partition_seen, seen, Alike}
 use Rattle.sa_model.proofs.SoundLemmas.{sound_parts, partition_parts}
-use Rattle.sa_model.proofs.SightListLemmas.{any_within, any_map_same, find_same}
+use Rattle.sa_model.proofs.SightListLemmas.{any_within, any_map_same}
 use Rattle.sa_model.proofs.SightLemmas.{near_leave}
-use Rattle.sa_model.proofs.JoinSightLemmas.{near_join}
+use Rattle.sa_model.proofs.JoinSightLemmas.{free_seen, near_join}
 use Rattle.sa_requests.specs.Services.{PortServices}
 use Rattle.sa_requests.specs.ServiceChange.{Deed, is_place}
 use Rattle.sa_requests.specs.ServiceSight.{is_shown, ports_share_base, services_seen}
@@ -112,12 +113,6 @@ group_named_seen ports p base mgid member partitions =
     ap (find (has_mgid mgid)) (groups_in_seen ports p base member partitions)
     ∙ find_map (has_mgid mgid) (group_seen ports p) (λ group. refl) (groups_in base partitions)
 
-free_seen : (ports : List SubnetPort) (p : ℕ) (partition : PartitionGroups) → free_mlid (partition_seen ports p partition) ≡ free_mlid partition
-free_seen ports p partition =
-    find_same (λ n. not (list_any (λ group. group.mlid == n) (map (group_seen ports p) partition.groups))) (λ n. not (list_any (λ group. group.mlid == n) partition.groups))
-    (λ n. ap not (any_map_same (λ group. group.mlid == n) (λ group. group.mlid == n) (group_seen ports p) (λ group. refl) partition.groups))
-    (mlid_range partition.number)
-
 has_free_seen : (ports : List SubnetPort) (p base : ℕ) → is_member ports base p ≡ true → (partitions : List PartitionGroups)
     → has_free_mlid base (seen ports p partitions) ≡ has_free_mlid base partitions
 has_free_seen ports p base member partitions =
@@ -169,12 +164,6 @@ taken_in_seen ports leave partition =
     (λ m e. own_near ports leave.port m
     (and_parts (is_of leave.port m) _ (and_parts (is_left leave partition.base group m) (has_bit_of leave.join_state m.join_state) e).0).0) group.memberships)
     partition.groups
-
-pub none_passes : {X : Type 0} (p test : X → Bool) → ((x : X) → p x ≡ true → test x ≡ false) → (xs : List X) → list_all p xs ≡ true → list_any test xs ≡ false
-none_passes p test fails [] all = refl
-none_passes p test fails (x ∷ xs) all =
-    let parts = and_parts (p x) (list_all p xs) all in
-    or_from (test x) (list_any test xs) (fails x parts.0) (none_passes p test fails xs parts.1)
 
 outside_not_taken : (ports : List SubnetPort) (leave : Leave) (partition : PartitionGroups) → is_member ports partition.base leave.port ≡ false
     → is_sound_partition ports partition ≡ true → taken_in leave partition ≡ false

@@ -4,6 +4,7 @@ use Rattle.std.specs.List.{list_all, list_any}
 use Rattle.std.proofs.lemmas.Bool.{cases_Bool, both_ways, and_from, and_parts, or_cases, or_parts, or_left, or_right, eq-eqb}
 use Rattle.std.proofs.lemmas.Bool.Decides.{nat_tests}
 use Rattle.std.proofs.lemmas.List.Folds.{list_all-append, list_any-append}
+use Rattle.result_words.proofs.ListLemmas.{found_passes}
 use Rattle.pkey_rules.specs.PKey.{base_of}
 use Rattle.sa_model.proofs.JoinSoundLemmas.{all_with_group, joined_mgid}
 use Rattle.sa_model.proofs.ListLemmas.{any_map}
@@ -15,7 +16,7 @@ use Rattle.sa_model.specs.Members.{is_member}
 use Rattle.sa_queries.proofs.NearLemmas.{member_if_in}
 use Rattle.sa_queries.specs.Refusals.{first_refusal}
 use Rattle.sa_records.specs.declared.mc_member_record.McMemberRecord.{McMemberRecord}
-use Rattle.subnet_model.proofs.IsolationLemmas.{found_in, found_passes}
+use Rattle.subnet_model.proofs.IsolationLemmas.{found_in}
 use Rattle.subnet_model.specs.declared.subnet_port.SubnetPort.{SubnetPort}
 use Rattle.subnet_model.specs.Delivery.{port_with_guid}
 use Rattle.sa_answers.proofs.AlikeLemmas.{groups_in, join_is_in, none_so, unless_not}

@@ -2,7 +2,7 @@
 use Rattle.std.proofs.Common.{ℕ, Bool, true, false, ◌==◌, ◌&&◌, ◌||◌, not, List, [], ◌∷◌, Option, Some, None, Result, Ok, Err, map, filter, if◌then◌else◌, length, bit_and}
 use Rattle.std.proofs.Common.{◌≡◌, ◌∙◌, ap, refl, sym, subst, inl, inr}
 use Rattle.std.specs.List.{list_all, list_any, flat_map}
-use Rattle.std.proofs.lemmas.Bool.{cases_Bool, both_ways, and_from, and_parts, or_parts, not_from_false, eqb-true}
+use Rattle.std.proofs.lemmas.Bool.{and_from, and_parts, both_ways, cases_Bool, eqb-true, not-true, not_from_false, or_parts}
 use Rattle.mad_layout.specs.Bits.{field}
 use Rattle.mad_layout.specs.Method.{method_code}
 use Rattle.mad_layout.specs.declared.method.Method.TheVariants.{Get, Set, GetTable, Delete}
@@ -74,10 +74,6 @@ no_bits less state e = record_same (without_bits less state) state (kept state.f
 abbrev is_idle : Leave → ℕ → MulticastGroup → Membership → Bool
 is_idle leave base group m = not (is_taken_from leave base group m) && is_joined m.join_state
 
-not_false : (b : Bool) → not b ≡ true → b ≡ false
-not_false true e = absurd (cc)
-not_false false e = refl
-
 less_idle : (leave : Leave) (base : ℕ) (group : MulticastGroup) (m : Membership) → is_taken_from leave base group m ≡ false → less_joined leave base group m ≡ m
 less_idle leave base group m untaken = elim (cases_Bool (is_left leave base group m)) [
   | inl this ↦
@@ -101,7 +97,7 @@ members_idle : (ports : List SubnetPort) (leave : Leave) (base : ℕ) (group : M
     → list_all (is_sound_membership ports base) group.memberships ≡ true → without_member leave base group ≡ group.memberships
 members_idle ports leave base group untaken sound =
     filter_map_idle (λ m. not (is_taken_from leave base group m) && is_sound_membership ports base m) (λ m. is_joined m.join_state) (less_joined leave base group)
-    (λ m e. less_idle leave base group m (not_false (is_taken_from leave base group m) (and_parts (not (is_taken_from leave base group m)) (is_sound_membership ports base m) e).0))
+    (λ m e. less_idle leave base group m (not-true (is_taken_from leave base group m) (and_parts (not (is_taken_from leave base group m)) (is_sound_membership ports base m) e).0))
     (λ m e. (and_parts (is_member ports base m.port) (is_joined m.join_state) (and_parts (not (is_taken_from leave base group m)) (is_sound_membership ports base m) e).1).1)
     group.memberships (each_untaken (is_taken_from leave base group) (is_sound_membership ports base) group.memberships untaken sound)
 
@@ -112,7 +108,7 @@ groups_idle ports leave x groups untaken sound =
     filter_map_idle (λ group. not (list_any (is_taken_from leave x.base group) group.memberships) && is_sound_group ports x group) (is_kept ports x.base) (left_group leave x.base)
     (λ group e. let parts = and_parts (all_untaken leave x.base group) (is_sound_group ports x group) e in
     ap (λ members. record group { memberships = members })
-    (members_idle ports leave x.base group (not_false (list_any (is_taken_from leave x.base group) group.memberships) parts.0) (sound_parts ports x group parts.1).members))
+    (members_idle ports leave x.base group (not-true (list_any (is_taken_from leave x.base group) group.memberships) parts.0) (sound_parts ports x group parts.1).members))
     (λ group e. (sound_parts ports x group (and_parts (all_untaken leave x.base group) (is_sound_group ports x group) e).1).kept)
     groups (each_untaken (λ group. list_any (is_taken_from leave x.base group) group.memberships) (is_sound_group ports x) groups untaken sound)
 

@@ -65,7 +65,7 @@ mlids_tell_partitions ports a b mlid sound_a sound_b other has =
     (mlid_in_range ports b mlid b.groups (partition_parts ports b sound_b).each too)))
 
 -- ---- which partitions there are
-same_by : {X Y : Type 0} (h : X → Y) (f : X → X) → ((x : X) → h (f x) ≡ h x) → (xs : List X) → map h (map f xs) ≡ map h xs
+pub same_by : {X Y : Type 0} (h : X → Y) (f : X → X) → ((x : X) → h (f x) ≡ h x) → (xs : List X) → map h (map f xs) ≡ map h xs
 same_by h f same [] = refl
 same_by h f same (x ∷ xs) = rw (same x, same_by h f same xs) refl
 

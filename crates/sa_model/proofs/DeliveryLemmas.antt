@@ -1,8 +1,9 @@
 -- Whom a packet reaches by groups: only ports near its sender, and by what they see.
-use Rattle.std.proofs.Common.{ℕ, Bool, true, false, not, ◌==◌, ◌&&◌, ◌||◌, List, [], ◌∷◌, Some, None}
+use Rattle.std.proofs.Common.{ℕ, true, false, not, ◌==◌, ◌&&◌, ◌||◌, List, [], ◌∷◌, Some, None}
 use Rattle.std.proofs.Common.{◌≡◌, ◌∙◌, ap, refl, sym, inl, inr}
-use Rattle.std.specs.List.{list_all, list_any}
-use Rattle.std.proofs.lemmas.Bool.{cases_Bool, both_ways, false_from_ne_true, and_left, and_right, and_parts, or_from, or_left, eqb-true}
+use Rattle.std.specs.List.{list_any}
+use Rattle.std.proofs.lemmas.Bool.{cases_Bool, both_ways, false_from_ne_true, and_left, and_right, and_parts, or_left, eqb-true}
+use Rattle.result_words.proofs.ListLemmas.{none_passes}
 use Rattle.fabric_parts.specs.NodeType.{is_switch_type}
 use Rattle.pkey_rules.specs.KeyTable.{accepts}
 use Rattle.subnet_model.specs.declared.subnet_port.SubnetPort.{SubnetPort}
@@ -28,12 +29,6 @@ reached_is_near ports partitions p command sender found sends reached =
     joined_is_near ports (is_receiver_of partitions command.dlid) p sender command found (held_unless_refused sender command sends) reached
 
 -- ---- what is seen says who receives
-none_of : {X : Type 0} (p test : X → Bool) → ((x : X) → p x ≡ true → test x ≡ false) → (xs : List X) → list_all p xs ≡ true → list_any test xs ≡ false
-none_of p test fails [] all = refl
-none_of p test fails (x ∷ xs) all =
-    let parts = and_parts (p x) (list_all p xs) all in
-    or_from (test x) (list_any test xs) (fails x parts.0) (none_of p test fails xs parts.1)
-
 own_is_seen : (ports : List SubnetPort) (p : ℕ) (m : Membership) → receives p m ≡ true → is_near ports p m.port ≡ true
 own_is_seen ports p m e = or_left (m.port == p) (ports_share ports p m.port) (and_parts (is_of p m) (is_receiver m.join_state) e).0
 
@@ -59,9 +54,9 @@ other_receives ports p base m outside sound =
 outside_receives : (ports : List SubnetPort) (p mlid : ℕ) (partition : PartitionGroups) → is_member ports partition.base p ≡ false
     → is_sound_partition ports partition ≡ true → receives_in mlid p partition ≡ false
 outside_receives ports p mlid partition outside sound =
-    none_of (is_sound_group ports partition) (λ group. (group.mlid == mlid) && list_any (receives p) group.memberships)
+    none_passes (is_sound_group ports partition) (λ group. (group.mlid == mlid) && list_any (receives p) group.memberships)
     (λ group e. and_right (group.mlid == mlid) (list_any (receives p) group.memberships)
-    (none_of (is_sound_membership ports partition.base) (receives p) (λ m one. other_receives ports p partition.base m outside one)
+    (none_passes (is_sound_membership ports partition.base) (receives p) (λ m one. other_receives ports p partition.base m outside one)
     group.memberships (sound_parts ports partition group e).members))
     partition.groups (partition_parts ports partition sound).each
 

@@ -82,7 +82,7 @@ with_group_seen ports p new (group ∷ groups) = elim (cases_Bool (nat_lt new.ml
   | inr behind ↦ rw behind (ap (λ rest. group_seen ports p group ∷ rest) (with_group_seen ports p new groups))
 ]
 
-free_seen : (ports : List SubnetPort) (p : ℕ) (partition : PartitionGroups) → free_mlid (partition_seen ports p partition) ≡ free_mlid partition
+pub free_seen : (ports : List SubnetPort) (p : ℕ) (partition : PartitionGroups) → free_mlid (partition_seen ports p partition) ≡ free_mlid partition
 free_seen ports p partition =
     find_same (λ n. not (list_any (λ group. group.mlid == n) (map (group_seen ports p) partition.groups))) (λ n. not (list_any (λ group. group.mlid == n) partition.groups))
     (λ n. ap not (any_map_same (λ group. group.mlid == n) (λ group. group.mlid == n) (group_seen ports p) (λ group. refl) partition.groups))

@@ -4,6 +4,7 @@ use Rattle.std.proofs.Common.{◌≡◌, ◌∙◌, ap, refl, sym, inl, inr, ari
 use Rattle.std.specs.List.{list_all, list_any, range_with_len}
 use Rattle.std.proofs.lemmas.Bool.{cases_Bool, both_ways, and_from, and_parts, or_cases, or_parts, or_left, or_right, not_from_true, eqb-true}
 use Rattle.std.proofs.lemmas.Bool.Decides.{nat_tests}
+use Rattle.result_words.proofs.ListLemmas.{found_passes, list_all_weaker}
 use Rattle.subnet_model.specs.declared.subnet_port.SubnetPort.{SubnetPort}
 use Rattle.sa_model.specs.JoinState.{JoinState, is_joined, with_bits}
 use Rattle.sa_model.specs.Members.{is_member, is_full_member}
@@ -11,7 +12,7 @@ use Rattle.sa_model.specs.Groups.{Membership, MulticastGroup, PartitionGroups, f
 use Rattle.sa_model.specs.Anchor.{anchors, is_kept, is_by_file, free_mlid, mlid_range}
 use Rattle.sa_model.specs.Joining.{Join, may_join, may_create, has_mgid, is_of, more_joined, with_member, joined_group, new_group, with_group, with_created, joined_groups, joined_in, joined}
 use Rattle.sa_model.specs.Sound.{pairwise, other_port, other_mgid, lower_mlid, is_sound_membership, is_in_range, is_sound_group, is_sound_partition, is_sound}
-use Rattle.sa_model.proofs.ListLemmas.{all_weaker, all_map, all_fail, any_map, any_push, all_push, pairwise_map, pairwise_push}
+use Rattle.sa_model.proofs.ListLemmas.{all_map, all_fail, any_map, any_push, all_push, pairwise_map, pairwise_push}
 use Rattle.sa_model.proofs.SoundLemmas.{sound_parts, sound_group, PartitionParts, partition_parts, sound_partition}
 
 -- ---- one membership
@@ -119,13 +120,6 @@ joined_mlid join group = elim (cases_Bool (has_mgid join.mgid group)) [
 ]
 
 -- ---- a new group
-found_passes : {X : Type 0} (test : X → Bool) (xs : List X) (x : X) → find test xs ≡ Some x → test x ≡ true
-found_passes test [] x h = absurd (cc)
-found_passes test (y ∷ ys) x h = elim (cases_Bool (test y)) [
-  | inl here ↦ let same : Some y ≡ Some x = rw here at h in let e : y ≡ x = cc in ap test (sym e) ∙ here
-  | inr other ↦ let later : find test ys ≡ Some x = rw other at h in found_passes test ys x later
-]
-
 found_among : {X : Type 0} (test other : X → Bool) (xs : List X) (x : X) → find test xs ≡ Some x → list_all other xs ≡ true → other x ≡ true
 found_among test other [] x h all = absurd (cc)
 found_among test other (y ∷ ys) x h all =
@@ -196,7 +190,7 @@ with_group_in_order new (group ∷ groups) free pairs =
     elim (cases_Bool (nat_lt new.mlid group.mlid)) [
       | inl before ↦ rw before (and_from (list_all (lower_mlid new) (group ∷ groups)) (pairwise lower_mlid (group ∷ groups))
           (and_from (lower_mlid new group) (list_all (lower_mlid new) groups) before
-          (all_weaker (lower_mlid group) (lower_mlid new) (λ x e. lower_through new group before x e) groups parts.0)) pairs)
+          (list_all_weaker (lower_mlid group) (lower_mlid new) (λ x e. lower_through new group before x e) groups parts.0)) pairs)
       | inr behind ↦ rw behind (and_from (list_all (lower_mlid group) (with_group new groups)) (pairwise lower_mlid (with_group new groups))
           (all_with_group (lower_mlid group) new groups (lower_unless new group behind others.0) parts.0)
           (with_group_in_order new groups others.1 parts.1))
@@ -213,7 +207,7 @@ with_group_apart new (group ∷ groups) free pairs =
     let others = and_parts (not (has_mgid new.mgid group)) (list_all (λ x. not (has_mgid new.mgid x)) groups) free in
     elim (cases_Bool (nat_lt new.mlid group.mlid)) [
       | inl before ↦ rw before (and_from (list_all (other_mgid new) (group ∷ groups)) (pairwise other_mgid (group ∷ groups))
-          (all_weaker (λ x. not (has_mgid new.mgid x)) (other_mgid new) (λ x e. other_way new x e) (group ∷ groups) free) pairs)
+          (list_all_weaker (λ x. not (has_mgid new.mgid x)) (other_mgid new) (λ x e. other_way new x e) (group ∷ groups) free) pairs)
       | inr behind ↦ rw behind (and_from (list_all (other_mgid group) (with_group new groups)) (pairwise other_mgid (with_group new groups))
           (all_with_group (other_mgid group) new groups others.0 parts.0)
           (with_group_apart new groups others.1 parts.1))

@@ -8,6 +8,7 @@ use Rattle.subnet_model.specs.Delivery.{port_with_guid}
 use Rattle.sa_model.specs.Members.{is_member}
 use Rattle.sa_model.specs.Groups.{MulticastGroup, PartitionGroups}
 use Rattle.sa_model.specs.Sight.{group_seen, partition_seen, seen}
+use Rattle.sa_model.proofs.ChangeLemmas.{same_by}
 use Rattle.sa_queries.specs.Visible.{GroupOfBase, is_in, groups_of, visible_groups}
 use Rattle.sa_queries.specs.Shown.{group_entry}
 use Rattle.sa_queries.specs.Laws.{GroupsAreShownAlike}
@@ -40,11 +41,6 @@ visible_of_seen ports own found (x ∷ xs) = elim (cases_Bool (is_in own x.base)
   ]
 ]
 
--- what a map does not change, and a filter does not ask after
-map_alike : {X Y : Type 0} (show : X → Y) (f : X → X) → ((x : X) → show (f x) ≡ show x) → (xs : List X) → map show (map f xs) ≡ map show xs
-map_alike show f same [] = refl
-map_alike show f same (x ∷ xs) = rw (same x, map_alike show f same xs) refl
-
 pub filter_alike : {X Y : Type 0} (show : X → Y) (keep : X → Bool) (f : X → X) → ((x : X) → show (f x) ≡ show x) → ((x : X) → keep (f x) ≡ keep x) → (xs : List X)
     → map show (filter keep (map f xs)) ≡ map show (filter keep xs)
 filter_alike show keep f same kept [] = refl
@@ -58,7 +54,7 @@ shown_of_seen : (ports : List SubnetPort) (own : SubnetPort) → port_with_guid 
     → map group_entry (visible_groups own (seen ports own.guid partitions)) ≡ map group_entry (visible_groups own partitions)
 shown_of_seen ports own found partitions =
     ap (map group_entry) (visible_of_seen ports own found partitions)
-    ∙ map_alike group_entry (trimmed ports own.guid) (λ one. refl) (visible_groups own partitions)
+    ∙ same_by group_entry (trimmed ports own.guid) (λ one. refl) (visible_groups own partitions)
 
 pub groups_alike : GroupsAreShownAlike
 groups_alike ports own s t found same =

@@ -4,7 +4,6 @@ use Rattle.std.specs.Prelude.{ℕ, Bool, true, ◌==◌, nat_lt, ◌||◌, not, 
 use Rattle.std.specs.List.{list_all}
 use Rattle.std.specs.Str.{bytes_eq}
 use Rattle.mad_layout.specs.Bits.{bit_of}
-use Rattle.pkey_rules.specs.PKey.{base_of}
 
 -- a component: its bits in the mask, and whether a record and what is asked agree on it
 pub record Component : Type 0 where
@@ -24,10 +23,6 @@ is_selected mask components = list_all (passes mask) components
 -- ---- how what is shown and what is asked may be compared
 abbrev pub same_bit : Bool → Bool → Bool
 same_bit shown asked = bit_of shown == bit_of asked
-
--- keys are asked for by their partition
-abbrev pub same_base : ℕ → ℕ → Bool
-same_base shown asked = base_of shown == base_of asked
 
 -- so many bytes from this one on
 abbrev pub same_part : ℕ → ℕ → List ℕ → List ℕ → Bool

@@ -3,7 +3,8 @@ use Rattle.std.specs.Prelude.{ℕ, Bool, ◌==◌, List, [], ◌∷◌, replicat
 use Rattle.mad_layout.specs.Bits.{bit_of}
 use Rattle.mad_layout.specs.Layout.{Field, at, put_all}
 use Rattle.sa_records.specs.declared.mc_member_record.McMemberRecord.{McMemberRecord}
-use Rattle.sa_records.specs.Component.{Component, on, is_selected, same_bit, same_base, satisfies}
+use Rattle.pkey_rules.specs.KeyTable.{same_base}
+use Rattle.sa_records.specs.Component.{Component, on, is_selected, same_bit, satisfies}
 use Rattle.sa_records.specs.Asked.{Asked, by}
 use Rattle.sa_records.specs.McMemberMask as member_mask
 use Rattle.sa_records.specs.Speed.{rate_satisfies}

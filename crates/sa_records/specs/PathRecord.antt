@@ -3,7 +3,8 @@ use Rattle.std.specs.Prelude.{ℕ, Bool, ◌==◌, List, [], ◌∷◌, replicat
 use Rattle.mad_layout.specs.Bits.{bit_of}
 use Rattle.mad_layout.specs.Layout.{Field, at, put_all}
 use Rattle.sa_records.specs.declared.path_record.PathRecord.{PathRecord}
-use Rattle.sa_records.specs.Component.{Component, on, is_selected, same_bit, same_base, satisfies}
+use Rattle.pkey_rules.specs.KeyTable.{same_base}
+use Rattle.sa_records.specs.Component.{Component, on, is_selected, same_bit, satisfies}
 use Rattle.sa_records.specs.Asked.{Asked, by}
 use Rattle.sa_records.specs.PathMask as path_mask
 use Rattle.sa_records.specs.Speed.{rate_satisfies}
@@ -60,7 +61,8 @@ path_record_components shown asked =
 unfoldable pub path_record_selected : ℕ → PathRecord → PathRecord → Bool
 path_record_selected mask shown asked = is_selected mask (path_record_components shown asked)
 
--- the fields that paths are asked by, in the order of their bits
+-- the fields that paths are asked by, in the order of their bits. NumbPath's stands here by its name, under which answers
+-- look for it: it selects no record, so no component says which bit it is
 abbrev pub path_record_asked : List Asked
 path_record_asked =
     by (codes "sid") 3 0 64

@@ -4,7 +4,8 @@ use Rattle.mad_layout.specs.Bits.{number}
 use Rattle.mad_layout.specs.Layout.{Field, at, put_all}
 use Rattle.sa_records.specs.declared.service_record.ServiceRecord.{ServiceRecord}
 use Rattle.std.specs.Str.{bytes_eq}
-use Rattle.sa_records.specs.Component.{Component, on, is_selected, same_base, same_part}
+use Rattle.pkey_rules.specs.KeyTable.{same_base}
+use Rattle.sa_records.specs.Component.{Component, on, is_selected, same_part}
 use Rattle.sa_records.specs.Asked.{Asked, by}
 use Rattle.sa_records.specs.ServiceMask as service_mask
 

@@ -1,7 +1,8 @@
 //! Components: what a request asks by.
 
 ghost use Rattle.std.specs.Prelude.{◌≡◌, ◌≤◌, ◌+◌};
-ghost use Rattle.sa_records.specs.Component.{passes, same_base, same_part, satisfies};
+ghost use Rattle.pkey_rules.specs.KeyTable.{same_base};
+ghost use Rattle.sa_records.specs.Component.{passes, same_part, satisfies};
 ghost use Rattle.sa_records.specs.Speed.{speed, speed_of, rate_satisfies};
 
 use attr_tables::Rate;

@@ -4,9 +4,10 @@ use Rattle.std.proofs.Common.{◌≡◌, ◌∙◌, ap, refl, inl, inr, arith}
 use Rattle.std.specs.List.{list_all, list_any}
 use Rattle.std.proofs.lemmas.Bool.{cases_Bool, and_from, and_parts}
 use Rattle.std.proofs.lemmas.Bool.Decides.{nat_tests}
+use Rattle.result_words.proofs.TestLemmas.{or_turned}
+use Rattle.result_words.proofs.ListLemmas.{list_all_weaker}
 use Rattle.pkey_rules.specs.PKey.{base_of}
 use Rattle.sa_model.specs.Sound.{pairwise}
-use Rattle.sa_model.proofs.ListLemmas.{all_weaker}
 use Rattle.sa_requests.specs.KeyOrder.{with_key, by_base, is_lower_base, KeysStandByBase}
 
 -- what is so of a key, and of each of some, is so of each of them together
@@ -39,7 +40,7 @@ with_key_in_order key (held ∷ keys) order =
     elim (cases_Bool (nat_le (base_of key) (base_of held))) [
       | inl before ↦ rw before (and_from (list_all (is_lower_base key) (held ∷ keys)) (pairwise is_lower_base (held ∷ keys))
           (and_from (is_lower_base key held) (list_all (is_lower_base key) keys) before
-          (all_weaker (is_lower_base held) (is_lower_base key) (λ x e. lower_through key held x before e) keys parts.0)) order)
+          (list_all_weaker (is_lower_base held) (is_lower_base key) (λ x e. lower_through key held x before e) keys parts.0)) order)
       | inr behind ↦ rw behind (and_from (list_all (is_lower_base held) (with_key key keys)) (pairwise is_lower_base (with_key key keys))
           (all_with_key (is_lower_base held) key keys (lower_unless key held behind) parts.0) (with_key_in_order key keys parts.1))
     ]
@@ -49,17 +50,11 @@ by_base_in_order [] = refl
 by_base_in_order (key ∷ keys) = with_key_in_order key (by_base keys) (by_base_in_order keys)
 
 -- ---- the same keys
-swapped : (a b c : Bool) → (a || (b || c)) ≡ (b || (a || c))
-swapped true true c = refl
-swapped true false c = refl
-swapped false true c = refl
-swapped false false c = refl
-
 any_with_key : (test : ℕ → Bool) (key : ℕ) (keys : List ℕ) → list_any test (with_key key keys) ≡ (test key || list_any test keys)
 any_with_key test key [] = refl
 any_with_key test key (held ∷ keys) = elim (cases_Bool (nat_le (base_of key) (base_of held))) [
   | inl before ↦ rw before refl
-  | inr behind ↦ rw behind (ap (λ rest. test held || rest) (any_with_key test key keys) ∙ swapped (test held) (test key) (list_any test keys))
+  | inr behind ↦ rw behind (ap (λ rest. test held || rest) (any_with_key test key keys) ∙ or_turned (test held) (test key) (list_any test keys))
 ]
 
 any_by_base : (test : ℕ → Bool) (keys : List ℕ) → list_any test (by_base keys) ≡ list_any test keys

@@ -5,11 +5,12 @@ use Rattle.std.specs.List.{list_all, list_any, flat_map}
 use Rattle.std.proofs.lemmas.Bool.{cases_Bool, and_from, and_parts, or_cases, or_left, or_right, eq-eqb}
 use Rattle.std.proofs.lemmas.Bool.Decides.{nat_tests}
 use Rattle.std.proofs.lemmas.List.Folds.{list_all-append}
+use Rattle.result_words.proofs.ListLemmas.{list_all_weaker}
 use Rattle.pkey_rules.specs.PKey.{base_of}
 use Rattle.pkey_rules.specs.KeyTable.{has_base}
 use Rattle.subnet_model.specs.declared.subnet_port.SubnetPort.{SubnetPort}
 use Rattle.sa_model.specs.Sound.{pairwise}
-use Rattle.sa_model.proofs.ListLemmas.{all_weaker, all_map, pairwise_filter}
+use Rattle.sa_model.proofs.ListLemmas.{all_map, pairwise_filter}
 use Rattle.sa_requests.specs.KeyOrder.{by_base}
 use Rattle.sa_requests.specs.Services.{Service, PortServices, none_of_port, no_services}
 use Rattle.sa_requests.specs.ServiceChange.{Deed, ServiceChange, is_place, has_id, lower_id, most_services, has_room, with_service, without_service, after_deed, changed_in, services_changed}
@@ -206,7 +207,7 @@ keys_are_held [] = refl
 keys_are_held (key ∷ keys) =
     and_from (has_base (base_of key) (key ∷ keys)) (list_all (λ k. has_base (base_of k) (key ∷ keys)) keys)
     (or_left (base_of key == base_of key) (has_base (base_of key) keys) (eq-eqb (base_of key) (base_of key) refl))
-    (all_weaker (λ k. has_base (base_of k) keys) (λ k. has_base (base_of k) (key ∷ keys))
+    (list_all_weaker (λ k. has_base (base_of k) keys) (λ k. has_base (base_of k) (key ∷ keys))
     (λ k e. or_right (base_of key == base_of k) (has_base (base_of k) keys) e) keys (keys_are_held keys))
 
 -- the port is in its partitions, by a list of ports
@@ -215,7 +216,7 @@ is_in_its_partitions ports port = list_all (λ key. holds_base ports (base_of ke
 
 first_is_in : (port : SubnetPort) (ports : List SubnetPort) → is_in_its_partitions (port ∷ ports) port ≡ true
 first_is_in port ports =
-    all_weaker (λ key. has_base (base_of key) port.keys) (λ key. holds_base (port ∷ ports) (base_of key) port.guid)
+    list_all_weaker (λ key. has_base (base_of key) port.keys) (λ key. holds_base (port ∷ ports) (base_of key) port.guid)
     (λ key e. or_left ((port.guid == port.guid) && has_base (base_of key) port.keys) (holds_base ports (base_of key) port.guid)
     (and_from (port.guid == port.guid) (has_base (base_of key) port.keys) (eq-eqb port.guid port.guid refl) e)) port.keys (keys_are_held port.keys)
 
@@ -223,8 +224,8 @@ all_are_in : (ports : List SubnetPort) → list_all (is_in_its_partitions ports)
 all_are_in [] = refl
 all_are_in (port ∷ ports) =
     and_from (is_in_its_partitions (port ∷ ports) port) (list_all (is_in_its_partitions (port ∷ ports)) ports) (first_is_in port ports)
-    (all_weaker (is_in_its_partitions ports) (is_in_its_partitions (port ∷ ports))
-    (λ other e. all_weaker (λ key. holds_base ports (base_of key) other.guid) (λ key. holds_base (port ∷ ports) (base_of key) other.guid)
+    (list_all_weaker (is_in_its_partitions ports) (is_in_its_partitions (port ∷ ports))
+    (λ other e. list_all_weaker (λ key. holds_base ports (base_of key) other.guid) (λ key. holds_base (port ∷ ports) (base_of key) other.guid)
     (λ key h. or_right ((port.guid == other.guid) && has_base (base_of key) port.keys) (holds_base ports (base_of key) other.guid) h) other.keys e)
     ports (all_are_in ports))
 

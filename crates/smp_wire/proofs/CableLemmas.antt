@@ -1,8 +1,10 @@
 -- Cables of a good fabric: each leads back to where it came from, and joins ports of its nodes.
-use Rattle.std.proofs.Common.{ℕ, ◌≡◌, ◌==◌, ◌∙◌, ◌&&◌, ◌||◌, not, ap, refl, sym, subst, Bool, true, false, cond, if◌then◌else◌, List, [], ◌∷◌, find}
-use Rattle.std.proofs.Common.{flat_map, Option, Some, None, option_map}
+use Rattle.std.proofs.Common.{◌≡◌, ◌==◌, ◌∙◌, ◌||◌, not, ap, refl, sym, subst, Bool, true, false, cond, if◌then◌else◌, List, [], ◌∷◌, find}
+use Rattle.std.proofs.Common.{flat_map, length, Option, Some, option_map, ◌*◌, arith}
+use Rattle.std.specs.Cmp.{IsEquivalence}
 use Rattle.std.specs.List.{list_all, list_any}
 use Rattle.std.proofs.lemmas.Bool.{and_from, and_parts, eqb-true, eq-eqb, false≢true}
+use Rattle.std.proofs.lemmas.Bool.Decides.{nat_tests}
 use Rattle.std.proofs.lemmas.Option.{same_Some}
 use Rattle.fabric_parts.specs.declared.cable.Cable.{Cable}
 use Rattle.fabric_parts.specs.declared.cable.PortRef.{PortRef}
@@ -33,6 +35,21 @@ same_port a b h =
 
 pub itself : (a : PortRef) → is_same_port a a ≡ true
 itself a = and_from (a.node == a.node) (a.port == a.port) (eq-eqb a.node a.node refl) (eq-eqb a.port a.port refl)
+
+pub ports_turn : (a b : PortRef) → is_same_port a b ≡ is_same_port b a
+ports_turn a b = grind (arith, nat_tests)
+
+pub ports_equiv : IsEquivalence is_same_port
+ports_equiv = record {
+  refl = itself;
+  symm = ports_turn;
+  congr = λ a b c same. ap (λ (p : PortRef). is_same_port p c) (same_port a b same);
+}
+
+-- each cable has two ends
+pub count_ends : (cables : List Cable) → length (flat_map ends_of cables) ≡ 2 * length cables
+count_ends [] = refl
+count_ends (cable ∷ cables) = let rest = count_ends cables in omega (arith, rest)
 
 not_any : (one rest : Bool) → not (one || rest) ≡ true → (one ≡ false) × (rest ≡ false)
 not_any true rest h = absurd (false≢true h)

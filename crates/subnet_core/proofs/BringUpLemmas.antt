@@ -12,6 +12,7 @@ use Rattle.subnet_core.specs.declared.fault.RunFault.{RunFault}
 use Rattle.subnet_core.specs.declared.fault.RunFault.TheVariants.{NoMemory, Topology, Partitions, Sweep, NoLegalPath, Push, Script}
 use Rattle.subnet_fabric.specs.BringUp.{AreAssigned, HasNoPath, IsFound, Up}
 use Rattle.subnet_fabric.specs.Laws.{all_keys}
+use Rattle.subnet_fabric.proofs.ListedLemmas.{numbers_of}
 use Rattle.subnet_model.specs.declared.subnet_port.SubnetPort.{SubnetPort}
 use Rattle.subnet_ports.proofs.EndPortLemmas.{end_ports_stand_in_order}
 use Rattle.subnet_ports.proofs.GraphPortLemmas.{sweeps_find_what_is_listed}
@@ -91,9 +92,6 @@ hangs_at homes lid home is = by (lid == 0) refl is
         let some : 1 ≤ lid = grind (arith, nat_tests, more) in
         let within = slice_get_within homes (lid - 1) home is in
         (some, omega (arith, some, within))
-
-abbrev numbers_of : SubnetPort → ℕ × ℕ
-numbers_of port = (port.lid, port.guid)
 
 as_many : (roster : Rostered) → IsRostered roster → (graph : GraphState) (guids : List ℕ) → IsFound roster.plan graph → AreAssigned graph guids
     → length roster.configuration.ports ≡ length (homes_of graph guids)

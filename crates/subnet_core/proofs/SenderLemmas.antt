@@ -21,7 +21,7 @@ use Rattle.subnet_model.specs.declared.subnet_port.SubnetPort.{SubnetPort}
 use Rattle.subnet_ports.proofs.EndPortLemmas.{end_ports_stand_in_order}
 use Rattle.subnet_ports.proofs.OwnEndLemmas.{one_end}
 use Rattle.subnet_ports.specs.EndPorts.{AreEndPorts, IsEndPort, is_end_port}
-use Rattle.subnet_ports.specs.Ports.{type_of}
+use Rattle.subnet_ports.proofs.GraphPortLemmas.{type_kept}
 use Rattle.subnet_ways.proofs.ListLemmas.{found_among}
 use Rattle.text_words.specs.Lines.{lines, words_of}
 use Rattle.text_words.specs.Words.{port_in}
@@ -152,10 +152,6 @@ each_line plan P has number so_far (line ∷ rest) commands before is =
     each_line plan P has (number + 1) taken.0 rest commands (subst (All P) made.2 now) taken.2
 
 -- ---- the roster lists each such port
-type_kept : (b : Bool) → is_switch_type (type_of b) ≡ b
-type_kept true = refl
-type_kept false = refl
-
 module _ (roster : Rostered) (is : IsRostered roster) where
   abbrev plan : Plan
   plan = roster.plan

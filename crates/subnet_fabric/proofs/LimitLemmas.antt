@@ -1,8 +1,8 @@
 -- The fabric of a topology is not too big for a graph: a topology has no more switches and ports of adapters than that.
-use Rattle.std.proofs.Common.{ℕ, zero, suc, ◌+◌, ◌≡◌, ◌≤◌, ◌<◌, ◌==◌, ◌&&◌, ◌||◌, ◌∙◌, inl, inr, ap, refl, sym, subst, cond, not, nat_le, Bool, true, false, nat_eq}
-use Rattle.std.proofs.Common.{List, [], ◌∷◌, ◌++◌, length, map, Option, Some, None, if◌then◌else◌, arith}
+use Rattle.std.proofs.Common.{ℕ, zero, suc, ◌+◌, ◌≡◌, ◌≤◌, ◌<◌, ◌==◌, ◌||◌, ◌∙◌, inl, inr, ap, refl, sym, subst, cond, not, nat_le, Bool, true, false, nat_eq}
+use Rattle.std.proofs.Common.{List, [], ◌∷◌, ◌++◌, length, map, if◌then◌else◌, arith}
 use Rattle.std.specs.Cmp.{IsEquivalence}
-use Rattle.std.specs.List.{IsDistinct, count_by, list_all, list_any, range_with_len, sum_by}
+use Rattle.std.specs.List.{IsDistinct, count_by, list_all, list_any, range_with_len}
 use Rattle.std.proofs.lemmas.Bool.{and_parts, eq-eqb, eqb-true, false≢true, leb-true, not-true}
 use Rattle.std.proofs.lemmas.Bool.Decides.{nat_tests}
 use Rattle.std.proofs.lemmas.Cmp.{nat_eq_equiv}
@@ -11,7 +11,7 @@ use Rattle.std.proofs.lemmas.List.Folds.{list_any-append}
 use Rattle.std.proofs.lemmas.List.FromFn.{length-map-range_with_len}
 use Rattle.std.proofs.lemmas.List.Sums.{sum_by-cons}
 use Rattle.std.proofs.lemmas.Map.Made.{length-le_from_is_member}
-use Rattle.fabric_parts.specs.Cable.{is_cabled, is_same_port}
+use Rattle.fabric_parts.specs.Cable.{is_same_port, port}
 use Rattle.fabric_parts.specs.NodeType.{is_switch_type}
 use Rattle.fabric_parts.specs.declared.cable.PortRef.{PortRef}
 use Rattle.fabric_parts.specs.declared.node_type.NodeType.{NodeType}
@@ -27,7 +27,7 @@ use Rattle.sweep.proofs.CabledLemmas.{far_of}
 use Rattle.sweep.proofs.FoundLemmas.{any_at}
 use Rattle.sweep.specs.Limits.{IsTooBig, is_adapter_port}
 use Rattle.topo_file.specs.Node.{adapter_ports, is_switch, is_switch_at, port_guids, ports_at, switch_count}
-use Rattle.topo_file.specs.Sound.{IsSound, is_port}
+use Rattle.topo_file.specs.Sound.{IsSound}
 use Rattle.topo_file.specs.Topology.{Plan}
 use Rattle.topo_file.specs.declared.node.Node.{Node}
 
@@ -87,11 +87,8 @@ few_switches plan some once are =
         (sym (switch_there plan.cables plan.nodes place) ∙ ap (is_switch_in (fabric_of plan).nodes) same ∙ switch)
 
 -- ---- the places of adapters' ports
-abbrev port_at : ℕ → ℕ → PortRef
-port_at place number = record { node = place; port = number }
-
 abbrev ports_there : ℕ → Node → List PortRef
-ports_there place node = map (port_at place) (range_with_len 1 (port_guids node.node_type node.ports))
+ports_there place node = map (port place) (range_with_len 1 (port_guids node.node_type node.ports))
 
 port_places : ℕ → List Node → List PortRef
 port_places first [] = []
@@ -103,25 +100,25 @@ as_many_ports first [] = refl
 as_many_ports first (node ∷ nodes) =
     let count = λ (node : Node). port_guids node.node_type node.ports in
     let both = length-append (ports_there first node) (port_places (first + 1) nodes) in
-    let here = length-map-range_with_len (port_at first) 1 (count node) in
+    let here = length-map-range_with_len (port first) 1 (count node) in
     let rest = as_many_ports (first + 1) nodes in
     let all = sum_by-cons count node nodes in
     omega (arith, both, here, rest, all)
 
 in_range : (at : PortRef) (place a n : ℕ) → at.node ≡ place → a ≤ at.port → at.port < a + n
-    → list_any (is_same_port at) (map (port_at place) (range_with_len a n)) ≡ true
+    → list_any (is_same_port at) (map (port place) (range_with_len a n)) ≡ true
 in_range at place a zero is low high = absurd (omega (arith, low, high))
 in_range at place a (suc n) is low high = by (at.port == a) refl (λ more. in_range at place (a + 1) n is more (omega (arith, high)))
   where
     node : (at.node == place) ≡ true
     node = eq-eqb at.node place is
 
-    by : (b : Bool) → (at.port == a) ≡ b → (a + 1 ≤ at.port → list_any (is_same_port at) (map (port_at place) (range_with_len (a + 1) n)) ≡ true)
-        → list_any (is_same_port at) (map (port_at place) (range_with_len a (suc n))) ≡ true
+    by : (b : Bool) → (at.port == a) ≡ b → (a + 1 ≤ at.port → list_any (is_same_port at) (map (port place) (range_with_len (a + 1) n)) ≡ true)
+        → list_any (is_same_port at) (map (port place) (range_with_len a (suc n))) ≡ true
     by true here later = rw (node, here) refl
     by false apart later =
         let more : a + 1 ≤ at.port = grind (arith, nat_tests, low, apart) in
-        either (is_same_port at (port_at place a)) _ (later more)
+        either (is_same_port at (port place a)) _ (later more)
 
 port_place : (first : ℕ) (nodes : List Node) (k : ℕ) (at : PortRef) → first + k ≡ at.node → is_switch_at nodes k ≡ false → 1 ≤ at.port
     → at.port ≤ ports_at nodes k → list_any (is_same_port at) (port_places first nodes) ≡ true

@@ -1,6 +1,6 @@
 -- A topology's fabric that is brought up with the keys of its end ports is the fabric of their list.
-use Rattle.std.proofs.Common.{ℕ, zero, suc, ◌+◌, ◌-◌, ◌≡◌, ◌<◌, ◌==◌, ◌&&◌, ◌∙◌, ap, refl, subst, sym, Bool, true, false, if◌then◌else◌, nat_le, List, [], ◌∷◌, length, map, slice_get, Option, Some, None, option_map, arith}
-use Rattle.std.specs.List.{All, AllByRecursion, enumerate_from}
+use Rattle.std.proofs.Common.{ℕ, zero, suc, ◌+◌, ◌-◌, ◌≡◌, ◌<◌, ◌==◌, ◌&&◌, ◌∙◌, ap, refl, subst, sym, Bool, true, false, if◌then◌else◌, nat_le, List, [], ◌∷◌, length, slice_get, Option, Some, None, option_map, arith}
+use Rattle.std.specs.List.{AllByRecursion, enumerate_from}
 use Rattle.std.specs.Option.{option_and_then}
 use Rattle.std.proofs.lemmas.Bool.{and_parts, false≢true}
 use Rattle.std.proofs.lemmas.Bool.Decides.{nat_tests}
@@ -29,22 +29,22 @@ use Rattle.pushed_ways.proofs.SeatLemmas.{is_no_switch}
 use Rattle.pushed_ways.specs.BroughtUp.{IsBroughtUp, RoutesLeadHome}
 use Rattle.pushed_ways.specs.Pushed.{ArePushed, all_pushed}
 use Rattle.result_words.proofs.ListLemmas.{all_have}
-use Rattle.smp_wire.specs.FabricState.{FabricState, adapter_port, is_port, is_switch_at as is_switch_in}
+use Rattle.smp_wire.specs.FabricState.{FabricState, adapter_port}
 use Rattle.smp_wire.specs.declared.node.Node.{Node}
 use Rattle.smp_wire.specs.declared.node.Node.TheVariants.{Switch, Adapter}
 use Rattle.subnet_model.specs.declared.subnet_port.SubnetPort.{SubnetPort}
 use Rattle.subnet_ports.proofs.EndPortLemmas.{end_ports_stand_in_order}
 use Rattle.subnet_ports.proofs.FabricPortLemmas.{end_ports_are_the_fabrics}
-use Rattle.subnet_ports.proofs.GraphPortLemmas.{sweeps_find_what_is_listed}
+use Rattle.subnet_ports.proofs.GraphPortLemmas.{sweeps_find_what_is_listed, type_kept}
 use Rattle.subnet_ports.proofs.LidLemmas.{own_lids}
 use Rattle.subnet_ports.proofs.OwnEndLemmas.{one_end}
 use Rattle.subnet_ports.specs.EndPorts.{AreEndPorts, IsEndPort, end_port_at, is_end_port}
 use Rattle.subnet_ports.specs.FabricPorts.{AreOfGraph, planned_port}
-use Rattle.subnet_ports.specs.Ports.{ports_of, type_of}
+use Rattle.subnet_ports.specs.Ports.{ports_of}
 use Rattle.subnet_ways.specs.OfFabric.{IsFabricOf, IsListed, IsSetUp, IsThere}
 use Rattle.sweep.proofs.CabledLemmas.{cabled_of, far_of}
 use Rattle.sweep.proofs.EndPortLemmas.{there_is}
-use Rattle.sweep.specs.EndPorts.{FabricPort, end_port_in, held_in, is_end_port_of}
+use Rattle.sweep.specs.EndPorts.{FabricPort, end_port_in, held_in, is_end_port_of, port_held}
 use Rattle.smp_wire.proofs.CableLemmas.{cabled_is_port}
 use Rattle.table_push.specs.Keys.{key_table}
 use Rattle.topo_file.specs.Node.{is_switch_at, port_guid_at}
@@ -72,19 +72,8 @@ some_at [] k within = absurd (omega (arith, within))
 some_at (x ∷ xs) zero within = (x, refl)
 some_at (x ∷ xs) (suc k) within = some_at xs k (omega (arith, within))
 
-abbrev numbers_of : SubnetPort → ℕ × ℕ
+abbrev pub numbers_of : SubnetPort → ℕ × ℕ
 numbers_of port = (port.lid, port.guid)
-
--- what is shown of a port of a channel adapter
-abbrev shown_at : ℕ → AdapterState → FabricPort
-shown_at number port = record {
-  guid = port.port_guid;
-  number = number;
-  node_guid = port.node_guid;
-  description = port.description;
-  num_ports = port.num_ports;
-  is_switch = false;
-}
 
 -- ---- an end port of a fabric that is no switch's is a port of a channel adapter, with a cable
 record IsAdapterEnd (fabric : FabricState) (at : PortRef) (guid : ℕ) : Type 0 where
@@ -100,7 +89,7 @@ adapter_end fabric at end is adapter = by (is_end_port_of fabric at) refl (slice
         → (o : Option AdapterState) → adapter_port ports at.port ≡ o → held_in (Adapter ports) at.port ≡ Some end → IsAdapterEnd fabric at end.guid
     with_port ports stands cabled None there is = let none : None ≡ Some end = rw there at is in absurd (none-some end none)
     with_port ports stands cabled (Some one) there is =
-        let same = same_Some (shown_at at.port one) end (rw there at is) in
+        let same = same_Some (port_held at.port one) end (rw there at is) in
         record { one = one; there = rw stands there; cabled = cabled; guid_is = ap (λ (end : FabricPort). end.guid) same }
 
     by : (b : Bool) → is_end_port_of fabric at ≡ b → (o : Option Node) → slice_get fabric.nodes at.node ≡ o
@@ -176,10 +165,6 @@ module _ (plan : Plan) (partitions : List Partition) (sound : IsSound plan) (who
   key_at k port there = slice_get-map (λ (port : SubnetPort). port.keys) ports k ∙ ap (option_map (λ (port : SubnetPort). port.keys)) there
 
   -- ---- a listed port of a channel adapter is there
-  type_kept : (b : Bool) → is_switch_type (type_of b) ≡ b
-  type_kept true = refl
-  type_kept false = refl
-
   record IsUp (port : SubnetPort) (at : PortRef) : Type 0 where
     one : AdapterState
     is : IsSetUp fabric port at one
@@ -239,14 +224,14 @@ module _ (plan : Plan) (partitions : List Partition) (sound : IsSound plan) (who
       by true is = absurd (none-some one.port_guid is)
       by false is = is
 
-      found : (o : Option Node) → slice_get fabric.nodes at.node ≡ o → option_and_then (λ node. held_in node at.port) o ≡ Some (shown_at at.port one)
+      found : (o : Option Node) → slice_get fabric.nodes at.node ≡ o → option_and_then (λ node. held_in node at.port) o ≡ Some (port_held at.port one)
       found None stands = absurd (none-some one (sym (rw stands refl) ∙ cabled.there))
       found (Some (Switch held)) stands = absurd (false≢true (sym (is_no_switch fabric.nodes at one cabled.there) ∙ rw stands refl))
       found (Some (Adapter ports)) stands =
           let there : adapter_port ports at.port ≡ Some one = rw stands at cabled.there in
           rw there refl
 
-      is_there : end_port_in fabric at ≡ Some (shown_at at.port one)
+      is_there : end_port_in fabric at ≡ Some (port_held at.port one)
       is_there =
           let kind = is_no_switch fabric.nodes at one cabled.there in
           let port = cabled_is_port fabric.nodes fabric.cables at cabled.far up.good.cables cabled.cable in
@@ -256,11 +241,11 @@ module _ (plan : Plan) (partitions : List Partition) (sound : IsSound plan) (who
       planned_by : (b : Bool) → is_end_port plan at ≡ b → is_end_port plan at ≡ true
       planned_by true is = is
       planned_by false is =
-          absurd (none-some (shown_at at.port one) (ap (λ (b : Bool). if b then Some (planned_port plan at) else None) (sym is) ∙ sym (end_at at) ∙ is_there))
+          absurd (none-some (port_held at.port one) (ap (λ (b : Bool). if b then Some (planned_port plan at) else None) (sym is) ∙ sym (end_at at) ∙ is_there))
 
-      planned : is_end_port plan at ≡ true → planned_port plan at ≡ shown_at at.port one
+      planned : is_end_port plan at ≡ true → planned_port plan at ≡ port_held at.port one
       planned here =
-          same_Some (planned_port plan at) (shown_at at.port one)
+          same_Some (planned_port plan at) (port_held at.port one)
           (ap (λ (b : Bool). if b then Some (planned_port plan at) else None) (sym here) ∙ sym (end_at at) ∙ is_there)
 
       guid_planned : is_end_port plan at ≡ true → port_guid_at plan.nodes at ≡ one.port_guid

@@ -9,7 +9,7 @@ use Rattle.std.proofs.lemmas.Bool.Decides.{nat_tests}
 use Rattle.data_packet.specs.declared.refusal.Refusal.{Refusal}
 use Rattle.data_packet.specs.declared.refusal.Refusal.TheVariants.{KeyNotHeld}
 use Rattle.fabric_parts.specs.NodeType.{is_switch_type}
-use Rattle.result_words.proofs.ListLemmas.{list_any_weaker}
+use Rattle.result_words.proofs.ListLemmas.{found_passes, list_any_weaker}
 use Rattle.pkey_rules.specs.PKey.{default_base, key_of, matches}
 use Rattle.pkey_rules.specs.KeyTable.{accepts, holds, shares}
 use Rattle.subnet_model.specs.declared.subnet_port.SubnetPort.{SubnetPort}
@@ -47,14 +47,6 @@ isolated {step = step} {is_near = is_near} {own_events = own_events} law (c ∷ 
       rw far (law.joined (step s c).0 (events_from step (step s c).1 cs)
       ∙ (ap (λ first. first ++ own_events (events_from step (step s c).1 cs)) here.0
       ∙ isolated law cs (step s c).1 t here.1))
-]
-
--- what is found by a test passes it, and is in the list
-pub found_passes : {X : Type 0} (test : X → Bool) (xs : List X) (x : X) → find test xs ≡ Some x → test x ≡ true
-found_passes test [] x h = absurd (cc)
-found_passes test (y ∷ ys) x h = elim (cases_Bool (test y)) [
-  | inl here ↦ let same : Some y ≡ Some x = rw here at h in let e : y ≡ x = cc in ap test (sym e) ∙ here
-  | inr other ↦ let later : find test ys ≡ Some x = rw other at h in found_passes test ys x later
 ]
 
 pub found_in : {X : Type 0} (test other : X → Bool) (xs : List X) (x : X) → find test xs ≡ Some x → other x ≡ true → list_any other xs ≡ true

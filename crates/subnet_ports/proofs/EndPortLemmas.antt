@@ -10,6 +10,7 @@ use Rattle.std.proofs.lemmas.List.Elements.{All-nil, All-cons, All-head, All-tai
 use Rattle.std.proofs.lemmas.List.Sorted.{IsPermutation-refl, IsPermutation-trans, IsPermutation-middle, IsPermutation-append_left}
 use Rattle.std.proofs.lemmas.List.Sorted.{IsPermutation-insert, All-permutation, sum_by-IsPermutation}
 use Rattle.std.proofs.lemmas.Map.Keys.{IsDistinct-IsPermutation}
+use Rattle.result_words.proofs.TestLemmas.{same_either_way}
 use Rattle.lid_assign.proofs.RisingLemmas.{counted}
 use Rattle.partition_file.specs.declared.partition.Partition.{Partition}
 use Rattle.partition_file.specs.Members.{keys_in}
@@ -387,9 +388,6 @@ lid_one all port h = by port.is_sm refl
     by true e = e
     by false e = let more : 2 + count_by (λ other. not other.is_sm && nat_lt other.guid port.guid) all ≡ 1 = rw e at h in absurd (omega arith)
 
-flip_eqb : (m n : ℕ) → (m == n) ≡ (n == m)
-flip_eqb m n = grind (arith, nat_tests)
-
 -- what is there is there in any order
 any_from_count : {X : Type 0} (p : X → Bool) (xs : List X) → 1 ≤ count_by p xs → list_any p xs ≡ true
 any_from_count p [] h = absurd (omega arith)
@@ -415,7 +413,7 @@ end_ports_stand_in_order partitions plan sound =
     let there : All (λ (seat : Seat). IsThere all seat.port) some = All-from_recursion (λ (seat : Seat). IsThere all seat.port) some so.there in
     let each : All (IsSeat plan) some = All-from_recursion (IsSeat plan) some so.each in
     let keys = own_keys some so.own (let counted = count_ports (λ (port : EndPort). port.is_sm) some in let one = so.one in omega arith) in
-    let own_lids : IsDistinct same_lid ports = IsDistinct-IsPermutation same_lid (λ a b. flip_eqb a.lid b.lid) unsorted ports moved (distinct_lids partitions plan.nodes all some so.one so.there keys) in
+    let own_lids : IsDistinct same_lid ports = IsDistinct-IsPermutation same_lid (λ a b. same_either_way a.lid b.lid) unsorted ports moved (distinct_lids partitions plan.nodes all some so.one so.there keys) in
     let ranks : All (λ port. port.lid ≡ 1 + lower unsorted port) unsorted =
     All-map (λ port. port.lid ≡ 1 + lower unsorted port) (known partitions plan.nodes all) some
     (λ i d within. lid_by_key all (slice_index_or some i d).port so.one ∙ ap (λ n. 1 + n) (sym (lower_count partitions plan.nodes all (slice_index_or some i d).port some so.one so.there))) in
@@ -439,5 +437,5 @@ end_ports_stand_in_order partitions plan sound =
       all = λ at h. any_moved (λ port. port.guid == port_guid_at plan.nodes at) unsorted ports moved
           (any_map (known partitions plan.nodes all) (λ port. port.guid == port_guid_at plan.nodes at) some
           ∙ any_so (IsSeat plan) (λ seat. is_same_port (place_of seat) at) (λ (seat : Seat). seat.port.guid == port_guid_at plan.nodes at) (λ seat k. guid_there plan at seat k) some so.each (so.all at h));
-      own_guids = IsDistinct-IsPermutation same_guid (λ a b. flip_eqb a.guid b.guid) unsorted ports moved (distinct_guids partitions plan.nodes all some so.own);
+      own_guids = IsDistinct-IsPermutation same_guid (λ a b. same_either_way a.guid b.guid) unsorted ports moved (distinct_guids partitions plan.nodes all some so.own);
     }

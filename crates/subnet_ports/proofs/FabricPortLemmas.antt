@@ -1,5 +1,5 @@
 -- The end ports of a topology's fabric are the topology's.
-use Rattle.std.proofs.Common.{◌≡◌, ℕ, zero, suc, ◌+◌, ◌-◌, ◌<◌, ◌≤◌, ◌==◌, ◌&&◌, nat_le, Bool, true, false, cond, List, map, slice_get}
+use Rattle.std.proofs.Common.{◌≡◌, ℕ, ◌+◌, ◌-◌, ◌≤◌, ◌==◌, ◌&&◌, nat_le, Bool, true, false, cond, List, map, slice_get}
 use Rattle.std.proofs.Common.{Option, Some, None, option_map, refl, sym, ap, ◌∙◌, add-zero, arith}
 use Rattle.std.specs.Prelude.{if◌then◌else◌}
 use Rattle.std.specs.List.{range_with_len}
@@ -7,6 +7,7 @@ use Rattle.std.specs.Option.{option_and_then}
 use Rattle.std.proofs.lemmas.Bool.{and_parts, eqb-true, leb-true}
 use Rattle.std.proofs.lemmas.Bool.Decides.{nat_tests}
 use Rattle.std.proofs.lemmas.Option.{slice_get-map}
+use Rattle.result_words.proofs.ListLemmas.{range_at}
 use Rattle.fabric_parts.specs.Cable.{is_cabled}
 use Rattle.fabric_parts.specs.declared.cable.Cable.{Cable}
 use Rattle.fabric_parts.specs.declared.cable.PortRef.{PortRef}
@@ -37,13 +38,6 @@ made_of node number = record {
   num_ports = node.ports;
   is_switch = is_switch node;
 }
-
-range_at : (first count k : ℕ) → k < count → slice_get (range_with_len first count) k ≡ Some (first + k)
-range_at first zero k h = absurd (omega arith)
-range_at first (suc count) zero h = ap (λ (n : ℕ). Some n) (sym (add-zero first))
-range_at first (suc count) (suc k) h =
-    let moved : (first + 1) + k ≡ first + suc k = omega arith in
-    range_at (first + 1) count k (omega arith) ∙ ap (λ (n : ℕ). Some n) moved
 
 numbered : (cables : List Cable) (place : ℕ) (node : Node) (number : ℕ) → 1 ≤ number → number ≤ node.ports
     → adapter_port (map (adapter_port_of cables place node) (range_with_len 1 node.ports)) number ≡ Some (adapter_port_of cables place node number)

@@ -206,7 +206,7 @@ counted_from n [] counts = refl
 counted_from n (port ∷ ports) counts = rw (first_lid n port ports counts, counted_from (n + 1) ports (other_lids n port ports counts)) refl
 
 -- ---- what is listed of a port is what the topology says of it
-type_kept : (b : Bool) → is_switch_type (type_of b) ≡ b
+pub type_kept : (b : Bool) → is_switch_type (type_of b) ≡ b
 type_kept true = refl
 type_kept false = refl
 

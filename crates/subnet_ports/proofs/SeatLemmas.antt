@@ -8,7 +8,7 @@ use Rattle.std.proofs.lemmas.List.Folds.{list_any-append}
 use Rattle.fabric_parts.specs.declared.cable.PortRef.{PortRef}
 use Rattle.fabric_parts.specs.declared.node_type.NodeType.{NodeType}
 use Rattle.fabric_parts.specs.declared.node_type.NodeType.TheVariants.{ChannelAdapter, Switch}
-use Rattle.fabric_parts.specs.Cable.{is_cabled, is_same_port}
+use Rattle.fabric_parts.specs.Cable.{is_cabled, is_same_port, port}
 use Rattle.topo_file.specs.declared.node.Node.{Node}
 use Rattle.topo_file.specs.Node.{last_guid, port_guid, port_guids, shares_guid}
 use Rattle.topo_file.specs.Topology.{Plan}
@@ -44,9 +44,6 @@ any_so P p q so (x ∷ xs) each h = elim (or_cases (p x) (list_any p xs) h) [
 abbrev pub place_of : Seat → PortRef
 place_of seat = record { node = seat.place; port = seat.number }
 
-abbrev port_there : ℕ → ℕ → PortRef
-port_there place number = record { node = place; port = number }
-
 pub record IsSeat (plan : Plan) (seat : Seat) : Type 0 where
   pub there : is_end_port plan (place_of seat) ≡ true
   pub port : seat.port ≡ end_port_at plan (place_of seat)
@@ -70,18 +67,18 @@ switch_is_seat plan m node here type sm =
     record { there = rw (here, type) refl; port = rw (here, type, g, no_sm) refl }
 
 adapter_is_seat : (plan : Plan) (m a : ℕ) (node : Node) → slice_get plan.nodes m ≡ Some node → node.node_type ≡ ChannelAdapter → 1 ≤ a → a ≤ node.ports
-    → is_cabled plan.cables (port_there m a) ≡ true → IsSeat plan (adapter_seat plan.sm node (port_there m a))
+    → is_cabled plan.cables (port m a) ≡ true → IsSeat plan (adapter_seat plan.sm node (port m a))
 adapter_is_seat plan m a node here type low high cabled =
     let l : nat_le 1 a ≡ true = le-leb 1 a low in
     let h : nat_le a node.ports ≡ true = le-leb a node.ports high in
     record { there = rw (here, type, l, h, cabled) refl; port = rw (here, type) refl }
 
 adapter_are_seats : (plan : Plan) (m : ℕ) (node : Node) → slice_get plan.nodes m ≡ Some node → node.node_type ≡ ChannelAdapter → (a n : ℕ) → 1 ≤ a → a + n ≤ node.ports + 1
-    → AllByRecursion (IsSeat plan) (flat_map (seat_if_cabled plan node) (map (port_there m) (range_with_len a n)))
+    → AllByRecursion (IsSeat plan) (flat_map (seat_if_cabled plan node) (map (port m) (range_with_len a n)))
 adapter_are_seats plan m node here type a zero low high = tt
 adapter_are_seats plan m node here type a (suc n) low high =
     let rest = adapter_are_seats plan m node here type (a + 1) n (omega arith) (omega arith) in
-    elim (cases_Bool (is_cabled plan.cables (port_there m a))) [
+    elim (cases_Bool (is_cabled plan.cables (port m a))) [
       | inl cabled ↦ rw cabled (adapter_is_seat plan m a node here type low (omega arith) cabled, rest)
       | inr free ↦ rw free rest
     ]
@@ -111,18 +108,18 @@ sits_at place number seat = (seat.place == place) && (seat.number == number)
 
 abbrev Stands : NodeType → Plan → Node → ℕ → ℕ → Type 0
 Stands Switch plan node place number = number ≡ 0
-Stands ChannelAdapter plan node place number = (1 ≤ number) × (number ≤ node.ports) × (is_cabled plan.cables (port_there place number) ≡ true)
+Stands ChannelAdapter plan node place number = (1 ≤ number) × (number ≤ node.ports) × (is_cabled plan.cables (port place number) ≡ true)
 
-adapter_there : (plan : Plan) (m place number : ℕ) (node : Node) → m ≡ place → is_cabled plan.cables (port_there place number) ≡ true → (a n : ℕ) → a ≤ number → number < a + n
-    → list_any (sits_at place number) (flat_map (seat_if_cabled plan node) (map (port_there m) (range_with_len a n))) ≡ true
+adapter_there : (plan : Plan) (m place number : ℕ) (node : Node) → m ≡ place → is_cabled plan.cables (port place number) ≡ true → (a n : ℕ) → a ≤ number → number < a + n
+    → list_any (sits_at place number) (flat_map (seat_if_cabled plan node) (map (port m) (range_with_len a n))) ≡ true
 adapter_there plan m place number node e cabled a zero low high = absurd (omega arith)
 adapter_there plan m place number node e cabled a (suc n) low high =
-    let rest = flat_map (seat_if_cabled plan node) (map (port_there m) (range_with_len (a + 1) n)) in
-    let first = seat_if_cabled plan node (port_there m a) in
+    let rest = flat_map (seat_if_cabled plan node) (map (port m) (range_with_len (a + 1) n)) in
+    let first = seat_if_cabled plan node (port m a) in
     list_any-append (sits_at place number) first rest ∙ (elim (cases_eq a number) [
       | inl this ↦ or_left (list_any (sits_at place number) first) (list_any (sits_at place number) rest)
-          (let here : is_cabled plan.cables (port_there m a) ≡ true = rw (e, this) cabled in
-          rw here (or_left (sits_at place number (adapter_seat plan.sm node (port_there m a))) false
+          (let here : is_cabled plan.cables (port m a) ≡ true = rw (e, this) cabled in
+          rw here (or_left (sits_at place number (adapter_seat plan.sm node (port m a))) false
           (and_from (m == place) (a == number) (eq-eqb m place e) (eq-eqb a number this))))
       | inr other ↦ or_right (list_any (sits_at place number) first) (list_any (sits_at place number) rest)
           (adapter_there plan m place number node e cabled (a + 1) n (omega (arith, other)) (omega arith))
@@ -181,12 +178,12 @@ abbrev Within : ℕ → ℕ → Seat → Type 0
 Within low high seat = (low ≤ seat.port.guid) × (seat.port.guid ≤ high)
 
 adapter_within : (plan : Plan) (m : ℕ) (node : Node) (a n : ℕ)
-    → AllByRecursion (λ (seat : Seat). (node.guid + a ≤ seat.port.guid) × (seat.port.guid < node.guid + a + n)) (flat_map (seat_if_cabled plan node) (map (port_there m) (range_with_len a n)))
+    → AllByRecursion (λ (seat : Seat). (node.guid + a ≤ seat.port.guid) × (seat.port.guid < node.guid + a + n)) (flat_map (seat_if_cabled plan node) (map (port m) (range_with_len a n)))
 adapter_within plan m node a zero = tt
 adapter_within plan m node a (suc n) =
     let rest = each_weaker (λ (seat : Seat). (node.guid + (a + 1) ≤ seat.port.guid) × (seat.port.guid < node.guid + (a + 1) + n)) (λ (seat : Seat). (node.guid + a ≤ seat.port.guid) × (seat.port.guid < node.guid + a + suc n))
-    (λ seat h. let l = h.0 in let u = h.1 in (omega arith, omega arith)) (flat_map (seat_if_cabled plan node) (map (port_there m) (range_with_len (a + 1) n))) (adapter_within plan m node (a + 1) n) in
-    elim (cases_Bool (is_cabled plan.cables (port_there m a))) [
+    (λ seat h. let l = h.0 in let u = h.1 in (omega arith, omega arith)) (flat_map (seat_if_cabled plan node) (map (port m) (range_with_len (a + 1) n))) (adapter_within plan m node (a + 1) n) in
+    elim (cases_Bool (is_cabled plan.cables (port m a))) [
       | inl cabled ↦ rw cabled ((omega arith, omega arith), rest)
       | inr free ↦ rw free rest
     ]
@@ -194,14 +191,14 @@ adapter_within plan m node a (suc n) =
 apart_by : (g k : ℕ) → g < k → (g == k) ≡ false
 apart_by g k h = grind (arith, nat_tests)
 
-adapter_distinct : (plan : Plan) (m : ℕ) (node : Node) (a n : ℕ) → IsDistinct one_guid (flat_map (seat_if_cabled plan node) (map (port_there m) (range_with_len a n)))
+adapter_distinct : (plan : Plan) (m : ℕ) (node : Node) (a n : ℕ) → IsDistinct one_guid (flat_map (seat_if_cabled plan node) (map (port m) (range_with_len a n)))
 unfolding IsDistinct
 adapter_distinct plan m node a zero = tt
 adapter_distinct plan m node a (suc n) =
-    let first = adapter_seat plan.sm node (port_there m a) in
+    let first = adapter_seat plan.sm node (port m a) in
     let apart = each_weaker (λ (seat : Seat). (node.guid + (a + 1) ≤ seat.port.guid) × (seat.port.guid < node.guid + (a + 1) + n)) (λ (seat : Seat). one_guid first seat ≡ false)
-    (λ seat h. apart_by (node.guid + a) seat.port.guid (let l = h.0 in omega arith)) (flat_map (seat_if_cabled plan node) (map (port_there m) (range_with_len (a + 1) n))) (adapter_within plan m node (a + 1) n) in
-    elim (cases_Bool (is_cabled plan.cables (port_there m a))) [
+    (λ seat h. apart_by (node.guid + a) seat.port.guid (let l = h.0 in omega arith)) (flat_map (seat_if_cabled plan node) (map (port m) (range_with_len (a + 1) n))) (adapter_within plan m node (a + 1) n) in
+    elim (cases_Bool (is_cabled plan.cables (port m a))) [
       | inl cabled ↦ rw cabled (apart, adapter_distinct plan m node (a + 1) n)
       | inr free ↦ rw free (adapter_distinct plan m node (a + 1) n)
     ]

@@ -6,11 +6,11 @@ use Rattle.fabric_parts.specs.declared.cable.PortRef.{PortRef}
 use Rattle.fabric_parts.specs.Cable.{is_cabled, is_same_port}
 use Rattle.partition_file.specs.declared.partition.Partition.{Partition}
 use Rattle.partition_file.specs.Members.{keys_in}
-use Rattle.topo_file.specs.Node.{is_switch_at, port_guid_at, ports_at}
+use Rattle.topo_file.specs.Node.{is_switch_at, name_at, port_guid_at, ports_at}
 use Rattle.topo_file.specs.Sound.{is_port}
 use Rattle.topo_file.specs.Topology.{Plan}
 use Rattle.subnet_model.specs.declared.subnet_port.SubnetPort.{SubnetPort}
-use Rattle.subnet_ports.specs.Ports.{guid_at, name_at, type_of}
+use Rattle.subnet_ports.specs.Ports.{guid_at, type_of}
 
 -- the end ports of a topology: port 0 of each switch, and each port of an adapter that has a cable
 abbrev pub is_end_port : Plan → PortRef → Bool

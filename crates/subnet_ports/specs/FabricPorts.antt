@@ -7,10 +7,10 @@ use Rattle.fabric_wire.specs.OfTopology.{named}
 use Rattle.subnet_model.specs.declared.subnet_port.SubnetPort.{SubnetPort}
 use Rattle.sweep.specs.EndPorts.{FabricPort, end_ports_in}
 use Rattle.sweep.specs.Graph.{GraphState}
-use Rattle.topo_file.specs.Node.{is_switch_at, port_guid_at, ports_at}
+use Rattle.topo_file.specs.Node.{is_switch_at, name_at, port_guid_at, ports_at}
 use Rattle.topo_file.specs.Topology.{Plan}
 use Rattle.subnet_ports.specs.EndPorts.{is_end_port}
-use Rattle.subnet_ports.specs.Ports.{guid_at, name_at}
+use Rattle.subnet_ports.specs.Ports.{guid_at}
 
 -- what a topology says of an end port
 abbrev pub planned_port : Plan → PortRef → FabricPort

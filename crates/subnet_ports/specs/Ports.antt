@@ -14,7 +14,7 @@ use Rattle.fabric_parts.specs.declared.node_type.NodeType.TheVariants.{ChannelAd
 use Rattle.fabric_parts.specs.Cable.{is_cabled, is_same_port}
 use Rattle.topo_file.specs.declared.node.Node.{Node}
 use Rattle.subnet_ports.specs.declared.end_ports.Seat.{Seat}
-use Rattle.topo_file.specs.Node.{port_guid, ports_at}
+use Rattle.topo_file.specs.Node.{name_at, port_guid, ports_at}
 use Rattle.topo_file.specs.Topology.{Plan}
 
 -- port 0 of a switch, which has the GUID of the switch
@@ -60,10 +60,6 @@ end_ports all = map (λ seat. seat.port) all
 abbrev pub type_of : Bool → NodeType
 type_of true = Switch
 type_of false = ChannelAdapter
-
--- the name and the GUID of the node there
-abbrev pub name_at : List Node → ℕ → List ℕ
-name_at nodes place = option_map_or (λ node. node.name) (slice_get nodes place) []
 
 abbrev pub guid_at : List Node → ℕ → ℕ
 guid_at nodes place = option_map_or (λ node. node.guid) (slice_get nodes place) 0

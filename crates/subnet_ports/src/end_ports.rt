@@ -3,7 +3,7 @@ ghost use Rattle.std.specs.List.{prefix_len, zip};
 ghost use Rattle.topo_file.specs.Node.{HasGuids, port_guid, ports_at};
 ghost use Rattle.topo_file.specs.declared.node.TheConstants.{SWITCHES, ADAPTER_PORTS};
 ghost use Rattle.subnet_ports.specs.EndPorts.{AreEndPorts};
-ghost use Rattle.subnet_ports.specs.Ports.{switch_seat, adapter_seat, seat_if_cabled, adapter_seats, seats_of_type, seats, end_ports, type_of, guid_at, name_at, seated, with_port, with_seat, in_order, configuration_of};
+ghost use Rattle.subnet_ports.specs.Ports.{switch_seat, adapter_seat, seat_if_cabled, adapter_seats, seats_of_type, seats, end_ports, type_of, guid_at, seated, with_port, with_seat, in_order, configuration_of};
 ghost use Rattle.subnet_model.specs.EndPorts.{lid_of};
 
 use fabric_parts::{NodeType, PortRef};
@@ -11,7 +11,7 @@ use partition_file::{Partitions, members};
 use pkey_rules::{EndPort, KeyTable, PARTITIONS};
 use std::alloc::{AllocError, Global};
 use subnet_model::{Configuration, NodeName, SubnetPort, lid_of};
-use topo_file::{Node, Topology};
+use topo_file::{Node, Topology, name_at};
 
 /// Where an end port stands: the place of its node in the topology, and its number there.
 #[derive(Clone, Copy, Debug)]
@@ -181,7 +181,7 @@ fn seated(nodes: &[Node], lid: u16, seat: &Seat, keys: KeyTable<PARTITIONS>) -> 
     SubnetPort {
         lid,
         guid: seat.port.guid,
-        node_name: name_at(nodes, seat.place),
+        node_name: NodeName::new(name_at(nodes, seat.place)),
         node_guid: guid_at(nodes, seat.place),
         num_ports: ports_at(nodes, seat.place),
         number: seat.number,
@@ -197,15 +197,6 @@ fn type_of(is_switch: bool) -> NodeType
         NodeType::Switch
     } else {
         NodeType::ChannelAdapter
-    }
-}
-
-fn name_at(nodes: &[Node], place: usize) -> NodeName
-    ensures { result ≡ name_at nodes.now place }
-{
-    match nodes.get(place) {
-        Some(node) => NodeName::new(node.name.as_bytes()),
-        None => NodeName::new(&[]),
     }
 }
 

@@ -1,9 +1,9 @@
 -- Who gets a packet is who is listed.
-use Rattle.std.proofs.Common.{ℕ, zero, suc, ◌≡◌, ◌==◌, ◌⊎◌, ◌∙◌, ap, refl, sym, subst, inl, inr, not, Bool, true, false, List, [], ◌∷◌, filter, map, slice_get, Option, Some, None, Ok, Err, arith}
+use Rattle.std.proofs.Common.{ℕ, zero, suc, ◌≡◌, ◌==◌, ◌⊎◌, ◌∙◌, ap, refl, sym, subst, inl, inr, not, true, false, List, [], ◌∷◌, filter, map, slice_get, Option, Some, None, Ok, Err, arith}
 use Rattle.std.specs.List.{Contains}
 use Rattle.std.specs.List.Sorted.{IsStrictlySortedBy}
 use Rattle.std.specs.Option.{option_map_or}
-use Rattle.std.proofs.lemmas.Bool.{and_from, and_parts, eq-eqb, eqb-true, false≢true}
+use Rattle.std.proofs.lemmas.Bool.{and_from, and_parts, eq-eqb, eqb-true, not-true}
 use Rattle.std.proofs.lemmas.Option.{none-some, same_Some, slice_get-get_or}
 use Rattle.data_packet.specs.declared.packet.Packet.{Packet}
 use Rattle.data_packet.specs.declared.refusal.Refusal.{Refusal}
@@ -26,10 +26,6 @@ use Rattle.subnet_model.specs.declared.subnet_port.SubnetPort.{SubnetPort}
 use Rattle.subnet_ways.specs.Laws.{DeliveriesAreWhatIsTold, IsSender, PortsStampAsTold, told}
 use Rattle.subnet_ways.specs.OfFabric.{IsFabricOf, IsSetUp, IsThere}
 use Rattle.subnet_ways.proofs.ListLemmas.{IsAmong, among_kept, found_among, kept_among, one_of_lid}
-
-was_false : (b : Bool) → not b ≡ true → b ≡ false
-was_false true is = absurd (false≢true is)
-was_false false is = refl
 
 -- ---- the port that sends
 at_guid : (fabric : FabricState) (at : PortRef) (one : AdapterState) → adapter_at fabric.nodes at ≡ Some one → guid_at fabric.nodes at ≡ Some one.port_guid
@@ -106,7 +102,7 @@ module _ (ports : List SubnetPort) (fabric : FabricState) (command : SendCommand
     receives k port there is =
         let parts = and_parts (port.lid == command.dlid) _ is in
         let more = and_parts (not (is_switch_type port.node_type)) (accepts command.p_key port.keys) parts.1 in
-        let at = all_have (λ port. is_switch_type port.node_type ≡ false → IsThere fabric port) ports k port of.there there (was_false (is_switch_type port.node_type) more.0) in
+        let at = all_have (λ port. is_switch_type port.node_type ≡ false → IsThere fabric port) ports k port of.there there (not-true (is_switch_type port.node_type) more.0) in
         record {
           from = sending.at;
           sends = at_guid fabric sending.at sending.one sending.is.cabled.there ∙ ap (λ (g : ℕ). Some g) sending.guid;

@@ -137,8 +137,8 @@ has_more past port key old new was is =
     by false = grind (arith, nat_tests)
 
 -- ---- the next port
-abbrev pub none : GraphPort
-none = record { node_guid = 0; port_guid = 0; number = 0; num_ports = 0; name = []; at = record { node = 0; port = 0 } }
+abbrev pub no_port : GraphPort
+no_port = record { node_guid = 0; port_guid = 0; number = 0; num_ports = 0; name = []; at = record { node = 0; port = 0 } }
 
 cut : (ports : List GraphPort) (i : ℕ) (none : GraphPort) → i < length ports
     → agree_on (take i ports) (drop i ports) ≡ list_all (λ one. agree one (get_or ports i none)) (take i ports) && agree_on (take (i + 1) ports) (drop (i + 1) ports)

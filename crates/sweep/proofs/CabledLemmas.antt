@@ -3,13 +3,12 @@ use Rattle.std.proofs.Common.{ℕ, ◌≡◌, ◌∙◌, ◌&&◌, ◌||◌, ◌
 use Rattle.std.specs.List.{list_any}
 use Rattle.std.specs.Option.{option_and_then}
 use Rattle.std.proofs.lemmas.Bool.{and_from, false≢true}
-use Rattle.fabric_parts.specs.Cable.{ends_at, far_end, is_cabled, other_end}
+use Rattle.fabric_parts.specs.Cable.{ends_at, far_end, is_cabled, other_end, port}
 use Rattle.fabric_parts.specs.declared.cable.Cable.{Cable}
 use Rattle.fabric_parts.specs.declared.cable.PortRef.{PortRef}
 use Rattle.smp_wire.proofs.PathLemmas.{paths_go_on}
 use Rattle.smp_wire.specs.FabricState.{FabricState, is_port, is_switch_at}
 use Rattle.smp_wire.specs.Walk.{end_of, hands_on, hop}
-use Rattle.sweep.specs.Graph.{port}
 
 found_by : {X : Type 0} (p : X → Bool) (x : X) (xs : List X) (b : Bool) → p x ≡ b → b || list_any p xs ≡ true
     → (list_any p xs ≡ true → (y : X) × (find p xs ≡ Some y) × (p y ≡ true)) → (y : X) × ((if b then Some x else find p xs) ≡ Some y) × (p y ≡ true)

@@ -9,7 +9,7 @@ use Rattle.std.proofs.lemmas.Bool.Decides.{nat_tests}
 use Rattle.std.proofs.lemmas.List.Elements.{Contains-append_cases, Contains-append_left, Contains-append_right, Contains-get_or}
 use Rattle.std.proofs.lemmas.Option.{get_or_from_slice_get, same_Some, slice_get-get_or, slice_get-map, slice_get_within}
 use Rattle.result_words.proofs.ListLemmas.{all_there}
-use Rattle.fabric_parts.specs.Cable.{far_end, is_cabled}
+use Rattle.fabric_parts.specs.Cable.{far_end, is_cabled, port}
 use Rattle.fabric_parts.specs.declared.cable.Cable.{Cable}
 use Rattle.fabric_parts.specs.declared.cable.PortRef.{PortRef}
 use Rattle.fabric_parts.specs.declared.node_type.NodeType.TheVariants as node_type
@@ -20,7 +20,7 @@ use Rattle.smp_wire.specs.Good.{IsGood, is_in_order, is_of, is_right, node_guid}
 use Rattle.smp_wire.specs.declared.node.Node.{Node}
 use Rattle.smp_wire.specs.declared.node.Node.TheVariants.{Switch, Adapter}
 use Rattle.sweep.specs.EndPorts.{FabricPort, end_of_adapter, end_of_switch, end_port_in, end_ports_in, held_in, is_end_port_of}
-use Rattle.sweep.specs.Graph.{GraphState, port}
+use Rattle.sweep.specs.Graph.{GraphState}
 use Rattle.sweep.specs.Laws.{GraphsHaveTheEndPorts}
 use Rattle.sweep.specs.OfFabric.{Found, IsGraphOf, is_among, node_at, nodes_of, port_seen, port_to, ports_at, all_ports, ports_up_to, switch_of}
 use Rattle.sweep.specs.Seen.{name_at, seen_at, seen_in}
@@ -34,6 +34,7 @@ use Rattle.sweep.proofs.MetLemmas.{good_once}
 use Rattle.sweep.proofs.ProgressLemmas.{node_of}
 use Rattle.sweep.proofs.VisitLemmas.{port_is}
 use Rattle.sweep.proofs.WholeLemmas.{found_there}
+use Rattle.sweep.proofs.OwnLemmas.{seen_of}
 
 -- ---- elements of lists
 pub there_is : {X : Type 0} (xs : List X) (k : ℕ) (x : X) → slice_get xs k ≡ Some x → Contains xs x
@@ -113,16 +114,6 @@ record AdapterAt (fabric : FabricState) (there : PortRef) : Type 0 where
   one : AdapterState
   node : slice_get fabric.nodes there.node ≡ Some (Adapter ports)
   held : adapter_port ports there.port ≡ Some one
-
-abbrev seen_of : List AdapterState → ℕ → AdapterState → Seen
-seen_of ports number one =
-    record {
-      node_type = node_type.ChannelAdapter;
-      num_ports = length ports;
-      node_guid = node_guid (Adapter ports);
-      port_guid = one.port_guid;
-      local_port_num = number;
-    }
 
 seen_is : (fabric : FabricState) (there : PortRef) (is : AdapterAt fabric there) → seen_at fabric there ≡ Some (seen_of is.ports there.port is.one)
 seen_is fabric there is = rw (is.node, is.held) refl

@@ -1,19 +1,16 @@
 -- Switches and their GUIDs, which stand in the same order.
-use Rattle.std.proofs.Common.{◌≡◌, ℕ, false, not, ◌==◌, ◌∙◌, refl, List, [], ◌∷◌, ◌++◌, map, position, None, arith}
+use Rattle.std.proofs.Common.{◌≡◌, ℕ, false, not, ◌==◌, ◌∙◌, refl, List, [], ◌∷◌, ◌++◌, map, position, None}
 use Rattle.std.specs.List.{list_any, prefix_len}
-use Rattle.std.proofs.lemmas.Bool.Decides.{nat_tests}
 use Rattle.std.proofs.lemmas.List.{length-map, map_push}
 use Rattle.indexmap.specs.IndexSet.{insert_key}
 use Rattle.result_words.proofs.PlaceLemmas.{not_there}
+use Rattle.result_words.proofs.TestLemmas.{same_either_way}
 use Rattle.sweep.specs.declared.graph.GraphSwitch.{GraphSwitch}
-
-same_test : (a b : ℕ) → (a == b) ≡ (b == a)
-same_test a b = grind (arith, nat_tests)
 
 first_of : (guid : ℕ) (switches : List GraphSwitch)
     → prefix_len (λ key. not (guid == key)) (map (λ switch. switch.guid) switches) ≡ prefix_len (λ switch. not (switch.guid == guid)) switches
 first_of guid [] = refl
-first_of guid (switch ∷ switches) = rw (same_test guid switch.guid, first_of guid switches) refl
+first_of guid (switch ∷ switches) = rw (same_either_way guid switch.guid, first_of guid switches) refl
 
 pub place_by_guid : (guid : ℕ) (switches : List GraphSwitch)
     → position (λ key. guid == key) (map (λ switch. switch.guid) switches) ≡ position (λ switch. switch.guid == guid) switches
@@ -22,7 +19,7 @@ place_by_guid guid switches = rw (first_of guid switches, length-map switches (�
 pub any_by_guid : (guid : ℕ) (switches : List GraphSwitch)
     → list_any (λ key. guid == key) (map (λ switch. switch.guid) switches) ≡ list_any (λ switch. switch.guid == guid) switches
 any_by_guid guid [] = refl
-any_by_guid guid (switch ∷ switches) = rw (same_test guid switch.guid, any_by_guid guid switches) refl
+any_by_guid guid (switch ∷ switches) = rw (same_either_way guid switch.guid, any_by_guid guid switches) refl
 
 -- a new GUID goes last, as its switch does
 pub guids_grow : (switch : GraphSwitch) (switches : List GraphSwitch) → position (λ known. known.guid == switch.guid) switches ≡ None

@@ -2,12 +2,11 @@
 use Rattle.std.proofs.Common.{ℕ, ◌≡◌, ◌∙◌, ◌^◌, ◌<◌, ◌≤◌, ◌==◌, ◌&&◌, ap, refl, sym, not, nat_le, Bool, true, false, List, length, replicate, get_or}
 use Rattle.std.proofs.Common.{slice_get, Option, Some, None, Result, Ok, Err, ◌⊎◌, inl, inr, arith}
 use Rattle.std.specs.Option.{option_and_then, option_map_or}
-use Rattle.std.proofs.lemmas.Bool.{and_parts, leb-true}
 use Rattle.std.proofs.lemmas.Option.{slice_get_cases}
 use Rattle.mad_layout.specs.Layout.{Fits, Holds}
 use Rattle.mad_layout.specs.declared.status.MadStatus.{MadStatus}
 use Rattle.mad_layout.proofs.LayoutLemmas.{holds_put_all}
-use Rattle.fabric_parts.specs.Cable.{is_cabled}
+use Rattle.fabric_parts.specs.Cable.{is_cabled, port}
 use Rattle.fabric_parts.specs.declared.cable.PortRef.{PortRef}
 use Rattle.attr_tables.specs.declared.port_info.PortInfo.{PortInfo}
 use Rattle.attr_tables.specs.declared.smp_attribute.SmpAttribute.TheVariants.{PortInfo as LinkAsked}
@@ -27,16 +26,16 @@ use Rattle.smp_wire.specs.Walk.{end_of}
 use Rattle.smp_wire.proofs.ArrivalLemmas.{port_small}
 use Rattle.smp_wire.proofs.PortLemmas.{ports_are_good}
 use Rattle.sweep.specs.Fault.{heard}
-use Rattle.sweep.specs.Graph.{port}
 use Rattle.sweep.specs.declared.fault.SweepFault.{SweepFault}
 use Rattle.sweep.proofs.EndLemmas.{end_port}
+use Rattle.sweep.proofs.ShownLemmas.{count_within}
 
 -- ---- PortInfo that is written is read again, by whatever port it was asked
 shown_fits : (info : PortInfo) (n : ℕ) → n < 2 ^ 8 → Fits (port_info info) → Fits (port_info (shown_at n info))
 shown_fits info n small f =
     (f.0, (f.1.0, (f.1.1.0, (f.1.1.1.0, (f.1.1.1.1.0, (f.1.1.1.1.1.0, (f.1.1.1.1.1.1.0, (small, f.1.1.1.1.1.1.1.1))))))))
 
-info_holds : (info : PortInfo) → Fits (port_info info) → Holds (port_info_bytes info) (port_info info)
+pub info_holds : (info : PortInfo) → Fits (port_info info) → Holds (port_info_bytes info) (port_info info)
 unfolding port_info_bytes
 info_holds info fits = holds_put_all (replicate 64 0) (port_info info) refl fits
 
@@ -84,11 +83,6 @@ short_cases ports number = by (slice_get_cases ports number).1
     by (inl here) = inl (here.0, here.1, here.2)
     by (inr past) = inr past.0
 
-within_of : (n most : ℕ) → nat_le 1 n && nat_le n most ≡ true → (1 ≤ n) × (n ≤ most)
-within_of n most h =
-    let parts = and_parts (nat_le 1 n) (nat_le n most) h in
-    (leb-true 1 n parts.0, leb-true n most parts.1)
-
 found_links : (fabric : FabricState) (at : PortRef) (number : ℕ) (found : Option Node) → IsGood fabric → ShowsLinks fabric
     → slice_get fabric.nodes at.node ≡ found → option_map_or is_switch found false ≡ true
     → is_port fabric.nodes (port at.node number) ≡ true → nat_le 1 number && nat_le number (option_map_or port_count found 0) ≡ true → at.port < 256
@@ -96,7 +90,7 @@ found_links : (fabric : FabricState) (at : PortRef) (number : ℕ) (found : Opti
 found_links fabric at number None good links there switch is_there within small = absurd (cc)
 found_links fabric at number (Some (Adapter ports)) good links there switch is_there within small = absurd (cc)
 found_links fabric at number (Some (Switch held)) good links there switch is_there within small =
-    let so = within_of number (num_ports held) within in
+    let so = count_within number (num_ports held) within in
     switch_links fabric at number held good links there is_there small (short_cases held.ports number) so.0 so.1
 
 pub gives_link : (fabric : FabricState) (at : PortRef) (number : ℕ) → IsGood fabric → ShowsLinks fabric

@@ -7,7 +7,7 @@ use Rattle.std.proofs.lemmas.Bool.{and_parts, false≢true, not-true, or_cases, 
 use Rattle.std.proofs.lemmas.Bool.Decides.{nat_tests}
 use Rattle.std.proofs.lemmas.Option.{same_Some, slice_get_within}
 use Rattle.result_words.proofs.ListLemmas.{all_have, all_there}
-use Rattle.fabric_parts.specs.Cable.{far_end, is_same_port}
+use Rattle.fabric_parts.specs.Cable.{far_end, is_same_port, port}
 use Rattle.fabric_parts.specs.declared.cable.Cable.{Cable}
 use Rattle.fabric_parts.specs.declared.cable.PortRef.{PortRef}
 use Rattle.smp_wire.proofs.CableLemmas.{cabled_is_port, far_end_before, itself}
@@ -15,7 +15,7 @@ use Rattle.smp_wire.proofs.DistinctLemmas.{all_differ, differ}
 use Rattle.smp_wire.specs.FabricState.{FabricState, is_port, is_switch_at}
 use Rattle.smp_wire.specs.Good.{ends_of, is_right}
 use Rattle.smp_wire.specs.Walk.{end_of}
-use Rattle.sweep.specs.Graph.{GraphState, IsGraph, graph_with, is_joined, port}
+use Rattle.sweep.specs.Graph.{GraphState, IsGraph, graph_with, is_joined}
 use Rattle.sweep.specs.Hops.{IsTooFar, IsWithin}
 use Rattle.sweep.specs.OfFabric.{Found, Leads, nodes_of}
 use Rattle.sweep.specs.Progress.{IsProgress, StandsAt}
@@ -28,7 +28,7 @@ use Rattle.sweep.specs.declared.path.TheConstants.{PATH_HOPS}
 use Rattle.sweep.proofs.EndedLemmas.{each_found, graph_is}
 use Rattle.sweep.proofs.FoundLemmas.{among_place}
 use Rattle.sweep.proofs.LeastLemmas.{in_range}
-use Rattle.sweep.proofs.WholeLemmas.{at_place, graph_is_whole, rows_joined}
+use Rattle.sweep.proofs.WholeLemmas.{graph_is_whole, rows_joined}
 
 -- ---- the far ends of a cable
 ends_in : (p : PortRef → Bool) (cables : List Cable) (k : ℕ) (cable : Cable) → slice_get cables k ≡ Some cable

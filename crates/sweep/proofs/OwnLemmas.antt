@@ -9,10 +9,10 @@ use Rattle.std.proofs.lemmas.Bool.Decides.{Decides-eqb}
 use Rattle.std.proofs.lemmas.List.Folds.{list_any-append}
 use Rattle.std.proofs.lemmas.Map.Keys.{IsDistinct-cons, IsDistinct-head, IsDistinct-tail}
 use Rattle.std.proofs.lemmas.Option.{same_Some, slice_get-map}
-use Rattle.result_words.proofs.ListLemmas.{IsDistinct-nil}
 use Rattle.fabric_parts.specs.declared.cable.PortRef.{PortRef}
 use Rattle.fabric_parts.specs.declared.node_type.NodeType.TheVariants as node_type
 use Rattle.port_model.specs.AdapterState.{AdapterState}
+use Rattle.smp_wire.proofs.DistinctLemmas.{left_part, right_part}
 use Rattle.smp_wire.specs.FabricState.{FabricState, is_switch, is_switch_at}
 use Rattle.smp_wire.specs.Good.{IsGood, end_port_guids, node_guid}
 use Rattle.smp_wire.specs.declared.node.Node.{Node}
@@ -22,21 +22,7 @@ use Rattle.sweep.specs.Seen.{seen_at, seen_in}
 use Rattle.sweep.specs.declared.seen.Seen.{Seen}
 use Rattle.sweep.proofs.FoundLemmas.{among_at, one_place}
 
--- ---- numbers of which no two are the same, in two parts
-left_part : (xs ys : List ℕ) → IsDistinct (λ a b. a == b) (xs ++ ys) → IsDistinct (λ a b. a == b) xs
-left_part [] ys once = IsDistinct-nil (λ a b. a == b)
-left_part (x ∷ xs) ys once =
-    IsDistinct-cons (λ a b. a == b) x xs (first xs ys (IsDistinct-head (λ a b. a == b) x (xs ++ ys) once))
-    (left_part xs ys (IsDistinct-tail (λ a b. a == b) x (xs ++ ys) once))
-  where
-    first : (some more : List ℕ) → AllByRecursion (λ y. (x == y) ≡ false) (some ++ more) → AllByRecursion (λ y. (x == y) ≡ false) some
-    first [] more all = tt
-    first (y ∷ some) more all = (all.0, first some more all.1)
-
-right_part : (xs ys : List ℕ) → IsDistinct (λ a b. a == b) (xs ++ ys) → IsDistinct (λ a b. a == b) ys
-right_part [] ys once = once
-right_part (x ∷ xs) ys once = right_part xs ys (IsDistinct-tail (λ a b. a == b) x (xs ++ ys) once)
-
+-- ---- numbers
 rec_none : (x : ℕ) (xs : List ℕ) → AllByRecursion (λ y. (x == y) ≡ false) xs → is_among xs x ≡ true → ⊥
 rec_none x [] all among = false≢true among
 rec_none x (y ∷ xs) all among = by (y == x) refl (λ later. rec_none x xs all.1 later)
@@ -106,7 +92,7 @@ one_end : (nodes : List Node) (a b i j guid : ℕ) (x y : Node) → IsDistinct (
 one_end [] a b i j guid x y once at_a one at_b other = cc
 one_end (z ∷ nodes) zero zero i j guid x y once at_a one at_b other = (
   refl,
-  one_place (end_port_guids z) i j guid (left_part (end_port_guids z) (flat_map end_port_guids nodes) once)
+  one_place (end_port_guids z) i j guid (left_part (λ a b. a == b) (end_port_guids z) (flat_map end_port_guids nodes) once)
       (ap (λ (n : Node). slice_get (end_port_guids n) i) (same_Some z x at_a) ∙ one) (ap (λ (n : Node). slice_get (end_port_guids n) j) (same_Some z y at_b) ∙ other),
 )
 one_end (z ∷ nodes) zero (suc b) i j guid x y once at_a one at_b other =
@@ -118,7 +104,7 @@ one_end (z ∷ nodes) (suc a) zero i j guid x y once at_a one at_b other =
     (among_at (end_port_guids z) j guid (ap (λ (n : Node). slice_get (end_port_guids n) j) (same_Some z y at_b) ∙ other))
     (in_nodes nodes a x guid at_a (among_at (end_port_guids x) i guid one)))
 one_end (z ∷ nodes) (suc a) (suc b) i j guid x y once at_a one at_b other =
-    let rest = one_end nodes a b i j guid x y (right_part (end_port_guids z) (flat_map end_port_guids nodes) once) at_a one at_b other in
+    let rest = one_end nodes a b i j guid x y (right_part (λ a b. a == b) (end_port_guids z) (flat_map end_port_guids nodes) once) at_a one at_b other in
     (ap suc rest.0, rest.1)
 
 pub own_end : (fabric : FabricState) (a b i j guid : ℕ) → IsGood fabric → EndAt fabric a i guid → EndAt fabric b j guid → (a ≡ b) × (i ≡ j)
@@ -144,8 +130,8 @@ pub record IsAdapterSeen (fabric : FabricState) (end : PortRef) (seen : Seen) : 
   pub some : (end.port == 0) ≡ false
   pub end_is : EndAt fabric end.node (end.port - 1) seen.port_guid
 
-abbrev port_of : List AdapterState → ℕ → AdapterState → Seen
-port_of ports number port =
+abbrev pub seen_of : List AdapterState → ℕ → AdapterState → Seen
+seen_of ports number port =
     record {
       node_type = node_type.ChannelAdapter;
       num_ports = length ports;
@@ -156,11 +142,11 @@ port_of ports number port =
 
 port_by : (fabric : FabricState) (end : PortRef) (ports : List AdapterState) (zero_port : Bool) (o : Option AdapterState) (seen : Seen)
     → slice_get fabric.nodes end.node ≡ Some (Adapter ports) → (end.port == 0) ≡ zero_port → slice_get ports (end.port - 1) ≡ o
-    → option_map (port_of ports end.port) (if zero_port then None else o) ≡ Some seen → IsAdapterSeen fabric end seen
+    → option_map (seen_of ports end.port) (if zero_port then None else o) ≡ Some seen → IsAdapterSeen fabric end seen
 port_by fabric end ports true o seen stands none at is = absurd cc
 port_by fabric end ports false None seen stands some at is = absurd cc
 port_by fabric end ports false (Some one) seen stands some at is =
-    subst (IsAdapterSeen fabric end) (same_Some (port_of ports end.port one) seen is)
+    subst (IsAdapterSeen fabric end) (same_Some (seen_of ports end.port one) seen is)
     (record {
       held = Adapter ports;
       there = stands;

@@ -9,14 +9,14 @@ use Rattle.std.proofs.lemmas.List.Folds.{list_all-map}
 use Rattle.std.proofs.lemmas.Map.Keys.{IsDistinct-cons, IsDistinct-head, IsDistinct-tail}
 use Rattle.std.proofs.lemmas.Option.{same_Some, slice_get_cases, slice_get-map}
 use Rattle.result_words.proofs.ListLemmas.{IsDistinct-nil, all_have, all_there}
-use Rattle.fabric_parts.specs.Cable.{far_end, is_same_port}
+use Rattle.fabric_parts.specs.Cable.{far_end, is_same_port, port}
 use Rattle.fabric_parts.specs.NodeType.{most_ports}
 use Rattle.fabric_parts.specs.declared.node_type.NodeType.TheVariants as node_type
 use Rattle.smp_wire.specs.FabricState.{FabricState, is_switch, is_switch_at, port_count}
 use Rattle.smp_wire.specs.Good.{IsGood, has_a_right_count, node_guid}
 use Rattle.smp_wire.specs.declared.node.Node.{Node}
 use Rattle.smp_wire.specs.declared.node.Node.TheVariants.{Switch, Adapter}
-use Rattle.sweep.specs.Graph.{agree, all_agree, end_guids, hops_to, is_no_switch, is_right_port, port}
+use Rattle.sweep.specs.Graph.{agree, all_agree, end_guids, hops_to, is_no_switch, is_right_port}
 use Rattle.sweep.specs.OfFabric.{Found, guid_at, is_among, node_at, nodes_of, ports_at, switch_of}
 use Rattle.sweep.specs.Progress.{AreMet, IsDiscovery, IsKnownBehind, IsShownAt, Met, WasMet, ends_met}
 use Rattle.sweep.specs.declared.graph.GraphPort.{GraphPort}

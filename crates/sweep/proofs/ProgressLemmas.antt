@@ -7,10 +7,9 @@ use Rattle.std.proofs.lemmas.List.{append_assoc, append-nil, length-append, leng
 use Rattle.std.proofs.lemmas.List.Elements.{All-push}
 use Rattle.std.proofs.lemmas.Option.{same_Some, slice_get_cases, slice_get_within}
 use Rattle.result_words.proofs.ListLemmas.{list_all_push}
-use Rattle.fabric_parts.specs.Cable.{far_end}
+use Rattle.fabric_parts.specs.Cable.{far_end, port}
 use Rattle.fabric_parts.specs.declared.cable.PortRef.{PortRef}
 use Rattle.smp_wire.specs.FabricState.{FabricState, is_switch_at}
-use Rattle.sweep.specs.Graph.{port}
 use Rattle.sweep.specs.Hops.{IsWithin}
 use Rattle.sweep.specs.OfFabric.{Found, Leads, is_among, link_to, links_up_to, node_at, nodes_of, port_to, ports_at, ports_before, ports_up_to, row_of, switch_of}
 use Rattle.sweep.specs.Progress.{AreMet, HasNeighbour, IsAsked, IsDiscovery, IsKnownBehind, IsNoted, IsProgress, Met, StandsAt, WasAsked, WasMet, is_found}

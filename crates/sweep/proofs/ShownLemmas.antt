@@ -136,7 +136,7 @@ pub record Shows (given : Option (Result (List ℕ) MadStatus)) (seen : Option S
   pub is : seen ≡ Some what
   pub reads : (read : NodeInfo) → Holds bytes (node_info read) → seen_of read ≡ Ok what
 
-count_within : (n most : ℕ) → nat_le 1 n && nat_le n most ≡ true → (1 ≤ n) × (n ≤ most)
+pub count_within : (n most : ℕ) → nat_le 1 n && nat_le n most ≡ true → (1 ≤ n) × (n ≤ most)
 count_within n most h =
     let parts = and_parts (nat_le 1 n) (nat_le n most) h in
     (leb-true 1 n parts.0, leb-true n most parts.1)

@@ -11,12 +11,12 @@ use Rattle.std.proofs.lemmas.List.{append-nil}
 use Rattle.std.proofs.lemmas.List.Folds.{list_any-append}
 use Rattle.std.proofs.lemmas.Option.{get_or_from_slice_get, same_Some, slice_get_cases, slice_get_within}
 use Rattle.result_words.proofs.ListLemmas.{all_have}
-use Rattle.fabric_parts.specs.Cable.{ends_at, far_end, is_same_port, other_end}
+use Rattle.fabric_parts.specs.Cable.{ends_at, far_end, is_same_port, other_end, port}
 use Rattle.fabric_parts.specs.declared.cable.Cable.{Cable}
 use Rattle.fabric_parts.specs.declared.cable.PortRef.{PortRef}
 use Rattle.smp_wire.proofs.CableLemmas.{far_is_port, itself, same_port}
 use Rattle.smp_wire.specs.FabricState.{FabricState, is_switch_at}
-use Rattle.sweep.specs.Graph.{is_linked, port}
+use Rattle.sweep.specs.Graph.{is_linked}
 use Rattle.sweep.specs.Hops.{IsTooFar, IsWithin}
 use Rattle.sweep.specs.OfFabric.{Found, Leads, is_among, link_to, nodes_of, place_of, placed, ports_at, row_of}
 use Rattle.sweep.specs.Progress.{StandsAt, is_found}
@@ -25,7 +25,7 @@ use Rattle.sweep.specs.Sweeps.{Comes, GoesOn, IsAtPort, IsSweepable, Noted}
 use Rattle.sweep.specs.declared.fault.SweepFault.{SweepFault}
 use Rattle.sweep.specs.declared.graph.Link.{Link}
 use Rattle.sweep.specs.declared.path.TheConstants.{PATH_HOPS}
-use Rattle.sweep.proofs.FoundLemmas.{any_by, any_at, found_at, found_by, node_there, one_place, place_is}
+use Rattle.sweep.proofs.FoundLemmas.{any_at, found_at, found_by, node_there, one_place, place_is}
 use Rattle.sweep.proofs.LeastLemmas.{in_range, least}
 use Rattle.sweep.proofs.MetLemmas.{good_once}
 use Rattle.sweep.proofs.ProgressLemmas.{IsKnownNext}

@@ -9,13 +9,13 @@ use Rattle.std.proofs.lemmas.List.Folds.{list_all-map}
 use Rattle.std.proofs.lemmas.List.{append_assoc, append-nil, length-append, length-map}
 use Rattle.std.proofs.lemmas.Option.{same_Some, slice_get_cases, slice_get-map}
 use Rattle.result_words.proofs.ListLemmas.{all_have, all_there, list_all_push}
-use Rattle.fabric_parts.specs.Cable.{far_end, is_cabled}
+use Rattle.fabric_parts.specs.Cable.{far_end, is_cabled, port}
 use Rattle.fabric_parts.specs.declared.cable.PortRef.{PortRef}
 use Rattle.smp_wire.specs.FabricState.{FabricState, is_port, is_switch_at}
 use Rattle.smp_wire.specs.Walk.{end_of}
 use Rattle.sweep.specs.Seen.{name_at, seen_at}
 use Rattle.smp_wire.specs.Good.{IsGood}
-use Rattle.sweep.specs.Graph.{count_at, port}
+use Rattle.sweep.specs.Graph.{count_at}
 use Rattle.sweep.specs.Limits.{IsTooBig, is_adapter_port}
 use Rattle.sweep.specs.OfFabric.{Found, Leads, is_among, link_to, nodes_of, place_of, placed, port_seen, port_to, ports_at, switch_of}
 use Rattle.sweep.specs.Progress.{AreMet, IsProgress, IsShownAt, Met, StandsAt, WasMet, ends_met, is_found}

@@ -5,13 +5,13 @@ use Rattle.std.proofs.Common.{option_map, arith}
 use Rattle.std.proofs.Math.Bool.{or-true}
 use Rattle.std.specs.List.{list_all, list_any, range_with_len}
 use Rattle.std.specs.Option.{option_map_or}
-use Rattle.std.proofs.lemmas.Bool.{and_from, and_parts, false≢true, le-leb}
+use Rattle.std.proofs.lemmas.Bool.{and_from, and_parts, false≢true, le-leb, not-true}
 use Rattle.std.proofs.lemmas.Bool.Decides.{Decides-eqb, nat_tests}
 use Rattle.std.proofs.lemmas.List.{append-nil, length-map, take_all}
 use Rattle.std.proofs.lemmas.List.Folds.{list_all-append, list_all-map}
 use Rattle.std.proofs.lemmas.Option.{same_Some, slice_get_cases, slice_get_within, slice_get-map}
 use Rattle.result_words.proofs.ListLemmas.{all_have, all_there}
-use Rattle.fabric_parts.specs.Cable.{far_end, is_same_port}
+use Rattle.fabric_parts.specs.Cable.{far_end, is_same_port, port}
 use Rattle.fabric_parts.specs.NodeType.{most_ports}
 use Rattle.fabric_parts.specs.declared.cable.Cable.{Cable}
 use Rattle.fabric_parts.specs.declared.cable.PortRef.{PortRef}
@@ -21,7 +21,7 @@ use Rattle.smp_wire.specs.FabricState.{FabricState, is_port, is_switch, is_switc
 use Rattle.smp_wire.specs.Good.{IsGood, has_a_right_count, is_right}
 use Rattle.smp_wire.specs.declared.node.Node.{Node}
 use Rattle.smp_wire.specs.declared.node.Node.TheVariants.{Switch, Adapter}
-use Rattle.sweep.specs.Graph.{IsGraph, graph_with, is_joined, is_linked, is_near, is_right_link, is_right_row, is_right_switch, port, rise_above}
+use Rattle.sweep.specs.Graph.{IsGraph, graph_with, is_joined, is_linked, is_near, is_right_link, is_right_row, is_right_switch, rise_above}
 use Rattle.sweep.specs.OfFabric.{Found, Leads, is_among, link_to, node_at, nodes_of, place_of, placed, port_to, ports_at, all_ports, ports_up_to, row_of, switch_of}
 use Rattle.sweep.specs.Progress.{HasNeighbour, IsDiscovery, IsProgress, StandsAt}
 use Rattle.sweep.specs.Seen.{seen_at}
@@ -112,17 +112,13 @@ other_node fabric a b good is =
     flip : (n m : ℕ) → (n == m) ≡ false → (m == n) ≡ false
     flip n m h = grind (arith, nat_tests, h)
 
-    not_false : (b : Bool) → not b ≡ true → b ≡ false
-    not_false true h = absurd (false≢true h)
-    not_false false h = refl
-
     apart : (cable : Cable) → is_right fabric.nodes cable ≡ true
         → ((cable.second.node == cable.first.node) ≡ false) × ((cable.first.node == cable.second.node) ≡ false)
     apart cable right =
         let one = and_parts (is_port fabric.nodes cable.first) _ right in
         let two = and_parts (is_port fabric.nodes cable.second) _ one.1 in
         let three = and_parts (not (cable.first.node == cable.second.node)) _ two.1 in
-        let differ = not_false (cable.first.node == cable.second.node) three.0 in
+        let differ = not-true (cable.first.node == cable.second.node) three.0 in
         (flip cable.first.node cable.second.node differ, differ)
 
 -- the rows of all switches that were found

@@ -3,6 +3,7 @@ use Rattle.std.specs.Prelude.{ℕ, ◌==◌, ◌&&◌, Bool, true, false, if◌t
 use Rattle.std.specs.Option.{option_and_then}
 use Rattle.fabric_parts.specs.Cable.{is_cabled}
 use Rattle.fabric_parts.specs.declared.cable.PortRef.{PortRef}
+use Rattle.port_model.specs.AdapterState.{AdapterState}
 use Rattle.smp_wire.specs.FabricState.{FabricState, adapter_port, is_port, is_switch_at}
 use Rattle.smp_wire.specs.declared.node.Node.{Node}
 use Rattle.smp_wire.specs.declared.node.Node.TheVariants.{Switch, Adapter}
@@ -27,6 +28,16 @@ abbrev pub is_end_port_of : FabricState → PortRef → Bool
 is_end_port_of fabric at =
     if is_switch_at fabric.nodes at.node then at.port == 0 else is_port fabric.nodes at && is_cabled fabric.cables at
 
+abbrev pub port_held : ℕ → AdapterState → FabricPort
+port_held number port = record {
+  guid = port.port_guid;
+  number = number;
+  node_guid = port.node_guid;
+  description = port.description;
+  num_ports = port.num_ports;
+  is_switch = false;
+}
+
 -- a switch holds the GUID of its port 0, and each port of an adapter its own
 abbrev pub held_in : Node → ℕ → Option FabricPort
 held_in (Switch held) number =
@@ -38,16 +49,7 @@ held_in (Switch held) number =
       num_ports = num_ports held;
       is_switch = true;
     })
-held_in (Adapter ports) number =
-    option_map (λ port. record {
-      guid = port.port_guid;
-      number = number;
-      node_guid = port.node_guid;
-      description = port.description;
-      num_ports = port.num_ports;
-      is_switch = false;
-    })
-    (adapter_port ports number)
+held_in (Adapter ports) number = option_map (port_held number) (adapter_port ports number)
 
 -- of another port nothing is said
 abbrev pub end_port_in : FabricState → PortRef → Option FabricPort

@@ -3,7 +3,7 @@
 use Rattle.std.specs.Prelude.{ℕ, ◌≡◌, ◌≤◌, ◌==◌, ◌&&◌, ◌||◌, not, nat_le, nat_lt, Bool, true, List, [], ◌∷◌, ◌++◌, map, length, get_or, slice_get}
 use Rattle.std.specs.List.{IsDistinct, list_all, list_any, range_with_len}
 use Rattle.std.specs.Option.{option_map_or}
-use Rattle.fabric_parts.specs.Cable.{is_same_port}
+use Rattle.fabric_parts.specs.Cable.{is_same_port, port}
 use Rattle.fabric_parts.specs.NodeType.{most_ports}
 use Rattle.fabric_parts.specs.declared.cable.PortRef.{PortRef}
 use Rattle.fabric_parts.specs.declared.node_type.NodeType.TheVariants as node_type
@@ -24,9 +24,6 @@ pub record GraphState : Type 0 where
 -- the graph of these parts
 abbrev pub graph_with : ℕ → List GraphSwitch → List (List Link) → List GraphPort → GraphState
 graph_with manager switches rows ports = record { manager = manager; switches = switches; rows = rows; ports = ports }
-
-abbrev pub port : ℕ → ℕ → PortRef
-port node number = record { node = node; port = number }
 
 -- ---- switches
 -- 1 to 36 ports, and found by a path of 1 to 63 hops

@@ -3,12 +3,12 @@
 use Rattle.std.specs.Prelude.{ℕ, ◌≡◌, ◌≤◌, ◌==◌, Bool, if◌then◌else◌, List, [], ◌∷◌, map, flat_map, length, slice_get, Some, option_map, unwrap_or}
 use Rattle.std.specs.List.{All, IsDistinct, list_any, position_or_len, range_with_len}
 use Rattle.std.specs.Option.{option_map_or}
-use Rattle.fabric_parts.specs.Cable.{far_end}
+use Rattle.fabric_parts.specs.Cable.{far_end, port}
 use Rattle.fabric_parts.specs.declared.cable.PortRef.{PortRef}
 use Rattle.smp_wire.specs.FabricState.{FabricState, is_switch_at, port_count}
 use Rattle.smp_wire.specs.Good.{node_guid}
 use Rattle.smp_wire.specs.Walk.{end_of}
-use Rattle.sweep.specs.Graph.{GraphState, port}
+use Rattle.sweep.specs.Graph.{GraphState}
 use Rattle.sweep.specs.Seen.{name_at, seen_at}
 use Rattle.sweep.specs.declared.graph.GraphPort.{GraphPort}
 use Rattle.sweep.specs.declared.graph.GraphSwitch.{GraphSwitch}

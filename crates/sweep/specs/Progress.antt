@@ -1,10 +1,9 @@
 -- How far a sweep over a fabric has come: which switches were found, and that what was noted is what stands there.
 use Rattle.std.specs.Prelude.{ℕ, ◌≡◌, ◌≤◌, ◌<◌, ◌+◌, ◌==◌, ◌&&◌, ◌⊎◌, nat_le, Bool, true, false, List, ◌++◌, map, take, length, slice_get, Some}
 use Rattle.std.specs.List.{All, IsDistinct, list_all, list_any}
-use Rattle.fabric_parts.specs.Cable.{far_end, is_same_port}
+use Rattle.fabric_parts.specs.Cable.{far_end, is_same_port, port}
 use Rattle.fabric_parts.specs.declared.cable.PortRef.{PortRef}
 use Rattle.smp_wire.specs.FabricState.{FabricState, is_port, is_switch_at}
-use Rattle.sweep.specs.Graph.{port}
 use Rattle.sweep.specs.Hops.{IsWithin}
 use Rattle.sweep.specs.OfFabric.{Found, Leads, is_among, links_up_to, node_at, nodes_of, ports_at, ports_before, ports_up_to, row_of, switch_of}
 use Rattle.sweep.specs.Seen.{seen_at}

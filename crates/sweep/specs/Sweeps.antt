@@ -1,11 +1,11 @@
 -- What a sweep comes to over a good fabric whose links show and whose switches are joined.
 use Rattle.std.specs.Prelude.{ℕ, suc, ◌+◌, ◌≡◌, ◌≤◌, true, List, [], ◌∷◌, ◌++◌, length, Some, Result, Ok, Err}
-use Rattle.fabric_parts.specs.Cable.{far_end}
+use Rattle.fabric_parts.specs.Cable.{far_end, port}
 use Rattle.fabric_parts.specs.declared.cable.PortRef.{PortRef}
 use Rattle.smp_wire.specs.FabricState.{FabricState}
 use Rattle.smp_wire.specs.Good.{IsGood, ShowsLinks, SwitchesJoined}
 use Rattle.smp_wire.specs.Walk.{end_of}
-use Rattle.sweep.specs.Graph.{GraphState, port}
+use Rattle.sweep.specs.Graph.{GraphState}
 use Rattle.sweep.specs.Hops.{IsTooFar}
 use Rattle.sweep.specs.Limits.{IsTooBig}
 use Rattle.sweep.specs.OfFabric.{Found, IsGraphOf, nodes_of, place_of, ports_at}

@@ -3,14 +3,13 @@
 ghost use Rattle.std.specs.Prelude.{◌≡◌, ◌+◌, ◌%◌, ◌^◌, true, Some, Ok};
 ghost use Rattle.std.specs.Option.{ForSome, ok_or, option_and_then};
 ghost use Rattle.fabric_parts.specs.declared.cable.PortRef.{PortRef};
-ghost use Rattle.fabric_parts.specs.Cable.{is_cabled};
+ghost use Rattle.fabric_parts.specs.Cable.{is_cabled, port};
 ghost use Rattle.smp_wire.specs.FabricState.{is_port, is_switch_at};
 ghost use Rattle.smp_wire.specs.Get.{gives_along};
 ghost use Rattle.smp_wire.specs.Good.{IsGood, ShowsLinks};
 ghost use Rattle.smp_wire.specs.Replies.{told_for};
 ghost use Rattle.smp_wire.specs.Walk.{end_of};
 ghost use Rattle.sweep.specs.Fault.{heard};
-ghost use Rattle.sweep.specs.Graph.{port};
 ghost use Rattle.sweep.specs.Seen.{name_at, seen_at};
 ghost use Rattle.sweep.specs.declared.fault.SweepFault.TheVariants.{NoReply};
 

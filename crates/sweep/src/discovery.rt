@@ -2,12 +2,12 @@
 
 ghost use Rattle.std.specs.Prelude.{ℕ, suc, ◌≡◌, ◌≤◌, ◌<◌, ◌==◌, List, ◌∷◌, ◌++◌, true, false, [], length, position, Some, None, IfErr, IfOk, OnOk};
 ghost use Rattle.std.specs.Option.{ForSome};
-ghost use Rattle.fabric_parts.specs.Cable.{far_end};
+ghost use Rattle.fabric_parts.specs.Cable.{far_end, port};
 ghost use Rattle.fabric_parts.specs.declared.cable.PortRef.{PortRef};
 ghost use Rattle.smp_wire.specs.FabricState.{FabricState, is_switch_at};
 ghost use Rattle.smp_wire.specs.Good.{IsGood};
 ghost use Rattle.smp_wire.specs.Walk.{end_of};
-ghost use Rattle.sweep.specs.Graph.{is_joined, port};
+ghost use Rattle.sweep.specs.Graph.{is_joined};
 ghost use Rattle.sweep.specs.OfFabric.{Found, port_to, ports_at, switch_of};
 ghost use Rattle.sweep.specs.Progress.{IsProgress, StandsAt};
 ghost use Rattle.sweep.specs.Seen.{seen_at};

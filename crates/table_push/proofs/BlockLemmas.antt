@@ -1,17 +1,10 @@
 -- Tables that are written block by block.
-use Rattle.std.proofs.Common.{ℕ, ◌≡◌, ◌+◌, ◌*◌, ◌<◌, ◌≤◌, ◌∙◌, ap, sym, true, List, ◌++◌, length, take, drop, arith, length-drop, length-take-le}
+use Rattle.std.proofs.Common.{ℕ, ◌≡◌, ◌+◌, ◌*◌, ◌<◌, ◌≤◌, ◌∙◌, ap, sym, true, List, ◌++◌, length, take, drop, arith, length-take-le}
 use Rattle.std.proofs.lemmas.List.{append_assoc, drop_at, take_at}
 use Rattle.std.proofs.lemmas.Slice.{drop-append-drop}
 use Rattle.std.proofs.Math.Seq.{take-add}
 use Rattle.attr_tables.specs.Blocks.{block_of, has_block, with_block}
 use Rattle.agent_rules.proofs.TableLemmas.{block_within}
-
-pub block_long : (size block : ℕ) (table : List ℕ) → 0 < size → has_block size block table ≡ true → length (block_of size block table) ≡ size
-unfolding block_of
-block_long size block table some there =
-    let within = block_within size block table some there in
-    let rest = length-drop (size * block) table in
-    length-take-le size (drop (size * block) table) (omega (arith, within, rest))
 
 -- what is written in a block is read there
 pub block_back : (size block : ℕ) (entries table : List ℕ) → 0 < size → length entries ≡ size → has_block size block table ≡ true

@@ -1,157 +1,148 @@
 -- What a fabric has whose ports, key tables and linear tables were pushed in turn.
-use Rattle.std.proofs.Common.{ℕ, ◌≡◌, ◌+◌, ◌-◌, ◌<◌, ◌==◌, ◌∙◌, ap, refl, sym, subst, Bool, true, false, if◌then◌else◌, List, map, length, slice_get, Option, Some, None, option_map, unwrap_or, arith}
+use Rattle.std.proofs.Common.{ℕ, ◌≡◌, ◌-◌, ◌<◌, ◌==◌, ◌∙◌, ap, refl, sym, subst, true, false, List, [], map, length, slice_get, Option, Some, None, option_map, unwrap_or, arith}
 use Rattle.std.specs.List.{range_with_len}
 use Rattle.std.specs.Option.{option_and_then, option_map_or}
 use Rattle.std.proofs.Math.Nat.{zero-add}
-use Rattle.std.proofs.lemmas.Bool.{eqb-false, ne_eqb}
+use Rattle.std.proofs.lemmas.Bool.{ne_eqb}
 use Rattle.std.proofs.lemmas.Option.{same_Some, slice_get-map}
 use Rattle.std.proofs.lemmas.Simd.{map-map}
+use Rattle.result_words.proofs.ListLemmas.{range_at}
 use Rattle.agent_rules.specs.declared.power_up.TheConstants.{LINEAR_TABLE}
 use Rattle.attr_tables.specs.declared.port_info.PortInfo.{PortInfo}
 use Rattle.attr_tables.specs.declared.switch_info.SwitchInfo.{SwitchInfo}
 use Rattle.lid_assign.specs.Lids.{lid_in}
-use Rattle.port_model.specs.AdapterState.{AdapterState}
 use Rattle.smp_wire.specs.FabricState.{FabricState}
 use Rattle.smp_wire.specs.Good.{node_guid, port_info_at}
 use Rattle.smp_wire.specs.declared.node.Node.{Node}
 use Rattle.smp_wire.specs.declared.node.Node.TheVariants.{Switch, Adapter}
 use Rattle.switch_model.specs.SwitchState.{SwitchState}
-use Rattle.switch_model.specs.declared.switch_port.SwitchPort.{SwitchPort}
 use Rattle.table_push.specs.BringUp.{EachPortIsServed, EachSwitchIsSetUp, Enforces, InfoIs, IsActive, IsEndPort, KeysAre, brought_up, port_keys_at}
 use Rattle.table_push.specs.Keys.{guid_of, key_table, keys_of, keys_wanted}
 use Rattle.table_push.specs.Linear.{linear_entry, linear_table, with_linear}
-use Rattle.table_push.specs.Nodes.{infos_by, keys_by, numbered, switch_by}
-use Rattle.table_push.specs.Ports.{change_wanted, changed, stays, with_top}
+use Rattle.table_push.specs.Nodes.{infos_by, keys_by, switch_by}
+use Rattle.table_push.specs.Ports.{change_wanted, changed, set_top, stays, with_top}
 use Rattle.table_push.specs.declared.ports.PortChange.{PortChange}
 use Rattle.table_push.proofs.CableLemmas.{own_guids, seat}
 use Rattle.table_push.proofs.GuidLemmas.{no_place, place_is}
-use Rattle.table_push.proofs.InfoPortLemmas.{got_numbered, info_after_node, mapped}
-use Rattle.table_push.proofs.SightLemmas.{infos_unseen, kept_at, kept_port, keys_unseen, linear_unseen}
-use Rattle.table_push.proofs.WantedChangeLemmas.{range_at, wanted_adapter, wanted_before, wanted_own}
+use Rattle.table_push.proofs.InfoPortLemmas.{info_after_node}
+use Rattle.table_push.proofs.PartLemmas.{info_part, keys_part, other_part, part_after}
+use Rattle.table_push.proofs.SightLemmas.{infos_unseen, keys_unseen, switches_unseen}
+use Rattle.table_push.proofs.WantedChangeLemmas.{wanted_adapter, wanted_before, wanted_own}
 use Rattle.table_push.proofs.WantedLemmas.{guid_there, hanging_is, port_is, wanted_adapter as keys_at_adapter, wanted_own as keys_at_own, wanted_there as keys_before}
 use Rattle.updn_routes.specs.Subnet.{SubnetRoutes, place_of}
 
 module _ (routes : SubnetRoutes) (keys : List (List ℕ)) where
   -- ---- a node
-  abbrev change : ℕ → ℕ → PortInfo → PortInfo
-  change guid number = changed (change_wanted routes guid number)
+  abbrev pub with_info : ℕ → ℕ → PortInfo → PortInfo
+  with_info guid number = changed (change_wanted routes guid number)
 
-  abbrev tables : ℕ → ℕ → List ℕ → List ℕ
-  tables guid number held = unwrap_or (keys_wanted routes keys guid number) held
+  abbrev pub with_table : ℕ → ℕ → List ℕ → List ℕ
+  with_table guid number held = unwrap_or (keys_wanted routes keys guid number) held
 
   abbrev top : ℕ
   top = length routes.lids
 
-  abbrev up : Node → Node
-  up node = switch_by (with_linear routes) (keys_by tables (infos_by change (with_top top) node))
+  abbrev pub with_ports : Node → Node
+  with_ports node = switch_by (λ guid. set_top top) (infos_by with_info node)
 
-  guid_up : (node : Node) → node_guid (up node) ≡ node_guid node
-  guid_up node =
-      (linear_unseen (with_linear routes) (λ guid held. (_, refl))).guid (keys_by tables (infos_by change (with_top top) node))
-      ∙ (keys_unseen tables).guid (infos_by change (with_top top) node) ∙ (infos_unseen change (with_top top)).guid node
+  abbrev pub with_all : Node → Node
+  with_all node = switch_by (with_linear routes) (keys_by with_table (with_ports node))
+
+  guid_of_ports : (node : Node) → node_guid (with_ports node) ≡ node_guid node
+  guid_of_ports node = (switches_unseen (λ guid. set_top top) (λ guid held. (_, _, refl))).guid (infos_by with_info node) ∙ (infos_unseen with_info).guid node
+
+  guid_after : (node : Node) → node_guid (with_all node) ≡ node_guid node
+  guid_after node =
+      (switches_unseen (with_linear routes) (λ guid held. (_, _, refl))).guid (keys_by with_table (with_ports node))
+      ∙ (keys_unseen with_table).guid (with_ports node) ∙ guid_of_ports node
 
   info_linear : (node : Node) (number : ℕ) → port_info_at (switch_by (with_linear routes) node) number ≡ port_info_at node number
   info_linear (Switch held) number = refl
   info_linear (Adapter ports) number = refl
 
-  info_keys : (node : Node) (number : ℕ) → port_info_at (keys_by tables node) number ≡ port_info_at node number
-  info_keys (Switch held) number =
-      kept_at (λ n (one : SwitchPort). record one { keys = tables held.node_guid n one.keys }) (λ (one : SwitchPort). one.info) 0 held.ports number (λ n one. refl)
-  info_keys (Adapter ports) number =
-      kept_port (λ n (one : AdapterState). record one { keys = tables (node_guid (Adapter ports)) n one.keys }) (λ (one : AdapterState). one.info) number ports (number == 0)
-      (λ n one. refl)
+  info_keys : (node : Node) (number : ℕ) → port_info_at (keys_by with_table node) number ≡ port_info_at node number
+  info_keys (Switch held) number = other_part keys_part info_part (record { switch = λ keys port. refl; adapter = λ keys port. refl }) with_table (Switch held) number
+  info_keys (Adapter ports) number = other_part keys_part info_part (record { switch = λ keys port. refl; adapter = λ keys port. refl }) with_table (Adapter ports) number
 
-  info_up : (node : Node) (number : ℕ) → port_info_at (up node) number ≡ option_map (change (node_guid node) number) (port_info_at node number)
-  info_up node number =
-      info_linear (keys_by tables (infos_by change (with_top top) node)) number ∙ info_keys (infos_by change (with_top top) node) number
-      ∙ info_after_node change (with_top top) node number
+  info_top : (node : Node) (number : ℕ) → port_info_at (switch_by (λ guid. set_top top) node) number ≡ port_info_at node number
+  info_top (Switch held) number = refl
+  info_top (Adapter ports) number = refl
+
+  info_after : (node : Node) (number : ℕ) → port_info_at (with_all node) number ≡ option_map (with_info (node_guid node) number) (port_info_at node number)
+  info_after node number =
+      info_linear (keys_by with_table (with_ports node)) number ∙ info_keys (with_ports node) number ∙ info_top (infos_by with_info node) number
+      ∙ info_after_node with_info node number
 
   keys_linear : (node : Node) (number : ℕ) → port_keys_at (switch_by (with_linear routes) node) number ≡ port_keys_at node number
   keys_linear (Switch held) number = refl
   keys_linear (Adapter ports) number = refl
 
-  keys_info : (node : Node) (number : ℕ) → port_keys_at (infos_by change (with_top top) node) number ≡ port_keys_at node number
-  keys_info (Switch held) number =
-      kept_at (λ n (one : SwitchPort). record one { info = change held.node_guid n one.info }) (λ (one : SwitchPort). one.keys) 0 held.ports number (λ n one. refl)
-  keys_info (Adapter ports) number =
-      kept_port (λ n (one : AdapterState). record one { info = change (node_guid (Adapter ports)) n one.info }) (λ (one : AdapterState). one.keys) number ports (number == 0)
-      (λ n one. refl)
+  keys_top : (node : Node) (number : ℕ) → port_keys_at (switch_by (λ guid. set_top top) node) number ≡ port_keys_at node number
+  keys_top (Switch held) number = refl
+  keys_top (Adapter ports) number = refl
 
-  keys_after : (node : Node) (number : ℕ) → port_keys_at (keys_by tables node) number ≡ option_map (tables (node_guid node) number) (port_keys_at node number)
-  keys_after (Switch held) number =
-      ap (option_map (λ (one : SwitchPort). one.keys)) (got_numbered (λ n (one : SwitchPort). record one { keys = tables held.node_guid n one.keys }) 0 held.ports number
-      ∙ ap (λ (n : ℕ). option_map (λ (one : SwitchPort). record one { keys = tables held.node_guid n one.keys }) (slice_get held.ports number)) (zero-add number))
-      ∙ mapped (λ (one : SwitchPort). record one { keys = tables held.node_guid number one.keys }) (λ (one : SwitchPort). one.keys) (tables held.node_guid number)
-      (slice_get held.ports number) (λ one. refl)
-  keys_after (Adapter ports) number = by (number == 0) refl
-    where
-      own : ℕ → AdapterState → AdapterState
-      own n one = record one { keys = tables (node_guid (Adapter ports)) n one.keys }
+  keys_info : (node : Node) (number : ℕ) → port_keys_at (infos_by with_info node) number ≡ port_keys_at node number
+  keys_info (Switch held) number = other_part info_part keys_part (record { switch = λ info port. refl; adapter = λ info port. refl }) with_info (Switch held) number
+  keys_info (Adapter ports) number = other_part info_part keys_part (record { switch = λ info port. refl; adapter = λ info port. refl }) with_info (Adapter ports) number
 
-      by : (b : Bool) → (number == 0) ≡ b
-          → option_map (λ (one : AdapterState). one.keys) (if b then None else slice_get (numbered own 1 ports) (number - 1))
-          ≡ option_map (tables (node_guid (Adapter ports)) number) (option_map (λ (one : AdapterState). one.keys) (if b then None else slice_get ports (number - 1)))
-      by true is = refl
-      by false is =
-          let some = eqb-false number 0 is in
-          let counted : 1 + (number - 1) ≡ number = omega (arith, some) in
-          ap (option_map (λ (one : AdapterState). one.keys)) (got_numbered own 1 ports (number - 1)
-          ∙ ap (λ (n : ℕ). option_map (own n) (slice_get ports (number - 1))) counted)
-          ∙ mapped (own number) (λ (one : AdapterState). one.keys) (tables (node_guid (Adapter ports)) number) (slice_get ports (number - 1)) (λ one. refl)
+  keys_after : (node : Node) (number : ℕ) → port_keys_at (keys_by with_table node) number ≡ option_map (with_table (node_guid node) number) (port_keys_at node number)
+  keys_after (Switch held) number = part_after keys_part with_table (Switch held) number
+  keys_after (Adapter ports) number = part_after keys_part with_table (Adapter ports) number
 
-  keys_up : (node : Node) (number : ℕ) → port_keys_at (up node) number ≡ option_map (tables (node_guid node) number) (port_keys_at node number)
-  keys_up node number =
-      let between = infos_by change (with_top top) node in
-      keys_linear (keys_by tables between) number ∙ keys_after between number
-      ∙ ap (λ (guid : ℕ). option_map (tables guid number) (port_keys_at between number)) ((infos_unseen change (with_top top)).guid node)
-      ∙ ap (option_map (tables (node_guid node) number)) (keys_info node number)
+  keys_after_all : (node : Node) (number : ℕ) → port_keys_at (with_all node) number ≡ option_map (with_table (node_guid node) number) (port_keys_at node number)
+  keys_after_all node number =
+      keys_linear (keys_by with_table (with_ports node)) number ∙ keys_after (with_ports node) number
+      ∙ ap (λ (guid : ℕ). option_map (with_table guid number) (port_keys_at (with_ports node) number)) (guid_of_ports node)
+      ∙ ap (option_map (with_table (node_guid node) number)) (keys_top (infos_by with_info node) number ∙ keys_info node number)
 
   -- ---- the fabric
   module _ (fabric : FabricState) where
-    nodes_up : (brought_up routes keys fabric).nodes ≡ map up fabric.nodes
-    nodes_up =
-        ap (map (switch_by (with_linear routes))) (map-map (keys_by tables) (infos_by change (with_top top)) fabric.nodes)
-        ∙ map-map (switch_by (with_linear routes)) (λ node. keys_by tables (infos_by change (with_top top) node)) fabric.nodes
+    nodes_after : (brought_up routes keys fabric).nodes ≡ map with_all fabric.nodes
+    nodes_after =
+        ap (λ (nodes : List Node). map (switch_by (with_linear routes)) (map (keys_by with_table) nodes))
+        (map-map (switch_by (λ guid. set_top top)) (infos_by with_info) fabric.nodes)
+        ∙ ap (map (switch_by (with_linear routes))) (map-map (keys_by with_table) with_ports fabric.nodes)
+        ∙ map-map (switch_by (with_linear routes)) (λ node. keys_by with_table (with_ports node)) fabric.nodes
 
-    node_up : (place : ℕ) → slice_get (brought_up routes keys fabric).nodes place ≡ option_map up (slice_get fabric.nodes place)
-    node_up place = ap (λ (nodes : List Node). slice_get nodes place) nodes_up ∙ slice_get-map up fabric.nodes place
+    pub node_after : (place : ℕ) → slice_get (brought_up routes keys fabric).nodes place ≡ option_map with_all (slice_get fabric.nodes place)
+    node_after place = ap (λ (nodes : List Node). slice_get nodes place) nodes_after ∙ slice_get-map with_all fabric.nodes place
 
     -- whatever the port had, it has that change
     info_is : (guid number : ℕ) (wanted : PortChange) (Is : PortInfo → Type 0) → change_wanted routes guid number ≡ wanted
         → ((info : PortInfo) → Is (changed wanted info)) → InfoIs (brought_up routes keys fabric) guid number Is
     info_is guid number wanted Is are each at info at_guid at_number held =
         by (slice_get fabric.nodes at.node)
-        (ap (λ (o : Option Node). option_map_or node_guid o 0) (sym (node_up at.node)) ∙ at_guid)
-        (ap (λ (o : Option Node). option_and_then (λ node. port_info_at node at.port) o) (sym (node_up at.node)) ∙ held)
+        (ap (λ (o : Option Node). option_map_or node_guid o 0) (sym (node_after at.node)) ∙ at_guid)
+        (ap (λ (o : Option Node). option_and_then (λ node. port_info_at node at.port) o) (sym (node_after at.node)) ∙ held)
       where
-        by_port : (node : Node) → node_guid node ≡ guid → (o : Option PortInfo) → option_map (change (node_guid node) at.port) o ≡ Some info → Is info
+        by_port : (node : Node) → node_guid node ≡ guid → (o : Option PortInfo) → option_map (with_info (node_guid node) at.port) o ≡ Some info → Is info
         by_port node is None found = absurd (cc)
         by_port node is (Some was) found =
             let same : changed (change_wanted routes (node_guid node) at.port) was ≡ info = same_Some _ info found in
             let its : change_wanted routes (node_guid node) at.port ≡ wanted = (λ i. change_wanted routes (is i) (at_number i)) ∙ are in
             subst Is (ap (λ (one : PortChange). changed one was) (sym its) ∙ same) (each was)
 
-        by : (o : Option Node) → option_map_or node_guid (option_map up o) 0 ≡ guid
-            → option_and_then (λ node. port_info_at node at.port) (option_map up o) ≡ Some info → Is info
+        by : (o : Option Node) → option_map_or node_guid (option_map with_all o) 0 ≡ guid
+            → option_and_then (λ node. port_info_at node at.port) (option_map with_all o) ≡ Some info → Is info
         by None is found = absurd (cc)
-        by (Some node) is found = by_port node (sym (guid_up node) ∙ is) (port_info_at node at.port) (sym (info_up node at.port) ∙ found)
+        by (Some node) is found = by_port node (sym (guid_after node) ∙ is) (port_info_at node at.port) (sym (info_after node at.port) ∙ found)
 
     keys_are : (guid number : ℕ) (table : List ℕ) → keys_wanted routes keys guid number ≡ Some table → KeysAre (brought_up routes keys fabric) guid number table
     keys_are guid number table are at held at_guid at_number found =
         by (slice_get fabric.nodes at.node)
-        (ap (λ (o : Option Node). option_map_or node_guid o 0) (sym (node_up at.node)) ∙ at_guid)
-        (ap (λ (o : Option Node). option_and_then (λ node. port_keys_at node at.port) o) (sym (node_up at.node)) ∙ found)
+        (ap (λ (o : Option Node). option_map_or node_guid o 0) (sym (node_after at.node)) ∙ at_guid)
+        (ap (λ (o : Option Node). option_and_then (λ node. port_keys_at node at.port) o) (sym (node_after at.node)) ∙ found)
       where
-        by_port : (node : Node) → node_guid node ≡ guid → (o : Option (List ℕ)) → option_map (tables (node_guid node) at.port) o ≡ Some held → held ≡ table
+        by_port : (node : Node) → node_guid node ≡ guid → (o : Option (List ℕ)) → option_map (with_table (node_guid node) at.port) o ≡ Some held → held ≡ table
         by_port node is None found = absurd (cc)
         by_port node is (Some was) found =
             let its : keys_wanted routes keys (node_guid node) at.port ≡ Some table = (λ i. keys_wanted routes keys (is i) (at_number i)) ∙ are in
             sym (same_Some _ held found) ∙ ap (λ (some : Option (List ℕ)). unwrap_or some was) its
 
-        by : (o : Option Node) → option_map_or node_guid (option_map up o) 0 ≡ guid
-            → option_and_then (λ node. port_keys_at node at.port) (option_map up o) ≡ Some held → held ≡ table
+        by : (o : Option Node) → option_map_or node_guid (option_map with_all o) 0 ≡ guid
+            → option_and_then (λ node. port_keys_at node at.port) (option_map with_all o) ≡ Some held → held ≡ table
         by None is found = absurd (cc)
-        by (Some node) is found = by_port node (sym (guid_up node) ∙ is) (port_keys_at node at.port) (sym (keys_up node at.port) ∙ found)
+        by (Some node) is found = by_port node (sym (guid_after node) ∙ is) (port_keys_at node at.port) (sym (keys_after_all node at.port) ∙ found)
 
     -- what stood where a switch stands then
     record WasSwitch (node : ℕ) (held : SwitchState) : Type 0 where
@@ -161,27 +152,22 @@ module _ (routes : SubnetRoutes) (keys : List (List ℕ)) where
       info_is : held.info ≡ with_top top was.info
 
     was_switch : (node : ℕ) (held : SwitchState) → slice_get (brought_up routes keys fabric).nodes node ≡ Some (Switch held) → WasSwitch node held
-    was_switch node held there = by (slice_get fabric.nodes node) (sym (node_up node) ∙ there)
+    was_switch node held there = by (slice_get fabric.nodes node) (sym (node_after node) ∙ there)
       where
-        by : (o : Option Node) → option_map up o ≡ Some (Switch held) → WasSwitch node held
+        linear_of : Node → List ℕ
+        linear_of (Switch one) = one.linear
+        linear_of (Adapter ports) = []
+
+        info_of : SwitchInfo → Node → SwitchInfo
+        info_of none (Switch one) = one.info
+        info_of none (Adapter ports) = none
+
+        by : (o : Option Node) → option_map with_all o ≡ Some (Switch held) → WasSwitch node held
         by None is = absurd (cc)
         by (Some (Adapter ports)) is = absurd (cc)
         by (Some (Switch was)) is =
-            let same = of_switch was (same_Some _ _ is) in
-            record {
-              was = was;
-              guid_is = ap (λ (s : SwitchState). s.node_guid) same;
-              linear_is = ap (λ (s : SwitchState). s.linear) same;
-              info_is = ap (λ (s : SwitchState). s.info) same;
-            }
-          where
-            of_switch : (was : SwitchState) → up (Switch was) ≡ Switch held
-                → held ≡ with_linear routes was.node_guid (record was {
-                  info = with_top top was.info;
-                  ports = numbered (λ n (one : SwitchPort). record one { keys = tables was.node_guid n one.keys }) 0
-                      (numbered (λ n (one : SwitchPort). record one { info = change was.node_guid n one.info }) 0 was.ports);
-                })
-            of_switch was is = sym (cc)
+            let same : Switch held ≡ with_all (Switch was) = sym (same_Some (with_all (Switch was)) (Switch held) is) in
+            record { was = was; guid_is = ap node_guid same; linear_is = ap linear_of same; info_is = ap (info_of was.info) same }
 
 given : (routes : SubnetRoutes) (keys : List (List ℕ)) (guid lid : ℕ) (own : List ℕ) → lid_in routes.lids guid ≡ Some lid → slice_get keys (lid - 1) ≡ Some own
     → keys_of routes keys guid ≡ Some own

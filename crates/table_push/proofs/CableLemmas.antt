@@ -1,8 +1,8 @@
 -- Both ends of the cable of an adapter's port, and the tables that are written there.
-use Rattle.std.proofs.Common.{ℕ, ◌≡◌, ◌+◌, ◌*◌, ◌<◌, ◌≤◌, ◌⊎◌, inl, inr, ◌==◌, ◌&&◌, ◌||◌, not, nat_le, nat_lt, ◌∙◌, ap, refl, sym, subst, Bool, true, false, List, [], ◌∷◌, ◌++◌, map, length, get_or, take, slice_get, Option, Some, None, Result, Ok, option_map, arith, Fits, w64}
+use Rattle.std.proofs.Common.{ℕ, ◌≡◌, ◌+◌, ◌*◌, ◌<◌, ◌≤◌, ◌⊎◌, inl, inr, ◌==◌, ◌&&◌, ◌||◌, nat_le, nat_lt, ◌∙◌, ap, refl, sym, subst, Bool, true, false, List, [], ◌∷◌, ◌++◌, map, length, get_or, take, slice_get, Option, Some, None, Result, Ok, option_map, arith, Fits, w64}
 use Rattle.std.specs.List.{IsDistinct, list_any}
 use Rattle.std.specs.Option.{option_map_or}
-use Rattle.std.proofs.lemmas.Bool.{and_parts, leb-true, ne_eqb}
+use Rattle.std.proofs.lemmas.Bool.{and_parts, leb-true, ne_eqb, not-true}
 use Rattle.std.proofs.lemmas.Bool.Decides.{nat_tests}
 use Rattle.std.proofs.lemmas.List.{take_all}
 use Rattle.std.proofs.lemmas.List.Folds.{list_any_more}
@@ -16,11 +16,13 @@ use Rattle.sweep.specs.Graph.{GraphState, IsGraph, count_at, hops_to, is_no_swit
 use Rattle.sweep.specs.OfFabric.{IsGraphOf}
 use Rattle.sweep.specs.declared.graph.GraphPort.{GraphPort}
 use Rattle.sweep.specs.declared.graph.GraphSwitch.{GraphSwitch}
+use Rattle.sweep.proofs.AdapterLemmas.{no_port}
 use Rattle.table_push.specs.Keys.{at_cable, at_cables, at_switches, guid_of, key_table, keys_of, keys_pushed, keys_where}
 use Rattle.table_push.specs.Nodes.{with_keys}
 use Rattle.table_push.specs.Pushes.{Leaves, Stands}
 use Rattle.table_push.specs.declared.fault.PushFault.{PushFault}
-use Rattle.table_push.proofs.GuidLemmas.{left_part, no_place, place_is}
+use Rattle.smp_wire.proofs.DistinctLemmas.{left_part}
+use Rattle.table_push.proofs.GuidLemmas.{no_place, place_is}
 use Rattle.table_push.proofs.HangLemmas.{adapter_leads, switch_leads}
 use Rattle.table_push.proofs.LeadLemmas.{begins_as, ends_as}
 use Rattle.table_push.proofs.WantedLemmas.{PutsAt, hanging_is, port_is, put_all, put_more, put_none, put_same, wanted_adapter, wanted_own, wanted_there, with_this}
@@ -36,10 +38,6 @@ pub record Seat (graph : GraphState) (one : GraphPort) : Type 0 where
   pub near : length switch.path < 63
   pub no_switch : list_any (λ switch. switch.guid == one.node_guid) graph.switches ≡ false
 
-none_of : (b : Bool) → not b ≡ true → b ≡ false
-none_of true h = absurd (cc)
-none_of false h = refl
-
 pub seat : (graph : GraphState) (k : ℕ) (one : GraphPort) → IsGraph graph → slice_get graph.ports k ≡ Some one → Seat graph one
 seat graph k one is at =
     let right = and_parts (is_switch_port graph.switches one.at) _ (all_there (is_right_port graph.switches) graph.ports k one is.ports at) in
@@ -48,7 +46,7 @@ seat graph k one is at =
     let last = and_parts (is_no_switch graph.switches one.node_guid) _ few.1 in
     let numbered = and_parts (nat_le 1 one.at.port) (nat_le one.at.port (count_at graph.switches one.at.node)) right.0 in
     by (slice_get_cases graph.switches one.at.node).1 (leb-true 1 one.at.port numbered.0) (leb-true one.at.port (count_at graph.switches one.at.node) numbered.1)
-    (below (hops_to graph.switches one.at.node) last.1) (none_of _ last.0)
+    (below (hops_to graph.switches one.at.node) last.1) (not-true _ last.0)
   where
     below : (n : ℕ) → nat_lt n 63 ≡ true → n < 63
     below n h = grind (arith, nat_tests, h)
@@ -72,10 +70,6 @@ seat graph k one is at =
           near = omega (arith, hops, far);
           no_switch = none;
         }
-
--- the port at a place of the graph, and the switch that it hangs on
-abbrev pub no_port : GraphPort
-no_port = record { node_guid = 0; port_guid = 0; number = 0; num_ports = 0; name = []; at = record { node = 0; port = 0 } }
 
 pub record Home (graph : GraphState) (place : ℕ) (one : GraphPort) (switches : List GraphSwitch) : Type 0 where
   pub is : IsGraph graph
@@ -112,7 +106,7 @@ pub fits : (n count : ℕ) → n < count → count ≤ 64 → Fits w64 (n * 152)
 fits n count below few = omega (arith, below, few)
 
 pub own_guids : (graph : GraphState) → IsGraph graph → IsDistinct (λ a b. a == b) (map (λ one. one.guid) graph.switches)
-own_guids graph is = left_part (map (λ (one : GraphSwitch). one.guid) graph.switches) (map (λ (one : GraphPort). one.port_guid) graph.ports) is.guids
+own_guids graph is = left_part (λ a b. a == b) (map (λ (one : GraphSwitch). one.guid) graph.switches) (map (λ (one : GraphPort). one.port_guid) graph.ports) is.guids
 
 -- ---- the two tables of a cable
 pub at_switch : (stood left : Option FabricState) (result : Result (Unit {0}) PushFault) (fabric : FabricState) (routes : SubnetRoutes) (keys : List (List ℕ))

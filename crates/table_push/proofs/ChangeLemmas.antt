@@ -22,7 +22,7 @@ use Rattle.smp_wire.specs.FabricState.{FabricState, is_switch}
 use Rattle.smp_wire.specs.Get.{gives_along}
 use Rattle.smp_wire.proofs.ListLemmas.{or_same}
 use Rattle.smp_wire.specs.Good.{IsGood, info_at, is_up}
-use Rattle.sweep.specs.Graph.{port}
+use Rattle.fabric_parts.specs.Cable.{port}
 use Rattle.sweep.specs.OfFabric.{guid_at}
 use Rattle.table_push.specs.Fault.{compared, without_state}
 use Rattle.table_push.specs.Nodes.{on_port, with_infos}
@@ -31,9 +31,9 @@ use Rattle.table_push.specs.Pushes.{Leaves}
 use Rattle.table_push.specs.declared.fault.PushFault.{PushFault}
 use Rattle.table_push.specs.declared.ports.PortChange.{PortChange}
 use Rattle.table_push.proofs.InfoLemmas.{as_held, setting_taken, state_fits, state_is, state_put}
-use Rattle.table_push.proofs.InfoNodeLemmas.{infos_twice}
 use Rattle.table_push.proofs.InfoPortLemmas.{InfoThere, info_after, info_alike, info_gives, info_given, info_takes, info_there}
 use Rattle.table_push.proofs.LeadLemmas.{SetsAt, goes_on}
+use Rattle.table_push.proofs.PartLemmas.{info_part, parts_twice}
 use Rattle.table_push.proofs.PortLemmas.{port_on}
 
 -- ---- a change, in whatever order its parts come
@@ -343,5 +343,5 @@ set_twice fabric stood mid left first result path asked guid number change held 
     let both : (one : PortInfo) → stepped change Active (stepped change Armed one) ≡ changed change one =
     λ one. again lid enforcement 3 4 one ∙ with_it lid enforcement 4 one ∙ (rw active refl) in
     goes_on result mid left fabric now _ _ leaves.stands second
-    (infos_twice (on_port guid number (stepped change Active)) (on_port guid number (stepped change Armed)) (on_port guid number (changed change)) fabric
+    (parts_twice info_part (on_port guid number (stepped change Active)) (on_port guid number (stepped change Armed)) (on_port guid number (changed change)) fabric
     (on_twice guid number (stepped change Active) (stepped change Armed) (changed change) both))

@@ -1,30 +1,18 @@
 -- The switches of a graph by their GUIDs, and by their places.
-use Rattle.std.proofs.Common.{ℕ, zero, suc, ◌≡◌, ◌==◌, ◌∙◌, ap, refl, sym, Bool, true, false, List, [], ◌∷◌, ◌++◌, map, slice_get, Some, None, arith, cond, nat_lt, length}
-use Rattle.std.specs.List.{AllByRecursion, IsDistinct, list_any, position_or_len}
-use Rattle.std.proofs.lemmas.Map.Keys.{IsDistinct-cons, IsDistinct-head, IsDistinct-tail, any_passes_from_place}
-use Rattle.std.proofs.lemmas.Option.{same_Some}
-use Rattle.result_words.proofs.ListLemmas.{IsDistinct-nil}
+use Rattle.std.proofs.Common.{ℕ, zero, suc, ◌≡◌, ◌==◌, ◌∙◌, ap, refl, sym, Bool, true, false, List, [], ◌∷◌, map, slice_get, Some, None, option_map, arith, cond, nat_lt, length}
+use Rattle.std.specs.List.{IsDistinct, list_any, position_or_len}
+use Rattle.std.proofs.lemmas.Map.Keys.{IsDistinct-tail, any_passes_from_place}
+use Rattle.std.proofs.lemmas.Option.{same_Some, slice_get-map}
 use Rattle.result_words.proofs.PlaceLemmas.{list_any_place}
 use Rattle.smp_wire.proofs.DistinctLemmas.{none_shares}
 use Rattle.sweep.specs.declared.graph.GraphSwitch.{GraphSwitch}
 use Rattle.updn_routes.specs.Subnet.{place_of}
 use Rattle.table_push.proofs.NodeLemmas.{none_there, same_number}
 
-pub left_part : (xs ys : List ℕ) → IsDistinct (λ a b. a == b) (xs ++ ys) → IsDistinct (λ a b. a == b) xs
-left_part [] ys once = IsDistinct-nil (λ a b. a == b)
-left_part (x ∷ xs) ys once =
-    IsDistinct-cons (λ a b. a == b) x xs (first xs ys (IsDistinct-head (λ a b. a == b) x (xs ++ ys) once))
-    (left_part xs ys (IsDistinct-tail (λ a b. a == b) x (xs ++ ys) once))
-  where
-    first : (some more : List ℕ) → AllByRecursion (λ y. (x == y) ≡ false) (some ++ more) → AllByRecursion (λ y. (x == y) ≡ false) some
-    first [] more all = tt
-    first (y ∷ some) more all = (all.0, first some more all.1)
-
 guid_at_place : (switches : List GraphSwitch) (k : ℕ) (switch : GraphSwitch) → slice_get switches k ≡ Some switch
     → slice_get (map (λ (one : GraphSwitch). one.guid) switches) k ≡ Some switch.guid
-guid_at_place [] k switch there = absurd (cc)
-guid_at_place (one ∷ switches) zero switch there = ap (λ (other : GraphSwitch). Some other.guid) (same_Some one switch there)
-guid_at_place (one ∷ switches) (suc k) switch there = guid_at_place switches k switch there
+guid_at_place switches k switch there =
+    slice_get-map (λ (one : GraphSwitch). one.guid) switches k ∙ ap (option_map (λ (one : GraphSwitch). one.guid)) there
 
 place_by : (one : GraphSwitch) (switches : List GraphSwitch) (guid k : ℕ) (b : Bool) → (one.guid == guid) ≡ b
     → cond b 0 (suc (position_or_len (λ switch. switch.guid == guid) switches)) ≡ k

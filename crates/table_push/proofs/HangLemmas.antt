@@ -4,7 +4,7 @@ use Rattle.std.specs.List.{Contains, find, list_all}
 use Rattle.std.specs.Option.{option_map_or}
 use Rattle.std.proofs.lemmas.Bool.{and_parts, eq-eqb, false≢true}
 use Rattle.std.proofs.lemmas.Option.{same_Some}
-use Rattle.fabric_parts.specs.Cable.{far_end}
+use Rattle.fabric_parts.specs.Cable.{far_end, port}
 use Rattle.fabric_parts.specs.declared.cable.PortRef.{PortRef}
 use Rattle.result_words.proofs.ListLemmas.{all_have, all_there}
 use Rattle.smp_wire.proofs.CableLemmas.{cabled_is_port, far_is_port}
@@ -12,7 +12,7 @@ use Rattle.smp_wire.specs.FabricState.{FabricState, is_switch_at}
 use Rattle.smp_wire.specs.Good.{IsGood, node_guid}
 use Rattle.smp_wire.specs.Walk.{end_of}
 use Rattle.smp_wire.specs.declared.node.Node.{Node}
-use Rattle.sweep.specs.Graph.{GraphState, agree, all_agree, port}
+use Rattle.sweep.specs.Graph.{GraphState, agree, all_agree}
 use Rattle.sweep.specs.OfFabric.{Found, IsGraphOf, Leads, all_ports, guid_at, node_at, nodes_of, port_seen, port_to, ports_at, ports_up_to}
 use Rattle.sweep.specs.Seen.{name_at, seen_at}
 use Rattle.sweep.specs.declared.graph.GraphPort.{GraphPort}

@@ -3,10 +3,11 @@ use Rattle.std.proofs.Common.{ℕ, ◌≡◌, ◌+◌, ◌*◌, ◌-◌, ◌/◌
 use Rattle.std.specs.Int.{bytes_high_first}
 use Rattle.std.specs.Int.Digits.{AllBelowBase}
 use Rattle.std.specs.Option.{is_some, option_map_or}
-use Rattle.std.proofs.lemmas.Bool.{and_from, and_parts, false≢true, leb-true, or_cases}
+use Rattle.std.proofs.lemmas.Bool.{and_from, and_parts, false≢true, leb-true}
 use Rattle.std.proofs.lemmas.Nat.{field_of, mod_below, mod_low, pow_pos, shr-shr, shr_high}
 use Rattle.std.proofs.Math.Nat.{mod-eq_of_lt}
 use Rattle.std.proofs.Math.Pow.{mod-mod-pow}
+use Rattle.sweep.proofs.LinkLemmas.{info_holds}
 use Rattle.agent_rules.specs.Agent.{shown_at}
 use Rattle.agent_rules.specs.Good.{IsGoodInfo}
 use Rattle.agent_rules.specs.PortSetting.{is_no_change, is_valid, may_follow, port_info_after, setting_asked, taken_over}
@@ -23,7 +24,7 @@ use Rattle.mad_layout.specs.Bits.{field, number, put_field, replaced}
 use Rattle.mad_layout.specs.Layout.{Field, Fits, Holds, is_apart, is_free, is_layout, put_all}
 use Rattle.mad_layout.specs.declared.status.MadStatus.TheVariants.{InvalidField}
 use Rattle.mad_layout.proofs.AlignedLemmas.{same_bit}
-use Rattle.mad_layout.proofs.LayoutLemmas.{fits_both, fits_drop, fits_take, holds_put_all, length-put_all, length-put_field, put_below}
+use Rattle.mad_layout.proofs.LayoutLemmas.{apart_parts, fits_both, fits_drop, fits_take, holds_put_all, length-put_all, length-put_field, put_below}
 use Rattle.mad_layout.proofs.NumberLemmas.{number_below, number_bytes}
 use Rattle.mad_layout.proofs.PutLemmas.{put_swap}
 use Rattle.smp_wire.specs.FabricState.{FabricState}
@@ -197,13 +198,6 @@ put_twice xs off len v w small within fits =
     (λ i. bytes_high_first (size i) (replaced (same i) (8 * size i - (off + len)) len w))
     ∙ ap (bytes_high_first (length xs)) (replaced_again (number xs) (8 * length xs - (off + len)) len v w (8 * length xs) fits (omega arith) (number_below xs small))
 
-apart_parts : (off len : ℕ) (p : Field) → is_apart off len p ≡ true → (off + len ≤ p.off) ⊎ (p.off + p.len ≤ off)
-apart_parts off len p h =
-    elim (or_cases (nat_le (off + len) p.off) (nat_le (p.off + p.len) off) h) [
-      | inl before ↦ inl (leb-true (off + len) p.off before)
-      | inr after ↦ inr (leb-true (p.off + p.len) off after)
-    ]
-
 turned : (a b c d : ℕ) → (a ≤ b) ⊎ (c ≤ d) → (c ≤ d) ⊎ (a ≤ b)
 turned a b c d (inl one) = inr one
 turned a b c d (inr other) = inl other
@@ -240,10 +234,6 @@ state_put info code fits small =
 pub state_is : (info : PortInfo) → Fits (port_info info) → field (port_info_bytes info) 260 4 ≡ info.port_state
 unfolding port_info_bytes
 state_is info fits = sym (holds_put_all (replicate 64 0) (port_info info) refl fits).1.1.1.1.1.1.1.1.1.1.1.1.0
-
-pub info_holds : (info : PortInfo) → Fits (port_info info) → Holds (port_info_bytes info) (port_info info)
-unfolding port_info_bytes
-info_holds info fits = holds_put_all (replicate 64 0) (port_info info) refl fits
 
 -- ---- a Get, and a Set
 read_bytes : (x : FabricState) (path bytes given : List ℕ) (asked : ℕ) → gives_along x path PortInfoAsked asked ≡ Some (Ok given)

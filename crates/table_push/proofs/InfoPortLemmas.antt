@@ -1,18 +1,16 @@
 -- PortInfo of ports that a path leads to.
-use Rattle.std.proofs.Common.{ℕ, zero, suc, ◌≡◌, ◌+◌, ◌-◌, ◌^◌, ◌<◌, ◌≤◌, ◌==◌, ◌&&◌, ◌∙◌, ap, refl, sym, subst, Bool, true, false, if◌then◌else◌, List, [], ◌∷◌, length, map, get_or, nat_lt, slice_get, slice_set, Option, Some, None, Ok, option_map, arith}
+use Rattle.std.proofs.Common.{ℕ, zero, ◌≡◌, ◌+◌, ◌-◌, ◌^◌, ◌<◌, ◌≤◌, ◌==◌, ◌&&◌, ◌∙◌, ap, refl, sym, subst, Bool, true, false, List, length, map, get_or, nat_lt, slice_get, slice_set, Option, Some, None, Ok, option_map, arith}
 use Rattle.std.specs.List.{list_all, range_with_len}
 use Rattle.std.specs.Option.{option_and_then, option_map_or}
-use Rattle.std.proofs.lemmas.Bool.{and_parts, eqb-false, ne_eqb}
+use Rattle.std.proofs.lemmas.Bool.{and_parts, ne_eqb}
 use Rattle.std.proofs.lemmas.List.FromFn.{get_or-range_with_len}
 use Rattle.std.proofs.lemmas.Option.{get_or_from_slice_get, slice_get-map, slice_get_within}
 use Rattle.std.proofs.lemmas.Slice.Eq.{bytes_eq-Decides}
-use Rattle.std.proofs.Math.Nat.{add-zero, zero-add}
 use Rattle.agent_rules.specs.Agent.{shown_at}
 use Rattle.agent_rules.specs.Good.{IsGoodInfo}
 use Rattle.agent_rules.specs.PortSetting.{port_info_after, port_setting}
 use Rattle.attr_tables.specs.PortInfo.{port_info_bytes}
 use Rattle.attr_tables.specs.declared.port_info.PortInfo.{PortInfo}
-use Rattle.attr_tables.specs.declared.switch_info.SwitchInfo.{SwitchInfo}
 use Rattle.attr_tables.specs.declared.smp_attribute.SmpAttribute.TheVariants.{PortInfo as PortInfoAsked}
 use Rattle.fabric_parts.specs.declared.cable.PortRef.{PortRef}
 use Rattle.port_model.specs.AdapterState.{AdapterState}
@@ -33,14 +31,14 @@ use Rattle.switch_model.specs.Agent.{get as switch_gives, set as switch_set}
 use Rattle.switch_model.specs.Good.{IsGoodPort as IsGoodSwitchPort}
 use Rattle.switch_model.specs.SwitchState.{SwitchState}
 use Rattle.switch_model.specs.declared.switch_port.SwitchPort.{SwitchPort}
-use Rattle.sweep.specs.Graph.{port}
+use Rattle.fabric_parts.specs.Cable.{port}
 use Rattle.sweep.specs.OfFabric.{guid_at}
 use Rattle.sweep.proofs.EndLemmas.{end_port}
-use Rattle.table_push.specs.Nodes.{infos_by, numbered, on_port, with_infos}
+use Rattle.table_push.specs.Nodes.{infos_by, on_port, with_infos}
 use Rattle.table_push.specs.Pushes.{IsAskedFor, LeadsToPort}
-use Rattle.table_push.proofs.InfoNodeLemmas.{adapter_info_at, other_node, switch_info_at}
-use Rattle.table_push.proofs.KeyNodeLemmas.{one_changes}
 use Rattle.table_push.proofs.LeadLemmas.{ends_on}
+use Rattle.table_push.proofs.NodeLemmas.{one_changes}
+use Rattle.table_push.proofs.PartLemmas.{adapter_part_at, info_part, other_node, part_after, switch_part_at}
 use Rattle.table_push.proofs.PortLemmas.{count_is, element, good_ports}
 
 -- ---- one Set, at either kind of node
@@ -50,13 +48,13 @@ keep x = x
 -- what a Set makes of PortInfo, and what a Get then tells; it tells the port by which it came in
 pub record InfoSet (guid number asked in_port : ℕ) (on : Bool) (node : Node) (info : PortInfo) : Type 0 where
   pub takes : (change : PortInfo → PortInfo) (bytes : List ℕ) → port_info_after on info (port_setting bytes) ≡ Ok (change info)
-      → node_takes node in_port PortInfoAsked asked bytes ≡ Some (Ok (infos_by (on_port guid number change) (λ one. one) node))
+      → node_takes node in_port PortInfoAsked asked bytes ≡ Some (Ok (infos_by (on_port guid number change) node))
   pub given : node_gives node in_port PortInfoAsked asked ≡ Some (Ok (port_info_bytes (shown_at in_port info)))
   pub gives : (change : PortInfo → PortInfo)
-      → node_gives (infos_by (on_port guid number change) (λ one. one) node) in_port PortInfoAsked asked ≡ Some (Ok (port_info_bytes (shown_at in_port (change info))))
+      → node_gives (infos_by (on_port guid number change) node) in_port PortInfoAsked asked ≡ Some (Ok (port_info_bytes (shown_at in_port (change info))))
   -- two changes that make the same of that PortInfo are the same there
   pub alike : (one other : PortInfo → PortInfo) → one info ≡ other info
-      → infos_by (on_port guid number one) (λ one. one) node ≡ infos_by (on_port guid number other) (λ one. one) node
+      → infos_by (on_port guid number one) node ≡ infos_by (on_port guid number other) node
 
 switch_takes_info : (held : SwitchState) (port : SwitchPort) (in_port number : ℕ) (bytes : List ℕ) (next : PortInfo)
     → slice_get held.ports number ≡ Some port → port_info_after (nat_lt 0 number) port.info (port_setting bytes) ≡ Ok next
@@ -75,16 +73,16 @@ switch_sets : (held : SwitchState) (port : SwitchPort) (guid in_port number : �
 switch_sets held port guid in_port number is there = record {
   takes = λ change bytes set.
       switch_takes_info held port in_port number bytes (change port.info) there set
-      ∙ ap (λ (next : Node). Some (Ok next)) (sym (switch_info_at change guid number held port is there));
+      ∙ ap (λ (next : Node). Some (Ok next)) (sym (switch_part_at info_part change guid number held port is there));
   given = switch_gives_info held port in_port number there;
   gives = λ change.
-      ap (λ (next : Node). node_gives next in_port PortInfoAsked number) (switch_info_at change guid number held port is there)
+      ap (λ (next : Node). node_gives next in_port PortInfoAsked number) (switch_part_at info_part change guid number held port is there)
       ∙ switch_gives_info (record held { ports = slice_set held.ports number (record port { info = change port.info }) }) (record port { info = change port.info })
       in_port number (get_written held.ports number (record port { info = change port.info }) port there);
   alike = λ one other same.
-      switch_info_at one guid number held port is there
+      switch_part_at info_part one guid number held port is there
       ∙ ap (λ (info : PortInfo). Switch (record held { ports = slice_set held.ports number (record port { info = info }) })) same
-      ∙ sym (switch_info_at other guid number held port is there);
+      ∙ sym (switch_part_at info_part other guid number held port is there);
 }
 
 adapter_takes_info : (ports : List AdapterState) (port : AdapterState) (number : ℕ) (bytes : List ℕ) (next : PortInfo) → (number == 0) ≡ false
@@ -104,9 +102,9 @@ adapter_sets : (ports : List AdapterState) (port : AdapterState) (guid number : 
 adapter_sets ports port guid number is some own there =
     let counted : 1 + (number - 1) ≡ number = omega (arith, some) in
     let first : (number == 0) ≡ false = ne_eqb number 0 (λ none. omega (arith, none, some)) in
-    let at : (change : PortInfo → PortInfo) → infos_by (on_port guid number change) (λ one. one) (Adapter ports) ≡ Adapter (slice_set ports (number - 1) (record port { info = change port.info })) =
-    λ change. subst (λ (n : ℕ). infos_by (on_port guid n change) (λ one. one) (Adapter ports) ≡ Adapter (slice_set ports (number - 1) (record port { info = change port.info })))
-    counted (adapter_info_at change guid (number - 1) ports port is there) in
+    let at : (change : PortInfo → PortInfo) → infos_by (on_port guid number change) (Adapter ports) ≡ Adapter (slice_set ports (number - 1) (record port { info = change port.info })) =
+    λ change. subst (λ (n : ℕ). infos_by (on_port guid n change) (Adapter ports) ≡ Adapter (slice_set ports (number - 1) (record port { info = change port.info })))
+    counted (adapter_part_at info_part change guid (number - 1) ports port is there) in
     record {
       takes = λ change bytes set.
           adapter_takes_info ports port number bytes (change port.info) first there set ∙ ap (λ (next : Node). Some (Ok next)) (sym (at change));
@@ -216,10 +214,10 @@ info_there fabric path asked guid number good leads = by (slice_get fabric.nodes
 module _ (fabric : FabricState) (path : List ℕ) (asked guid number : ℕ) (at : PortRef) (good : IsGood fabric)
     (here : InfoThere fabric path asked guid number at) where
   set_there : (change : PortInfo → PortInfo) → with_infos (on_port guid number change) fabric
-      ≡ record fabric { nodes = slice_set fabric.nodes at.node (infos_by (on_port guid number change) (λ one. one) here.node) }
+      ≡ record fabric { nodes = slice_set fabric.nodes at.node (infos_by (on_port guid number change) here.node) }
   set_there change =
       ap (λ (nodes : List Node). record fabric { nodes = nodes })
-      (one_changes (infos_by (on_port guid number change) (λ one. one)) guid (other_node change guid number) fabric.nodes at.node here.node good.node_guids.own here.there here.guid_is)
+      (one_changes (infos_by (on_port guid number change)) guid (other_node info_part change guid number) fabric.nodes at.node here.node good.node_guids.own here.there here.guid_is)
 
   takes_there : (next : Node) (bytes : List ℕ) → node_takes here.node at.port PortInfoAsked asked bytes ≡ Some (Ok next)
       → takes_along fabric path PortInfoAsked asked bytes ≡ Some (Ok (record fabric { nodes = slice_set fabric.nodes at.node next }))
@@ -228,7 +226,7 @@ module _ (fabric : FabricState) (path : List ℕ) (asked guid number : ℕ) (at 
   pub info_takes : (change : PortInfo → PortInfo) (bytes : List ℕ) → port_info_after here.on here.info (port_setting bytes) ≡ Ok (change here.info)
       → takes_along fabric path PortInfoAsked asked bytes ≡ Some (Ok (with_infos (on_port guid number change) fabric))
   info_takes change bytes set =
-      takes_there (infos_by (on_port guid number change) (λ one. one) here.node) bytes (here.sets.takes change bytes set)
+      takes_there (infos_by (on_port guid number change) here.node) bytes (here.sets.takes change bytes set)
       ∙ ap (λ (next : FabricState). Some (Ok next)) (sym (set_there change))
 
   pub info_given : gives_along fabric path PortInfoAsked asked ≡ Some (Ok (port_info_bytes (shown_at at.port here.info)))
@@ -238,14 +236,14 @@ module _ (fabric : FabricState) (path : List ℕ) (asked guid number : ℕ) (at 
       → gives_along (with_infos (on_port guid number change) fabric) path PortInfoAsked asked ≡ Some (Ok (port_info_bytes (shown_at at.port (change here.info))))
   info_gives change same =
       let next = with_infos (on_port guid number change) fabric in
-      let there : slice_get next.nodes at.node ≡ Some (infos_by (on_port guid number change) (λ one. one) here.node) =
+      let there : slice_get next.nodes at.node ≡ Some (infos_by (on_port guid number change) here.node) =
       ap (λ (one : FabricState). slice_get one.nodes at.node) (set_there change)
-      ∙ get_written fabric.nodes at.node (infos_by (on_port guid number change) (λ one. one) here.node) here.node here.there in
+      ∙ get_written fabric.nodes at.node (infos_by (on_port guid number change) here.node) here.node here.there in
       gives_then next (ends_on fabric next path at same here.ends) there (here.sets.gives change)
     where
       gives_then : (next : FabricState) → end_of next path ≡ Some at
-          → slice_get next.nodes at.node ≡ Some (infos_by (on_port guid number change) (λ one. one) here.node)
-          → node_gives (infos_by (on_port guid number change) (λ one. one) here.node) at.port PortInfoAsked asked ≡ Some (Ok (port_info_bytes (shown_at at.port (change here.info))))
+          → slice_get next.nodes at.node ≡ Some (infos_by (on_port guid number change) here.node)
+          → node_gives (infos_by (on_port guid number change) here.node) at.port PortInfoAsked asked ≡ Some (Ok (port_info_bytes (shown_at at.port (change here.info))))
           → gives_along next path PortInfoAsked asked ≡ Some (Ok (port_info_bytes (shown_at at.port (change here.info))))
       gives_then next ends there gives = rw (ends, there, gives) refl
 
@@ -256,49 +254,18 @@ module _ (fabric : FabricState) (path : List ℕ) (asked guid number : ℕ) (at 
       ∙ sym (set_there other)
 
 -- ---- PortInfo of every port then
-pub got_numbered : {X : Type 0} (f : ℕ → X → X) (first : ℕ) (xs : List X) (k : ℕ) → slice_get (numbered f first xs) k ≡ option_map (f (first + k)) (slice_get xs k)
-got_numbered f first [] k = refl
-got_numbered {X = X} f first (x ∷ xs) zero = ap (λ (n : ℕ). Some (f n x)) (sym (add-zero first))
-got_numbered {X = X} f first (x ∷ xs) (suc k) =
-    got_numbered f (first + 1) xs k ∙ ap (λ (n : ℕ). option_map (f n) (slice_get xs k)) next
-  where
-    next : first + 1 + k ≡ first + suc k
-    next = omega arith
-
-pub mapped : {X Y : Type 0} (f : X → X) (g : X → Y) (h : Y → Y) (o : Option X) → ((x : X) → g (f x) ≡ h (g x)) → option_map g (option_map f o) ≡ option_map h (option_map g o)
-mapped f g h None each = refl
-mapped {Y = Y} f g h (Some x) each = ap (λ (y : Y). Some y) (each x)
-
-pub info_after_node : (change : ℕ → ℕ → PortInfo → PortInfo) (top : SwitchInfo → SwitchInfo) (node : Node) (number : ℕ)
-    → port_info_at (infos_by change top node) number ≡ option_map (change (node_guid node) number) (port_info_at node number)
-info_after_node change top (Switch held) number =
-    ap (option_map (λ (one : SwitchPort). one.info)) (got_numbered (λ n (one : SwitchPort). record one { info = change held.node_guid n one.info }) 0 held.ports number
-    ∙ ap (λ (n : ℕ). option_map (λ (one : SwitchPort). record one { info = change held.node_guid n one.info }) (slice_get held.ports number)) (zero-add number))
-    ∙ mapped (λ (one : SwitchPort). record one { info = change held.node_guid number one.info }) (λ (one : SwitchPort). one.info) (change held.node_guid number)
-    (slice_get held.ports number) (λ one. refl)
-info_after_node change top (Adapter ports) number = by (number == 0) refl
-  where
-    own : ℕ → AdapterState → AdapterState
-    own n one = record one { info = change (node_guid (Adapter ports)) n one.info }
-
-    by : (b : Bool) → (number == 0) ≡ b
-        → option_map (λ (one : AdapterState). one.info) (if b then None else slice_get (numbered own 1 ports) (number - 1))
-        ≡ option_map (change (node_guid (Adapter ports)) number) (option_map (λ (one : AdapterState). one.info) (if b then None else slice_get ports (number - 1)))
-    by true is = refl
-    by false is =
-        let some = eqb-false number 0 is in
-        let counted : 1 + (number - 1) ≡ number = omega (arith, some) in
-        ap (option_map (λ (one : AdapterState). one.info)) (got_numbered own 1 ports (number - 1)
-        ∙ ap (λ (n : ℕ). option_map (own n) (slice_get ports (number - 1))) counted)
-        ∙ mapped (own number) (λ (one : AdapterState). one.info) (change (node_guid (Adapter ports)) number) (slice_get ports (number - 1)) (λ one. refl)
+pub info_after_node : (change : ℕ → ℕ → PortInfo → PortInfo) (node : Node) (number : ℕ)
+    → port_info_at (infos_by change node) number ≡ option_map (change (node_guid node) number) (port_info_at node number)
+info_after_node change (Switch held) number = part_after info_part change (Switch held) number
+info_after_node change (Adapter ports) number = part_after info_part change (Adapter ports) number
 
 pub info_after : (change : ℕ → ℕ → PortInfo → PortInfo) (fabric : FabricState) (at : PortRef)
     → info_at (with_infos change fabric) at ≡ option_map (change (guid_at fabric at.node) at.port) (info_at fabric at)
 info_after change fabric at =
-    ap (λ (o : Option Node). option_and_then (λ node. port_info_at node at.port) o) (slice_get-map (infos_by change (λ one. one)) fabric.nodes at.node)
+    ap (λ (o : Option Node). option_and_then (λ node. port_info_at node at.port) o) (slice_get-map (infos_by change) fabric.nodes at.node)
     ∙ by (slice_get fabric.nodes at.node)
   where
-    by : (o : Option Node) → option_and_then (λ node. port_info_at node at.port) (option_map (infos_by change (λ one. one)) o)
+    by : (o : Option Node) → option_and_then (λ node. port_info_at node at.port) (option_map (infos_by change) o)
         ≡ option_map (change (option_map_or node_guid o 0) at.port) (option_and_then (λ node. port_info_at node at.port) o)
     by None = refl
-    by (Some node) = info_after_node change (λ one. one) node at.port
+    by (Some node) = info_after_node change node at.port

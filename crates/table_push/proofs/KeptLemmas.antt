@@ -1,15 +1,16 @@
 -- The graph of a fabric whose nodes have other tables.
-use Rattle.std.proofs.Common.{ℕ, ◌≡◌, ◌∙◌, ap, refl, sym, false, List, [], map, flat_map, length, slice_get, Option, Some, None, option_map, unwrap_or}
+use Rattle.std.proofs.Common.{ℕ, ◌≡◌, ◌∙◌, ap, refl, sym, subst, false, List, [], map, flat_map, length, slice_get, Option, Some, None, option_map, unwrap_or}
 use Rattle.std.specs.List.{range_with_len}
 use Rattle.std.specs.Option.{option_and_then, option_map_or}
 use Rattle.std.proofs.lemmas.Option.{slice_get-map}
-use Rattle.fabric_parts.specs.Cable.{far_end}
+use Rattle.std.proofs.lemmas.Simd.{map-map}
+use Rattle.fabric_parts.specs.Cable.{far_end, port}
 use Rattle.fabric_parts.specs.declared.cable.PortRef.{PortRef}
 use Rattle.smp_wire.specs.FabricState.{FabricState, is_switch, is_switch_at, port_count}
 use Rattle.smp_wire.specs.Good.{node_guid}
 use Rattle.smp_wire.specs.Shape.{IsSameShape}
 use Rattle.smp_wire.specs.declared.node.Node.{Node}
-use Rattle.sweep.specs.Graph.{GraphState, port}
+use Rattle.sweep.specs.Graph.{GraphState}
 use Rattle.sweep.specs.OfFabric.{Found, IsGraphOf, Leads, all_ports, guid_at, link_to, node_at, nodes_of, port_to, ports_at, row_of, switch_of}
 use Rattle.sweep.specs.Seen.{name_at, name_in, seen_at, seen_in}
 use Rattle.sweep.specs.declared.seen.Seen.{Seen}
@@ -17,10 +18,10 @@ use Rattle.table_push.specs.Keys.{keys_wanted}
 use Rattle.table_push.specs.Laws.{PushesKeepTheGraph}
 use Rattle.table_push.specs.Linear.{with_linear}
 use Rattle.table_push.specs.Nodes.{infos_by, keys_by, switch_by, with_infos, with_nodes}
-use Rattle.table_push.specs.Ports.{change_wanted, changed, with_top}
+use Rattle.table_push.specs.Ports.{change_wanted, changed, ports_pushed, set_top}
 use Rattle.table_push.proofs.LeadLemmas.{ends_on}
 use Rattle.updn_routes.specs.Subnet.{SubnetRoutes}
-use Rattle.table_push.proofs.SightLemmas.{IsUnseen, infos_unseen, keys_unseen, linear_unseen}
+use Rattle.table_push.proofs.SightLemmas.{IsUnseen, both_unseen, infos_unseen, keys_unseen, switches_unseen}
 
 module _ (change : Node → Node) (unseen : IsUnseen change) (fabric : FabricState) where
   or_stays : {Y : Type 0} (f : Node → Y) (d : Y) → ((node : Node) → f (change node) ≡ f node) → (k : ℕ)
@@ -102,14 +103,26 @@ pub infos_keep_the_graph : (routes : SubnetRoutes) (fabric : FabricState) (graph
     → IsSameShape fabric (with_infos (λ guid number. changed (change_wanted routes guid number)) fabric) → IsGraphOf graph fabric
     → IsGraphOf graph (with_infos (λ guid number. changed (change_wanted routes guid number)) fabric)
 infos_keep_the_graph routes fabric graph same of =
-    graph_stays (infos_by (λ guid number. changed (change_wanted routes guid number)) (λ info. info))
-    (infos_unseen (λ guid number. changed (change_wanted routes guid number)) (λ info. info)) fabric graph same of
+    graph_stays (infos_by (λ guid number. changed (change_wanted routes guid number)))
+    (infos_unseen (λ guid number. changed (change_wanted routes guid number))) fabric graph same of
 
 pub pushes_keep_the_graph : PushesKeepTheGraph
 pushes_keep_the_graph routes keys fabric graph of = (
-  λ same. graph_stays (switch_by (with_linear routes)) (linear_unseen (with_linear routes) (λ guid held. (_, refl))) fabric graph same of,
+  λ same. graph_stays (switch_by (with_linear routes)) (switches_unseen (with_linear routes) (λ guid held. (_, _, refl))) fabric graph same of,
   λ same. graph_stays (keys_by (λ guid number held. unwrap_or (keys_wanted routes keys guid number) held))
       (keys_unseen (λ guid number held. unwrap_or (keys_wanted routes keys guid number) held)) fabric graph same of,
-  λ same. graph_stays (infos_by (λ guid number. changed (change_wanted routes guid number)) (with_top (length routes.lids)))
-      (infos_unseen (λ guid number. changed (change_wanted routes guid number)) (with_top (length routes.lids))) fabric graph same of,
+  λ same. subst (λ (nodes : List Node). IsGraphOf graph (record fabric { nodes = nodes })) (sym at_once)
+      (graph_stays (λ node. tops (infos node)) (both_unseen tops infos
+      (switches_unseen (λ guid. set_top (length routes.lids)) (λ guid held. (_, _, refl)))
+      (infos_unseen (λ guid number. changed (change_wanted routes guid number)))) fabric graph
+      (subst (λ (nodes : List Node). IsSameShape fabric (record fabric { nodes = nodes })) at_once same) of),
 )
+  where
+    infos : Node → Node
+    infos = infos_by (λ guid number. changed (change_wanted routes guid number))
+
+    tops : Node → Node
+    tops = switch_by (λ guid. set_top (length routes.lids))
+
+    at_once : (ports_pushed routes fabric).nodes ≡ map (λ node. tops (infos node)) fabric.nodes
+    at_once = map-map tops infos fabric.nodes

@@ -16,8 +16,9 @@ use Rattle.table_push.specs.Fault.{compared}
 use Rattle.table_push.specs.Nodes.{on_port, with_keys}
 use Rattle.table_push.specs.Pushes.{LeadsToPort, Leaves, Stands}
 use Rattle.table_push.specs.declared.fault.PushFault.{PushFault}
-use Rattle.table_push.proofs.BlockLemmas.{block_back, block_long, blocks_join}
-use Rattle.table_push.proofs.KeyNodeLemmas.{keys_stay, keys_twice}
+use Rattle.agent_rules.proofs.GivenLemmas.{block_long}
+use Rattle.table_push.proofs.BlockLemmas.{block_back, blocks_join}
+use Rattle.table_push.proofs.PartLemmas.{keys_part, parts_stay, parts_twice}
 use Rattle.table_push.proofs.LeadLemmas.{SetsAt, begins_as, ends_as, goes_on}
 use Rattle.table_push.proofs.PortLemmas.{port_alike, port_gives, port_on, port_takes, port_there}
 
@@ -89,7 +90,7 @@ pub table_begins : (stood : Option FabricState) (fabric : FabricState) (guid num
     → Stands stood fabric (table_to guid number 0 table fabric)
 table_begins stood fabric guid number table stands good =
     begins_as stood fabric (table_to guid number 0 table fabric) stands good
-    (keys_stay (on_port guid number (keys_to 0 table)) fabric (on_none guid number (keys_to 0 table) (λ held. refl)))
+    (parts_stay keys_part (on_port guid number (keys_to 0 table)) fabric (on_none guid number (keys_to 0 table) (λ held. refl)))
 
 pub table_more : (stood left : Option FabricState) (result : Result (Unit {0}) PushFault) (fabric : FabricState) (path : List ℕ) (asked guid number block : ℕ)
     (table bytes : List ℕ) → block < 1 → IsTable 32 65536 table → bytes ≡ word_bytes (block_of 32 block table)
@@ -110,7 +111,7 @@ table_more stood left result fabric path asked guid number block table bytes bel
     λ held. blocks_join 32 block table held (omega (arith, below, long))
     ∙ ap (λ (n : ℕ). take n table ++ drop n held) up in
     goes_on result stood left fabric now _ _ stands leaves
-    (keys_twice (on_port guid number (with_block 32 block words)) (on_port guid number (keys_to (32 * block) table)) (on_port guid number (keys_to (32 * (block + 1)) table)) fabric
+    (parts_twice keys_part (on_port guid number (with_block 32 block words)) (on_port guid number (keys_to (32 * block) table)) (on_port guid number (keys_to (32 * (block + 1)) table)) fabric
     (on_twice guid number (with_block 32 block words) (keys_to (32 * block) table) (keys_to (32 * (block + 1)) table) joined))
 
 pub table_ends : (stood : Option FabricState) (fabric : FabricState) (path : List ℕ) (asked guid number count : ℕ) (table : List ℕ) → count ≡ 32 → length table ≡ 32

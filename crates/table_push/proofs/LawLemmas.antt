@@ -15,7 +15,8 @@ use Rattle.sweep.proofs.FoundLemmas.{among_place}
 use Rattle.table_push.specs.Laws.{EverySwitchHasItsTable}
 use Rattle.table_push.specs.Linear.{linear_table, with_linear}
 use Rattle.table_push.specs.Nodes.{switch_by}
-use Rattle.table_push.proofs.GuidLemmas.{left_part, place_is}
+use Rattle.smp_wire.proofs.DistinctLemmas.{left_part}
+use Rattle.table_push.proofs.GuidLemmas.{place_is}
 use Rattle.updn_routes.specs.Subnet.{SubnetRoutes, place_of}
 
 -- what stood where a switch stands then
@@ -62,7 +63,7 @@ every_switch_has_its_table routes fabric node held graph of good there =
     let guid : one.guid ≡ was.was.node_guid =
     ap (guid_at fabric) found.2 ∙ ap (λ (o : Option Node). option_map_or node_guid o 0) was.there in
     let own : IsDistinct (λ a b. a == b) (map (λ other. other.guid) routes.graph.switches) =
-    left_part (map (λ other. other.guid) routes.graph.switches) (map (λ (port : GraphPort). port.port_guid) routes.graph.ports) graph.guids in
+    left_part (λ a b. a == b) (map (λ other. other.guid) routes.graph.switches) (map (λ (port : GraphPort). port.port_guid) routes.graph.ports) graph.guids in
     let place : place_of routes.graph.switches was.was.node_guid ≡ Some at.0 =
     subst (λ (g : ℕ). place_of routes.graph.switches g ≡ Some at.0) guid (place_is routes.graph.switches at.0 one own stands) in
     let same : held.node_guid ≡ was.was.node_guid = ap (λ (state : SwitchState). state.node_guid) was.is in

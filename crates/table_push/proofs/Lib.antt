@@ -5,7 +5,8 @@ pub mod HangLemmas
 pub mod BlockLemmas
 pub mod GuidLemmas
 pub mod LinearLemmas
-pub mod KeyNodeLemmas
+pub mod NumberedLemmas
+pub mod PartLemmas
 pub mod PortLemmas
 pub mod KeyLemmas
 pub mod LawLemmas
@@ -15,7 +16,6 @@ pub mod CableLemmas
 pub mod SightLemmas
 pub mod KeptLemmas
 pub mod InfoLemmas
-pub mod InfoNodeLemmas
 pub mod InfoPortLemmas
 pub mod ChangeLemmas
 pub mod SiteLemmas

@@ -28,7 +28,8 @@ use Rattle.table_push.specs.Linear.{linear_before, linear_entry, linear_pushed, 
 use Rattle.table_push.specs.Nodes.{on_switch, switch_by, with_switches}
 use Rattle.table_push.specs.Pushes.{LeadsToSwitch, Leaves, Stands}
 use Rattle.table_push.specs.declared.fault.PushFault.{PushFault}
-use Rattle.table_push.proofs.BlockLemmas.{block_back, block_long, blocks_join}
+use Rattle.agent_rules.proofs.GivenLemmas.{block_long}
+use Rattle.table_push.proofs.BlockLemmas.{block_back, blocks_join}
 use Rattle.table_push.proofs.GuidLemmas.{no_place, place_is}
 use Rattle.table_push.proofs.LeadLemmas.{SetsAt, begins_as, ends_as, goes_on, good_switch, leads_on, switch_gives_then, switch_takes, switch_there}
 use Rattle.table_push.proofs.NodeLemmas.{both_written, map_alike, none_written, same_written}

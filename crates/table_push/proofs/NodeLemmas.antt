@@ -1,11 +1,11 @@
 -- Changes of nodes that are named by their GUIDs.
-use Rattle.std.proofs.Common.{ℕ, zero, suc, ◌≡◌, ◌==◌, ◌∙◌, ap, refl, sym, Bool, true, false, List, [], ◌∷◌, map, slice_get, slice_set, Some}
+use Rattle.std.proofs.Common.{ℕ, zero, suc, ◌≡◌, ◌==◌, ◌∙◌, ap, refl, sym, subst, Bool, true, false, List, [], ◌∷◌, map, slice_get, slice_set, Some, option_map}
 use Rattle.std.specs.List.{All, IsDistinct, list_any}
 use Rattle.std.proofs.lemmas.Bool.{eqb-false, eqb-true, or_parts}
 use Rattle.std.proofs.lemmas.Bool.Decides.{Decides-eqb}
 use Rattle.std.proofs.lemmas.List.Elements.{All-head, All-tail}
 use Rattle.std.proofs.lemmas.Map.Keys.{IsDistinct-tail}
-use Rattle.std.proofs.lemmas.Option.{same_Some}
+use Rattle.std.proofs.lemmas.Option.{same_Some, slice_get-map}
 use Rattle.std.proofs.lemmas.Simd.{map-map}
 use Rattle.smp_wire.specs.FabricState.{FabricState}
 use Rattle.smp_wire.specs.Good.{node_guid}
@@ -39,49 +39,51 @@ map_alike P f g (x ∷ xs) all each =
     let tail = map_alike P f g xs (All-tail P x xs all) each in
     λ place. head place ∷ tail place
 
+-- ---- the node of one GUID
+guids_at : (nodes : List Node) (place : ℕ) (node : Node) → slice_get nodes place ≡ Some node → slice_get (map node_guid nodes) place ≡ Some (node_guid node)
+guids_at nodes place node there = slice_get-map node_guid nodes place ∙ ap (option_map node_guid) there
+
+all_stay : (f : Node → Node) (guid : ℕ) → ((node : Node) → (guid == node_guid node) ≡ false → f node ≡ node) → (nodes : List Node)
+    → list_any (λ other. guid == other) (map node_guid nodes) ≡ false → map f nodes ≡ nodes
+all_stay f guid stays [] none = refl
+all_stay f guid stays (node ∷ nodes) none =
+    let parts = or_parts (guid == node_guid node) (list_any (λ other. guid == other) (map node_guid nodes)) none in
+    let head = stays node parts.0 in
+    let tail = all_stay f guid stays nodes parts.1 in
+    λ place. head place ∷ tail place
+
+-- a change that leaves the nodes of other GUIDs changes one place
+pub one_changes : (f : Node → Node) → (guid : ℕ) → ((node : Node) → (guid == node_guid node) ≡ false → f node ≡ node)
+    → (nodes : List Node) (place : ℕ) (node : Node) → IsDistinct (λ a b. a == b) (map node_guid nodes) → slice_get nodes place ≡ Some node
+    → node_guid node ≡ guid → map f nodes ≡ slice_set nodes place (f node)
+one_changes f guid stays [] place node own there is = absurd (cc)
+one_changes f guid stays (one ∷ nodes) zero node own there is =
+    let same : one ≡ node = same_Some one node there in
+    let its : node_guid one ≡ guid = ap node_guid same ∙ is in
+    let none : list_any (λ other. guid == other) (map node_guid nodes) ≡ false =
+    subst (λ (g : ℕ). list_any (λ other. g == other) (map node_guid nodes) ≡ false) its (none_shares (λ a b. a == b) (node_guid one) (map node_guid nodes) own) in
+    let head = ap f same in
+    let tail = all_stay f guid stays nodes none in
+    λ i. head i ∷ tail i
+one_changes f guid stays (one ∷ nodes) (suc place) node own there is =
+    let apart = none_there (λ other. node_guid one == other) (map node_guid nodes) place (node_guid node)
+    (none_shares (λ a b. a == b) (node_guid one) (map node_guid nodes) own) (guids_at nodes place node there) in
+    let head = stays one (turned (node_guid one) guid (subst (λ (g : ℕ). (node_guid one == g) ≡ false) is apart)) in
+    let tail = one_changes f guid stays nodes place node (IsDistinct-tail (λ a b. a == b) (node_guid one) (map node_guid nodes) own) there is in
+    λ i. head i ∷ tail i
+
 -- ---- the switch of one GUID
 other_stays : (guid : ℕ) (change : SwitchState → SwitchState) (node : Node) → (guid == node_guid node) ≡ false
     → switch_by (on_switch guid change) node ≡ node
 other_stays guid change (Switch held) apart = rw apart refl
 other_stays guid change (Adapter ports) apart = refl
 
-others_stay : (guid : ℕ) (change : SwitchState → SwitchState) (nodes : List Node) → list_any (λ other. guid == other) (map node_guid nodes) ≡ false
-    → map (switch_by (on_switch guid change)) nodes ≡ nodes
-others_stay guid change [] none = refl
-others_stay guid change (node ∷ nodes) none =
-    let parts = or_parts (guid == node_guid node) (list_any (λ other. guid == other) (map node_guid nodes)) none in
-    let head = other_stays guid change node parts.0 in
-    let tail = others_stay guid change nodes parts.1 in
-    λ place. head place ∷ tail place
-
-its_own : (change : SwitchState → SwitchState) (held : SwitchState) (node : Node) → node ≡ Switch held
-    → switch_by (on_switch held.node_guid change) node ≡ Switch (change held)
-its_own change held node is = ap (switch_by (on_switch held.node_guid change)) is ∙ rw (same_number held.node_guid) refl
-
-guid_there : (nodes : List Node) (place : ℕ) (held : SwitchState) → slice_get nodes place ≡ Some (Switch held)
-    → slice_get (map node_guid nodes) place ≡ Some held.node_guid
-guid_there [] place held there = absurd (cc)
-guid_there (node ∷ nodes) zero held there = ap (λ (one : Node). Some (node_guid one)) (same_Some node (Switch held) there)
-guid_there (node ∷ nodes) (suc place) held there = guid_there nodes place held there
-
 pub written_there : (change : SwitchState → SwitchState) (nodes : List Node) (place : ℕ) (held : SwitchState)
     → IsDistinct (λ a b. a == b) (map node_guid nodes) → slice_get nodes place ≡ Some (Switch held)
     → map (switch_by (on_switch held.node_guid change)) nodes ≡ slice_set nodes place (Switch (change held))
-written_there change [] place held own there = absurd (cc)
-written_there change (node ∷ nodes) zero held own there =
-    let same : node ≡ Switch held = same_Some node (Switch held) there in
-    let none : list_any (λ other. held.node_guid == other) (map node_guid nodes) ≡ false =
-    ap (λ (one : Node). list_any (λ other. node_guid one == other) (map node_guid nodes)) (sym same)
-    ∙ none_shares (λ a b. a == b) (node_guid node) (map node_guid nodes) own in
-    let head = its_own change held node same in
-    let tail = others_stay held.node_guid change nodes none in
-    λ place. head place ∷ tail place
-written_there change (node ∷ nodes) (suc place) held own there =
-    let apart = none_there (λ other. node_guid node == other) (map node_guid nodes) place held.node_guid
-    (none_shares (λ a b. a == b) (node_guid node) (map node_guid nodes) own) (guid_there nodes place held there) in
-    let head = other_stays held.node_guid change node (turned (node_guid node) held.node_guid apart) in
-    let tail = written_there change nodes place held (IsDistinct-tail (λ a b. a == b) (node_guid node) (map node_guid nodes) own) there in
-    λ i. head i ∷ tail i
+written_there change nodes place held own there =
+    one_changes (switch_by (on_switch held.node_guid change)) held.node_guid (other_stays held.node_guid change) nodes place (Switch held) own there refl
+    ∙ ap (slice_set nodes place) (rw (same_number held.node_guid) refl)
 
 -- ---- one change after another
 both_by : (f g h : ℕ → SwitchState → SwitchState) → ((guid : ℕ) (held : SwitchState) → (g guid held).node_guid ≡ held.node_guid)

@@ -28,8 +28,9 @@ use Rattle.switch_model.specs.declared.switch_port.SwitchPort.{SwitchPort}
 use Rattle.sweep.specs.OfFabric.{ports_at}
 use Rattle.table_push.specs.Nodes.{keys_by, on_port, with_keys}
 use Rattle.table_push.specs.Pushes.{IsAskedFor, LeadsToPort}
-use Rattle.table_push.proofs.KeyNodeLemmas.{adapter_keys_at, one_changes, other_node, switch_keys_at}
 use Rattle.table_push.proofs.LeadLemmas.{ends_on}
+use Rattle.table_push.proofs.NodeLemmas.{one_changes}
+use Rattle.table_push.proofs.PartLemmas.{adapter_part_at, keys_part, other_node, switch_part_at}
 
 -- ---- one Set of a block, at either kind of node
 -- what a Set of a block to these bytes makes of the table, and what a Get of it then tells
@@ -67,15 +68,15 @@ switch_sets : (held : SwitchState) (port : SwitchPort) (guid in_port number : �
 switch_sets held port guid in_port number is there = record {
   takes = λ change block bytes below set.
       switch_takes_keys held port in_port number block bytes (change port.keys) below there set
-      ∙ ap (λ (next : Node). Some (Ok next)) (sym (switch_keys_at change guid number held port is there));
+      ∙ ap (λ (next : Node). Some (Ok next)) (sym (switch_part_at keys_part change guid number held port is there));
   gives = λ change block bytes below gives.
-      ap (λ (next : Node). node_gives next in_port PKeyTable (number * 65536 + block)) (switch_keys_at change guid number held port is there)
+      ap (λ (next : Node). node_gives next in_port PKeyTable (number * 65536 + block)) (switch_part_at keys_part change guid number held port is there)
       ∙ switch_gives_keys (record held { ports = slice_set held.ports number (record port { keys = change port.keys }) }) (record port { keys = change port.keys })
       in_port number block bytes below (get_written held.ports number (record port { keys = change port.keys }) port there) gives;
   alike = λ one other same.
-      switch_keys_at one guid number held port is there
+      switch_part_at keys_part one guid number held port is there
       ∙ ap (λ (keys : List ℕ). Switch (record held { ports = slice_set held.ports number (record port { keys = keys }) })) same
-      ∙ sym (switch_keys_at other guid number held port is there);
+      ∙ sym (switch_part_at keys_part other guid number held port is there);
 }
 
 adapter_takes_keys : (ports : List AdapterState) (port : AdapterState) (number block : ℕ) (bytes keys : List ℕ) → (number == 0) ≡ false
@@ -101,7 +102,7 @@ adapter_sets ports port guid number is some there =
     let first : (number == 0) ≡ false = ne_eqb number 0 (λ none. omega (arith, none, some)) in
     let at : (change : List ℕ → List ℕ) → keys_by (on_port guid number change) (Adapter ports) ≡ Adapter (slice_set ports (number - 1) (record port { keys = change port.keys })) =
     λ change. subst (λ (n : ℕ). keys_by (on_port guid n change) (Adapter ports) ≡ Adapter (slice_set ports (number - 1) (record port { keys = change port.keys })))
-    counted (adapter_keys_at change guid (number - 1) ports port is there) in
+    counted (adapter_part_at keys_part change guid (number - 1) ports port is there) in
     record {
       takes = λ change block bytes below set.
           adapter_takes_keys ports port number block bytes (change port.keys) first there set ∙ ap (λ (next : Node). Some (Ok next)) (sym (at change));
@@ -216,7 +217,7 @@ set_there : (fabric : FabricState) (path : List ℕ) (asked guid number : ℕ) (
     → with_keys (on_port guid number change) fabric ≡ record fabric { nodes = slice_set fabric.nodes here.at.node (keys_by (on_port guid number change) here.node) }
 set_there fabric path asked guid number change good here =
     ap (λ (nodes : List Node). record fabric { nodes = nodes })
-    (one_changes (keys_by (on_port guid number change)) guid (other_node change guid number) fabric.nodes here.at.node here.node good.node_guids.own here.there here.guid_is)
+    (one_changes (keys_by (on_port guid number change)) guid (other_node keys_part change guid number) fabric.nodes here.at.node here.node good.node_guids.own here.there here.guid_is)
 
 takes_there : (fabric : FabricState) (path : List ℕ) (at : PortRef) (node next : Node) (modifier : ℕ) (bytes : List ℕ) → end_of fabric path ≡ Some at
     → slice_get fabric.nodes at.node ≡ Some node → node_takes node at.port PKeyTable modifier bytes ≡ Some (Ok next)

@@ -1,5 +1,5 @@
 -- What is seen of a node that has other tables.
-use Rattle.std.proofs.Common.{ℕ, zero, suc, ◌≡◌, ◌+◌, ◌-◌, ◌==◌, ◌∙◌, ap, refl, Bool, true, false, if◌then◌else◌, List, [], ◌∷◌, length, slice_get, Some, None, option_map}
+use Rattle.std.proofs.Common.{ℕ, ◌≡◌, ◌-◌, ◌==◌, ◌∙◌, ap, refl, List, length, Some, option_map}
 use Rattle.port_model.specs.AdapterState.{AdapterState}
 use Rattle.smp_wire.specs.FabricState.{adapter_port, is_switch, port_count}
 use Rattle.smp_wire.specs.Good.{node_guid}
@@ -12,6 +12,8 @@ use Rattle.fabric_parts.specs.declared.node_type.NodeType.TheVariants as node_ty
 use Rattle.attr_tables.specs.declared.port_info.PortInfo.{PortInfo}
 use Rattle.attr_tables.specs.declared.switch_info.SwitchInfo.{SwitchInfo}
 use Rattle.table_push.specs.Nodes.{infos_by, keys_by, numbered, switch_by}
+use Rattle.table_push.proofs.NumberedLemmas.{kept_from_1, long_numbered}
+use Rattle.table_push.proofs.PartLemmas.{PortPart, changes, info_part, keys_part, parts_by, same_guid}
 
 -- a change of a node that a sweep doesn't see
 pub record IsUnseen (change : Node → Node) : Type 0 where
@@ -21,150 +23,103 @@ pub record IsUnseen (change : Node → Node) : Type 0 where
   pub name : (number : ℕ) (node : Node) → name_in (change node) number ≡ name_in node number
   pub seen : (number : ℕ) (node : Node) → seen_in (change node) number ≡ seen_in node number
 
--- ---- linear tables
-pub linear_unseen : (change : ℕ → SwitchState → SwitchState)
-    → ((guid : ℕ) (held : SwitchState) → (linear : List ℕ) × (change guid held ≡ record held { linear = linear })) → IsUnseen (switch_by change)
-linear_unseen change only = record { kind = kind; guid = guid; count = count; name = name; seen = seen }
+-- one after another
+pub both_unseen : (f g : Node → Node) → IsUnseen f → IsUnseen g → IsUnseen (λ node. f (g node))
+both_unseen f g outer inner = record {
+  kind = λ node. outer.kind (g node) ∙ inner.kind node;
+  guid = λ node. outer.guid (g node) ∙ inner.guid node;
+  count = λ node. outer.count (g node) ∙ inner.count node;
+  name = λ number node. outer.name number (g node) ∙ inner.name number node;
+  seen = λ number node. outer.seen number (g node) ∙ inner.seen number node;
+}
+
+-- ---- linear tables, and SwitchInfo
+pub switches_unseen : (change : ℕ → SwitchState → SwitchState)
+    → ((guid : ℕ) (held : SwitchState) → (info : SwitchInfo) × (linear : List ℕ) × (change guid held ≡ record held { info = info; linear = linear }))
+    → IsUnseen (switch_by change)
+switches_unseen change only = record { kind = kind; guid = guid; count = count; name = name; seen = seen }
   where
     kind : (node : Node) → is_switch (switch_by change node) ≡ is_switch node
     kind (Switch held) = refl
     kind (Adapter ports) = refl
 
     guid : (node : Node) → node_guid (switch_by change node) ≡ node_guid node
-    guid (Switch held) = ap (λ (s : SwitchState). node_guid (Switch s)) (only held.node_guid held).1
+    guid (Switch held) = ap (λ (s : SwitchState). node_guid (Switch s)) (only held.node_guid held).2
     guid (Adapter ports) = refl
 
     count : (node : Node) → port_count (switch_by change node) ≡ port_count node
-    count (Switch held) = ap (λ (s : SwitchState). port_count (Switch s)) (only held.node_guid held).1
+    count (Switch held) = ap (λ (s : SwitchState). port_count (Switch s)) (only held.node_guid held).2
     count (Adapter ports) = refl
 
     name : (number : ℕ) (node : Node) → name_in (switch_by change node) number ≡ name_in node number
-    name number (Switch held) = ap (λ (s : SwitchState). name_in (Switch s) number) (only held.node_guid held).1
+    name number (Switch held) = ap (λ (s : SwitchState). name_in (Switch s) number) (only held.node_guid held).2
     name number (Adapter ports) = refl
 
     seen : (number : ℕ) (node : Node) → seen_in (switch_by change node) number ≡ seen_in node number
-    seen number (Switch held) = ap (λ (s : SwitchState). seen_in (Switch s) number) (only held.node_guid held).1
+    seen number (Switch held) = ap (λ (s : SwitchState). seen_in (Switch s) number) (only held.node_guid held).2
     seen number (Adapter ports) = refl
 
--- ---- key tables
-pub long_numbered : {X : Type 0} (f : ℕ → X → X) (first : ℕ) (xs : List X) → length (numbered f first xs) ≡ length xs
-long_numbered f first [] = refl
-long_numbered f first (x ∷ xs) = ap suc (long_numbered f (first + 1) xs)
+-- ---- key tables, and PortInfo
+-- a part of a channel adapter's port that a sweep doesn't see
+record IsUnseenPart {X : Type 0} (part : PortPart X) : Type 0 where
+  port_guid : (x : X) (port : AdapterState) → (part.adapter.put x port).port_guid ≡ port.port_guid
+  description : (x : X) (port : AdapterState) → (part.adapter.put x port).description ≡ port.description
 
--- each element keeps what a function of it tells
-pub kept_at : {X Y : Type 0} (f : ℕ → X → X) (g : X → Y) (first : ℕ) (xs : List X) (k : ℕ) → ((n : ℕ) (x : X) → g (f n x) ≡ g x)
-    → option_map g (slice_get (numbered f first xs) k) ≡ option_map g (slice_get xs k)
-kept_at f g first [] k keeps = refl
-kept_at {Y = Y} f g first (x ∷ xs) zero keeps = ap (λ (y : Y). Some y) (keeps first x)
-kept_at f g first (x ∷ xs) (suc k) keeps = kept_at f g (first + 1) xs k keeps
+parts_unseen : {X : Type 0} (part : PortPart X) → IsUnseenPart part → (change : ℕ → ℕ → X → X) → IsUnseen (parts_by part change)
+parts_unseen part unseen change = record { kind = kind; guid = guid; count = count; name = name; seen = seen }
+  where
+    kind : (node : Node) → is_switch (parts_by part change node) ≡ is_switch node
+    kind (Switch held) = refl
+    kind (Adapter ports) = refl
 
-abbrev with_port : (ℕ → ℕ → List ℕ → List ℕ) → ℕ → ℕ → AdapterState → AdapterState
-with_port change guid number port = record port { keys = change guid number port.keys }
+    guid : (node : Node) → node_guid (parts_by part change node) ≡ node_guid node
+    guid (Switch held) = refl
+    guid (Adapter ports) = same_guid part (change (node_guid (Adapter ports))) ports
 
-pub kept_port : {Y : Type 0} (f : ℕ → AdapterState → AdapterState) (g : AdapterState → Y) (number : ℕ) (ports : List AdapterState) (b : Bool)
-    → ((n : ℕ) (port : AdapterState) → g (f n port) ≡ g port)
-    → option_map g (if b then None else slice_get (numbered f 1 ports) (number - 1)) ≡ option_map g (if b then None else slice_get ports (number - 1))
-kept_port f g number ports true keeps = refl
-kept_port f g number ports false keeps = kept_at f g 1 ports (number - 1) keeps
+    count : (node : Node) → port_count (parts_by part change node) ≡ port_count node
+    count (Switch held) = ap (λ (n : ℕ). n - 1) (long_numbered _ 0 held.ports)
+    count (Adapter ports) = long_numbered _ 1 ports
 
-own_guid : (change : ℕ → ℕ → List ℕ → List ℕ) (guid : ℕ) (ports : List AdapterState)
-    → node_guid (Adapter (numbered (with_port change guid) 1 ports)) ≡ node_guid (Adapter ports)
-own_guid change guid [] = refl
-own_guid change guid (port ∷ ports) = refl
+    name : (number : ℕ) (node : Node) → name_in (parts_by part change node) number ≡ name_in node number
+    name number (Switch held) = refl
+    name number (Adapter ports) =
+        kept_from_1 (changes part.adapter (change (node_guid (Adapter ports)))) (λ (port : AdapterState). port.description) number ports (number == 0)
+        (λ n port. unseen.description _ port)
+
+    seen : (number : ℕ) (node : Node) → seen_in (parts_by part change node) number ≡ seen_in node number
+    seen number (Switch held) = ap (λ (n : ℕ). Some (record {
+      node_type = node_type.Switch;
+      num_ports = n;
+      node_guid = held.node_guid;
+      port_guid = held.node_guid;
+      local_port_num = number;
+    })) (ap (λ (n : ℕ). n - 1) (long_numbered _ 0 held.ports))
+    seen number (Adapter ports) =
+        let own = changes part.adapter (change (node_guid (Adapter ports))) in
+        let count = long_numbered own 1 ports in
+        let guid = same_guid part (change (node_guid (Adapter ports))) ports in
+        (λ i. option_map (shown (count i) (guid i)) (adapter_port (numbered own 1 ports) number))
+        ∙ kept_from_1 own (shown (length ports) (node_guid (Adapter ports))) number ports (number == 0)
+        (λ n port. ap (λ (g : ℕ). record {
+          node_type = node_type.ChannelAdapter;
+          num_ports = length ports;
+          node_guid = node_guid (Adapter ports);
+          port_guid = g;
+          local_port_num = number;
+        }) (unseen.port_guid _ port))
+      where
+        shown : ℕ → ℕ → AdapterState → Seen
+        shown count guid port =
+            record {
+              node_type = node_type.ChannelAdapter;
+              num_ports = count;
+              node_guid = guid;
+              port_guid = port.port_guid;
+              local_port_num = number;
+            }
 
 pub keys_unseen : (change : ℕ → ℕ → List ℕ → List ℕ) → IsUnseen (keys_by change)
-keys_unseen change = record { kind = kind; guid = guid; count = count; name = name; seen = seen }
-  where
-    kind : (node : Node) → is_switch (keys_by change node) ≡ is_switch node
-    kind (Switch held) = refl
-    kind (Adapter ports) = refl
+keys_unseen change = parts_unseen keys_part (record { port_guid = λ keys port. refl; description = λ keys port. refl }) change
 
-    guid : (node : Node) → node_guid (keys_by change node) ≡ node_guid node
-    guid (Switch held) = refl
-    guid (Adapter ports) = own_guid change (node_guid (Adapter ports)) ports
-
-    count : (node : Node) → port_count (keys_by change node) ≡ port_count node
-    count (Switch held) = ap (λ (n : ℕ). n - 1) (long_numbered _ 0 held.ports)
-    count (Adapter ports) = long_numbered _ 1 ports
-
-    name : (number : ℕ) (node : Node) → name_in (keys_by change node) number ≡ name_in node number
-    name number (Switch held) = refl
-    name number (Adapter ports) =
-        kept_port (with_port change (node_guid (Adapter ports))) (λ (port : AdapterState). port.description) number ports (number == 0) (λ n port. refl)
-
-    seen : (number : ℕ) (node : Node) → seen_in (keys_by change node) number ≡ seen_in node number
-    seen number (Switch held) = ap (λ (n : ℕ). Some (record {
-      node_type = node_type.Switch;
-      num_ports = n;
-      node_guid = held.node_guid;
-      port_guid = held.node_guid;
-      local_port_num = number;
-    })) (ap (λ (n : ℕ). n - 1) (long_numbered _ 0 held.ports))
-    seen number (Adapter ports) =
-        let count = long_numbered (with_port change (node_guid (Adapter ports))) 1 ports in
-        let guid = own_guid change (node_guid (Adapter ports)) ports in
-        (λ i. option_map (shown (count i) (guid i)) (adapter_port (numbered (with_port change (node_guid (Adapter ports))) 1 ports) number))
-        ∙ kept_port (with_port change (node_guid (Adapter ports))) (shown (length ports) (node_guid (Adapter ports))) number ports (number == 0) (λ n port. refl)
-      where
-        shown : ℕ → ℕ → AdapterState → Seen
-        shown count guid port =
-            record {
-              node_type = node_type.ChannelAdapter;
-              num_ports = count;
-              node_guid = guid;
-              port_guid = port.port_guid;
-              local_port_num = number;
-            }
-
--- ---- PortInfo, and SwitchInfo
-abbrev with_info : (ℕ → ℕ → PortInfo → PortInfo) → ℕ → ℕ → AdapterState → AdapterState
-with_info change guid number port = record port { info = change guid number port.info }
-
-info_guid : (change : ℕ → ℕ → PortInfo → PortInfo) (guid : ℕ) (ports : List AdapterState)
-    → node_guid (Adapter (numbered (with_info change guid) 1 ports)) ≡ node_guid (Adapter ports)
-info_guid change guid [] = refl
-info_guid change guid (port ∷ ports) = refl
-
-pub infos_unseen : (change : ℕ → ℕ → PortInfo → PortInfo) (top : SwitchInfo → SwitchInfo) → IsUnseen (infos_by change top)
-infos_unseen change top = record { kind = kind; guid = guid; count = count; name = name; seen = seen }
-  where
-    kind : (node : Node) → is_switch (infos_by change top node) ≡ is_switch node
-    kind (Switch held) = refl
-    kind (Adapter ports) = refl
-
-    guid : (node : Node) → node_guid (infos_by change top node) ≡ node_guid node
-    guid (Switch held) = refl
-    guid (Adapter ports) = info_guid change (node_guid (Adapter ports)) ports
-
-    count : (node : Node) → port_count (infos_by change top node) ≡ port_count node
-    count (Switch held) = ap (λ (n : ℕ). n - 1) (long_numbered _ 0 held.ports)
-    count (Adapter ports) = long_numbered _ 1 ports
-
-    name : (number : ℕ) (node : Node) → name_in (infos_by change top node) number ≡ name_in node number
-    name number (Switch held) = refl
-    name number (Adapter ports) =
-        kept_port (with_info change (node_guid (Adapter ports))) (λ (port : AdapterState). port.description) number ports (number == 0) (λ n port. refl)
-
-    seen : (number : ℕ) (node : Node) → seen_in (infos_by change top node) number ≡ seen_in node number
-    seen number (Switch held) = ap (λ (n : ℕ). Some (record {
-      node_type = node_type.Switch;
-      num_ports = n;
-      node_guid = held.node_guid;
-      port_guid = held.node_guid;
-      local_port_num = number;
-    })) (ap (λ (n : ℕ). n - 1) (long_numbered _ 0 held.ports))
-    seen number (Adapter ports) =
-        let count = long_numbered (with_info change (node_guid (Adapter ports))) 1 ports in
-        let guid = info_guid change (node_guid (Adapter ports)) ports in
-        (λ i. option_map (shown (count i) (guid i)) (adapter_port (numbered (with_info change (node_guid (Adapter ports))) 1 ports) number))
-        ∙ kept_port (with_info change (node_guid (Adapter ports))) (shown (length ports) (node_guid (Adapter ports))) number ports (number == 0) (λ n port. refl)
-      where
-        shown : ℕ → ℕ → AdapterState → Seen
-        shown count guid port =
-            record {
-              node_type = node_type.ChannelAdapter;
-              num_ports = count;
-              node_guid = guid;
-              port_guid = port.port_guid;
-              local_port_num = number;
-            }
+pub infos_unseen : (change : ℕ → ℕ → PortInfo → PortInfo) → IsUnseen (infos_by change)
+infos_unseen change = parts_unseen info_part (record { port_guid = λ info port. refl; description = λ info port. refl }) change

@@ -5,7 +5,7 @@ use Rattle.std.specs.Option.{is_some, option_map_or}
 use Rattle.std.proofs.lemmas.Bool.{and_from, false≢true, le-leb, lt-ltb, ne_eqb}
 use Rattle.std.proofs.lemmas.Option.{same_Some, slice_get_within}
 use Rattle.attr_tables.specs.declared.port_info.PortInfo.{PortInfo}
-use Rattle.fabric_parts.specs.Cable.{far_end, is_cabled}
+use Rattle.fabric_parts.specs.Cable.{far_end, is_cabled, port}
 use Rattle.fabric_parts.specs.declared.cable.PortRef.{PortRef}
 use Rattle.fabric_parts.specs.declared.lid.TheConstants.{LAST_UNICAST_LID}
 use Rattle.lid_assign.specs.Lids.{lid_in}
@@ -17,7 +17,7 @@ use Rattle.smp_wire.specs.Walk.{end_of}
 use Rattle.smp_wire.proofs.CableLemmas.{cabled_is_port, far_is_port}
 use Rattle.smp_wire.proofs.ListLemmas.{or_same}
 use Rattle.smp_wire.proofs.PortLemmas.{cabled_ports_are_up}
-use Rattle.sweep.specs.Graph.{GraphState, port}
+use Rattle.sweep.specs.Graph.{GraphState}
 use Rattle.sweep.specs.OfFabric.{Found, IsGraphOf, Leads, guid_at, link_to, node_at, nodes_of, placed, ports_at, row_of}
 use Rattle.sweep.specs.declared.graph.GraphPort.{GraphPort}
 use Rattle.sweep.specs.declared.graph.GraphSwitch.{GraphSwitch}

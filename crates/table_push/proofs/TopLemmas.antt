@@ -6,7 +6,6 @@ use Rattle.std.proofs.lemmas.Bool.{eq-eqb, lt-ltb}
 use Rattle.std.proofs.lemmas.List.{length-map, take_all}
 use Rattle.std.proofs.lemmas.List.Folds.{list_any_more}
 use Rattle.std.proofs.lemmas.Option.{get_or_from_slice_get, slice_get-get_or}
-use Rattle.std.proofs.lemmas.Simd.{map-map}
 use Rattle.agent_rules.proofs.CarriedLemmas.{spelled_is_read}
 use Rattle.attr_tables.specs.SwitchInfo.{switch_info, switch_info_bytes}
 use Rattle.attr_tables.specs.declared.smp_attribute.SmpAttribute.TheVariants.{SwitchInfo as SwitchInfoAsked}
@@ -30,7 +29,7 @@ use Rattle.sweep.specs.declared.graph.GraphPort.{GraphPort}
 use Rattle.sweep.specs.declared.graph.GraphSwitch.{GraphSwitch}
 use Rattle.sweep.proofs.FoundLemmas.{among_place, any_by}
 use Rattle.table_push.specs.Fault.{compared}
-use Rattle.table_push.specs.Nodes.{infos_by, on_switch, switch_by, with_infos, with_switches}
+use Rattle.table_push.specs.Nodes.{on_switch, switch_by, with_infos, with_switches}
 use Rattle.table_push.specs.Ports.{change_wanted, changed, ports_pushed, set_top, with_top}
 use Rattle.table_push.specs.Pushes.{LeadsToSwitch, Leaves, Stands}
 use Rattle.table_push.specs.declared.fault.PushFault.{PushFault}
@@ -217,14 +216,6 @@ pub whole : (routes : SubnetRoutes) (fabric : FabricState) (lid : ℕ) → lid �
     → with_switches (λ guid. set_top lid) (with_infos (λ guid number. changed (change_wanted routes guid number)) fabric) ≡ ports_pushed routes fabric
 whole routes fabric lid is =
     ap (λ (n : ℕ). with_switches (λ guid. set_top n) (with_infos (λ guid number. changed (change_wanted routes guid number)) fabric)) is
-    ∙ ap (λ (nodes : List Node). record fabric { nodes = nodes })
-    (map-map (switch_by (λ guid. set_top (length routes.lids))) (infos_by (λ guid number. changed (change_wanted routes guid number)) (λ one. one)) fabric.nodes
-    ∙ (λ place. map (λ node. one node place) fabric.nodes))
-  where
-    one : (node : Node) → switch_by (λ guid. set_top (length routes.lids)) (infos_by (λ guid number. changed (change_wanted routes guid number)) (λ one. one) node)
-        ≡ infos_by (λ guid number. changed (change_wanted routes guid number)) (with_top (length routes.lids)) node
-    one (Switch held) = refl
-    one (Adapter ports) = refl
 
 -- the greatest LID is the number of LIDs, which is that of end ports
 pub greatest : (graph told : GraphState) (switches : List GraphSwitch) (ports : List GraphPort) (lids : List ℕ) → AreLids (end_ports graph) lids → told ≡ graph

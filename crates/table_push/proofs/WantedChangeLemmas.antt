@@ -1,19 +1,20 @@
 -- Which changes are wanted, and a fabric in which some of them are made.
-use Rattle.std.proofs.Common.{ℕ, zero, suc, ◌≡◌, ◌+◌, ◌<◌, ◌==◌, ◌&&◌, ◌||◌, ◌∙◌, ap, refl, sym, Bool, true, false, if◌then◌else◌, List, [], length, slice_get, Option, Some, None, Result, arith}
+use Rattle.std.proofs.Common.{ℕ, ◌≡◌, ◌<◌, ◌==◌, ◌&&◌, ◌||◌, ◌∙◌, ap, refl, sym, Bool, true, false, if◌then◌else◌, List, [], length, slice_get, Option, Some, None, Result}
 use Rattle.std.specs.List.{list_any, range_with_len}
 use Rattle.std.specs.Option.{option_map_or}
 use Rattle.std.proofs.lemmas.Bool.{and_from, and_parts, eq-eqb, eqb-true, false≢true, or_parts}
 use Rattle.std.proofs.Math.Bool.{or-true}
-use Rattle.std.proofs.Math.Nat.{add-zero, zero-add}
+use Rattle.std.proofs.Math.Nat.{zero-add}
 use Rattle.std.proofs.lemmas.Option.{get_or_from_slice_get, same_Some, slice_get_within}
+use Rattle.result_words.proofs.ListLemmas.{range_at}
 use Rattle.attr_tables.specs.declared.port_info.PortInfo.{PortInfo}
-use Rattle.fabric_parts.specs.Cable.{far_end, is_same_port}
+use Rattle.fabric_parts.specs.Cable.{far_end, is_same_port, port}
 use Rattle.fabric_parts.specs.declared.cable.PortRef.{PortRef}
 use Rattle.lid_assign.specs.Lids.{lid_in}
 use Rattle.smp_wire.specs.FabricState.{FabricState, is_switch_at}
 use Rattle.smp_wire.specs.Good.{IsGood}
 use Rattle.smp_wire.proofs.CableLemmas.{same_port}
-use Rattle.sweep.specs.Graph.{GraphState, port}
+use Rattle.sweep.specs.Graph.{GraphState}
 use Rattle.sweep.specs.OfFabric.{IsGraphOf, node_at}
 use Rattle.sweep.specs.declared.graph.GraphPort.{GraphPort}
 use Rattle.sweep.specs.declared.graph.Link.{Link}
@@ -26,7 +27,7 @@ use Rattle.table_push.specs.Pushes.{Leaves, Stands}
 use Rattle.table_push.specs.declared.fault.PushFault.{PushFault}
 use Rattle.table_push.specs.declared.ports.PortChange.{PortChange}
 use Rattle.table_push.proofs.HangLemmas.{found_is, is_hung}
-use Rattle.table_push.proofs.InfoNodeLemmas.{infos_stay, infos_twice}
+use Rattle.table_push.proofs.PartLemmas.{info_part, parts_stay, parts_twice}
 use Rattle.table_push.proofs.LeadLemmas.{goes_on}
 use Rattle.table_push.proofs.NodeLemmas.{none_there}
 use Rattle.table_push.proofs.SiteLemmas.{linked, takes_on}
@@ -135,7 +136,7 @@ change_more stood left result fabric routes there path asked guid number change 
     let now = with_infos (changed_where there routes) fabric in
     let leaves = changes now stands.is guid number stands.good (takes_on fabric path asked guid number change routes there stands.shape takes) in
     goes_on result stood left fabric now _ _ stands leaves
-    (infos_twice (on_port guid number (changed change)) (changed_where there routes) (changed_where (with_this there guid number) routes) fabric
+    (parts_twice info_part (on_port guid number (changed change)) (changed_where there routes) (changed_where (with_this there guid number) routes) fabric
     (λ of_guid of_number info. one_changed (change_wanted routes of_guid of_number) change info (there of_guid of_number)
     ((guid == of_guid) && (number == of_number)) (own of_guid of_number)))
   where
@@ -151,17 +152,9 @@ pub told_same : (routes : SubnetRoutes) (fabric : FabricState) (one other : ℕ 
 told_same routes fabric one other each = λ i. with_infos (changed_where (λ guid number. each guid number i) routes) fabric
 
 pub told_none : (routes : SubnetRoutes) (fabric : FabricState) → with_infos (changed_where (λ guid number. false) routes) fabric ≡ fabric
-told_none routes fabric = infos_stay (changed_where (λ guid number. false) routes) fabric (λ guid number info. refl)
+told_none routes fabric = parts_stay info_part (changed_where (λ guid number. false) routes) fabric (λ guid number info. refl)
 
 -- ---- all are made
--- a test of all numbers below a count
-pub range_at : (first count k : ℕ) → k < count → slice_get (range_with_len first count) k ≡ Some (first + k)
-range_at first zero k h = absurd (omega arith)
-range_at first (suc count) zero h = ap (λ (n : ℕ). Some n) (sym (add-zero first))
-range_at first (suc count) (suc k) h =
-    let moved : (first + 1) + k ≡ first + suc k = omega arith in
-    range_at (first + 1) count k (omega arith) ∙ ap (λ (n : ℕ). Some n) moved
-
 abbrev pub at_all : SubnetRoutes → ℕ → ℕ → Bool
 at_all routes guid number =
     at_switches_before routes.graph (length routes.graph.switches) guid number || at_cables routes.graph.switches routes.graph.ports guid number

@@ -2,11 +2,11 @@
 use Rattle.std.proofs.Common.{ℕ, ◌≡◌, ◌==◌, ◌&&◌, ◌||◌, ◌∙◌, ap, refl, sym, subst, Bool, true, false, if◌then◌else◌, List, slice_get, Option, Some, None, Result, Ok, option_map, unwrap_or}
 use Rattle.std.specs.Option.{option_and_then, option_map_or}
 use Rattle.std.proofs.lemmas.Bool.{and_from, and_parts, eq-eqb, eqb-true, false≢true, or_parts}
-use Rattle.fabric_parts.specs.Cable.{is_same_port}
+use Rattle.fabric_parts.specs.Cable.{is_same_port, port}
 use Rattle.fabric_parts.specs.declared.cable.PortRef.{PortRef}
 use Rattle.smp_wire.specs.FabricState.{FabricState}
 use Rattle.smp_wire.specs.Good.{IsGood}
-use Rattle.sweep.specs.Graph.{GraphState, IsGraph, port}
+use Rattle.sweep.specs.Graph.{GraphState, IsGraph}
 use Rattle.sweep.specs.OfFabric.{IsGraphOf}
 use Rattle.sweep.specs.declared.graph.GraphPort.{GraphPort}
 use Rattle.sweep.specs.declared.graph.GraphSwitch.{GraphSwitch}
@@ -16,7 +16,7 @@ use Rattle.table_push.specs.Nodes.{on_port, with_keys}
 use Rattle.table_push.specs.Pushes.{LeadsToPort, Leaves, Stands}
 use Rattle.table_push.specs.declared.fault.PushFault.{PushFault}
 use Rattle.table_push.proofs.HangLemmas.{found_is, found_own, one_hangs, one_number}
-use Rattle.table_push.proofs.KeyNodeLemmas.{keys_stay, keys_twice}
+use Rattle.table_push.proofs.PartLemmas.{keys_part, parts_stay, parts_twice}
 use Rattle.table_push.proofs.LeadLemmas.{begins_as, ends_as, goes_on}
 use Rattle.table_push.proofs.NodeLemmas.{none_there}
 use Rattle.table_push.proofs.PortLemmas.{port_on}
@@ -105,7 +105,7 @@ put_more stood left result fabric routes keys there path asked guid number table
     let now = with_keys (keys_where there routes keys) fabric in
     let leaves = puts now stands.is guid number stands.good (port_on fabric now path asked guid number stands.shape leads) in
     goes_on result stood left fabric now _ _ stands leaves
-    (keys_twice (on_port guid number (λ held. unwrap_or table held)) (keys_where there routes keys) (keys_where (with_this there guid number) routes keys) fabric
+    (parts_twice keys_part (on_port guid number (λ held. unwrap_or table held)) (keys_where there routes keys) (keys_where (with_this there guid number) routes keys) fabric
     (λ of_guid of_number held. one_written (keys_wanted routes keys of_guid of_number) table held (there of_guid of_number)
     ((guid == of_guid) && (number == of_number)) (own of_guid of_number)))
   where
@@ -122,7 +122,7 @@ pub put_same : (routes : SubnetRoutes) (keys : List (List ℕ)) (fabric : Fabric
 put_same routes keys fabric one other each = λ i. with_keys (keys_where (λ guid number. each guid number i) routes keys) fabric
 
 pub put_none : (routes : SubnetRoutes) (keys : List (List ℕ)) (fabric : FabricState) → with_keys (keys_where (λ guid number. false) routes keys) fabric ≡ fabric
-put_none routes keys fabric = keys_stay (keys_where (λ guid number. false) routes keys) fabric (λ guid number held. refl)
+put_none routes keys fabric = parts_stay keys_part (keys_where (λ guid number. false) routes keys) fabric (λ guid number held. refl)
 
 pub some_put : (left : Option FabricState) (result : Result (Unit {0}) PushFault) (fabric : FabricState) (guid number : ℕ) (keys : List ℕ)
     (table : Option (List ℕ)) → table ≡ Some keys → Leaves result left fabric (with_keys (on_port guid number (λ held. keys)) fabric)
@@ -142,7 +142,7 @@ pub none_put : (stood : Option FabricState) (fabric : FabricState) (guid number 
 none_put stood fabric guid number table is stands good =
     let same : with_keys (on_port guid number (λ (held : List ℕ). unwrap_or table held)) fabric ≡ fabric =
     ap (λ (some : Option (List ℕ)). with_keys (on_port guid number (λ held. unwrap_or some held)) fabric) is
-    ∙ keys_stay (on_port guid number (λ held. held)) fabric (none_changed guid number) in
+    ∙ parts_stay keys_part (on_port guid number (λ held. held)) fabric (none_changed guid number) in
     ends_as stood fabric _ _ (begins_as stood fabric _ stands good same) refl
 
 -- ---- all are written

@@ -3,12 +3,11 @@
 use Rattle.std.specs.Prelude.{ℕ, ◌-◌, ◌==◌, ◌&&◌, ◌||◌, Bool, true, false, if◌then◌else◌, List, ◌++◌, find, length, map, replicate, slice_get, unwrap_or, Option, option_map}
 use Rattle.std.specs.List.{list_any}
 use Rattle.std.specs.Option.{option_and_then, option_map_or}
-use Rattle.fabric_parts.specs.Cable.{is_same_port}
+use Rattle.fabric_parts.specs.Cable.{is_same_port, port}
 use Rattle.lid_assign.specs.Lids.{lid_in}
 use Rattle.pkey_rules.specs.PKey.{base_of, key_of}
 use Rattle.pkey_rules.specs.declared.key_table.TheConstants.{PARTITIONS}
 use Rattle.smp_wire.specs.FabricState.{FabricState}
-use Rattle.sweep.specs.Graph.{port}
 use Rattle.sweep.specs.declared.graph.GraphPort.{GraphPort}
 use Rattle.sweep.specs.declared.graph.GraphSwitch.{GraphSwitch}
 use Rattle.table_push.specs.Nodes.{with_keys}

@@ -5,8 +5,9 @@ use Rattle.smp_wire.specs.Good.{node_guid}
 use Rattle.smp_wire.specs.declared.node.Node.{Node}
 use Rattle.smp_wire.specs.declared.node.Node.TheVariants.{Switch, Adapter}
 use Rattle.attr_tables.specs.declared.port_info.PortInfo.{PortInfo}
-use Rattle.attr_tables.specs.declared.switch_info.SwitchInfo.{SwitchInfo}
+use Rattle.port_model.specs.AdapterState.{AdapterState}
 use Rattle.switch_model.specs.SwitchState.{SwitchState}
+use Rattle.switch_model.specs.declared.switch_port.SwitchPort.{SwitchPort}
 
 abbrev pub with_nodes : (Node → Node) → FabricState → FabricState
 with_nodes change fabric = record fabric { nodes = map change fabric.nodes }
@@ -30,28 +31,28 @@ abbrev pub numbered : {X : Type 0} → (ℕ → X → X) → ℕ → List X → 
 numbered change number [] = []
 numbered change number (x ∷ xs) = change number x ∷ numbered change (number + 1) xs
 
+-- each port of a switch, or of an adapter, changes so
+abbrev pub ports_by : (ℕ → ℕ → SwitchPort → SwitchPort) → (ℕ → ℕ → AdapterState → AdapterState) → Node → Node
+ports_by of_switch of_adapter (Switch held) = Switch (record held { ports = numbered (of_switch held.node_guid) 0 held.ports })
+ports_by of_switch of_adapter (Adapter ports) = Adapter (numbered (of_adapter (node_guid (Adapter ports))) 1 ports)
+
 -- each key table changes by what its port says
 abbrev pub keys_by : (ℕ → ℕ → List ℕ → List ℕ) → Node → Node
-keys_by change (Switch held) =
-    Switch (record held { ports = numbered (λ number port. record port { keys = change held.node_guid number port.keys }) 0 held.ports })
-keys_by change (Adapter ports) =
-    Adapter (numbered (λ number port. record port { keys = change (node_guid (Adapter ports)) number port.keys }) 1 ports)
+keys_by change =
+    ports_by (λ guid number port. record port { keys = change guid number port.keys })
+    (λ guid number port. record port { keys = change guid number port.keys })
 
 abbrev pub with_keys : (ℕ → ℕ → List ℕ → List ℕ) → FabricState → FabricState
 with_keys change fabric = with_nodes (keys_by change) fabric
 
--- the information of each port changes by what its port says, and that of each switch
-abbrev pub infos_by : (ℕ → ℕ → PortInfo → PortInfo) → (SwitchInfo → SwitchInfo) → Node → Node
-infos_by change switch_change (Switch held) =
-    Switch (record held {
-      info = switch_change held.info;
-      ports = numbered (λ number port. record port { info = change held.node_guid number port.info }) 0 held.ports;
-    })
-infos_by change switch_change (Adapter ports) =
-    Adapter (numbered (λ number port. record port { info = change (node_guid (Adapter ports)) number port.info }) 1 ports)
+-- the PortInfo of each port changes by what its port says
+abbrev pub infos_by : (ℕ → ℕ → PortInfo → PortInfo) → Node → Node
+infos_by change =
+    ports_by (λ guid number port. record port { info = change guid number port.info })
+    (λ guid number port. record port { info = change guid number port.info })
 
 abbrev pub with_infos : (ℕ → ℕ → PortInfo → PortInfo) → FabricState → FabricState
-with_infos change fabric = with_nodes (infos_by change (λ info. info)) fabric
+with_infos change fabric = with_nodes (infos_by change) fabric
 
 -- that port alone
 abbrev pub on_port : {X : Type 0} → ℕ → ℕ → (X → X) → ℕ → ℕ → X → X

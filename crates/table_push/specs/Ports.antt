@@ -12,9 +12,10 @@ use Rattle.fabric_parts.specs.declared.lid.TheConstants.{LAST_UNICAST_LID}
 use Rattle.lid_assign.specs.Lids.{lid_in}
 use Rattle.smp_wire.specs.FabricState.{FabricState, is_switch_at}
 use Rattle.smp_wire.specs.Good.{info_at, is_up}
-use Rattle.sweep.specs.Graph.{GraphState, port}
+use Rattle.fabric_parts.specs.Cable.{port}
+use Rattle.sweep.specs.Graph.{GraphState}
 use Rattle.table_push.specs.Keys.{guid_of, hanging_at, port_of}
-use Rattle.table_push.specs.Nodes.{infos_by, with_nodes}
+use Rattle.table_push.specs.Nodes.{with_infos, with_switches}
 use Rattle.table_push.specs.Pushes.{LeadsToPort}
 use Rattle.table_push.specs.declared.ports.PortChange.{PortChange}
 use Rattle.switch_model.specs.SwitchState.{SwitchState}
@@ -73,10 +74,13 @@ change_wanted routes guid number =
 abbrev pub with_top : ℕ → SwitchInfo → SwitchInfo
 with_top lid info = record info { linear_fdb_top = lid }
 
+abbrev pub set_top : ℕ → SwitchState → SwitchState
+set_top lid held = record held { info = with_top lid held.info }
+
 -- LIDs count from 1, so the greatest is their number
 abbrev pub ports_pushed : SubnetRoutes → FabricState → FabricState
 ports_pushed routes fabric =
-    with_nodes (infos_by (λ guid number. changed (change_wanted routes guid number)) (with_top (length routes.lids))) fabric
+    with_switches (λ guid. set_top (length routes.lids)) (with_infos (λ guid number. changed (change_wanted routes guid number)) fabric)
 
 -- ---- while it is written
 -- the state that a port is asked for first: from Initialize it becomes Active by way of Armed
@@ -107,7 +111,3 @@ at_switch graph guid number place = (guid_of graph.switches place == guid) && ((
 -- those of the switches at the first places
 abbrev pub at_switches_before : GraphState → ℕ → ℕ → ℕ → Bool
 at_switches_before graph count guid number = list_any (at_switch graph guid number) (range_with_len 0 count)
-
--- LinearFDBTop of that switch alone
-abbrev pub set_top : ℕ → SwitchState → SwitchState
-set_top lid held = record held { info = with_top lid held.info }

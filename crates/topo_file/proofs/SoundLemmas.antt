@@ -1,5 +1,5 @@
 -- What stays so with one more node and one more cable, and so of every topology that was read.
-use Rattle.std.proofs.Common.{◌≡◌, ◌∙◌, ap₂, Bool, ◌||◌, ◌==◌, ℕ, zero, suc, ◌≤◌, true, false, not, ◌&&◌, nat_eq, nat_le, List, [], ◌∷◌, ◌++◌, Option, Some, None, refl, arith}
+use Rattle.std.proofs.Common.{◌≡◌, ◌∙◌, ap₂, Bool, ◌||◌, ℕ, zero, suc, ◌≤◌, true, false, not, ◌&&◌, nat_eq, nat_le, List, [], ◌∷◌, ◌++◌, Option, Some, None, refl, arith}
 use Rattle.std.specs.List.{list_all, list_any, AllByRecursion, IsDistinct}
 use Rattle.std.specs.Str.{bytes_eq}
 use Rattle.std.proofs.Math.Bool.{and_comm}
@@ -7,6 +7,7 @@ use Rattle.std.proofs.lemmas.Bool.{and_parts, and_from, false≢true, or_from, o
 use Rattle.std.proofs.lemmas.Cmp.{nat_eq_equiv}
 use Rattle.std.proofs.lemmas.Map.Keys.{IsDistinct-push}
 use Rattle.result_words.proofs.ListLemmas.{IsDistinct-nil, list_all_push}
+use Rattle.result_words.proofs.TestLemmas.{same_either_way}
 use Rattle.std.proofs.lemmas.Bool.Decides.{nat_tests}
 use Rattle.std.proofs.lemmas.List.Elements.{All-nil, All-push}
 use Rattle.fabric_parts.specs.declared.cable.Cable.{Cable}
@@ -62,9 +63,6 @@ manager_still nodes node None h = refl
 manager_still nodes node (Some manager) h = manager_port_still nodes node manager.port h
 
 -- ---- nodes with GUIDs of their own
-eq_turned : (m n : ℕ) → (m == n) ≡ (n == m)
-eq_turned m n = grind (arith, nat_tests)
-
 shares_turned : (a b : Node) → shares_guid a b ≡ shares_guid b a
 shares_turned a b = and_comm (nat_le a.guid (last_guid b)) (nat_le b.guid (last_guid a))
 
@@ -86,7 +84,7 @@ name_turned : (one other : List ℕ) → bytes_eq one other ≡ bytes_eq other o
 name_turned [] [] = refl
 name_turned [] (b ∷ other) = refl
 name_turned (a ∷ one) [] = refl
-name_turned (a ∷ one) (b ∷ other) = ap₂ (λ (x y : Bool). x && y) (eq_turned a b) (name_turned one other)
+name_turned (a ∷ one) (b ∷ other) = ap₂ (λ (x y : Bool). x && y) (same_either_way a b) (name_turned one other)
 
 -- before the first line
 pub nothing_sound : IsSoundSoFar nothing
@@ -178,7 +176,7 @@ sound_still so_far node sound guids room new = record {
 
 -- ---- a cable between ports that have none
 same_turned : (a b : PortRef) → is_same_port a b ≡ is_same_port b a
-same_turned a b = ap₂ (λ (x y : Bool). x && y) (eq_turned a.node b.node) (eq_turned a.port b.port)
+same_turned a b = ap₂ (λ (x y : Bool). x && y) (same_either_way a.node b.node) (same_either_way a.port b.port)
 
 ends_turned : (a b : Cable) → shares_port a b ≡ shares_port b a
 ends_turned a b =

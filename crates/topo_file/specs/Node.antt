@@ -1,5 +1,5 @@
 -- Nodes: switches and adapters, their names, ports and GUIDs.
-use Rattle.std.specs.Prelude.{ℕ, ◌+◌, ◌^◌, ◌<◌, ◌≤◌, Bool, false, ◌&&◌, ◌||◌, nat_le, nat_lt, List, position, count_by, sum_by, slice_get, Option}
+use Rattle.std.specs.Prelude.{ℕ, ◌+◌, ◌^◌, ◌<◌, ◌≤◌, Bool, false, ◌&&◌, ◌||◌, nat_le, nat_lt, List, [], position, count_by, sum_by, slice_get, Option}
 use Rattle.std.specs.List.{list_any}
 use Rattle.std.specs.Option.{option_map_or}
 use Rattle.std.specs.Str.{bytes_eq}
@@ -20,6 +20,10 @@ place_of name nodes = position (λ node. bytes_eq name node.name) nodes
 -- a node stands there, and it is a switch
 abbrev pub is_switch_at : List Node → ℕ → Bool
 is_switch_at nodes place = option_map_or is_switch (slice_get nodes place) false
+
+-- the name of the node there; no name where there is none
+abbrev pub name_at : List Node → ℕ → List ℕ
+name_at nodes place = option_map_or (λ node. node.name) (slice_get nodes place) []
 
 -- how many ports the node there has; they count from 1
 abbrev pub ports_at : List Node → ℕ → ℕ

@@ -18,6 +18,6 @@ mod topology;
 pub use crate::connectivity::is_connected;
 pub use crate::fault::{TopoFault, TopologyCause};
 pub use crate::laws::{connected_means_joined, the_numbers};
-pub use crate::node::{ADAPTER_PORTS, Name, Node, SWITCHES};
+pub use crate::node::{ADAPTER_PORTS, Name, Node, SWITCHES, name_at};
 pub use crate::reader::read;
 pub use crate::topology::Topology;

@@ -1,5 +1,5 @@
 ghost use Rattle.std.specs.Prelude.{◌≡◌, ◌≤◌, ◌<◌, ◌^◌, ◌+◌, length, [], ◌∷◌, ◌++◌, None, IfOk, OnOk, OnErr};
-ghost use Rattle.topo_file.specs.Node.{adapter_ports, is_one_too_many, is_switch, is_switch_at, lacks_guids, last_guid, place_of, port_guid, port_guids, ports_at, shares_guid, switch_count};
+ghost use Rattle.topo_file.specs.Node.{adapter_ports, is_one_too_many, is_switch, is_switch_at, lacks_guids, last_guid, name_at, place_of, port_guid, port_guids, ports_at, shares_guid, switch_count};
 ghost use Rattle.std.specs.List.{list_any};
 ghost use Rattle.topo_file.specs.NewNode.{seen};
 ghost use Rattle.text_words.specs.declared.word.TheConstants.{NAME_LENGTH};
@@ -87,6 +87,17 @@ impl Node {
         ensures { result ≡ last_guid self.now }
     {
         u128::from(self.guid) + u128::from(port_guids(self.node_type, self.ports))
+    }
+}
+
+/// The name of the node there, or no name where there is none.
+pub fn name_at(nodes: &[Node], place: usize) -> &[u8]
+    ensures value { result.now ≡ name_at nodes.now place }
+    ensures short { length result.now ≤ NAME_LENGTH }
+{
+    match nodes.get(place) {
+        Some(node) => node.name.as_bytes(),
+        None => &[],
     }
 }
 

@@ -3,7 +3,7 @@ use Rattle.std.proofs.Common.{◌≡◌, ℕ, zero, suc, ◌+◌, ◌<◌, ◌�
 use Rattle.std.specs.List.{list_all, list_any, range_with_len}
 use Rattle.std.proofs.lemmas.Bool.{and_parts, and_from, or_cases, or_left, or_right, cases_lt, eqb-true, eqb-false, eq-eqb, ne_eqb, ltb-true, false≢true, not-true}
 use Rattle.std.proofs.lemmas.List.{get_or_past}
-use Rattle.result_words.proofs.ListLemmas.{list_any_weaker}
+use Rattle.result_words.proofs.ListLemmas.{list_all_weaker, list_any_weaker}
 use Rattle.updn_routes.specs.declared.link.Link.{Link}
 use Rattle.updn_routes.specs.Cabling.{is_cabling, is_next_to, is_row, leads, links_of, rises}
 
@@ -29,14 +29,6 @@ some_of p q [] all h = absurd (false≢true h)
 some_of p q (x ∷ xs) all h =
     let parts = and_parts (q x) (list_all q xs) all in
     elim (or_cases (p x) (list_any p xs) h) [ inl here ↦ (x, (here, parts.0)) | inr later ↦ some_of p q xs parts.1 later ]
-
--- what passes a test passes a weaker one
-pub list_all_weaker : {X : Type 0} (strong weak : X → Bool) → ((x : X) → strong x ≡ true → weak x ≡ true)
-    → (xs : List X) → list_all strong xs ≡ true → list_all weak xs ≡ true
-list_all_weaker strong weak implies [] h = refl
-list_all_weaker strong weak implies (x ∷ xs) h =
-    let parts = and_parts (strong x) (list_all strong xs) h in
-    and_from (weak x) (list_all weak xs) (implies x parts.0) (list_all_weaker strong weak implies xs parts.1)
 
 -- ---- ports
 -- the port of one link among these

@@ -2,11 +2,12 @@
 use Rattle.std.proofs.Common.{◌≡◌, ℕ, suc, ◌<◌, Bool, true, ◌==◌, ◌&&◌, nat_le, List, [], ◌∷◌, ◌++◌, length, get_or, refl, sym, subst, inl, inr, arith}
 use Rattle.std.specs.List.{list_all, list_any, range_with_len}
 use Rattle.std.proofs.lemmas.Bool.{and_parts, and_from, cases_lt, or_cases, or_left, eqb-true, eq-eqb, le-leb, leb-true, false≢true}
+use Rattle.result_words.proofs.ListLemmas.{list_all_weaker}
 use Rattle.updn_routes.specs.declared.link.Link.{Link}
 use Rattle.updn_routes.specs.Cabling.{AllJoined, is_next_to, is_walk}
 use Rattle.updn_routes.specs.Fabric.{HasRoutes, IsFabric}
 use Rattle.updn_routes.specs.Order.{IsOrder, is_first_root, is_root, precedes}
-use Rattle.updn_routes.proofs.CablingLemmas.{at_each, list_all_weaker}
+use Rattle.updn_routes.proofs.CablingLemmas.{at_each}
 use Rattle.updn_routes.proofs.DistanceLemmas.{joined_distances}
 use Rattle.updn_routes.proofs.ExistLemmas.{there_are}
 use Rattle.updn_routes.proofs.OrderLemmas.{ranks_order}

@@ -1,18 +1,18 @@
 -- Every graph whose switches are joined is a fabric, and its LIDs hang on its switches.
-use Rattle.std.proofs.Common.{◌≡◌, ◌≢◌, ℕ, zero, suc, ◌+◌, ◌<◌, ◌≤◌, ◌⊎◌, Bool, true, false, cond, not, ◌==◌, ◌&&◌, ◌||◌, nat_le, nat_lt, List, [], ◌∷◌, ◌++◌, length, map, find, get_or, position, slice_get}
+use Rattle.std.proofs.Common.{◌≡◌, ◌≢◌, ℕ, zero, suc, ◌+◌, ◌<◌, ◌≤◌, ◌⊎◌, Bool, true, false, cond, not, ◌==◌, ◌&&◌, ◌||◌, nat_le, nat_lt, List, [], ◌∷◌, ◌++◌, length, map, find, get_or, position}
 use Rattle.std.proofs.Common.{Option, Some, None, option_map, refl, sym, ap, subst, ◌∙◌, inl, inr, arith, length-append}
-use Rattle.std.specs.List.{AllByRecursion, IsDistinct, list_all, list_any, position_or_len, range_with_len}
+use Rattle.std.specs.List.{list_all, list_any, position_or_len, range_with_len}
 use Rattle.std.specs.Option.{option_map_or}
 use Rattle.std.proofs.lemmas.Bool.{and_parts, and_from, cases_lt, eqb-true, eq-eqb, leb-true, ltb-true, le-ltb, lt-ltb, or_cases, or_left, or_right, false≢true}
 use Rattle.std.proofs.lemmas.List.Folds.{find_at, list_all-map}
-use Rattle.std.proofs.lemmas.Map.Keys.{IsDistinct-cons, IsDistinct-head, IsDistinct-tail}
 use Rattle.std.proofs.lemmas.Option.{slice_get_cases}
 use Rattle.std.proofs.Math.ListN.{get_or-map}
-use Rattle.fabric_parts.specs.Cable.{is_same_port}
+use Rattle.fabric_parts.specs.Cable.{is_same_port, port}
 use Rattle.fabric_parts.specs.declared.cable.PortRef.{PortRef}
 use Rattle.lid_assign.specs.Lids.{AreLids, adapter_end, end_ports, switch_end}
-use Rattle.result_words.proofs.ListLemmas.{IsDistinct-nil, list_any_weaker}
-use Rattle.sweep.specs.Graph.{GraphState, IsGraph, count_at, is_joined, is_linked, is_near, is_right_link, is_right_port, is_right_row, is_switch_port, port, rise_above}
+use Rattle.result_words.proofs.ListLemmas.{list_all_weaker, list_any_weaker}
+use Rattle.smp_wire.proofs.DistinctLemmas.{left_part}
+use Rattle.sweep.specs.Graph.{GraphState, IsGraph, count_at, is_joined, is_linked, is_near, is_right_link, is_right_port, is_right_row, is_switch_port, rise_above}
 use Rattle.sweep.specs.declared.graph.GraphPort.{GraphPort}
 use Rattle.sweep.specs.declared.graph.GraphSwitch.{GraphSwitch}
 use Rattle.sweep.specs.declared.graph.Link.{Link as GraphLink}
@@ -21,7 +21,7 @@ use Rattle.updn_routes.specs.Cabling.{AllJoined, is_cabling, is_next_to, is_row,
 use Rattle.updn_routes.specs.Fabric.{IsFabric}
 use Rattle.updn_routes.specs.Routes.{all_hang}
 use Rattle.updn_routes.specs.Subnet.{guids_of, home_from, home_in, homes_of, link_of, place_of, row_of, rows_of, seat_of}
-use Rattle.updn_routes.proofs.CablingLemmas.{at_each, list_all_weaker, some_of}
+use Rattle.updn_routes.proofs.CablingLemmas.{at_each, some_of}
 use Rattle.updn_routes.proofs.FabricLemmas.{walk_on}
 use Rattle.updn_routes.proofs.WriteLemmas.{past_end}
 
@@ -76,16 +76,6 @@ position_low p xs i e = by (cases_lt (position_or_len p xs) (length xs))
 
 none_is : (at : PortRef) → ◌≡◌ {A = Option PortRef} None (Some at) → ⊥
 none_is at h = cc
-
-left_part : (xs ys : List ℕ) → IsDistinct (λ a b. a == b) (xs ++ ys) → IsDistinct (λ a b. a == b) xs
-left_part [] ys once = IsDistinct-nil (λ a b. a == b)
-left_part (x ∷ xs) ys once =
-    IsDistinct-cons (λ a b. a == b) x xs (first xs ys (IsDistinct-head (λ a b. a == b) x (xs ++ ys) once))
-    (left_part xs ys (IsDistinct-tail (λ a b. a == b) x (xs ++ ys) once))
-  where
-    first : (some more : List ℕ) → AllByRecursion (λ y. (x == y) ≡ false) (some ++ more) → AllByRecursion (λ y. (x == y) ≡ false) some
-    first [] more all = tt
-    first (y ∷ some) more all = (all.0, first some more all.1)
 
 -- ---- rows
 rising : (last : ℕ) (row : List GraphLink) → rise_above last row ≡ true
@@ -228,7 +218,7 @@ module _ (graph : GraphState) (is : IsGraph graph) where
         joined = all_joined joined;
         some = some_switch;
         count = long_map (λ (switch : GraphSwitch). switch.guid) graph.switches ∙ sym switches;
-        own = left_part (guids_of graph) (map (λ port. port.port_guid) graph.ports) is.guids;
+        own = left_part (λ a b. a == b) (guids_of graph) (map (λ port. port.port_guid) graph.ports) is.guids;
         named = named;
       }
 

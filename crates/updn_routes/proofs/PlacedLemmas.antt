@@ -1,8 +1,9 @@
 -- A cabling whose switches are numbered by their places has the same walks, and the same choices.
-use Rattle.std.proofs.Common.{◌≡◌, ℕ, suc, ◌<◌, Bool, true, false, ◌==◌, ◌&&◌, ◌||◌, nat_lt, List, [], ◌∷◌, map, length, Option, Some, None, refl}
+use Rattle.std.proofs.Common.{◌≡◌, ℕ, suc, ◌<◌, Bool, true, false, ◌==◌, ◌&&◌, nat_lt, List, [], ◌∷◌, map, length, Option, Some, None, refl}
 use Rattle.std.proofs.Common.{sym, ap, subst, ◌∙◌, inl, inr, arith}
 use Rattle.std.specs.List.{list_all, list_any}
 use Rattle.std.proofs.lemmas.Bool.{and_parts, and_from, or_cases, or_left, or_right, eqb-true, eqb-false, eq-eqb, ne_eqb, ltb-true, false≢true}
+use Rattle.result_words.proofs.TestLemmas.{same_and, same_or}
 use Rattle.updn_routes.specs.declared.link.Link.{Link}
 use Rattle.updn_routes.specs.Cabling.{is_cabling, is_next_to, is_walk, leads, links_of}
 use Rattle.updn_routes.specs.Choice.{AllChosen, HasNone, IsChosenOf, IsLeastOf, is_route, is_way_down, is_way_up}
@@ -11,12 +12,6 @@ use Rattle.updn_routes.specs.Places.{IsPlaced, placed_link}
 use Rattle.updn_routes.specs.UpDown.{goes_down, is_legal}
 use Rattle.updn_routes.proofs.CablingLemmas.{ends, goes, leads_next, links_within}
 use Rattle.updn_routes.proofs.RouteLemmas.{first_step, step_first, up_way, way_up}
-
-same_and : (a b c e : Bool) → a ≡ b → c ≡ e → (a && c) ≡ (b && e)
-same_and a b c e h k = rw (h, k) refl
-
-same_or : (a b c e : Bool) → a ≡ b → c ≡ e → (a || c) ≡ (b || e)
-same_or a b c e h k = rw (h, k) refl
 
 long_map : (f : ℕ → ℕ) (xs : List ℕ) → length (map f xs) ≡ length xs
 long_map f [] = refl

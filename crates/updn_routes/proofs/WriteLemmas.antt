@@ -6,11 +6,11 @@ use Rattle.std.specs.List.{fold, list_all, range_with_len}
 use Rattle.std.proofs.Math.ListN.{length-set}
 use Rattle.std.proofs.lemmas.Bool.{and_parts, cases_lt, eqb-true, eqb-false, ltb-true, ne_eqb, false≢true}
 use Rattle.std.proofs.lemmas.List.FromFn.{get_or-map-range_with_len, length-map-range_with_len}
+use Rattle.result_words.proofs.ListLemmas.{list_all_weaker}
 use Rattle.updn_routes.specs.declared.link.Link.{Link}
 use Rattle.updn_routes.specs.declared.table.Hop.{Hop}
 use Rattle.updn_routes.specs.Cabling.{links_of}
-use Rattle.updn_routes.specs.Tables.{AllDown, AllUp, AllWithin, AreTables, IsDownFrom, IsTable, IsUpTo, best_of, entry_at, entry_first, home, or_better, or_link, or_up, shorter}
-use Rattle.updn_routes.proofs.CablingLemmas.{list_all_weaker}
+use Rattle.updn_routes.specs.Tables.{AllDown, AllUp, AllWithin, AreTables, IsDownFrom, IsTable, IsUpTo, best_of, entry_at, entry_first, home, or_better, or_link, or_up}
 
 -- ---- lists
 pub past_end : {X : Type 0} (xs : List X) (i : ℕ) (d : X) → length xs ≤ i → get_or xs i d ≡ d

@@ -1,7 +1,8 @@
 use Rattle.std.proofs.Common.{◌≡◌, get_or, refl, sym, ap, ◌∙◌, arith, length, ◌≤◌}
 use Rattle.std.proofs.lemmas.Result.{err_from_is_err_and}
 use Rattle.partition_file.specs.Fault.{fault_in}
-use Rattle.partition_file.specs.Pieces.{is_delimiter, is_line_end}
+use Rattle.text_words.specs.Lines.{is_line_end}
+use Rattle.partition_file.specs.Pieces.{is_delimiter}
 use Rattle.partition_file.proofs.ReadLemmas.{starts, goes_on, stops, ends, next_from, next_line}
 use Rattle.partition_file.proofs.reader.definitions_of.Goals as goal
 use Rattle.partition_file.proofs.reader.definitions_of.Goals.{then-is_delimiter, else-is_delimiter, then-is_line_end, else-is_line_end}

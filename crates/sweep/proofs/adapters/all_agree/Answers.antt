@@ -3,7 +3,7 @@ use Rattle.std.proofs.lemmas.List.{drop_all, take_more}
 use Rattle.indexmap.specs.IndexMap.{get}
 use Rattle.sweep.specs.Adapters.{is_count}
 use Rattle.sweep.specs.declared.graph.GraphPort.{GraphPort}
-use Rattle.sweep.proofs.AdapterLemmas.{agree_on, agree_whole, ends, goes_on, has, has_more, kept_agrees, none, not_new, tell, tell_more}
+use Rattle.sweep.proofs.AdapterLemmas.{agree_on, agree_whole, ends, goes_on, has, has_more, kept_agrees, no_port, not_new, tell, tell_more}
 use Rattle.sweep.proofs.adapters.all_agree.Goals as goal
 
 pub loop-port-init : goal.loop-port-init
@@ -17,8 +17,8 @@ pub returns-then-not-is_new : goal.returns-then-not-is_new
 returns-then-not-is_new c =
     let ports = c.args.ports.now in
     let i = c.loop-port.port-index in
-    let port = get_or ports i none in
-    ends ports i none c.loop-port-test.true c.loop-port.invariant.agree
+    let port = get_or ports i no_port in
+    ends ports i no_port c.loop-port-test.true c.loop-port.invariant.agree
     (kept_agrees (take i ports) port _ _ _ (c.loop-port.invariant.told port.node_guid port.num_ports)
     (c.loop-port.invariant.kept (record { guid = port.node_guid; number = port.number })) c.in_ok-is_new.ensures.added
     ∙ not_new _ _ c.if-not-is_new.true)
@@ -27,8 +27,8 @@ pub returns-then-not-is_count : goal.returns-then-not-is_count
 returns-then-not-is_count c =
     let ports = c.args.ports.now in
     let i = c.loop-port.port-index in
-    let port = get_or ports i none in
-    ends ports i none c.loop-port-test.true c.loop-port.invariant.agree
+    let port = get_or ports i no_port in
+    ends ports i no_port c.loop-port-test.true c.loop-port.invariant.agree
     (kept_agrees (take i ports) port _ _ _ (c.loop-port.invariant.told port.node_guid port.num_ports)
     (c.loop-port.invariant.kept (record { guid = port.node_guid; number = port.number })) c.in_ok-is_new.ensures.added
     ∙ ap (λ (b : Bool). b && c.in_ok-is_new.is_new) (sym (ap (is_count port.num_ports) c.in_ok-told.ensures.old) ∙ sym c.is_count.ensures ∙ c.if-not-is_count.true))
@@ -37,11 +37,11 @@ pub loop-port-preserved : goal.loop-port-preserved
 loop-port-preserved c =
     let ports = c.args.ports.now in
     let i = c.loop-port.port-index in
-    let port = get_or ports i none in
-    let more = take_more ports i none c.loop-port-test.true in
+    let port = get_or ports i no_port in
+    let more = take_more ports i no_port c.loop-port-test.true in
     let same = sym (ap (is_count port.num_ports) c.in_ok-told.ensures.old) ∙ sym c.is_count.ensures ∙ c.if-not-is_count.false in
     record {
-      agree = goes_on ports i none c.loop-port-test.true c.loop-port.invariant.agree
+      agree = goes_on ports i no_port c.loop-port-test.true c.loop-port.invariant.agree
           (kept_agrees (take i ports) port _ _ _ (c.loop-port.invariant.told port.node_guid port.num_ports)
           (c.loop-port.invariant.kept (record { guid = port.node_guid; number = port.number })) c.in_ok-is_new.ensures.added
           ∙ ap (λ (b : Bool). b && c.in_ok-is_new.is_new) same ∙ c.if-not-is_new.false);

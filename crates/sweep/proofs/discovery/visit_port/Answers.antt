@@ -1,9 +1,8 @@
 use Rattle.std.proofs.Common.{ℕ, arith, ◌∙◌, ap, sym, length, List, true, false}
-use Rattle.fabric_parts.specs.Cable.{far_end}
+use Rattle.fabric_parts.specs.Cable.{far_end, port}
 use Rattle.fabric_parts.specs.NodeType.{is_switch_type}
 use Rattle.smp_wire.proofs.CableLemmas.{far_is_port}
 use Rattle.smp_wire.specs.Walk.{end_of}
-use Rattle.sweep.specs.Graph.{port}
 use Rattle.sweep.proofs.CabledLemmas.{end_more, far_of}
 use Rattle.sweep.proofs.StartLemmas.{kind_at, seen_err, seen_ok}
 use Rattle.sweep.proofs.VisitLemmas.{adapter_on, base, behind_it, no_cable, nothing_on, same_bit}

@@ -1,7 +1,8 @@
 use Rattle.std.proofs.Common.{◌∙◌, ◌++◌, ◌∷◌, [], ap, get_or, sym}
 use Rattle.std.proofs.lemmas.Option.{same_Some}
 use Rattle.sweep.specs.declared.graph.GraphSwitch.{GraphSwitch}
-use Rattle.table_push.proofs.CableLemmas.{at_adapter, at_switch, cable_ends, fits, home, no_port, puts_along}
+use Rattle.sweep.proofs.AdapterLemmas.{no_port}
+use Rattle.table_push.proofs.CableLemmas.{at_adapter, at_switch, cable_ends, fits, home, puts_along}
 use Rattle.table_push.proofs.LeadLemmas.{no_fault}
 use Rattle.table_push.proofs.keys.to_cable.Goals as goal
 

@@ -1,7 +1,8 @@
 use Rattle.std.proofs.Common.{◌∙◌, ◌++◌, ◌∷◌, [], ap, arith, get_or, length, sym}
 use Rattle.std.proofs.lemmas.Option.{same_Some}
 use Rattle.sweep.specs.declared.graph.GraphSwitch.{GraphSwitch}
-use Rattle.table_push.proofs.CableLemmas.{fits, home, no_port}
+use Rattle.sweep.proofs.AdapterLemmas.{no_port}
+use Rattle.table_push.proofs.CableLemmas.{fits, home}
 use Rattle.table_push.proofs.LeadLemmas.{no_fault}
 use Rattle.table_push.proofs.PortCableLemmas.{adapter_own, adapter_told, before_told, cable_told, changes_along}
 use Rattle.table_push.proofs.ports.to_cable.Goals as goal

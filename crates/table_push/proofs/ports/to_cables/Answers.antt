@@ -1,7 +1,7 @@
 use Rattle.std.proofs.Common.{◌<◌, ap, arith, get_or, length}
 use Rattle.std.proofs.lemmas.Option.{slice_get-get_or}
 use Rattle.sweep.specs.Graph.{GraphState}
-use Rattle.table_push.proofs.CableLemmas.{no_port}
+use Rattle.sweep.proofs.AdapterLemmas.{no_port}
 use Rattle.table_push.proofs.LeadLemmas.{no_fault}
 use Rattle.table_push.proofs.PortCableLemmas.{at_first, cables_begin, cables_end, cables_more}
 use Rattle.table_push.proofs.ports.to_cables.Goals as goal
