@@ -1,4 +1,4 @@
--- How an agent of subnet management answers (InfiniBand volume 1, chapter 14), whatever kind of node it
+-- How an agent of subnet management answers (IBA volume 1, chapter 14), whatever kind of node it
 -- is the agent of. That kind says two things: what it gives for a Get, and what it holds after a Set.
 -- Both refuse by a status: first an attribute that is not there or cannot be set, then a modifier or a
 -- value.

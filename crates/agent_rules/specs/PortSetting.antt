@@ -1,4 +1,4 @@
--- What a Set of PortInfo (InfiniBand volume 1, 14.2.5.6) asks for, when a port of a simulated node takes
+-- What a Set of PortInfo (IBA volume 1, 14.2.5.6) asks for, when a port of a simulated node takes
 -- it, and what the port has then. All other fields of the attribute are not looked at.
 use Rattle.std.specs.Prelude.{ℕ, ◌^◌, ◌<◌, ◌==◌, Bool, ◌&&◌, ◌||◌, nat_le, if◌then◌else◌, List, Result, Ok, Err}
 use Rattle.fabric_parts.specs.declared.lid.TheConstants.{LAST_UNICAST_LID}

@@ -1,4 +1,4 @@
--- What an SMP asks of an agent of subnet management (InfiniBand volume 1, 13.4.2 and 14.2.1.2), and its reply.
+-- What an SMP asks of an agent of subnet management (IBA volume 1, 13.4.2 and 14.2.1.2), and its reply.
 use Rattle.std.specs.Prelude.{ℕ, ◌≡◌, ◌+◌, ◌%◌, ◌≤◌, ◌==◌, Bool, true, not, ◌&&◌, ◌||◌, nat_le, if◌then◌else◌, List, [], ◌∷◌, take, drop, Result, Ok, Err}
 use Rattle.std.specs.Option.{ok_or}
 use Rattle.mad_layout.specs.Bits.{number, field}

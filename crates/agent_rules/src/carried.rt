@@ -1,3 +1,5 @@
+//! What a Set carries, read from the attribute that it has.
+
 ghost use Rattle.std.specs.Prelude.{◌≡◌};
 ghost use Rattle.agent_rules.specs.Carried.{linear_fdb_top_in, ports_in, words_in};
 

@@ -1,3 +1,5 @@
+//! The laws of agents. Each function's contract is its law; it does nothing.
+
 ghost use Rattle.std.specs.Prelude.{◌≡◌};
 ghost use Rattle.agent_rules.specs.declared.power_up.TheConstants.{LINEAR_TABLE, MULTICAST_TABLE};
 ghost use Rattle.agent_rules.specs.declared.request.TheConstants.{DIRECTED_ROUTE_CLASS, SMP_VERSION};

@@ -4,8 +4,8 @@
 //! [`port_info_after`] is a Set of PortInfo, [`word_block_at`] and [`set_word_block`] read and set a
 //! block of a table of keys or masks. [`port_info_at_power_up`] and its like say what a simulated node
 //! has at power-up, by its [`Link`]s. A kind of node adds what it gives for a Get and what it takes from
-//! a Set (`specs/Agent.antt`). The rules are those of the InfiniBand Architecture Specification, volume
-//! 1, chapters 13 and 14; what a node has at power-up is ours.
+//! a Set (`specs/Agent.antt`). The rules are those of the IBA volume 1
+//!, chapters 13 and 14; what a node has at power-up is ours.
 #![tactic(auto)]
 
 mod carried;

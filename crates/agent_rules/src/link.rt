@@ -1,3 +1,5 @@
+//! What a port of a node is joined to.
+
 /// What a simulated port is linked to.
 #[derive(Clone, Copy, Debug, PartialEq, Eq)]
 pub enum Link {

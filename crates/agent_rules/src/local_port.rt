@@ -1,3 +1,5 @@
+//! PortInfo, as it is shown to who comes in at a port.
+
 ghost use Rattle.std.specs.Prelude.{◌≡◌, ◌<◌};
 ghost use Rattle.mad_layout.specs.Layout.{Fits};
 ghost use Rattle.attr_tables.specs.PortInfo.{port_info, port_info_bytes};

@@ -1,3 +1,5 @@
+//! What a Set of PortInfo asks for, and what a port makes of it.
+
 ghost use Rattle.std.specs.Prelude.{◌≡◌, IfOk};
 ghost use Rattle.mad_layout.specs.Layout.{Fits};
 ghost use Rattle.attr_tables.specs.PortInfo.{port_info};

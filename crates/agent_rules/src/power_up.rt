@@ -1,3 +1,5 @@
+//! What nodes hold at power-up.
+
 ghost use Rattle.std.specs.Prelude.{◌≡◌};
 ghost use Rattle.agent_rules.specs.PowerUp.{is_uncabled, keys_at_power_up, node_info_of, port_info_at_power_up, switch_info_at_power_up};
 ghost use Rattle.attr_tables.specs.PortInfo.{port_info};
@@ -7,7 +9,7 @@ ghost use Rattle.mad_layout.specs.Layout.{Fits};
 use crate::link::Link;
 use attr_tables::{Mtu, NodeInfo, PortInfo, PortPhysicalState, PortState, SwitchInfo};
 use fabric_parts::NodeType;
-use pkey_rules::PARTITIONS;
+use pkey_rules::{DEFAULT_BASE, PARTITIONS, key_of};
 
 /// How many entries the linear forwarding table of a simulated switch has.
 pub const LINEAR_TABLE: usize = 512;
@@ -96,6 +98,6 @@ pub fn keys_at_power_up() -> [u16; PARTITIONS]
     ensures { result ≡ keys_at_power_up }
 {
     let mut keys = [0; PARTITIONS];
-    keys[0] = 0xffff;
+    keys[0] = key_of(DEFAULT_BASE, true);
     keys
 }

@@ -1,3 +1,5 @@
+//! What an SMP asks for, and the reply in its place.
+
 ghost use Rattle.std.specs.Prelude.{◌≡◌, ◌+◌, ◌%◌, ◌<◌, ◌^◌, ◌≤◌, Ok, Err, IfOk};
 ghost use Rattle.mad_layout.specs.Bits.{number, field};
 ghost use Rattle.mad_layout.specs.MadStatus.{mad_status_code};

@@ -1,3 +1,5 @@
+//! Tables of 16-bit words, read and set by blocks.
+
 ghost use Rattle.std.specs.Prelude.{◌≡◌};
 ghost use Rattle.agent_rules.specs.Agent.{word_block, set_word_block, Leaves};
 

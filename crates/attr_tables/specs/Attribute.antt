@@ -1,4 +1,4 @@
--- An attribute of subnet management (InfiniBand volume 1, chapter 14): the 64 bytes that an SMP carries.
+-- An attribute of subnet management (IBA volume 1, chapter 14): the 64 bytes that an SMP carries.
 use Rattle.std.specs.Prelude.{ℕ, ◌≡◌, List, length}
 use Rattle.std.specs.Int.Digits.{AllBelowBase}
 

@@ -1,4 +1,4 @@
--- The lengths that a packet may have (InfiniBand volume 1, 14.2.5.6), by their codes: each is twice the one before.
+-- The lengths that a packet may have (IBA volume 1, 14.2.5.6), by their codes: each is twice the one before.
 use Rattle.std.specs.Prelude.{ℕ, ◌*◌, ◌^◌}
 use Rattle.attr_tables.specs.declared.mtu.Mtu.{Mtu}
 use Rattle.attr_tables.specs.declared.mtu.Mtu.TheVariants.{Bytes256, Bytes512, Bytes1024, Bytes2048, Bytes4096}

@@ -1,4 +1,4 @@
--- NodeInfo (InfiniBand volume 1, 14.2.5.3): the places of its fields in the 64 bytes of the attribute.
+-- NodeInfo (IBA volume 1, 14.2.5.3): the places of its fields in the 64 bytes of the attribute.
 use Rattle.std.specs.Prelude.{ℕ, List, [], ◌∷◌, replicate}
 use Rattle.mad_layout.specs.Layout.{Field, at, put_all}
 use Rattle.attr_tables.specs.declared.node_info.NodeInfo.{NodeInfo}

@@ -1,4 +1,4 @@
--- PortInfo (InfiniBand volume 1, 14.2.5.6): the places of its fields in the 64 bytes of the attribute.
+-- PortInfo (IBA volume 1, 14.2.5.6): the places of its fields in the 64 bytes of the attribute.
 use Rattle.std.specs.Prelude.{ℕ, List, [], ◌∷◌, replicate}
 use Rattle.mad_layout.specs.Bits.{bit_of}
 use Rattle.mad_layout.specs.Layout.{Field, at, put_all}

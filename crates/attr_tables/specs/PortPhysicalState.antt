@@ -1,4 +1,4 @@
--- The states of the physical link (InfiniBand volume 1, 14.2.5.6) that a simulated port has, by their codes.
+-- The states of the physical link (IBA volume 1, 14.2.5.6) that a simulated port has, by their codes.
 use Rattle.std.specs.Prelude.{ℕ}
 use Rattle.attr_tables.specs.declared.port_physical_state.PortPhysicalState.{PortPhysicalState}
 use Rattle.attr_tables.specs.declared.port_physical_state.PortPhysicalState.TheVariants.{Polling, LinkUp}

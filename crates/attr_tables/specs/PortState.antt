@@ -1,4 +1,4 @@
--- The states of a link (InfiniBand volume 1, 14.2.5.6), by their codes.
+-- The states of a link (IBA volume 1, 14.2.5.6), by their codes.
 use Rattle.std.specs.Prelude.{ℕ}
 use Rattle.attr_tables.specs.declared.port_state.PortState.{PortState}
 use Rattle.attr_tables.specs.declared.port_state.PortState.TheVariants.{NoChange, Down, Initialize, Armed, Active}

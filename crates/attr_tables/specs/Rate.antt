@@ -1,4 +1,4 @@
--- The speeds of a path (InfiniBand volume 1, 15.2.5), by their codes.
+-- The speeds of a path (IBA volume 1, 15.2.5), by their codes.
 use Rattle.std.specs.Prelude.{ℕ}
 use Rattle.attr_tables.specs.declared.rate.Rate.{Rate}
 use Rattle.attr_tables.specs.declared.rate.Rate.TheVariants.{Gbps2_5, Gbps10, Gbps30, Gbps5, Gbps20, Gbps40, Gbps60, Gbps80, Gbps120}

@@ -1,4 +1,4 @@
--- The attributes of SMPs (InfiniBand volume 1, chapter 14), by their codes.
+-- The attributes of SMPs (IBA volume 1, chapter 14), by their codes.
 use Rattle.std.specs.Prelude.{ℕ, ◌==◌, if◌then◌else◌, Option, Some, None}
 use Rattle.attr_tables.specs.declared.smp_attribute.SmpAttribute.{SmpAttribute}
 use Rattle.attr_tables.specs.declared.smp_attribute.SmpAttribute.TheVariants.{NodeDescription, NodeInfo, SwitchInfo, PortInfo, PKeyTable}

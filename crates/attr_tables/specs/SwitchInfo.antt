@@ -1,4 +1,4 @@
--- SwitchInfo (InfiniBand volume 1, chapter 14): the places of its fields in the 64 bytes of the attribute.
+-- SwitchInfo (IBA volume 1, chapter 14): the places of its fields in the 64 bytes of the attribute.
 use Rattle.std.specs.Prelude.{ℕ, List, [], ◌∷◌, replicate}
 use Rattle.mad_layout.specs.Bits.{bit_of}
 use Rattle.mad_layout.specs.Layout.{Field, at, put_all}

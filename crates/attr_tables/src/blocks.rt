@@ -1,3 +1,5 @@
+//! Where the entries of a table stand in its blocks.
+
 ghost use Rattle.std.specs.Prelude.{◌<◌};
 ghost use Rattle.attr_tables.specs.Blocks.{IsBlockCount, StandsAt};
 

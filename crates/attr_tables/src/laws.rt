@@ -1,3 +1,5 @@
+//! That each attribute is read back as it was written. The functions do nothing; their contracts are the laws.
+
 ghost use Rattle.attr_tables.specs.declared.blocks.TheConstants.{PORTS_PER_BLOCK, WORDS_PER_BLOCK};
 ghost use Rattle.std.specs.Prelude.{◌≡◌, ◌<◌};
 ghost use Rattle.attr_tables.specs.Blocks.{word_bytes};

@@ -4,8 +4,8 @@
 //! of places that stands in `specs/`, in the terms of `mad_layout`. [`PortState`],
 //! [`PortPhysicalState`], [`Mtu`], [`Rate`] and [`SmpAttribute`] name codes. [`PortBlock`] and
 //! [`WordBlock`] are the blocks in which forwarding tables and key tables travel, and [`block_place`]
-//! says where an entry stands. The layouts are those of the InfiniBand Architecture Specification,
-//! volume 1, chapter 14.
+//! says where an entry stands. The layouts are those of the IBA volume 1
+//!, chapter 14.
 #![tactic(auto)]
 
 mod blocks;

@@ -1,3 +1,5 @@
+//! The codes of MTUs.
+
 ghost use Rattle.std.specs.Prelude.{◌≡◌, Some, IfSome};
 ghost use Rattle.attr_tables.specs.Mtu.{mtu_code, mtu_bytes};
 

@@ -1,3 +1,5 @@
+//! NodeDescription.
+
 ghost use Rattle.std.specs.Prelude.{◌≡◌, ◌≤◌, ◌-◌, ◌++◌, length, replicate};
 
 /// The name of a node: text, and zero bytes after it.

@@ -1,3 +1,5 @@
+//! A block of 64 ports, of which linear forwarding tables are made.
+
 ghost use Rattle.std.specs.Prelude.{◌≡◌};
 ghost use Rattle.attr_tables.specs.Blocks.{HoldsEntries};
 

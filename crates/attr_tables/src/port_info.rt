@@ -1,3 +1,5 @@
+//! PortInfo.
+
 ghost use Rattle.std.specs.Prelude.{◌≡◌, Some, IfSome, replicate};
 ghost use Rattle.mad_layout.specs.Layout.{Holds, Fits, put_all, Spells};
 ghost use Rattle.attr_tables.specs.Mtu.{mtu_code};

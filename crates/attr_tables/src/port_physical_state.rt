@@ -1,3 +1,5 @@
+//! The states of a physical link.
+
 ghost use Rattle.std.specs.Prelude.{◌≡◌, Some, IfSome};
 ghost use Rattle.attr_tables.specs.PortPhysicalState.{port_physical_state_code};
 

@@ -1,3 +1,5 @@
+//! The states of a port.
+
 ghost use Rattle.std.specs.Prelude.{◌≡◌, Some, IfSome};
 ghost use Rattle.attr_tables.specs.PortState.{port_state_code};
 

@@ -1,3 +1,5 @@
+//! The codes of rates.
+
 ghost use Rattle.std.specs.Prelude.{◌≡◌, Some, IfSome};
 ghost use Rattle.attr_tables.specs.Rate.{rate_code};
 

@@ -1,3 +1,5 @@
+//! The attributes of subnet management, by their codes.
+
 ghost use Rattle.std.specs.Prelude.{◌≡◌, Some, IfSome};
 ghost use Rattle.attr_tables.specs.SmpAttribute.{smp_attribute_code, smp_attribute_of};
 

@@ -1,3 +1,5 @@
+//! SwitchInfo.
+
 ghost use Rattle.std.specs.Prelude.{◌≡◌, ◌<◌, replicate};
 ghost use Rattle.mad_layout.specs.Layout.{Holds, Fits, put_all, Spells};
 ghost use Rattle.attr_tables.specs.SwitchInfo.{switch_info, switch_info_bytes};

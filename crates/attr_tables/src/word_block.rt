@@ -1,3 +1,5 @@
+//! A block of 32 words, of which key tables and masks are made.
+
 ghost use Rattle.std.specs.Prelude.{◌≡◌, ◌<◌, ℕ, slice_index};
 ghost use Rattle.attr_tables.specs.Blocks.{HoldsEntries, word_bytes};
 

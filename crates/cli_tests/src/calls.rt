@@ -3,7 +3,6 @@
 use crate::memory::{Manner, Refusal, Shelf, Sink, Source};
 use fabric_cli::serve;
 use std::alloc::{AllocError, Global};
-use std::process::ExitCode;
 
 /// What a call answers.
 #[derive(Drop)]
@@ -12,16 +11,6 @@ pub struct Answer {
     pub out: Vec<u8>,
     pub err: Vec<u8>,
     pub opened: Option<Vec<String>>,
-}
-
-/// The status as a number, which the code itself does not give: 4 for any that the program does not have.
-fn number_of(code: ExitCode) -> u8 {
-    for status in 0..4 {
-        if code == ExitCode::from(status) {
-            return status;
-        }
-    }
-    4
 }
 
 /// What the program answers to these words, over these files.
@@ -41,10 +30,10 @@ pub fn told<'a>(
         names: Some(Vec::new(alloc)),
     };
     let mut err = Vec::new(alloc);
-    let code = serve(alloc, Ok(given.into_iter()), &mut shelf, out, &mut err);
+    let status = serve(alloc, given.as_slice(), &mut shelf, out, &mut err);
     let Shelf { names, .. } = shelf;
     Ok(Answer {
-        status: number_of(code),
+        status,
         out: out.bytes.clone()?,
         err,
         opened: names,

@@ -14,5 +14,5 @@ mod refusal;
 pub use crate::laws::the_numbers;
 pub use crate::packet::Packet;
 pub use crate::payload::{PAYLOAD_BYTES, Payload};
-pub use crate::queue_pair::QueuePair;
+pub use crate::queue_pair::{GENERAL_SERVICES_QP, QueuePair, SUBNET_MANAGEMENT_QP};
 pub use crate::refusal::Refusal;

@@ -1,3 +1,5 @@
+//! The packet.
+
 use crate::payload::Payload;
 use crate::queue_pair::QueuePair;
 use pkey_rules::PKey;

@@ -1,3 +1,5 @@
+//! Why a port refuses to send.
+
 ghost use Rattle.std.specs.Prelude.{◌≡◌};
 ghost use Rattle.data_packet.specs.Refusal.{code_of};
 

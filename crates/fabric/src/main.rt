@@ -1,15 +1,15 @@
 //! The program `fabric`: an InfiniBand subnet manager over a simulated fabric.
 //!
-//! [`fabric_cli::serve`] does all the work, over any words, any files and any two writers; `main` gives it the
+//! [`fabric_cli::serve_given`] does all the work, over any words, any files and any two writers; `main` gives it the
 //! machine's.
 #![tactic(auto)]
 
-use fabric_cli::{MachineFiles, serve};
+use fabric_cli::{MachineFiles, serve_given};
 use std::env;
 use std::process::ExitCode;
 
 fn main(rt: HostRuntime) -> ExitCode {
-    serve(
+    serve_given(
         rt.alloc(),
         env::args(&rt),
         &mut MachineFiles::new(&rt),

@@ -4,18 +4,18 @@ use Rattle.result_words.specs.AtLine.{AtLine}
 use Rattle.result_words.specs.Gives.{Fails}
 use Rattle.result_words.specs.Steps.{◌>>=◌}
 use Rattle.result_words.proofs.StepLemmas.{same_err}
-use Rattle.topo_file.specs.Topology.{Plan, topology_of}
+use Rattle.topo_file.specs.Topology.{TopologyState, topology_of}
 use Rattle.partition_file.specs.declared.partition.Partition.{Partition}
 use Rattle.fabric_parts.specs.declared.cable.PortRef.{PortRef}
 use Rattle.subnet_core.specs.BringUp.{Becomes, FailsWith, IsUp, Turns, WithFabric, stop_of, up_from}
 use Rattle.subnet_core.specs.Listing.{listing_text}
 use Rattle.subnet_core.specs.EventLines.{report_text}
-use Rattle.subnet_core.specs.Roster.{Rostered, fault_in, of_text, partitions_for, roster_of}
+use Rattle.subnet_core.specs.Roster.{RosterState, fault_in, of_text, partitions_for, roster_of}
 use Rattle.subnet_core.specs.Run.{ReportState, report_of}
 use Rattle.subnet_core.specs.Script.{commands_in}
 use Rattle.subnet_core.specs.declared.fault.RunFault.{RunFault}
 use Rattle.subnet_core.specs.declared.fault.RunFault.TheVariants as run
-use Rattle.subnet_fabric.specs.BringUp.{Up}
+use Rattle.subnet_fabric.specs.BringUp.{BroughtUpState}
 use Rattle.subnet_model.specs.declared.command.Command.{Command}
 use Rattle.sweep.specs.declared.fault.SweepFault.TheVariants as sweep
 use Rattle.fabric_cli.specs.Faults.{run_line, run_status}
@@ -40,13 +40,13 @@ pub roster_at_one : (topology : List ℕ) (partitions : Option (List ℕ)) (faul
 unfolding roster_of
 roster_at_one topology partitions fault is = by (of_text run.Topology (topology_of topology)) refl (partitions_for partitions) refl
   where
-    by : (read : Result Plan RunFault) → of_text run.Topology (topology_of topology) ≡ read → (all : Result (List Partition) RunFault) → partitions_for partitions ≡ all
+    by : (read : Result TopologyState RunFault) → of_text run.Topology (topology_of topology) ≡ read → (all : Result (List Partition) RunFault) → partitions_for partitions ≡ all
         → run_status fault ≡ 1
     by (Err other) e all p = let same : other ≡ fault = same_err _ _ (rw e at is) in of_text_at_one run.Topology (λ line cause. refl) _ fault (e ∙ ap Err same)
     by (Ok plan) e (Err other) p = let same : other ≡ fault = same_err _ _ (rw (e, p) at is) in partitions_at_one partitions fault (p ∙ ap Err same)
     by (Ok plan) e (Ok all) p = let none : Ok _ ≡ Err fault = rw (e, p) at is in absurd cc
 
-stop_at_one : (roster : Rostered) (fault : RunFault) → Becomes (Ok roster) (Some fault) → run_status fault ≡ 1
+stop_at_one : (roster : RosterState) (fault : RunFault) → Becomes (Ok roster) (Some fault) → run_status fault ≡ 1
 stop_at_one roster run.NoMemory is = absurd is
 stop_at_one roster (run.Topology line cause) is = absurd is
 stop_at_one roster (run.Partitions line cause) is = absurd is
@@ -64,7 +64,7 @@ up_at_one : (topology : List ℕ) (partitions : Option (List ℕ)) (stop : Optio
 unfolding up_from
 up_at_one topology partitions stop fault becomes is = by (roster_of topology partitions) refl stop refl
   where
-    by : (given : Result Rostered RunFault) → roster_of topology partitions ≡ given → (s : Option RunFault) → stop ≡ s → run_status fault ≡ 1
+    by : (given : Result RosterState RunFault) → roster_of topology partitions ≡ given → (s : Option RunFault) → stop ≡ s → run_status fault ≡ 1
     by (Err other) e s at = let same : other ≡ fault = same_err _ _ (rw e at is) in roster_at_one topology partitions fault (e ∙ ap Err same)
     by (Ok roster) e None at = let none : Ok roster ≡ Err fault = rw (e, at) at is in absurd cc
     by (Ok roster) e (Some other) at =
@@ -77,12 +77,12 @@ report_at_one : (topology : List ℕ) (partitions : Option (List ℕ)) (script :
 unfolding report_of
 report_at_one topology partitions script stop fault becomes is = by (up_from (roster_of topology partitions) stop) refl
   where
-    script_by : (roster : Rostered) → up_from (roster_of topology partitions) stop ≡ Ok roster
+    script_by : (roster : RosterState) → up_from (roster_of topology partitions) stop ≡ Ok roster
         → (read : Result (List Command) RunFault) → of_text run.Script (commands_in roster.plan script) ≡ read → run_status fault ≡ 1
     script_by roster e (Err other) c = let same : other ≡ fault = same_err _ _ (rw (e, c) at is) in of_text_at_one run.Script (λ line cause. refl) _ fault (c ∙ ap Err same)
     script_by roster e (Ok commands) c = let none : Ok _ ≡ Err fault = rw (e, c) at is in absurd cc
 
-    by : (up : Result Rostered RunFault) → up_from (roster_of topology partitions) stop ≡ up → run_status fault ≡ 1
+    by : (up : Result RosterState RunFault) → up_from (roster_of topology partitions) stop ≡ up → run_status fault ≡ 1
     by (Err other) e = let same : other ≡ fault = same_err _ _ (rw e at is) in up_at_one topology partitions stop fault becomes (e ∙ ap Err same)
     by (Ok roster) e = script_by roster e (of_text run.Script (commands_in roster.plan script)) refl
 
@@ -106,7 +106,7 @@ stopped_by judged (run.Script line cause) f = f refl
 nothing_at : PortRef
 nothing_at = record { node = 0; port = 0 }
 
-nothing_up : Up
+nothing_up : BroughtUpState
 nothing_up = record {
   routes = record {
     graph = record { manager = 0; switches = []; rows = []; ports = [] };
@@ -116,8 +116,8 @@ nothing_up = record {
   fabric = record { nodes = []; cables = []; manager = nothing_at };
 }
 
-outcome_of : (given : Result Rostered RunFault) (stop : Option RunFault) → Becomes given stop
-    → (outcome : Result Up RunFault) × Turns given outcome × (stop_of outcome ≡ stop)
+outcome_of : (given : Result RosterState RunFault) (stop : Option RunFault) → Becomes given stop
+    → (outcome : Result BroughtUpState RunFault) × Turns given outcome × (stop_of outcome ≡ stop)
 outcome_of (Ok roster) None becomes = (Ok becomes.0, becomes.1, refl)
 outcome_of (Ok roster) (Some fault) becomes = (Err fault, becomes, refl)
 outcome_of (Err fault) None becomes = (Ok nothing_up, tt, refl)
@@ -128,7 +128,7 @@ module _ (topology : List ℕ) (partitions : Option (List ℕ)) (asked : Work (L
   texts = texts_with topology partitions asked
 
   -- where this becomes of their fabric
-  module _ (outcome : Result Up RunFault) (comes : Comes topology partitions asked outcome) where
+  module _ (outcome : Result BroughtUpState RunFault) (comes : Comes topology partitions asked outcome) where
     abbrev over : Result Bytes Ending
     over = Err (ending_over topology partitions asked outcome)
 
@@ -158,7 +158,7 @@ module _ (topology : List ℕ) (partitions : Option (List ℕ)) (asked : Work (L
     comes_over (Err stop) is = stops_over stop is
 
 -- ---- a fabric that is not brought up
-stop_turns : (found : Result Rostered RunFault) (stop : Option RunFault) (fault : RunFault) → Becomes found stop → up_from found stop ≡ Err fault
+stop_turns : (found : Result RosterState RunFault) (stop : Option RunFault) (fault : RunFault) → Becomes found stop → up_from found stop ≡ Err fault
     → Turns found (Err fault) × ((what : Inspection (List ℕ)) → inspected found what (Err fault) ≡ faulted (run_status fault) (run_line fault))
 unfolding up_from
 stop_turns (Ok roster) None fault becomes is = absurd cc
@@ -166,7 +166,7 @@ stop_turns (Ok roster) (Some other) fault becomes is = (rw (same_err other fault
 stop_turns (Err other) stop fault becomes is = (tt, λ what. rw (same_err other fault is) refl)
 
 module _ (topology : List ℕ) (partitions : Option (List ℕ)) where
-  abbrev given : Result Rostered RunFault
+  abbrev given : Result RosterState RunFault
   given = roster_of topology partitions
 
   -- ---- a listing
@@ -179,7 +179,7 @@ module _ (topology : List ℕ) (partitions : Option (List ℕ)) where
       let one : run_status fault ≡ 1 = up_at_one topology partitions up.stop fault up.becomes up.is in
       (one, record { outcome = turns.0; comes = turns.1; is = rw (turns.2, up.is, one) refl }))
 
-  pub is_listed : (roster : Rostered) (text : List ℕ) → WithFabric given (λ stop. up_from given stop ≡ Ok roster) → text ≡ listing_text roster.configuration
+  pub is_listed : (roster : RosterState) (text : List ℕ) → WithFabric given (λ stop. up_from given stop ≡ Ok roster) → text ≡ listing_text roster.configuration
       → ForEnding (texts_with topology partitions work.Check) (λ ending. ending ≡ complete text)
   is_listed roster text up told =
       let turns = outcome_of given up.stop up.becomes in
@@ -203,13 +203,13 @@ module _ (topology : List ℕ) (partitions : Option (List ℕ)) where
       record { outcome = turns.0; comes = turns.1; is = rw (turns.2, up.is, told) refl }
 
   -- ---- what a fabric holds
-  same_roster : (found : Result Rostered RunFault) (stop : Option RunFault) (roster : Rostered) → up_from found stop ≡ Ok roster → found ≡ Ok roster
+  same_roster : (found : Result RosterState RunFault) (stop : Option RunFault) (roster : RosterState) → up_from found stop ≡ Ok roster → found ≡ Ok roster
   unfolding up_from
   same_roster (Ok other) None roster is = is
   same_roster (Ok other) (Some fault) roster is = absurd cc
   same_roster (Err fault) stop roster is = absurd cc
 
-  pub is_inspected : (what : Inspection (List ℕ)) (roster : Rostered) (up : Up) (result : Result (Vec ℕ Global) Stop)
+  pub is_inspected : (what : Inspection (List ℕ)) (roster : RosterState) (up : BroughtUpState) (result : Result (Vec ℕ Global) Stop)
       → WithFabric given (λ stop. up_from given stop ≡ Ok roster) → IsUp roster up
       → ComesTo (λ text. text.items) (Err (looked_at roster up what)) result
       → ComesTo (λ text. text.items) (texts_with topology partitions (work.Inspect what)) result
@@ -239,7 +239,7 @@ module _ (topology : List ℕ) (partitions : Option (List ℕ)) where
   shares_stop port fault fails =
       run_over topology partitions (work.Shares port) (Err run.NoMemory) tt fault (roster_stops fault (shares_in given port) fails (λ at. rw at refl))
 
-  pub shares_come : (port : Option (List ℕ)) (roster : Rostered) (result : Result (Vec ℕ Global) Stop) → given ≡ Ok roster
+  pub shares_come : (port : Option (List ℕ)) (roster : RosterState) (result : Result (Vec ℕ Global) Stop) → given ≡ Ok roster
       → ComesTo (λ text. text.items) (Err (shares_in (Ok roster) port)) result
       → ComesTo (λ text. text.items) (texts_with topology partitions (work.Shares port)) result
   shares_come port roster result is comes = comes_over topology partitions (work.Shares port) (Err run.NoMemory) tt result (rw is comes)
@@ -249,13 +249,13 @@ module _ (topology : List ℕ) (partitions : Option (List ℕ)) where
       run_over topology partitions (work.Diff second) (Err run.NoMemory) tt fault
       (roster_stops fault (changes_in given (roster_of topology second)) fails (λ at. rw at refl))
 
-  pub changes_come : (second : Option (List ℕ)) (before : Rostered) (result : Result (Vec ℕ Global) Stop) → given ≡ Ok before
+  pub changes_come : (second : Option (List ℕ)) (before : RosterState) (result : Result (Vec ℕ Global) Stop) → given ≡ Ok before
       → ComesTo (λ text. text.items) (Err (changes_in (Ok before) (roster_of topology second))) result
       → ComesTo (λ text. text.items) (texts_with topology partitions (work.Diff second)) result
   changes_come second before result is comes = comes_over topology partitions (work.Diff second) (Err run.NoMemory) tt result (rw is comes)
 
 -- the second partitions
-pub second_stops : (before : Rostered) (topology : List ℕ) (second : Option (List ℕ)) (fault : RunFault) → Fails (fault_in fault) (roster_of topology second)
+pub second_stops : (before : RosterState) (topology : List ℕ) (second : Option (List ℕ)) (fault : RunFault) → Fails (fault_in fault) (roster_of topology second)
     → Stops (Err (changes_in (Ok before) (roster_of topology second))) (second_stop fault)
 second_stops before topology second run.NoMemory fails = tt
 second_stops before topology second (run.Topology line cause) fails = roster_stops topology second (run.Topology line cause) (changes_in (Ok before) (roster_of topology second)) fails (λ at. rw at refl)

@@ -10,19 +10,19 @@ use Rattle.subnet_model.specs.declared.subnet_port.SubnetPort.{SubnetPort}
 use Rattle.subnet_core.specs.declared.fault.ScriptCause.{ScriptCause}
 use Rattle.subnet_core.specs.Fault.{code_of as script_code}
 use Rattle.fabric_graph.specs.Graph.{graph_text}
-use Rattle.fabric_keys.specs.Keys.{keys_text}
+use Rattle.fabric_tables.specs.Keys.{keys_text}
 use Rattle.fabric_parts.specs.declared.cable.PortRef.{PortRef}
-use Rattle.linear_tables.specs.Tables.{tables_text}
+use Rattle.fabric_tables.specs.Tables.{tables_text}
 use Rattle.packet_trace.specs.Lines.{trace_text}
 use Rattle.partition_file.specs.Fault.{code_of as partitions_code}
 use Rattle.partition_changes.specs.Changes.{text_of_changes}
 use Rattle.subnet_core.specs.Listing.{listing_text}
 use Rattle.subnet_core.specs.NamedPort.{adapter_place, named_port}
-use Rattle.subnet_fabric.specs.BringUp.{Up}
+use Rattle.subnet_fabric.specs.BringUp.{BroughtUpState}
 use Rattle.subnet_core.specs.BringUp.{Turns, stop_of, up_from}
-use Rattle.subnet_core.specs.Roster.{Rostered, roster_of}
+use Rattle.subnet_core.specs.Roster.{RosterState, roster_of}
 use Rattle.subnet_core.specs.Run.{report_of}
-use Rattle.topo_file.specs.Topology.{Plan}
+use Rattle.topo_file.specs.Topology.{TopologyState}
 use Rattle.result_words.specs.Steps.{◌>>=◌}
 use Rattle.subnet_core.specs.EventLines.{report_text}
 use Rattle.fabric_cli.specs.declared.faults.Stop.{Stop}
@@ -113,7 +113,7 @@ ending_by (Ok output) = complete output
 ending_by (Err fault) = faulted (run_status fault) (run_line fault)
 
 -- the GUID of the port that a word names, if there is a word
-abbrev pub asked_port : Plan → Option (List ℕ) → Result (Option ℕ) ScriptCause
+abbrev pub asked_port : TopologyState → Option (List ℕ) → Result (Option ℕ) ScriptCause
 asked_port plan None = Ok None
 asked_port plan (Some word) = named_port plan word >>= λ guid. Ok (Some guid)
 
@@ -122,7 +122,7 @@ shares_told ports (Ok asked) = complete (shares_text asked ports)
 shares_told ports (Err cause) = faulted 1 (port_line (script_code cause))
 
 -- the shares in a subnet: the texts are judged before the word for a port
-abbrev pub shares_in : Result Rostered RunFault → Option (List ℕ) → Ending
+abbrev pub shares_in : Result RosterState RunFault → Option (List ℕ) → Ending
 shares_in (Ok roster) port = shares_told roster.configuration.ports (asked_port roster.plan port)
 shares_in (Err fault) port = faulted (run_status fault) (run_line fault)
 
@@ -131,34 +131,34 @@ abbrev pub second_told : RunFault → Ending
 second_told (run.Partitions line cause) = faulted 1 (second_line (partitions_code cause) line)
 second_told fault = faulted (run_status fault) (run_line fault)
 
-abbrev pub changes_in : Result Rostered RunFault → Result Rostered RunFault → Ending
+abbrev pub changes_in : Result RosterState RunFault → Result RosterState RunFault → Ending
 changes_in (Ok before) (Ok after) = complete (text_of_changes before.configuration after.configuration)
 changes_in (Ok before) (Err fault) = second_told fault
 changes_in (Err fault) after = faulted (run_status fault) (run_line fault)
 
 -- ---- what the fabric of a subnet holds, by its routes
 -- the way of a packet: the fabric is brought up before the word for its port is judged
-abbrev pub traced : Rostered → Up → (dlid p_key : ℕ) → Result PortRef ScriptCause → Ending
+abbrev pub traced : RosterState → BroughtUpState → (dlid p_key : ℕ) → Result PortRef ScriptCause → Ending
 traced roster up dlid p_key (Ok from) = complete (trace_text roster.plan.nodes up.fabric from dlid p_key)
 traced roster up dlid p_key (Err cause) = faulted 1 (port_line (script_code cause))
 
-abbrev pub looked_at : Rostered → Up → Inspection (List ℕ) → Ending
+abbrev pub looked_at : RosterState → BroughtUpState → Inspection (List ℕ) → Ending
 looked_at roster up Tables = complete (tables_text roster.plan.nodes roster.configuration.ports up.routes.graph.switches up.fabric)
 looked_at roster up Keys = complete (keys_text roster.plan.nodes roster.configuration.ports up.fabric)
 looked_at roster up (Trace port dlid p_key) = traced roster up dlid p_key (adapter_place roster.plan port)
 looked_at roster up Graph = complete (graph_text roster.plan roster.configuration up.routes)
 
-abbrev pub looked_in : Rostered → Inspection (List ℕ) → Result Up RunFault → Ending
+abbrev pub looked_in : RosterState → Inspection (List ℕ) → Result BroughtUpState RunFault → Ending
 looked_in roster what (Ok up) = looked_at roster up what
 looked_in roster what (Err fault) = faulted (run_status fault) (run_line fault)
 
-abbrev pub inspected : Result Rostered RunFault → Inspection (List ℕ) → Result Up RunFault → Ending
+abbrev pub inspected : Result RosterState RunFault → Inspection (List ℕ) → Result BroughtUpState RunFault → Ending
 inspected (Ok roster) what outcome = looked_in roster what outcome
 inspected (Err fault) what outcome = faulted (run_status fault) (run_line fault)
 
 -- ---- all of it
 -- by what becomes of the fabric: it is up, or this fault stops it
-abbrev pub ending_over : List ℕ → Option (List ℕ) → Work (List ℕ) (List ℕ) → Result Up RunFault → Ending
+abbrev pub ending_over : List ℕ → Option (List ℕ) → Work (List ℕ) (List ℕ) → Result BroughtUpState RunFault → Ending
 ending_over topology partitions work.Check outcome = ending_by (listed topology partitions (stop_of outcome))
 ending_over topology partitions (work.Shares port) outcome = shares_in (roster_of topology partitions) port
 ending_over topology partitions (work.Diff second) outcome = changes_in (roster_of topology partitions) (roster_of topology second)
@@ -166,7 +166,7 @@ ending_over topology partitions (work.Inspect what) outcome = inspected (roster_
 ending_over topology partitions (work.Run script) outcome = ending_by (reported topology partitions script (stop_of outcome))
 
 -- shares and changes take no fabric
-abbrev pub Comes : List ℕ → Option (List ℕ) → Work (List ℕ) (List ℕ) → Result Up RunFault → Type 0
+abbrev pub Comes : List ℕ → Option (List ℕ) → Work (List ℕ) (List ℕ) → Result BroughtUpState RunFault → Type 0
 Comes topology partitions work.Check outcome = Turns (roster_of topology partitions) outcome
 Comes topology partitions (work.Shares port) outcome = Unit {0}
 Comes topology partitions (work.Diff second) outcome = Unit {0}
@@ -175,7 +175,7 @@ Comes topology partitions (work.Run script) outcome = Turns (roster_of topology 
 
 -- it is so of what comes of these texts and of their fabric
 pub record ForTexts (texts : Bytes) (Is : Ending → Type 0) : Type 0 where
-  pub outcome : Result Up RunFault
+  pub outcome : Result BroughtUpState RunFault
   pub comes : Comes texts.topology texts.partitions texts.work outcome
   pub is : Is (ending_over texts.topology texts.partitions texts.work outcome)
 

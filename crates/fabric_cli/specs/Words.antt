@@ -1,5 +1,5 @@
 -- What the words of a call ask for, as clap reads them.
-use Rattle.std.specs.Prelude.{List, [], ◌∷◌, ◌++◌, codes, map, nat_lt, ◌^◌, string_bytes, Option, Some, None, option_map, Result, Ok, Err, String, if◌then◌else◌, true, ℕ}
+use Rattle.std.specs.Prelude.{List, [], ◌∷◌, ◌++◌, codes, map, string_bytes, Option, Some, None, option_map, Result, Ok, Err, String, if◌then◌else◌, true, ℕ}
 use Rattle.std.specs.Global.{Global}
 use Rattle.std.specs.Option.{option_and_then, option_to_list}
 use Rattle.std.specs.Str.{bytes_eq}
@@ -16,7 +16,8 @@ use Rattle.fabric_cli.specs.declared.words.Inspection.{Inspection}
 use Rattle.fabric_cli.specs.declared.words.Inspection.TheVariants.{Graph, Keys, Tables, Trace}
 use Rattle.fabric_cli.specs.declared.words.TheConstants.{NO_SUCH_CODE, NO_SUCH_NUMBER}
 use Rattle.fabric_cli.specs.declared.words.Work.TheVariants.{Check, Diff, Inspect, Run, Shares}
-use Rattle.text_words.specs.Number.{number_in}
+use Rattle.fabric_parts.specs.Lid.{is_multicast}
+use Rattle.text_words.specs.Number.{u16_in}
 use Rattle.clap.specs.declared.builder.ArgAction.TheVariants.{Set}
 
 -- an argument that has to be given
@@ -124,18 +125,19 @@ abbrev pub run_by : Option Text → Option (Work Text Text)
 run_by script = option_map (λ name. Run name) script
 
 -- a number of 16 bits, as scripts write it
-abbrev pub u16_in : Text → Option ℕ
-u16_in word = option_and_then (λ n. if nat_lt n (2 ^ 16) then Some n else None) (number_in word)
-
 abbrev pub u16_by : Option Text → Option ℕ
 u16_by word = option_and_then u16_in word
+
+-- the LID of a packet that a trace can follow: not one of multicast groups
+abbrev pub lid_by : Option Text → Option ℕ
+lid_by word = option_and_then (λ lid. if is_multicast lid then None else Some lid) (u16_by word)
 
 abbrev pub packet_by : Option Text → Option ℕ → Option ℕ → Option (Work Text Text)
 packet_by (Some port) (Some dlid) (Some p_key) = Some (Inspect (Trace port dlid p_key))
 packet_by _ _ _ = None
 
 abbrev pub trace_by : Option Text → Option Text → Option Text → Option (Work Text Text)
-trace_by port dlid p_key = packet_by port (u16_by dlid) (u16_by p_key)
+trace_by port dlid p_key = packet_by port (lid_by dlid) (u16_by p_key)
 
 -- `check`, `tables`, `keys` and `graph` need no more words, `shares` takes a port, `diff` needs other partitions, `trace` a packet, and
 -- `run` a script

@@ -21,5 +21,5 @@ mod writing;
 
 pub use crate::files::{Files, MachineFiles, Reader};
 pub use crate::laws::{every_code_that_is_told_is_explained, the_numbers};
-pub use crate::serving::serve;
+pub use crate::serving::{serve, serve_given};
 pub use crate::writing::Output;

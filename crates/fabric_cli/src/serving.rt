@@ -1,6 +1,6 @@
 //! The program's work, over any files and any two writers.
 
-ghost use Rattle.std.specs.Prelude.{ℕ, ◌≡◌, ◌≢◌, ◌⊎◌, Result, Some, Ok, map, option_copied, option_map, is_some, vec_items, string_bytes, IfOk, IfErr, OnOk, IfSome};
+ghost use Rattle.std.specs.Prelude.{ℕ, ◌≡◌, ◌≢◌, ◌⊎◌, Result, Some, Ok, map, option_copied, option_map, is_some, vec_items, string_bytes, IfOk, IfErr, IsErr, OnOk, IfSome};
 ghost use Rattle.std.specs.Io.KnownBytes.{Appends};
 ghost use Rattle.fabric_cli.specs.Faults.{line_of, memory_line, status_of, IsOfFiles, IsOfRun, NamesUnread};
 ghost use Rattle.fabric_cli.specs.Files.{OpensAll, OpensInOrder};
@@ -11,6 +11,7 @@ ghost use Rattle.fabric_cli.specs.Words.{all_names, asked_by_given, asked_of, gi
 ghost use Rattle.fabric_cli.specs.declared.words.Inspection.TheVariants.{Graph as IsGraph, Keys as IsKeys, Tables as IsTables};
 ghost use Rattle.subnet_core.specs.BringUp.{up_in};
 ghost use Rattle.subnet_core.specs.NamedPort.{adapter_place};
+ghost use Rattle.fabric_cli.specs.declared.faults.Stop.TheVariants.{NoMemory};
 ghost use Rattle.fabric_cli.specs.declared.words.Call.TheVariants.{Subnet as InSubnet};
 ghost use Rattle.fabric_cli.specs.declared.words.Work.TheVariants as work;
 ghost use Rattle.fabric_cli.specs.Writing.{Writes};
@@ -23,12 +24,11 @@ use crate::reading::read_file;
 use crate::words::{Asked, Call, Inspection, Work, given_words, read_words};
 use crate::writing::{Output, write_whole};
 use fabric_graph::graph_text;
-use fabric_keys::keys_text;
-use linear_tables::tables_text;
+use fabric_tables::{keys_text, tables_text};
 use packet_trace::trace_text;
 use partition_changes::changes_text;
 use port_shares::shares_text;
-use std::alloc::Global;
+use std::alloc::{AllocError, Global};
 use std::env::Args;
 use std::io;
 use std::process::ExitCode;
@@ -42,12 +42,9 @@ struct Texts<'a> {
     work: Work<&'a str, Vec<u8>>,
 }
 
-/// Does what the words ask for, the first of them the program's own name, and answers the exit
-/// status: 0 where the whole output went to `out`; 1 where a file has a fault, 2 where the words are
-/// refused, and 3 where memory, a file or a writer refuses, which `err` is told.
-///
-/// The files are opened and read in the order of the words, each to its end, before any is judged.
-pub fn serve<F: Files, O: Output, E: Output>(
+/// Does what the words of the machine ask for, as [`serve`] does, and answers the exit status; words that are not text
+/// are refused.
+pub fn serve_given<F: Files, O: Output, E: Output>(
     alloc: Global,
     given: io::Result<Args>,
     files: &mut F,
@@ -55,7 +52,8 @@ pub fn serve<F: Files, O: Output, E: Output>(
     err: &mut E,
 ) -> ExitCode
     ensures order { OpensInOrder (F.opened files.old) (F.opened files.new) (opened_for (asked_by_given (given_texts given))) }
-    ensures all { exit_status result ≢ 3 → OpensAll (F.opened files.old) (F.opened files.new) (opened_for (asked_by_given (given_texts given))) }
+    ensures all { exit_status result ≢ 3
+        → OpensAll (F.opened files.old) (F.opened files.new) (opened_for (asked_by_given (given_texts given))) }
     ensures exact { exit_status result ≢ 3 → IfSome (F.told files.old) (λ file.
         EndsAs (judged_of file (given_texts given)) (exit_status result)
         (O.contents out.old) (O.contents out.new) (E.contents err.old) (E.contents err.new)) }
@@ -68,13 +66,17 @@ pub fn serve<F: Files, O: Output, E: Output>(
         AppendsSome (judged_of file (given_texts given)) (O.contents out.old) (O.contents out.new)) }
 {
     match given_words(alloc, given) {
-        Ok(words) => ExitCode::from(serve_words(alloc, words.as_slice(), files, out, err)),
+        Ok(words) => ExitCode::from(serve(alloc, words.as_slice(), files, out, err)),
         Err(stop) => ExitCode::from(told_stop(alloc, &stop, err)),
     }
 }
 
-/// The same for words that are text, with the status as a number.
-fn serve_words<F: Files, O: Output, E: Output>(
+/// Does what the words ask for, the first of them the program's own name, and answers the exit
+/// status: 0 where the whole output went to `out`; 1 where a file has a fault, 2 where the words are
+/// refused, and 3 where memory, a file or a writer refuses, which `err` is told.
+///
+/// The files are opened and read in the order of the words, each to its end, before any is judged.
+pub fn serve<F: Files, O: Output, E: Output>(
     alloc: Global,
     words: &[String],
     files: &mut F,
@@ -146,10 +148,7 @@ fn output<'a, F: Files>(
 {
     match read_words(alloc, words) {
         Ok(Call::Subnet(asked)) => output_of_files(alloc, &asked, files),
-        Ok(Call::Explain(code)) => match explained(alloc, code) {
-            Ok(text) => Ok(text),
-            Err(_) => Err(Stop::NoMemory),
-        },
+        Ok(Call::Explain(code)) => text_or_stop(explained(alloc, code)),
         Err(stop) => Err(stop),
     }
 }
@@ -231,10 +230,7 @@ fn shares_in<'a>(alloc: Global, roster: &Roster, port: Option<&str>) -> Result<V
     ensures fault { IfErr result IsOfRun }
 {
     match asked_port(roster, port) {
-        Ok(asked) => match shares_text(alloc, roster.configuration().ports(), asked) {
-            Ok(text) => Ok(text),
-            Err(_) => Err(Stop::NoMemory),
-        },
+        Ok(asked) => text_or_stop(shares_text(alloc, roster.configuration().ports(), asked)),
         Err(cause) => Err(Stop::Port(cause)),
     }
 }
@@ -337,10 +333,7 @@ fn tabled<'a>(alloc: Global, subnet: &Subnet) -> Result<Vec<u8>, Stop<'a>>
     let roster = subnet.roster();
     let ports = roster.configuration().ports();
     let switches = subnet.routes().graph().switches();
-    match tables_text(alloc, roster.topology(), ports, switches, subnet.fabric()) {
-        Ok(text) => Ok(text),
-        Err(_) => Err(Stop::NoMemory),
-    }
+    text_or_stop(tables_text(alloc, roster.topology(), ports, switches, subnet.fabric()))
 }
 
 /// The key tables.
@@ -350,10 +343,7 @@ fn keyed<'a>(alloc: Global, subnet: &Subnet) -> Result<Vec<u8>, Stop<'a>>
 {
     let roster = subnet.roster();
     let ports = roster.configuration().ports();
-    match keys_text(alloc, roster.topology(), ports, subnet.fabric()) {
-        Ok(text) => Ok(text),
-        Err(_) => Err(Stop::NoMemory),
-    }
+    text_or_stop(keys_text(alloc, roster.topology(), ports, subnet.fabric()))
 }
 
 /// The picture, with the ranks that the routes go by.
@@ -362,15 +352,12 @@ fn drawn<'a>(alloc: Global, subnet: &Subnet) -> Result<Vec<u8>, Stop<'a>>
     ensures fault { IfErr result IsOfRun }
 {
     let roster = subnet.roster();
-    match graph_text(
+    text_or_stop(graph_text(
         alloc,
         roster.topology(),
         roster.configuration(),
         subnet.routes(),
-    ) {
-        Ok(text) => Ok(text),
-        Err(_) => Err(Stop::NoMemory),
-    }
+    ))
 }
 
 /// The way of a packet from the port that a word names.
@@ -387,10 +374,14 @@ fn traced<'a>(
 {
     let roster = subnet.roster();
     match roster.adapter_place(port.as_bytes()) {
-        Ok(from) => match trace_text(alloc, roster.topology(), subnet.fabric(), from, dlid, p_key) {
-            Ok(text) => Ok(text),
-            Err(_) => Err(Stop::NoMemory),
-        },
+        Ok(from) => text_or_stop(trace_text(
+            alloc,
+            roster.topology(),
+            subnet.fabric(),
+            from,
+            dlid,
+            p_key,
+        )),
         Err(cause) => Err(Stop::Port(cause)),
     }
 }
@@ -412,6 +403,17 @@ fn reported<'a>(
             Err(_) => Err(Stop::NoMemory),
         },
         Err(fault) => Err(Stop::Run(fault)),
+    }
+}
+
+/// A text that is made, or that memory for it is refused.
+fn text_or_stop<'a>(text: Result<Vec<u8>, AllocError>) -> Result<Vec<u8>, Stop<'a>>
+    ensures made { IfOk result (λ made. text ≡ Ok made) }
+    ensures fault { IfErr result (λ stop. (stop ≡ NoMemory) × IsErr text) }
+{
+    match text {
+        Ok(text) => Ok(text),
+        Err(_) => Err(Stop::NoMemory),
     }
 }
 

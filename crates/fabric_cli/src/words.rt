@@ -5,18 +5,19 @@ ghost use Rattle.clap.specs.Words.{app_of, rule_of, subcommand_rows_of};
 ghost use Rattle.clap.specs.declared.builder.command.Command.TheViews.{out-Command as fields_of};
 ghost use Rattle.fabric_cli.specs.Faults.{IsOfGiven, IsOfWords, IsRefusalOf, TellsAll};
 ghost use Rattle.fabric_cli.specs.Help.{about_check, about_diff, about_explain, about_graph, about_keys, about_program, about_run, about_shares, about_tables, about_trace, help_of_code, help_of_dlid, help_of_key, help_of_partitions, help_of_port, help_of_script, help_of_second_partitions, help_of_sender, help_of_topology, program_name, program_version, text_in};
-ghost use Rattle.fabric_cli.specs.Words.{asked_by, asked_in, asked_of, call_by, check_command, diff_by, diff_command, explain_by, explain_command, fabric_command, file_in, given_items, graph_command, keys_command, named_call, named_work, names, not_understood, optional, run_by, run_command, shares_command, subnet_command, tables_command, text_for, trace_by, trace_command, u16_by, u16_in, wanted, work_in};
+ghost use Rattle.fabric_cli.specs.Words.{asked_by, asked_in, asked_of, call_by, check_command, diff_by, diff_command, explain_by, explain_command, fabric_command, file_in, given_items, graph_command, keys_command, lid_by, named_call, named_work, names, not_understood, optional, run_by, run_command, shares_command, subnet_command, tables_command, text_for, trace_by, trace_command, u16_by, wanted, work_in};
 ghost use Rattle.fabric_cli.specs.declared.words.TheConstants.{CHANGES, CODES, GRAPH, KEYS, LISTING, REPORT, SHARES, STATUSES, TABLES, TRACE};
 
 use crate::faults::Stop;
 use clap::error::ErrorKind;
 use clap::{Arg, ArgAction, ArgMatches, Command, Error};
 use code_texts::Code;
+use fabric_parts::is_multicast;
 use std::alloc::{AllocError, Global};
 use std::env::Args;
 use std::fmt::Display;
 use std::io;
-use text_words::number_in;
+use text_words::u16_in;
 
 /// What to do in a subnet.
 #[derive(Drop)]
@@ -126,7 +127,8 @@ const NO_SUCH_CODE: &str = "error: there is no such code
 For the list of all codes, try 'fabric explain'.
 ";
 
-const NO_SUCH_NUMBER: &str = "error: DLID or PKEY is no number of 16 bits
+const NO_SUCH_NUMBER: &str =
+    "error: DLID or PKEY is no number of 16 bits, or DLID is a multicast group's
 
 For what they are, try 'fabric trace --help'.
 ";
@@ -343,7 +345,7 @@ fn wanted_dlid<'a>(alloc: Global) -> Arg<'a>
     wanted(
         alloc,
         "DLID",
-        "The LID that it is sent to: a number of 16 bits, as `5` or `0xc000`",
+        "The LID that it is sent to: a number of 16 bits, as `5` or `0x0005`, no multicast LID",
     )
 }
 
@@ -669,7 +671,7 @@ fn run_by(script: Option<&str>) -> Option<Work<&str, &str>>
     }
 }
 
-/// A packet from a port, if all of it is given and the numbers have 16 bits.
+/// A packet from a port, if all of it is given, the numbers have 16 bits, and the LID is not one of multicast groups.
 fn trace_by<'a>(
     port: Option<&'a str>,
     dlid: Option<&'a str>,
@@ -678,7 +680,7 @@ fn trace_by<'a>(
     ensures { option_map named_work result ≡ trace_by (option_map (λ word. word.now) port.entry)
         (option_map (λ word. word.now) dlid.entry) (option_map (λ word. word.now) p_key.entry) }
 {
-    match (port, u16_by(dlid), u16_by(p_key)) {
+    match (port, lid_by(dlid), u16_by(p_key)) {
         (Some(port), Some(dlid), Some(p_key)) => {
             Some(Work::Inspect(Inspection::Trace(port, dlid, p_key)))
         }
@@ -686,20 +688,18 @@ fn trace_by<'a>(
     }
 }
 
+/// The LID of a packet that a trace can follow.
+fn lid_by(word: Option<&str>) -> Option<u16>
+    ensures { result ≡ lid_by (option_map (λ word. word.now) word.entry) }
+{
+    let lid = u16_by(word)?;
+    if is_multicast(lid) { None } else { Some(lid) }
+}
+
 fn u16_by(word: Option<&str>) -> Option<u16>
     ensures { result ≡ u16_by (option_map (λ word. word.now) word.entry) }
 {
     u16_in(word?.as_bytes())
-}
-
-/// A number of 16 bits, as scripts write it.
-fn u16_in(word: &[u8]) -> Option<u16>
-    ensures { result ≡ u16_in word.now }
-{
-    match number_in(word) {
-        Some(number) if number < 1 << 16 => Some(number as u16),
-        _ => None,
-    }
 }
 
 fn diff_by(second: Option<&str>) -> Option<Work<&str, &str>>

@@ -8,7 +8,7 @@ use Rattle.fabric_graph.specs.Ranks.{rank_of}
 use Rattle.fabric_parts.specs.declared.cable.Cable.{Cable}
 use Rattle.topo_file.specs.declared.node.Node.{Node}
 use Rattle.topo_file.specs.Node.{name_at}
-use Rattle.updn_routes.specs.Subnet.{SubnetRoutes}
+use Rattle.updn_routes.specs.Subnet.{RoutesState}
 
 -- ---- which end is first
 -- the lesser rank is above, and any rank is above none, as an adapter has
@@ -17,11 +17,11 @@ is_above (Some rank) (Some other) = nat_lt rank other
 is_above (Some rank) None = true
 is_above None other = false
 
-abbrev pub rank_at : SubnetRoutes → List Node → ℕ → Option ℕ
+abbrev pub rank_at : RoutesState → List Node → ℕ → Option ℕ
 rank_at routes nodes place = option_and_then (rank_of routes) (slice_get nodes place)
 
 -- the cable from its upper end, and as its line names the ends where neither is above the other
-abbrev pub downward : SubnetRoutes → List Node → Cable → Cable
+abbrev pub downward : RoutesState → List Node → Cable → Cable
 downward routes nodes cable =
     if is_above (rank_at routes nodes cable.second.node) (rank_at routes nodes cable.first.node)
     then record { first = cable.second; second = cable.first }
@@ -43,5 +43,5 @@ abbrev pub edge_line : List Node → Cable → List ℕ
 edge_line nodes cable = codes "  " ++ ends nodes cable ++ codes " [" ++ end_labels cable ++ codes "];\n"
 
 -- as `"A" -- "h1" [taillabel="2", headlabel="1"];`
-abbrev pub cable_line : SubnetRoutes → List Node → Cable → List ℕ
+abbrev pub cable_line : RoutesState → List Node → Cable → List ℕ
 cable_line routes nodes cable = edge_line nodes (downward routes nodes cable)

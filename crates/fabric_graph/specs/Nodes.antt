@@ -4,10 +4,10 @@ use Rattle.std.specs.Int.{w16, w64, to_be_bytes}
 use Rattle.std.specs.Option.{option_map_or}
 use Rattle.fabric_graph.specs.Partitions.{fill_of, is_of}
 use Rattle.line_parts.specs.Parts.{hex_text}
-use Rattle.subnet_model.specs.Configuration.{Configured}
+use Rattle.subnet_model.specs.Configuration.{ConfigurationState}
 use Rattle.subnet_model.specs.declared.subnet_port.SubnetPort.{SubnetPort}
 use Rattle.topo_file.specs.Node.{is_switch}
-use Rattle.topo_file.specs.Topology.{Plan}
+use Rattle.topo_file.specs.Topology.{TopologyState}
 use Rattle.topo_file.specs.declared.node.Node.{Node}
 
 -- the ID of a node is its name: 1 to 32 letters, digits, `_`, `-` and `.`, so that nothing in it ends the quotes or needs to be
@@ -16,7 +16,7 @@ abbrev pub quoted : List ℕ → List ℕ
 quoted name = codes "\"" ++ name ++ codes "\""
 
 -- the subnet manager runs on a port of the node
-abbrev pub is_manager : Plan → Node → Bool
+abbrev pub is_manager : TopologyState → Node → Bool
 is_manager plan node = option_map_or (λ manager. manager.guid == node.guid) (slice_get plan.nodes plan.sm.node) false
 
 -- ---- its label, in which `\n` breaks the line
@@ -34,11 +34,11 @@ lid_line port = codes "\\n" ++ port_words port.number ++ codes "LID " ++ hex_tex
 abbrev pub lid_line_of : Node → SubnetPort → List ℕ
 lid_line_of node port = if is_of node port then lid_line port else []
 
-abbrev pub manager_line : Plan → Node → List ℕ
+abbrev pub manager_line : TopologyState → Node → List ℕ
 manager_line plan node = if is_manager plan node then codes "\\nsubnet manager" else []
 
 -- the name, the GUID of a switch, the LIDs of its ports, and whether the subnet manager runs there
-unfoldable pub label : Plan → Configured → Node → List ℕ
+unfoldable pub label : TopologyState → ConfigurationState → Node → List ℕ
 label plan subnet node =
     codes ", label=\"" ++ node.name ++ guid_line node
     ++ flat_map (lid_line_of node) subnet.ports ++ manager_line plan node ++ codes "\""
@@ -48,13 +48,13 @@ abbrev pub shape : Node → List ℕ
 shape node = if is_switch node then codes "box" else codes "ellipse"
 
 -- a second line around the subnet manager's node
-abbrev pub mark : Plan → Node → List ℕ
+abbrev pub mark : TopologyState → Node → List ℕ
 mark plan node = if is_manager plan node then codes ", peripheries=2" else []
 
-unfoldable pub attributes : Plan → Configured → Node → List ℕ
+unfoldable pub attributes : TopologyState → ConfigurationState → Node → List ℕ
 attributes plan subnet node =
     codes "shape=" ++ shape node ++ label plan subnet node ++ mark plan node ++ fill_of subnet node
 
 -- as `"h1" [shape=ellipse, label="h1\nport 1 LID 0x0004", style=filled, fillcolor="/set312/1"];`
-abbrev pub node_line : Plan → Configured → Node → List ℕ
+abbrev pub node_line : TopologyState → ConfigurationState → Node → List ℕ
 node_line plan subnet node = codes "  " ++ quoted node.name ++ codes " [" ++ attributes plan subnet node ++ codes "];\n"

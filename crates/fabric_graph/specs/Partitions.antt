@@ -1,9 +1,9 @@
--- The colours of channel adapters in DOT, by the partitions that they are in (InfiniBand volume 1, 14.2.5.7).
+-- The colours of channel adapters in DOT, by the partitions that they are in (IBA volume 1, 14.2.5.7).
 use Rattle.std.specs.Prelude.{ℕ, ◌+◌, ◌-◌, ◌%◌, ◌==◌, ◌&&◌, Bool, false, if◌then◌else◌, List, [], ◌∷◌, ◌++◌, codes, decimal, filter, flat_map, length, slice_get}
 use Rattle.std.specs.List.{list_any, range_with_len}
 use Rattle.std.specs.Option.{option_map_or}
 use Rattle.pkey_rules.specs.KeyTable.{has_base}
-use Rattle.subnet_model.specs.Configuration.{Configured}
+use Rattle.subnet_model.specs.Configuration.{ConfigurationState}
 use Rattle.subnet_model.specs.declared.subnet_port.SubnetPort.{SubnetPort}
 use Rattle.topo_file.specs.Node.{is_switch}
 use Rattle.topo_file.specs.declared.node.Node.{Node}
@@ -18,12 +18,12 @@ abbrev pub holds_base : List SubnetPort → Node → ℕ → Bool
 holds_base ports node base = list_any (λ port. is_of node port && has_base base port.keys) ports
 
 -- a port of the node is in the partition of that number
-abbrev pub is_in : Configured → Node → ℕ → Bool
+abbrev pub is_in : ConfigurationState → Node → ℕ → Bool
 is_in subnet node number =
     option_map_or (λ heading. holds_base subnet.ports node heading.base) (slice_get subnet.partitions number) false
 
 -- the partitions that the node is in, by number; the default partition, which has number 0, is left out
-unfoldable pub partitions_of : Configured → Node → List ℕ
+unfoldable pub partitions_of : ConfigurationState → Node → List ℕ
 partitions_of subnet node = filter (is_in subnet node) (range_with_len 1 (length subnet.partitions - 1))
 
 -- ---- colours
@@ -48,5 +48,5 @@ fill [] = []
 fill (first ∷ others) = codes ", style=" ++ style others ++ codes ", fillcolor=" ++ colours first others
 
 -- channel adapters alone are coloured
-abbrev pub fill_of : Configured → Node → List ℕ
+abbrev pub fill_of : ConfigurationState → Node → List ℕ
 fill_of subnet node = if is_switch node then [] else fill (partitions_of subnet node)

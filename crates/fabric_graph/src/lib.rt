@@ -1,7 +1,7 @@
 //! The fabric of a subnet as a text in DOT, the language of Graphviz.
 //!
 //! [`graph_text`] draws the nodes and cables of a topology, with the LIDs, partitions and ranks that a subnet manager gave
-//! them (InfiniBand Architecture Specification, volume 1, chapter 14). `specs/Graph.antt` says what the text is.
+//! them (IBA volume 1, chapter 14). `specs/Graph.antt` says what the text is.
 #![tactic(auto)]
 
 mod cables;

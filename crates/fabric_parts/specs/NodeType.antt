@@ -1,4 +1,4 @@
--- The types of nodes (InfiniBand volume 1, 14.2.5.3), by their codes, and how many ports ours have.
+-- The types of nodes (IBA volume 1, 14.2.5.3), by their codes, and how many ports ours have.
 use Rattle.std.specs.Prelude.{ℕ, Bool, true, false}
 use Rattle.fabric_parts.specs.declared.node_type.NodeType.{NodeType}
 use Rattle.fabric_parts.specs.declared.node_type.NodeType.TheVariants.{ChannelAdapter, Switch}

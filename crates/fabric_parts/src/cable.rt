@@ -1,10 +1,13 @@
+//! Ports of nodes, and the cables between them.
+
 ghost use Rattle.std.specs.Prelude.{◌≡◌};
 ghost use Rattle.fabric_parts.specs.Cable.{ends_at, far_end, other_end};
 
 /// A port of a node.
 #[derive(Clone, Copy, Debug, PartialEq, Eq, Hash)]
 pub struct PortRef {
-    /// The place of the node among the nodes of its fabric.
+    /// The place of the node in the list that it is taken from: the nodes of a topology and of its fabric, or, for a port of
+    /// a graph, the switches that a sweep found.
     pub node: usize,
     /// The number of the port: from 1, and 0 for a switch itself.
     pub port: u8,

@@ -1,8 +1,16 @@
+//! LIDs, by which the ports of a subnet are named.
+
 ghost use Rattle.std.specs.Prelude.{◌≡◌};
-ghost use Rattle.fabric_parts.specs.Lid.{is_reserved};
+ghost use Rattle.fabric_parts.specs.Lid.{is_multicast, is_reserved};
+
+/// The LID of the subnet manager's port in every subnet of ours.
+pub const MANAGER_LID: u16 = 1;
 
 /// The greatest LID that a port may have; those above it are for multicast groups.
 pub const LAST_UNICAST_LID: u16 = 0xbfff;
+
+/// The least LID of a multicast group.
+pub const FIRST_MULTICAST_LID: u16 = 0xc000;
 
 /// The permissive LID: directed-route packets have it where no LID is meant.
 pub const PERMISSIVE_LID: u16 = 0xffff;
@@ -15,4 +23,11 @@ pub fn is_reserved(lid: u16) -> bool
     ensures { result ≡ is_reserved lid }
 {
     lid == 0 || lid == PERMISSIVE_LID
+}
+
+/// Whether it is the LID of multicast groups: from 0xc000 to the one before the permissive LID.
+pub fn is_multicast(lid: u16) -> bool
+    ensures { result ≡ is_multicast lid }
+{
+    FIRST_MULTICAST_LID <= lid && lid < PERMISSIVE_LID
 }

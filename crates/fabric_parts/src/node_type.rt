@@ -1,5 +1,9 @@
+//! The types of nodes.
+
 ghost use Rattle.std.specs.Prelude.{◌≡◌, Some, IfSome};
 ghost use Rattle.fabric_parts.specs.NodeType.{is_switch_type, most_ports, node_type_code};
+
+use crate::limits::{PORTS_OF_AN_ADAPTER, SWITCH_PORTS};
 
 /// What kind of node this is.
 ///
@@ -47,8 +51,8 @@ impl NodeType {
         ensures { result ≡ most_ports self }
     {
         match self {
-            NodeType::Switch => 36,
-            NodeType::ChannelAdapter => 8,
+            NodeType::Switch => SWITCH_PORTS as u8,
+            NodeType::ChannelAdapter => PORTS_OF_AN_ADAPTER as u8,
         }
     }
 }

@@ -11,13 +11,13 @@ use Rattle.fabric_parts.specs.NodeType.{most_ports}
 use Rattle.fabric_parts.specs.declared.node_type.NodeType.TheVariants.{ChannelAdapter}
 use Rattle.fabric_parts.specs.declared.cable.PortRef.{PortRef}
 use Rattle.port_model.specs.AdapterState.{AdapterState}
-use Rattle.smp_wire.proofs.DistinctLemmas.{all_differ, differ}
+use Rattle.result_words.proofs.DistinctLemmas.{all_differ, differ}
 use Rattle.smp_wire.specs.FabricState.{adapter_port}
 use Rattle.smp_wire.specs.Good.{end_port_guids, has_a_right_count}
 use Rattle.smp_wire.specs.declared.node.Node.{Node}
 use Rattle.smp_wire.specs.declared.node.Node.TheVariants.{Switch, Adapter}
 use Rattle.packet_ways.specs.Deliveries.{adapter_ports, guid_at}
-use Rattle.fabric_wire.specs.EndPorts.{Finds, IsBefore, IsTold}
+use Rattle.fabric_wire.specs.AdapterPorts.{Finds, IsBefore, IsTold}
 
 -- ---- lists of numbers of which no two are the same
 abbrev same : ℕ → ℕ → Bool
@@ -136,8 +136,8 @@ stands_at nodes at guid is = stands_by nodes at guid (slice_get nodes at.node) r
 abbrev pub AreOwn : List Node → Type 0
 AreOwn nodes = (a b : PortRef) (guid : ℕ) → guid_at nodes a ≡ Some guid → guid_at nodes b ≡ Some guid → a ≡ b
 
-pub are_own : (nodes : List Node) → IsDistinct (λ a b. a == b) (flat_map end_port_guids nodes) → AreOwn nodes
-are_own nodes once a b guid one other =
+pub known_distinct : (nodes : List Node) → IsDistinct (λ a b. a == b) (flat_map end_port_guids nodes) → AreOwn nodes
+known_distinct nodes once a b guid one other =
     let here = stands_at nodes a guid one in
     let there = stands_at nodes b guid other in
     let both = one_of_all end_port_guids nodes a.node b.node (a.port - 1) (b.port - 1) guid (Adapter here.ports) (Adapter there.ports)

@@ -6,7 +6,7 @@ use Rattle.fabric_parts.specs.declared.cable.PortRef.{PortRef}
 use Rattle.data_packet.specs.declared.packet.Packet.{Packet}
 use Rattle.port_model.specs.AdapterState.{AdapterState}
 use Rattle.smp_wire.proofs.KeptLemmas.{shape}
-use Rattle.smp_wire.proofs.ListLemmas.{get_same}
+use Rattle.result_words.proofs.ElementLemmas.{get_same}
 use Rattle.smp_wire.specs.FabricState.{FabricState, adapter_port, is_switch}
 use Rattle.smp_wire.specs.Good.{end_port_guids}
 use Rattle.smp_wire.specs.Shape.{IsSameShape}
@@ -14,7 +14,7 @@ use Rattle.smp_wire.specs.Walk.{exchange_after}
 use Rattle.smp_wire.specs.declared.node.Node.{Node}
 use Rattle.smp_wire.specs.declared.node.Node.TheVariants.{Switch, Adapter}
 use Rattle.packet_ways.specs.Deliveries.{IsDelivered, Numbers, Reaches, adapter_ports, guid_at}
-use Rattle.fabric_wire.specs.EndPorts.{Finds}
+use Rattle.fabric_wire.specs.AdapterPorts.{Finds}
 
 abbrev Guid : Option Node → ℕ → Option ℕ
 Guid found number = option_map (λ port. port.port_guid) (option_and_then (λ node. adapter_port (adapter_ports node) number) found)

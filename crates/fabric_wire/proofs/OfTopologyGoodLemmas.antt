@@ -28,7 +28,7 @@ use Rattle.fabric_wire.specs.OfTopology.{adapter_port_of, link_of, links_of, nam
 use Rattle.fabric_wire.proofs.NameLemmas.{name_described}
 use Rattle.fabric_wire.proofs.OfTopologyLemmas.{all_made, free_ends, links_long, most_port, nodes_from, port_there, right_count, switch_there}
 use Rattle.fabric_wire.proofs.OfTopologyGuidLemmas.{end_guids_differ, guid_of, node_guids_differ}
-use Rattle.smp_wire.proofs.DistinctLemmas.{all_differ, distinct}
+use Rattle.result_words.proofs.DistinctLemmas.{all_differ, distinct}
 
 -- ---- the ports of an adapter stand in order
 all_of : (cables : List Cable) (place : ℕ) (node : PlannedNode) (number count : ℕ)

@@ -18,7 +18,7 @@ use Rattle.smp_wire.specs.declared.node.Node.TheVariants.{Adapter}
 use Rattle.smp_wire.specs.Good.{AreGuids, end_port_guids, is_guid, node_guid}
 use Rattle.fabric_wire.specs.OfTopology.{adapter_port_of, node_of, node_of_type}
 use Rattle.fabric_wire.proofs.OfTopologyLemmas.{nodes_from, some_port}
-use Rattle.smp_wire.proofs.DistinctLemmas.{all_differ, distinct, none_shares}
+use Rattle.result_words.proofs.DistinctLemmas.{all_differ, distinct, none_shares}
 
 -- ---- lists of GUIDs from one to another
 abbrev pub is_in : ℕ → ℕ → ℕ → Bool

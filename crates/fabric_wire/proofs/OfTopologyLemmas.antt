@@ -20,7 +20,7 @@ use Rattle.smp_wire.specs.declared.node.Node.{Node}
 use Rattle.smp_wire.specs.FabricState.{is_port, is_switch, is_switch_at, port_count}
 use Rattle.smp_wire.specs.Good.{has_a_right_count}
 use Rattle.fabric_wire.specs.OfTopology.{adapter_port_of, link_of, links_of, node_of, node_of_type}
-use Rattle.smp_wire.proofs.DistinctLemmas.{none_shares}
+use Rattle.result_words.proofs.DistinctLemmas.{none_shares}
 
 -- ---- places
 abbrev pub nodes_from : List Cable → ℕ → List PlannedNode → List Node

@@ -10,7 +10,7 @@ use Rattle.fabric_parts.specs.Cable.{ends_at, far_end, is_cabled, is_same_port, 
 use Rattle.topo_file.specs.Connectivity.{is_walk, joins}
 use Rattle.topo_file.specs.Node.{is_switch_at as is_planned_at}
 use Rattle.topo_file.specs.Sound.{IsSound, joins_right, shares_port}
-use Rattle.topo_file.specs.Topology.{Plan}
+use Rattle.topo_file.specs.Topology.{TopologyState}
 use Rattle.smp_wire.specs.declared.node.Node.{Node}
 use Rattle.smp_wire.specs.FabricState.{is_switch_at}
 use Rattle.smp_wire.specs.Good.{is_right, leads}
@@ -97,7 +97,7 @@ goes_on nodes cables here next b out right switch rest =
     let hopped = hop_is_far_end nodes cables false here out.number right switch ∙ out.far in
     record { numbers = out.number ∷ rest.numbers; ends = out.there ∷ rest.ends; walked = rw (hopped, rest.walked) refl; arrives = rest.arrives }
 
-goes : (plan : Plan) → IsSound plan → (here : PortRef) (steps : List ℕ) (b : ℕ) → is_walk plan.nodes plan.cables here.node steps b ≡ true
+goes : (plan : TopologyState) → IsSound plan → (here : PortRef) (steps : List ℕ) (b : ℕ) → is_walk plan.nodes plan.cables here.node steps b ≡ true
     → Goes (nodes_from plan.cables 0 plan.nodes) plan.cables here b
 goes plan sound here [] b walks =
     record { numbers = []; ends = []; walked = refl; arrives = eqb-true here.node b (and_parts (is_planned_at plan.nodes here.node) _ walks).1 }
@@ -110,7 +110,7 @@ goes plan sound here (next ∷ steps) b walks =
     (switch_there plan.cables plan.nodes here.node ∙ first.0)
     (goes plan sound out.there steps b (subst (λ (k : ℕ). is_walk plan.nodes plan.cables k steps b ≡ true) (sym out.node) second.1))
 
-leads_there : (plan : Plan) (a b : ℕ) (way : Goes (nodes_from plan.cables 0 plan.nodes) plan.cables (port a 0) b)
+leads_there : (plan : TopologyState) (a b : ℕ) (way : Goes (nodes_from plan.cables 0 plan.nodes) plan.cables (port a 0) b)
     → leads (fabric_of plan) a way.numbers b ≡ true
 leads_there plan a b way = rw way.walked (eq-eqb (last_of (port a 0) way.ends).node b way.arrives)
 

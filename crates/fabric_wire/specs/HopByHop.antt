@@ -1,5 +1,5 @@
 -- An exchange as the nodes see it: each knows its own kind and the port by which an SMP came in, goes by the
--- hop rules, and the SMP comes out at the other end of the cable (InfiniBand volume 1, chapter 14).
+-- hop rules, and the SMP comes out at the other end of the cable (IBA volume 1, chapter 14).
 use Rattle.std.specs.Prelude.{ℕ, ◌≡◌, ◌==◌, ◌↔◌, true, if◌then◌else◌, List, [], ◌∷◌, Some}
 use Rattle.smp_route.specs.declared.hop.Hop.TheVariants.{Forward, ToAgent, ToManager}
 use Rattle.smp_route.specs.Hops.{Step, outgoing, returning}

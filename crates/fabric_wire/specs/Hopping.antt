@@ -1,5 +1,5 @@
 -- What nodes know of a fabric when they hand SMPs on, and the way home of an answer: it leaves each node by
--- the port by which the request came in (InfiniBand volume 1, chapter 14).
+-- the port by which the request came in (IBA volume 1, chapter 14).
 use Rattle.std.specs.Prelude.{ℕ, zero, suc, ◌==◌, ◌&&◌, ◌||◌, Bool, false, if◌then◌else◌, List}
 use Rattle.std.specs.Option.{option_map_or}
 use Rattle.fabric_parts.specs.declared.node_type.NodeType.{NodeType}

@@ -2,7 +2,7 @@
 use Rattle.std.specs.Prelude.{ℕ, ◌≡◌, List, length}
 use Rattle.std.specs.Int.Digits.{AllBelowBase}
 use Rattle.topo_file.specs.Sound.{IsSound}
-use Rattle.topo_file.specs.Topology.{Plan}
+use Rattle.topo_file.specs.Topology.{TopologyState}
 use Rattle.smp_wire.specs.FabricState.{FabricState}
 use Rattle.smp_wire.specs.Good.{IsGood, ShowsLinks, SwitchesJoined}
 use Rattle.fabric_wire.specs.HopByHop.{GoesByHops}
@@ -15,12 +15,12 @@ ExchangesGoByHops =
 
 -- at power-up the fabric of a topology is good
 abbrev pub TopologiesGiveGood : Type 0
-TopologiesGiveGood = (plan : Plan) → IsSound plan → IsGood (fabric_of plan)
+TopologiesGiveGood = (plan : TopologyState) → IsSound plan → IsGood (fabric_of plan)
 
 -- its switches are joined
 abbrev pub TopologiesAreJoined : Type 0
-TopologiesAreJoined = (plan : Plan) → IsSound plan → SwitchesJoined (fabric_of plan)
+TopologiesAreJoined = (plan : TopologyState) → IsSound plan → SwitchesJoined (fabric_of plan)
 
 -- and its links show, whether the plan is sound or not
 abbrev pub TopologiesShowLinks : Type 0
-TopologiesShowLinks = (plan : Plan) → ShowsLinks (fabric_of plan)
+TopologiesShowLinks = (plan : TopologyState) → ShowsLinks (fabric_of plan)

@@ -1,5 +1,5 @@
 pub mod Rows
-pub mod EndPorts
+pub mod AdapterPorts
 pub mod Hopping
 pub mod HopByHop
 pub mod OfTopology

@@ -12,7 +12,7 @@ use Rattle.fabric_parts.specs.declared.node_type.NodeType.{NodeType}
 use Rattle.fabric_parts.specs.declared.node_type.NodeType.TheVariants as node_type
 use Rattle.fabric_parts.specs.Cable.{is_cabled}
 use Rattle.topo_file.specs.Node.{port_guid}
-use Rattle.topo_file.specs.Topology.{Plan}
+use Rattle.topo_file.specs.Topology.{TopologyState}
 use Rattle.smp_wire.specs.declared.node.Node.{Node}
 use Rattle.smp_wire.specs.declared.node.Node.TheVariants.{Switch, Adapter}
 use Rattle.smp_wire.specs.FabricState.{FabricState}
@@ -45,7 +45,7 @@ abbrev pub node_of : List Cable → ℕ → PlannedNode → Node
 node_of cables place node = node_of_type node.node_type cables place node
 
 -- the same nodes, cables and subnet manager's port
-abbrev pub fabric_of : Plan → FabricState
+abbrev pub fabric_of : TopologyState → FabricState
 fabric_of plan = record {
   nodes = map (λ p. node_of plan.cables p.0 p.1) (enumerate_from 0 plan.nodes);
   cables = plan.cables;

@@ -5,7 +5,7 @@ use Rattle.fabric_parts.specs.declared.cable.PortRef.{PortRef}
 use Rattle.topo_file.specs.declared.node.Node.{Node}
 use Rattle.fabric_parts.specs.declared.node_type.NodeType.TheVariants as node_type
 use Rattle.fabric_parts.specs.Cable.{port}
-use Rattle.topo_file.specs.Topology.{Plan}
+use Rattle.topo_file.specs.Topology.{TopologyState}
 
 abbrev pub switch_of_four : List ℕ → ℕ → Node
 switch_of_four name guid = record { name = name; node_type = node_type.Switch; guid = guid; ports = 4 }
@@ -17,7 +17,7 @@ abbrev pub cable : PortRef → PortRef → Cable
 cable first second = record { first = first; second = second }
 
 -- the subnet manager runs on h0; no line names a root
-abbrev pub two_switches : Plan
+abbrev pub two_switches : TopologyState
 two_switches = record {
   nodes =
       switch_of_four (codes "A") 16

@@ -6,8 +6,8 @@ ghost use Rattle.port_model.specs.AdapterState.{AdapterState};
 ghost use Rattle.packet_ways.specs.Deliveries.{IsDelivered};
 ghost use Rattle.packet_ways.specs.Unicast.{IsEnd, next_port};
 
+use crate::adapter_ports::adapter_at;
 use crate::cabling::Cabling;
-use crate::end_ports::adapter_at;
 use data_packet::Packet;
 use fabric_parts::PortRef;
 use port_model::AdapterPort;

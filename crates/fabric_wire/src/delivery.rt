@@ -1,5 +1,7 @@
+//! A packet at a port that received it, which only the fabric makes.
+
 ghost use Rattle.std.specs.Prelude.{◌≡◌, IfOk};
-ghost use Rattle.packet_ways.specs.Deliveries.{Delivered};
+ghost use Rattle.packet_ways.specs.Deliveries.{DeliveryState};
 
 use data_packet::Packet;
 use std::alloc::AllocError;
@@ -13,9 +15,9 @@ pub struct Delivery {
 }
 
 impl Model for Delivery {
-    ghost use Rattle.packet_ways.specs.Deliveries.{Delivered};
+    ghost use Rattle.packet_ways.specs.Deliveries.{DeliveryState};
 
-    ghost Value = { Delivered };
+    ghost Value = { DeliveryState };
 
     ghost view = { λ delivery. record { port = delivery.port; packet = delivery.packet } };
 

@@ -12,10 +12,10 @@ ghost use Rattle.smp_wire.specs.Good.{IsGood, ShowsLinks, SwitchesJoined};
 ghost use Rattle.smp_wire.specs.Walk.{exchange_after, exchange_reply};
 ghost use Rattle.fabric_wire.specs.OfTopology.{fabric_of};
 
+use crate::adapter_ports::{adapter_at, places_by_guid};
 use crate::cabling::Cabling;
 use crate::carrying::receiver;
 use crate::delivery::Delivery;
-use crate::end_ports::{adapter_at, places_by_guid};
 use crate::hopping::{come_home, go_out};
 use crate::power_up::nodes_of;
 use data_packet::{Packet, QueuePair, Refusal};
@@ -34,7 +34,7 @@ use topo_file::Topology;
 pub struct Fabric {
     nodes: Vec<Node>,
     cabling: Cabling,
-    end_ports: IndexMap<u64, PortRef>,
+    adapter_ports: IndexMap<u64, PortRef>,
     manager: PortRef,
 }
 
@@ -42,7 +42,7 @@ impl Model for Fabric {
     ghost use Rattle.smp_wire.specs.FabricState.{FabricState};
     ghost use Rattle.std.specs.Prelude.{nat_eq};
     ghost use Rattle.indexmap.specs.IndexMap.{get};
-    ghost use Rattle.fabric_wire.specs.EndPorts.{IsKept};
+    ghost use Rattle.fabric_wire.specs.AdapterPorts.{IsKept};
 
     ghost Value = { FabricState };
 
@@ -56,7 +56,7 @@ impl Model for Fabric {
       nodes = fabric.nodes.items;
       cables = fabric.cabling;
       manager = fabric.manager;
-    }) (get nat_eq fabric.end_ports) };
+    }) (get nat_eq fabric.adapter_ports) };
 }
 
 impl Fabric {
@@ -71,11 +71,11 @@ impl Fabric {
         topology.known_sound();
         let nodes = nodes_of(alloc, topology)?;
         let cabling = Cabling::new(alloc, topology.cables())?;
-        let end_ports = places_by_guid(alloc, &nodes)?;
+        let adapter_ports = places_by_guid(alloc, &nodes)?;
         Ok(Fabric {
             nodes,
             cabling,
-            end_ports,
+            adapter_ports,
             manager: topology.sm(),
         })
     }
@@ -105,14 +105,14 @@ impl Fabric {
     pub fn place_of(&self, guid: u64) -> Option<PortRef>
         ensures { (at : PortRef) → result ≡ Some at ↔ (guid_at self.now.nodes at ≡ Some guid) }
     {
-        self.end_ports.get(&guid).copied()
+        self.adapter_ports.get(&guid).copied()
     }
 
     /// Whether a port of a channel adapter has that GUID.
     pub fn has_port(&self, guid: u64) -> bool
         ensures { (result ≡ true) ↔ HasPort self.now.nodes guid }
     {
-        match self.end_ports.get(&guid) {
+        match self.adapter_ports.get(&guid) {
             Some(_) => true,
             None => false,
         }
@@ -141,7 +141,7 @@ impl Fabric {
         requires { HasPort self.now.nodes guid }
         ensures { (at : PortRef) → guid_at self.now.nodes at ≡ Some guid → adapter_at self.now.nodes at ≡ Some result.now }
     {
-        let found = self.end_ports.get(&guid);
+        let found = self.adapter_ports.get(&guid);
         let Some(at) = found else { unreachable!() };
         let Some(port) = adapter_at(&self.nodes, *at) else {
             unreachable!()
@@ -174,7 +174,7 @@ impl Fabric {
         ensures none { result ≡ None → (receiver : Numbers) → Reaches self.now sender packet.now receiver → ⊥ }
         ensures own { IsOwn self.now.nodes sender }
     {
-        let from = *self.end_ports.get(&sender)?;
+        let from = *self.adapter_ports.get(&sender)?;
         receiver(&self.nodes, &self.cabling, packet, from)
     }
 }

@@ -5,16 +5,17 @@
 //! says. What a wire is, and the wires that are no simulator, stand in `smp_wire`, and are given on here.
 #![tactic(auto)]
 
+mod adapter_ports;
 mod cabling;
 mod carrying;
 mod delivery;
-mod end_ports;
 mod fabric;
 mod hopping;
 mod laws;
 mod power_up;
 mod rows;
 
+pub use crate::adapter_ports::adapter_at;
 pub use crate::delivery::Delivery;
 pub use crate::fabric::Fabric;
 pub use crate::laws::{

@@ -88,7 +88,8 @@ fn adapter_ports_of(
 ) -> Result<Vec<AdapterPort>, AllocError>
     requires guids { port_guid node.now node.now.ports < 2 ^ 64 }
     requires few { node.now.ports ≤ most_ports node_type.ChannelAdapter }
-    ensures { IfOk result (λ ports. ports.items ≡ map (adapter_port_of topology.now.cables place node.now) (range_with_len 1 node.now.ports)) }
+    ensures { IfOk result (λ ports. ports.items
+        ≡ map (adapter_port_of topology.now.cables place node.now) (range_with_len 1 node.now.ports)) }
 {
     let mut ports = Vec::with_capacity(alloc, node.ports as usize)?;
     for number in 1..node.ports + 1 {

@@ -1,3 +1,2 @@
-pub mod RisingLemmas
 pub mod LidLemmas
 pub mod LawLemmas

@@ -19,7 +19,7 @@ use Rattle.sweep.specs.Graph.{GraphState, IsGraph, end_guids}
 use Rattle.sweep.specs.declared.graph.GraphPort.{GraphPort}
 use Rattle.sweep.specs.declared.graph.GraphSwitch.{GraphSwitch}
 use Rattle.lid_assign.specs.Lids.{AreLids, StandInOrder, adapter_end, end_ports, lid_in, switch_end}
-use Rattle.lid_assign.proofs.RisingLemmas.{Rises, counted, nowhere, place_at, place_here, place_is_count, place_later, place_nowhere, rise, rises}
+use Rattle.result_words.proofs.RisingLemmas.{Rises, counted, nowhere, place_at, place_here, place_is_count, place_later, place_nowhere, rise, rises}
 
 abbrev guids_of : List EndPort → List ℕ
 guids_of ports = map (λ port. port.guid) ports

@@ -7,7 +7,7 @@ use Rattle.subnet_model.specs.EndPorts.{lid_of}
 use Rattle.sweep.specs.Graph.{GraphState}
 use Rattle.sweep.specs.declared.graph.GraphPort.{GraphPort}
 use Rattle.sweep.specs.declared.graph.GraphSwitch.{GraphSwitch}
-use Rattle.sweep.specs.declared.graph.TheConstants.{MAX_ADAPTER_PORTS, MAX_SWITCHES}
+use Rattle.fabric_parts.specs.declared.limits.TheConstants.{ADAPTER_PORTS, SWITCHES}
 
 -- port 0 of a switch has the switch's GUID
 abbrev pub switch_end : GraphSwitch → EndPort
@@ -40,7 +40,7 @@ pub record AreLids (ports : List EndPort) (guids : List ℕ) : Type 0 where
 pub record StandInOrder (manager : ℕ) (others : List ℕ) : Type 0 where
   pub rising : IsStrictlyIncreasing others
   pub apart : list_any (λ guid. guid == manager) others ≡ false
-  pub few : length others < MAX_SWITCHES + MAX_ADAPTER_PORTS
+  pub few : length others < SWITCHES + ADAPTER_PORTS
 
 -- so it stands in the order of its LIDs
 pub record IsInOrder (manager : ℕ) (guids : List ℕ) : Type 0 where

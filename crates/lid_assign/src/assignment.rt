@@ -13,7 +13,7 @@ pub fn assign(alloc: Global, graph: &Graph) -> Result<Lids, AllocError>
     ensures lids { IfOk result (λ lids. AreLids (end_ports graph.now) lids) }
     ensures order { IfOk result (λ lids. IsInOrder graph.now.manager lids) }
 {
-    graph.is_whole();
+    graph.known_graph();
     let manager = graph.manager();
     let guids = graph.end_guids(alloc)?;
     let mut others = others(alloc, manager, &guids)?;

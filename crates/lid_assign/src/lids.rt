@@ -3,7 +3,7 @@
 ghost use Rattle.std.specs.Prelude.{◌≡◌, ◌==◌, ◌≤◌, ◌+◌, length};
 ghost use Rattle.std.specs.List.{IsDistinct};
 ghost use Rattle.lid_assign.specs.Lids.{guid_in, lid_in};
-ghost use Rattle.sweep.specs.declared.graph.TheConstants.{MAX_ADAPTER_PORTS, MAX_SWITCHES};
+ghost use Rattle.fabric_parts.specs.declared.limits.TheConstants.{ADAPTER_PORTS, SWITCHES};
 
 use std::marker::Model;
 
@@ -44,9 +44,9 @@ impl Lids {
     }
 
     /// What holds of all LIDs: no two are of one GUID, and there are no more than a graph has end ports.
-    pub fn are_own(&self)
+    pub fn known_distinct(&self)
         ensures own { IsDistinct (λ a b. a == b) self.now }
-        ensures few { length self.now ≤ MAX_SWITCHES + MAX_ADAPTER_PORTS }
+        ensures few { length self.now ≤ SWITCHES + ADAPTER_PORTS }
     {
         let _ = &self.manager;
     }

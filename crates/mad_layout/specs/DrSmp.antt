@@ -1,4 +1,4 @@
--- The fields of a directed-route SMP (InfiniBand volume 1, 14.2.1.2) beside the header of every MAD.
+-- The fields of a directed-route SMP (IBA volume 1, 14.2.1.2) beside the header of every MAD.
 use Rattle.std.specs.Prelude.{List, [], ◌∷◌}
 use Rattle.mad_layout.specs.declared.dr_smp.DrSmp.{DrSmp}
 use Rattle.mad_layout.specs.Bits.{number, bit_of}

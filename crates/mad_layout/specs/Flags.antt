@@ -1,4 +1,4 @@
--- Which bit is which in the flags of an RMPP header (InfiniBand volume 1, chapter 13), and in the JoinState of a
+-- Which bit is which in the flags of an RMPP header (IBA volume 1, chapter 13), and in the JoinState of a
 -- MCMemberRecord (15.2.5): each name with the value of its bit.
 use Rattle.std.specs.Prelude.{ℕ, List, [], ◌∷◌, codes}
 

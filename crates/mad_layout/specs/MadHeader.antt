@@ -1,4 +1,4 @@
--- The header of a MAD (InfiniBand volume 1, 13.4.2).
+-- The header of a MAD (IBA volume 1, 13.4.2).
 use Rattle.std.specs.Prelude.{List, [], ◌∷◌}
 use Rattle.mad_layout.specs.declared.mad_header.Header.{Header}
 use Rattle.mad_layout.specs.Layout.{Field, at}

@@ -1,4 +1,4 @@
--- The codes by which a request is refused (InfiniBand volume 1, 13.4.7 and chapter 15).
+-- The codes by which a request is refused (IBA volume 1, 13.4.7 and chapter 15).
 use Rattle.std.specs.Prelude.{ℕ}
 use Rattle.mad_layout.specs.declared.status.MadStatus.{MadStatus}
 use Rattle.mad_layout.specs.declared.status.MadStatus.TheVariants.{BadVersion, MethodNotSupported, AttributeNotSupported, InvalidField, NoResources}

@@ -1,4 +1,4 @@
--- The methods of MADs (InfiniBand volume 1, 13.4.5 and 15.2.2), by their codes with the R bit.
+-- The methods of MADs (IBA volume 1, 13.4.5 and 15.2.2), by their codes with the R bit.
 use Rattle.std.specs.Prelude.{ℕ}
 use Rattle.mad_layout.specs.declared.method.Method.{Method}
 use Rattle.mad_layout.specs.declared.method.Method.TheVariants.{Get, Set, GetTable, Delete, GetResp, GetTableResp, DeleteResp}

@@ -1,4 +1,4 @@
--- The RMPP header of a MAD (InfiniBand volume 1, chapter 13).
+-- The RMPP header of a MAD (IBA volume 1, chapter 13).
 use Rattle.std.specs.Prelude.{List, [], ◌∷◌}
 use Rattle.mad_layout.specs.declared.rmpp_header.RmppHeader.{RmppHeader}
 use Rattle.mad_layout.specs.Layout.{Field, at}

@@ -1,4 +1,4 @@
--- What a MAD is to an RMPP transfer (InfiniBand volume 1, chapter 13).
+-- What a MAD is to an RMPP transfer (IBA volume 1, chapter 13).
 use Rattle.std.specs.Prelude.{ℕ}
 use Rattle.mad_layout.specs.declared.rmpp_kind.RmppKind.{RmppKind}
 use Rattle.mad_layout.specs.declared.rmpp_kind.RmppKind.TheVariants.{Data, Ack, Stop, Abort}

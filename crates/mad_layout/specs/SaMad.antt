@@ -1,4 +1,4 @@
--- The fields of a subnet administration MAD (InfiniBand volume 1, 15.2.1.1) after its RMPP header.
+-- The fields of a subnet administration MAD (IBA volume 1, 15.2.1.1) after its RMPP header.
 use Rattle.std.specs.Prelude.{List, [], ◌∷◌}
 use Rattle.mad_layout.specs.declared.sa_mad.SaMad.{SaMad}
 use Rattle.mad_layout.specs.Bits.{number}

@@ -1,3 +1,5 @@
+//! Fields of 2, 4 and 8 whole bytes.
+
 ghost use Rattle.std.specs.Prelude.{◌≡◌, ◌≤◌, ◌<◌, ◌+◌, ◌*◌, ◌/◌, ◌%◌, ◌^◌, length, take, drop};
 ghost use Rattle.mad_layout.specs.Bits.{number, bit_of, field, put_field};
 

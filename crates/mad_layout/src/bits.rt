@@ -1,3 +1,5 @@
+//! Fields of bits, counted as the standard counts them.
+
 ghost use Rattle.std.specs.Prelude.{◌≡◌, ◌≤◌, ◌<◌, ◌+◌, ◌*◌, ◌^◌, length};
 ghost use Rattle.std.specs.Int.Digits.{AllBelowBase};
 ghost use Rattle.mad_layout.specs.Bits.{number, field, replaced, put_field};

@@ -1,3 +1,5 @@
+//! The header of directed-route SMPs.
+
 ghost use Rattle.std.specs.Prelude.{◌≡◌, ◌<◌, slice_range};
 ghost use Rattle.mad_layout.specs.Layout.{Holds, Fits, put_all, Sets};
 ghost use Rattle.mad_layout.specs.DrSmp.{dr_smp};

@@ -1,3 +1,5 @@
+//! Readers and writers of all fields of a record, from its layout.
+
 /// Reads a record by its table of fields: `TABLE!(read_fields!(Record bytes))`, where `bytes` is a
 /// reference to the bytes.
 #[macro_export]

@@ -1,3 +1,5 @@
+//! How a port is a member of a multicast group, as bits.
+
 ghost use Rattle.std.specs.Prelude.{⊤};
 ghost use Rattle.mad_layout.specs.Flags.{join_states};
 

@@ -1,3 +1,5 @@
+//! The laws of fields and headers. Each function's contract is its law; it does nothing.
+
 ghost use Rattle.std.specs.Prelude.{◌≡◌, ◌<◌};
 ghost use Rattle.mad_layout.specs.DrSmp.{dr_smp};
 ghost use Rattle.mad_layout.specs.Layout.{Sets};

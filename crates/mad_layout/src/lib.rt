@@ -3,8 +3,8 @@
 //! [`get_bits`] and [`put_bits`] read and write a field of any width at any bit. A header is a struct of
 //! raw fields and one table of their places, which [`read_fields`] and [`write_fields`] go through;
 //! contracts compare it with the list of places that stands in `specs/`. [`Method`], [`MadStatus`] and
-//! [`RmppKind`] name codes, [`RmppFlags`] and [`JoinState`] bits. The layouts are those of the InfiniBand
-//! Architecture Specification, volume 1: 13.4.2, 14.2.1.2, 15.2.1.1 and, for RMPP, chapter 13.
+//! [`RmppKind`] name codes, [`RmppFlags`] and [`JoinState`] bits. The layouts are those of the IBA volume 1
+//!: 13.4.2, 14.2.1.2, 15.2.1.1 and, for RMPP, chapter 13.
 #![tactic(auto)]
 
 mod aligned;

@@ -1,3 +1,5 @@
+//! The header that all MADs share.
+
 ghost use Rattle.std.specs.Prelude.{◌≡◌, Some, IfSome, nat_le};
 ghost use Rattle.mad_layout.specs.Layout.{Holds, Fits, put_all, Sets};
 ghost use Rattle.mad_layout.specs.MadHeader.{mad_header};

@@ -1,3 +1,5 @@
+//! The methods of MADs.
+
 ghost use Rattle.std.specs.Prelude.{◌≡◌, Some, IfSome};
 ghost use Rattle.mad_layout.specs.Method.{method_code};
 

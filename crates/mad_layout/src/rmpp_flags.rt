@@ -1,3 +1,5 @@
+//! The flags of a segment.
+
 ghost use Rattle.std.specs.Prelude.{⊤};
 ghost use Rattle.mad_layout.specs.Flags.{rmpp_flags};
 

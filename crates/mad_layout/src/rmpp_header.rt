@@ -1,3 +1,5 @@
+//! The header of segments.
+
 ghost use Rattle.std.specs.Prelude.{◌≡◌, ◌<◌, Some, IfSome};
 ghost use Rattle.mad_layout.specs.Layout.{Holds, Fits, put_all, Sets};
 ghost use Rattle.mad_layout.specs.RmppHeader.{rmpp_header};

@@ -1,3 +1,5 @@
+//! The types of segments.
+
 ghost use Rattle.std.specs.Prelude.{◌≡◌, Some, IfSome};
 ghost use Rattle.mad_layout.specs.RmppKind.{rmpp_kind_code};
 

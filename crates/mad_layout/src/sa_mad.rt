@@ -1,3 +1,5 @@
+//! MADs of subnet administration.
+
 ghost use Rattle.std.specs.Prelude.{◌≡◌, slice_range};
 ghost use Rattle.mad_layout.specs.Layout.{Holds, Fits, put_all, Sets};
 ghost use Rattle.mad_layout.specs.SaMad.{sa_mad};

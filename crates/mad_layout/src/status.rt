@@ -1,3 +1,5 @@
+//! The status that a reply has.
+
 ghost use Rattle.std.specs.Prelude.{◌≡◌, Some, IfSome};
 ghost use Rattle.mad_layout.specs.MadStatus.{mad_status_code};
 

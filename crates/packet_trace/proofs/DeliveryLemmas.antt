@@ -206,7 +206,7 @@ module _ (fabric : FabricState) (packet : Packet) (at : PortRef) where
 
 -- ---- the law
 pub traces_tell_deliveries : TracesTellDeliveries
-traces_tell_deliveries fabric packet from first at port cable there = (to, back)
+traces_tell_deliveries fabric packet from first at port unicast cable there = (to, back)
   where
     stops : next_port fabric.nodes fabric.cables packet at ≡ None
     stops = adapter_stops fabric.nodes fabric.cables packet at port there

@@ -17,7 +17,7 @@ use Rattle.packet_trace.specs.declared.turn.Turn.TheVariants.{Again, DropsInboun
 use Rattle.port_model.specs.AdapterState.{AdapterState}
 use Rattle.port_model.specs.Packets.{accepts_packet}
 use Rattle.smp_wire.proofs.CableLemmas.{count_ends, far_is_end, ports_equiv, ports_turn}
-use Rattle.smp_wire.proofs.DistinctLemmas.{all_differ, distinct}
+use Rattle.result_words.proofs.DistinctLemmas.{all_differ, distinct}
 use Rattle.smp_wire.specs.FabricState.{FabricState, adapter_port}
 use Rattle.smp_wire.specs.Good.{ends_of}
 use Rattle.smp_wire.specs.declared.node.Node.{Node}

@@ -1,9 +1,10 @@
 -- What holds of all traces: the statements of the laws of `src/laws.rt`.
-use Rattle.std.specs.Prelude.{ℕ, ◌≡◌, ◌↔◌, List, [], ◌∷◌, ◌++◌, Some}
+use Rattle.std.specs.Prelude.{ℕ, ◌≡◌, ◌↔◌, false, List, [], ◌∷◌, ◌++◌, Some}
 use Rattle.std.specs.List.{Contains}
 use Rattle.data_packet.specs.declared.packet.Packet.{Packet}
 use Rattle.fabric_parts.specs.Cable.{far_end}
 use Rattle.fabric_parts.specs.declared.cable.PortRef.{PortRef}
+use Rattle.fabric_parts.specs.Lid.{is_multicast}
 use Rattle.packet_trace.specs.Trace.{step, steps_of}
 use Rattle.packet_trace.specs.declared.turn.Step.{Step}
 use Rattle.packet_trace.specs.declared.turn.Turn.TheVariants.{Accepts, GoesOut}
@@ -11,12 +12,12 @@ use Rattle.packet_ways.specs.Deliveries.{IsDelivered, adapter_at}
 use Rattle.port_model.specs.AdapterState.{AdapterState}
 use Rattle.smp_wire.specs.FabricState.{FabricState}
 
--- what leaves by the port `from`, whose cable leads to `first`, is delivered at a port exactly where that accepts it in the
+-- a unicast packet that leaves by the port `from`, whose cable leads to `first`, is delivered at a port exactly where that accepts it in the
 -- trace
 abbrev pub TracesTellDeliveries : Type 0
 TracesTellDeliveries =
     (fabric : FabricState) (packet : Packet) (from first at : PortRef) (port : AdapterState)
-    → far_end fabric.cables from ≡ Some first → adapter_at fabric.nodes at ≡ Some port
+    → is_multicast packet.dlid ≡ false → far_end fabric.cables from ≡ Some first → adapter_at fabric.nodes at ≡ Some port
     → IsDelivered fabric.nodes fabric.cables from packet at port ↔ Contains (steps_of fabric packet first) (step at Accepts)
 
 -- there is a last step, and at its port the packet does not go out: so that step tells why the way ends

@@ -1,4 +1,4 @@
--- The way of one packet through a fabric, port by port, and why it ends (InfiniBand volume 1, chapter 14): by what the
+-- The way of one packet through a fabric, port by port, and why it ends (IBA volume 1, chapter 14): by what the
 -- switches and the channel adapters hold, whoever wrote it.
 use Rattle.std.specs.Prelude.{ℕ, zero, suc, ◌+◌, ◌*◌, is_some, if◌then◌else◌, List, [], ◌∷◌, ◌++◌, length, slice_get, Option, None}
 use Rattle.std.specs.List.{list_any}

@@ -3,7 +3,7 @@
 //! [`steps`] follows a packet by what the switches hold, and tells at each port that it comes to what becomes of it there
 //! (`specs/Trace.antt`); [`trace_text`] prints that, from the port that sends it on (`specs/Lines.antt`). A port accepts a
 //! packet in its trace exactly where the packet is delivered there: [`traces_tell_deliveries`]. Forwarding by LID and
-//! the enforcement of partitions are those of the InfiniBand Architecture Specification, volume 1, chapter 14.
+//! the enforcement of partitions are those of the IBA volume 1, chapter 14.
 #![tactic(auto)]
 
 mod laws;

@@ -1,16 +1,14 @@
 //! The way of a packet, as lines.
 
 ghost use Rattle.std.specs.Prelude.{◌≡◌, ◌++◌, OnOk, IfOk, codes, decimal, flat_map};
-ghost use Rattle.std.specs.Option.{option_copied};
 ghost use Rattle.packet_trace.specs.Lines.{entry_text, place_text, port_text, refuses_line, stamps_line, step_line, text_from, trace_text, turn_text, way_text};
 ghost use Rattle.packet_trace.specs.declared.lines.TheConstants.{DATA_QP};
-ghost use Rattle.packet_ways.specs.Deliveries.{adapter_at};
 
 use crate::trace::steps;
 use crate::turn::{Step, Turn};
 use data_packet::{Packet, QueuePair, Refusal};
 use fabric_parts::PortRef;
-use fabric_wire::{Fabric, Node};
+use fabric_wire::{Fabric, adapter_at};
 use line_parts::{push_decimal, push_hex};
 use port_model::AdapterPort;
 use std::alloc::{AllocError, Global};
@@ -34,19 +32,9 @@ pub fn trace_text(
 ) -> Result<Vec<u8>, AllocError>
     ensures { IfOk result (λ text. text.items ≡ trace_text topology.now.nodes fabric.now from dlid p_key) }
 {
-    match sender_at(fabric.nodes(), from) {
+    match adapter_at(fabric.nodes(), from) {
         Some(sender) => text_from(alloc, topology, fabric, from, sender, dlid, p_key),
         None => Ok(Vec::new(alloc)),
-    }
-}
-
-/// The port of a channel adapter there, if there is one.
-fn sender_at(nodes: &[Node], at: PortRef) -> Option<&AdapterPort>
-    ensures { option_copied result ≡ adapter_at nodes.now at }
-{
-    match nodes.get(at.node) {
-        Some(Node::Adapter(ports)) => ports.port(at.port),
-        Some(Node::Switch(_)) | None => None,
     }
 }
 

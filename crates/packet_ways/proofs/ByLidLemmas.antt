@@ -1,5 +1,6 @@
 -- Where tables forward by LID, packets go by their LIDs.
 use Rattle.std.proofs.Common.{ℕ, ◌-◌, ◌≡◌, ◌≢◌, ◌<◌, ◌==◌, ◌∙◌, ap, refl, sym, subst, not, ◌&&◌, ◌||◌, Bool, true, false, nat_le, List, [], ◌∷◌, length, slice_get, Option, Some, None, if◌then◌else◌, get_or, arith}
+use Rattle.std.specs.Prelude.{◌↔◌, Ok}
 use Rattle.std.specs.List.{list_all}
 use Rattle.std.specs.Option.{option_and_then, option_map_or}
 use Rattle.std.proofs.lemmas.Bool.{and_parts, le-leb, leb-true, false≢true}
@@ -11,12 +12,13 @@ use Rattle.fabric_parts.specs.Cable.{far_end, is_same_port}
 use Rattle.pkey_rules.specs.KeyTable.{accepts}
 use Rattle.pkey_rules.specs.StoredKeys.{stored_keys}
 use Rattle.port_model.specs.AdapterState.{AdapterState}
-use Rattle.switch_model.proofs.ForwardingLemmas.{goes_by_entries}
+use Rattle.port_model.specs.Packets.{stamped}
+use Rattle.switch_model.proofs.ForwardingLemmas.{goes_by_entry}
 use Rattle.switch_model.specs.Forwarding.{linear_entry_of, passes_inbound, passes_outbound}
 use Rattle.switch_model.specs.SwitchState.{SwitchState}
 use Rattle.switch_model.specs.declared.switch_port.SwitchPort.{SwitchPort}
 use Rattle.smp_wire.proofs.CableLemmas.{both_ways, cabled_is_port, far_ends_meet, far_is_port}
-use Rattle.smp_wire.proofs.DistinctLemmas.{differ}
+use Rattle.result_words.proofs.DistinctLemmas.{differ}
 use Rattle.smp_wire.specs.FabricState.{FabricState, adapter_port, is_port, is_switch, is_switch_at, port_count}
 use Rattle.smp_wire.specs.Good.{is_right}
 use Rattle.smp_wire.specs.declared.node.Node.{Node}
@@ -132,7 +134,7 @@ module _ (fabric : FabricState) (forwards : ForwardsByLid fabric) where
         let mine : linear_entry_of at.held packet.dlid ≡ Some out = rw at.there at entry in
         let parts = entry_by (nat_le packet.dlid at.held.info.linear_fdb_top) (slice_get at.held.linear packet.dlid) out mine in
         rw at.there
-        ((goes_by_entries at.held here.port packet out).1 (record {
+        ((goes_by_entry at.held here.port packet out).1 (record {
           inbound = inbound;
           within = leb-true packet.dlid at.held.info.linear_fdb_top parts.0;
           entry = parts.1;
@@ -222,7 +224,7 @@ module _ (fabric : FabricState) (forwards : ForwardsByLid fabric) where
   by_entry None number out packet is = absurd (cc)
   by_entry (Some (Adapter ports)) number out packet is = absurd (cc)
   by_entry (Some (Switch held)) number out packet is =
-      let sent = (goes_by_entries held number packet out).0 is in
+      let sent = (goes_by_entry held number packet out).0 is in
       rw (le-leb packet.dlid held.info.linear_fdb_top sent.within) sent.entry
 
   -- leads to the port of the LID
@@ -283,14 +285,21 @@ module _ (fabric : FabricState) (forwards : ForwardsByLid fabric) where
           accepts = rw is.key_is at delivered.accepts;
         }
 
-pub packets_go_by_lid : PacketsGoByLid
-packets_go_by_lid fabric from at sender port dlid p_key destination_qp payload packet forwards begin stamps =
+-- as long as no switch looks at masks, that is so of all LIDs
+pub go_by_lid : (fabric : FabricState) (from at : PortRef) (sender port : AdapterState) (dlid p_key destination_qp : ℕ) (payload : List ℕ) (packet : Packet)
+    → ForwardsByLid fabric → IsCabledPort fabric from sender → stamped sender dlid p_key destination_qp payload ≡ Ok packet
+    → IsDelivered fabric.nodes fabric.cables from packet at port ↔ IsMeant fabric dlid p_key at port
+go_by_lid fabric from at sender port dlid p_key destination_qp payload packet forwards begin stamps =
     let is = is_stamped sender dlid p_key destination_qp payload packet stamps in (
       is_meant fabric forwards from at sender port dlid p_key packet begin is,
       is_delivered fabric forwards from at sender port dlid p_key packet begin is,
     )
 
+pub packets_go_by_lid : PacketsGoByLid
+packets_go_by_lid fabric from at sender port dlid p_key destination_qp payload packet forwards begin stamps unicast =
+    go_by_lid fabric from at sender port dlid p_key destination_qp payload packet forwards begin stamps
+
 pub others_reach_nobody : OtherLidsReachNobody
-others_reach_nobody fabric from at sender port dlid p_key destination_qp payload packet forwards begin stamps nobody delivered =
-    let meant = (packets_go_by_lid fabric from at sender port dlid p_key destination_qp payload packet forwards begin stamps).0 delivered in
+others_reach_nobody fabric from at sender port dlid p_key destination_qp payload packet forwards begin stamps unicast nobody delivered =
+    let meant = (go_by_lid fabric from at sender port dlid p_key destination_qp payload packet forwards begin stamps).0 delivered in
     nobody at port meant.cabled meant.lid

@@ -17,14 +17,14 @@ use Rattle.fabric_parts.specs.declared.cable.PortRef.{PortRef}
 use Rattle.smp_wire.specs.FabricState.{FabricState}
 use Rattle.packet_ways.specs.Deliveries.{AreDeliveries, IsDelivered, IsOwn, in_order, numbers_of, Numbers, Reaches, adapter_at}
 use Rattle.packet_ways.specs.Laws.{DeliveriesAreOneList}
-use Rattle.packet_ways.proofs.WayLemmas.{reaches_one_port}
+use Rattle.packet_ways.proofs.WayLemmas.{reaches_one}
 
 one_receiver : (fabric : FabricState) (sender : ℕ) (packet : Packet) (a b : Numbers) → IsOwn fabric.nodes sender
     → Reaches fabric sender packet a → Reaches fabric sender packet b → a ≡ b
 one_receiver fabric sender packet a b own one other =
     let from = own one.from other.from one.sends other.sends in
     let moved = subst (λ (p : PortRef). IsDelivered fabric.nodes fabric.cables p packet one.at one.port) from one.delivered in
-    let at = reaches_one_port fabric.nodes fabric.cables other.from packet one.at other.at one.port other.port moved other.delivered in
+    let at = reaches_one fabric.nodes fabric.cables other.from packet one.at other.at one.port other.port moved other.delivered in
     let port : one.port ≡ other.port = same_Some _ _ (sym one.delivered.there ∙ ap (adapter_at fabric.nodes) at ∙ other.delivered.there) in
     one.receives ∙ ap numbers_of port ∙ sym other.receives
 

@@ -11,7 +11,7 @@ use Rattle.pkey_rules.specs.StoredKeys.{stored_keys}
 use Rattle.port_model.specs.AdapterState.{AdapterState}
 use Rattle.switch_model.specs.declared.switch_port.SwitchPort.{SwitchPort}
 use Rattle.smp_wire.proofs.CableLemmas.{far_ends_meet, same_port}
-use Rattle.smp_wire.proofs.DistinctLemmas.{all_differ, distinct}
+use Rattle.result_words.proofs.DistinctLemmas.{all_differ, distinct}
 use Rattle.smp_wire.specs.FabricState.{FabricState, is_switch_at}
 use Rattle.smp_wire.specs.Good.{ends_of, is_right}
 use Rattle.smp_wire.specs.declared.node.Node.{Node}

@@ -12,7 +12,7 @@ use Rattle.fabric_parts.specs.Cable.{far_end, is_same_port}
 use Rattle.port_model.specs.AdapterState.{AdapterState}
 use Rattle.switch_model.specs.Forwarding.{out_port}
 use Rattle.smp_wire.proofs.CableLemmas.{count_ends, far_is_end, ports_equiv, same_port}
-use Rattle.smp_wire.proofs.DistinctLemmas.{all_differ, distinct}
+use Rattle.result_words.proofs.DistinctLemmas.{all_differ, distinct}
 use Rattle.smp_wire.specs.FabricState.{adapter_port}
 use Rattle.smp_wire.specs.Good.{ends_of}
 use Rattle.smp_wire.specs.declared.node.Node.{Node}
@@ -56,7 +56,7 @@ pub from_next : (nodes : List Node) (cables : List Cable) (packet : Packet) (her
 from_next nodes cables packet here next is = by_out nodes cables packet here next (out_port_at nodes here packet) refl is
 
 pub goes_one_way : UnicastGoesOneWay
-goes_one_way nodes cables packet here next = (to_next nodes cables packet here next, from_next nodes cables packet here next)
+goes_one_way nodes cables packet here next unicast = (to_next nodes cables packet here next, from_next nodes cables packet here next)
 
 -- ---- no channel adapter sends on
 pub in_none : (none : Bool) (place : ℕ) (port : AdapterState) → (if none then None else slice_get {X = AdapterState} [] place) ≡ Some port → ⊥
@@ -167,13 +167,18 @@ module _ (nodes : List Node) (cables : List Cable) (packet : Packet) where
   few_hops way here last goes ends = rw (count_ends cables) at few_ends way here last goes ends
 
 -- ---- one port
-pub reaches_one_port : UnicastReachesOnePort
-reaches_one_port nodes cables from packet a b p q one other =
+-- as long as no switch sends a packet out of several, that is so of all packets
+pub reaches_one : (nodes : List Node) (cables : List Cable) (from : PortRef) (packet : Packet) (a b : PortRef) (p q : AdapterState)
+    → IsDelivered nodes cables from packet a p → IsDelivered nodes cables from packet b q → a ≡ b
+reaches_one nodes cables from packet a b p q one other =
     let first = same_Some one.first other.first (sym one.cable ∙ other.cable) in
     same_end nodes cables packet one.way other.way one.first a b one.goes
     (subst (λ (port : PortRef). Goes nodes cables packet port other.way b) (sym first) other.goes)
     (adapter_stops nodes cables packet a p one.there)
     (adapter_stops nodes cables packet b q other.there)
+
+pub reaches_one_port : UnicastReachesOnePort
+reaches_one_port nodes cables from packet a b p q unicast one other = reaches_one nodes cables from packet a b p q one other
 
 -- ---- a packet that has gone so many hops
 pub record IsOnWay (nodes : List Node) (cables : List Cable) (packet : Packet) (first : PortRef) (hops : ℕ) (here : PortRef) : Type 0 where

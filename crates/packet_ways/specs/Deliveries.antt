@@ -1,4 +1,4 @@
--- Whom a data packet reaches, by what the switches and channel adapters of a fabric hold (InfiniBand volume 1, chapter
+-- Whom a data packet reaches, by what the switches and channel adapters of a fabric hold (IBA volume 1, chapter
 -- 14). A packet on its way is where it came in, at a port of a node. By which ports it goes on is asked port by port,
 -- so it may be none, one or several, from whatever table a switch reads them.
 use Rattle.std.specs.Prelude.{ℕ, ◌≡◌, ◌↔◌, Bool, true, false, List, [], ◌∷◌, map, slice_get, Option, Some, option_map}
@@ -91,12 +91,12 @@ abbrev pub in_order : Numbers → Numbers → Ordering
 in_order = then_cmp (on (λ one. one.lid) nat_cmp) (on (λ one. one.guid) nat_cmp)
 
 -- the packet at a port, as a fabric delivers it
-pub record Delivered : Type 0 where
+pub record DeliveryState : Type 0 where
   pub port : ℕ
   pub packet : Packet
 
 -- these are the deliveries of a packet that the port of that GUID sends: one at each port that it reaches, in order
-pub record AreDeliveries (fabric : FabricState) (sender : ℕ) (packet : Packet) (deliveries : List Delivered) : Type 0 where
+pub record AreDeliveries (fabric : FabricState) (sender : ℕ) (packet : Packet) (deliveries : List DeliveryState) : Type 0 where
   pub receivers : List Numbers
   pub each : (receiver : Numbers) → Contains receivers receiver ↔ Reaches fabric sender packet receiver
   pub order : IsStrictlySortedBy in_order receivers

@@ -3,7 +3,7 @@
 //! `specs/Deliveries.antt` says which ports of channel adapters a packet reaches, whatever stands in the
 //! tables: those to which some walk leads by what switches hold, and that accept its key. `specs/Forwards.antt`
 //! says what tables have to hold, so that a packet goes by its LID; that it does then is [`packets_go_by_lid`].
-//! Forwarding by LID and enforcement are those of the InfiniBand Architecture Specification, volume 1,
+//! Forwarding by LID and enforcement are those of the IBA volume 1,
 //! chapter 14.
 #![tactic(auto)]
 

@@ -6,7 +6,7 @@ use Rattle.std.proofs.lemmas.Bool.Decides.{nat_tests}
 use Rattle.std.specs.List.Sorted.{IsStrictlyIncreasing}
 use Rattle.result_words.proofs.TestLemmas.{or_turned}
 use Rattle.result_words.proofs.ListLemmas.{all_above}
-use Rattle.lid_assign.proofs.RisingLemmas.{Rises, rises, same_rising}
+use Rattle.result_words.proofs.RisingLemmas.{Rises, rises, same_rising}
 use Rattle.partition_file.specs.declared.heading.Heading.{Heading}
 use Rattle.partition_changes.specs.Changes.{rising_bases, with_base}
 

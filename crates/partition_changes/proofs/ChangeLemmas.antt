@@ -11,7 +11,7 @@ use Rattle.partition_file.specs.declared.heading.Heading.{Heading}
 use Rattle.port_shares.proofs.ShareLemmas.{flat_kept, has_base, in_range, is_shared_base, kept_alike, range_rises}
 use Rattle.port_shares.specs.Found.{AreBases, share_of as share_between}
 use Rattle.port_shares.specs.Shares.{share_line}
-use Rattle.subnet_model.specs.Configuration.{Configured}
+use Rattle.subnet_model.specs.Configuration.{ConfigurationState}
 use Rattle.partition_changes.specs.Changes.{Change, bases_named, change_of_member_line, changes_of, changes_text, coming, going, group_changes_at, group_line, grouped, member_changes, member_changes_at, member_of, pair_changes, partition_changes_at, partition_line, partition_of, same_group, same_member, same_partition, same_share, share_changes, share_changes_at, share_of, sign, stays, text_of_changes}
 use Rattle.partition_changes.specs.Found.{change_text, group_text, member_text, members_text, pair_text, partition_text, seen, share_text, shares_text, signed}
 use Rattle.partition_changes.specs.declared.ports.Both.{Both}
@@ -128,7 +128,7 @@ shares_alike (p ∷ ports) =
     ∙ sym (flat_map-append (told share_line) (flat_map (pair_changes (seen p)) (map seen ports)) (share_changes (map seen ports)))
 
 -- ---- all together
-pub all_alike : (before after : Configured) (bases : List ℕ) (ports : List Both) → bases ≡ bases_named before.partitions after.partitions → map seen ports ≡ zip before.ports after.ports
+pub all_alike : (before after : ConfigurationState) (bases : List ℕ) (ports : List Both) → bases ≡ bases_named before.partitions after.partitions → map seen ports ≡ zip before.ports after.ports
     → ((flat_map (partition_text before.partitions after.partitions) bases ++ flat_map (group_text before.partitions after.partitions) bases) ++ flat_map (members_text ports) bases) ++ shares_text ports
     ≡ text_of_changes before after
 all_alike before after bases ports are beside =

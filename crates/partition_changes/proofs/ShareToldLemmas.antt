@@ -3,7 +3,7 @@ use Rattle.std.proofs.Common.{◌≡◌, ℕ, Bool, true, false, not, ◌==◌, 
 use Rattle.std.specs.List.{AllByRecursion, IsDistinct, flat_map, list_any, range_with_len, zip}
 use Rattle.std.proofs.lemmas.Bool.{and_from, and_parts, cases_Bool, eq-eqb, eqb-true}
 use Rattle.std.proofs.lemmas.List.Folds.{list_any-append}
-use Rattle.lid_assign.proofs.RisingLemmas.{Rises, rises}
+use Rattle.result_words.proofs.RisingLemmas.{Rises, rises}
 use Rattle.pkey_rules.specs.KeyTable.{shares_base}
 use Rattle.port_shares.proofs.NearLemmas.{any_flat, same_any}
 use Rattle.port_shares.proofs.ShareLemmas.{range_rises}

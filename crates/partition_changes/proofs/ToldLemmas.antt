@@ -3,7 +3,7 @@ use Rattle.std.proofs.Common.{◌≡◌, ℕ, ◌<◌, Bool, true, false, not, �
 use Rattle.std.specs.List.{AllByRecursion, flat_map, list_any}
 use Rattle.std.proofs.lemmas.Bool.{cases_Bool, eqb-true, false≢true}
 use Rattle.std.proofs.lemmas.Bool.Decides.{nat_tests}
-use Rattle.lid_assign.proofs.RisingLemmas.{Rises}
+use Rattle.result_words.proofs.RisingLemmas.{Rises}
 use Rattle.partition_changes.specs.Changes.{changes_of, coming, going}
 use Rattle.partition_changes.specs.Laws.{TellWhatChanges, comes, goes, says}
 use Rattle.port_shares.proofs.NearLemmas.{any_flat, same_any}

@@ -11,7 +11,7 @@ use Rattle.partition_file.specs.declared.heading.Heading.{Heading}
 use Rattle.partition_file.specs.Partitions.{mgid_of}
 use Rattle.pkey_rules.specs.KeyTable.{find_base, shares_base}
 use Rattle.port_shares.specs.Shares.{Share, share_line}
-use Rattle.subnet_model.specs.Configuration.{Configured}
+use Rattle.subnet_model.specs.Configuration.{ConfigurationState}
 use Rattle.subnet_model.specs.declared.subnet_port.SubnetPort.{SubnetPort}
 
 -- ---- changes of any kind
@@ -148,7 +148,7 @@ share_changes [] = []
 share_changes (p ∷ ports) = flat_map (pair_changes p) ports ++ share_changes ports
 
 -- ---- all of them: the ports before and after are those of one topology, in order of their LIDs
-abbrev pub text_of_changes : Configured → Configured → List ℕ
+abbrev pub text_of_changes : ConfigurationState → ConfigurationState → List ℕ
 text_of_changes before after =
     changes_text partition_line (partition_changes before.partitions after.partitions)
     ++ changes_text group_line (group_changes before.partitions after.partitions)

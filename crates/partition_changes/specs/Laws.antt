@@ -6,7 +6,7 @@ use Rattle.partition_changes.specs.Changes.{Change, bases_named, group_changes, 
 use Rattle.partition_file.specs.declared.heading.Heading.{Heading}
 use Rattle.pkey_rules.specs.PKey.{base_of}
 use Rattle.port_shares.specs.Shares.{Share, shares}
-use Rattle.subnet_model.specs.Configuration.{Configured}
+use Rattle.subnet_model.specs.Configuration.{ConfigurationState}
 use Rattle.subnet_model.specs.Near.{is_near}
 use Rattle.subnet_model.specs.declared.subnet_port.SubnetPort.{SubnetPort}
 
@@ -76,7 +76,7 @@ SharesAreTold =
 
 -- ---- where nothing is told
 -- both say the same of each partition, of each group, of each member of one of the partitions and of each share
-pub record SayTheSame (before after : Configured) : Type 0 where
+pub record SayTheSame (before after : ConfigurationState) : Type 0 where
   pub partitions : (x : ℕ × Heading) → has_partition before.partitions x ≡ has_partition after.partitions x
   pub groups : (x : Heading) → has_group before.partitions x ≡ has_group after.partitions x
   pub members : (x : SubnetPort × ℕ) → is_of (bases_named before.partitions after.partitions) x ≡ true → has_member before.ports x ≡ has_member after.ports x
@@ -85,7 +85,7 @@ pub record SayTheSame (before after : Configured) : Type 0 where
 -- the text of changes is empty exactly where they do
 abbrev pub NothingIsToldOfTheSame : Type 0
 NothingIsToldOfTheSame =
-    (before after : Configured) → AreSamePorts before.ports after.ports → text_of_changes before after ≡ [] ↔ SayTheSame before after
+    (before after : ConfigurationState) → AreSamePorts before.ports after.ports → text_of_changes before after ≡ [] ↔ SayTheSame before after
 
 -- where no share is told, whoever was near a port is near it still, and nobody else is
 abbrev pub NearStaysWhereNoShareIsTold : Type 0

@@ -36,7 +36,7 @@ use Rattle.partition_file.specs.Ports.{ports_named}
 use Rattle.partition_file.specs.Counting.{keys_of, partition_count}
 use Rattle.partition_file.specs.Cases.{fault_of, has_fault, in_turn, is_one_too_many, is_reserved_key, is_unfinished, key_here}
 use Rattle.partition_file.specs.Definitions.{after_equals, part_after, with_piece}
-use Rattle.partition_file.specs.Scanned.{Scanned, is_in_list}
+use Rattle.partition_file.specs.ScanState.{ScanState, is_in_list}
 use Rattle.partition_file.specs.Sound.{IsSoundSoFar, are_within, is_sound_key, is_within}
 use Rattle.partition_file.specs.Tokens.{is_empty, membership_in, membership_value, number_value, taken_if, token_of, value_of}
 
@@ -55,7 +55,7 @@ none_of holds (fault ∷ rest) h =
     let parts = passed_over (holds fault) fault (find holds rest) h in
     (parts.0, none_of holds rest parts.1)
 
-pub none_there : (s : Scanned) (delimiter : Delimiter) (token : Token) → fault_of s delimiter token ≡ None → (fault : PartitionCause) → has_fault s delimiter token fault ≡ false
+pub none_there : (s : ScanState) (delimiter : Delimiter) (token : Token) → fault_of s delimiter token ≡ None → (fault : PartitionCause) → has_fault s delimiter token fault ≡ false
 unfolding fault_of
 none_there s delimiter token h fault = by fault (none_of (has_fault s delimiter token) in_turn h)
   where
@@ -70,16 +70,16 @@ none_there s delimiter token h fault = by fault (none_of (has_fault s delimiter 
     by Unfinished none = none.1.1.1.1.1.1.1.0
     by BadFlagValue none = none.1.1.1.1.1.1.1.1.0
 
-reserved_there : (s : Scanned) (delimiter : Delimiter) (token : Token) → has_fault s delimiter token ReservedKey ≡ is_reserved_key token delimiter
+reserved_there : (s : ScanState) (delimiter : Delimiter) (token : Token) → has_fault s delimiter token ReservedKey ≡ is_reserved_key token delimiter
 unfolding has_fault
 reserved_there s delimiter token = refl
 
-too_many_there : (s : Scanned) (delimiter : Delimiter) (token : Token)
+too_many_there : (s : ScanState) (delimiter : Delimiter) (token : Token)
     → has_fault s delimiter token TooManyPartitions ≡ is_one_too_many s.at delimiter (keys_of s.done) (key_here token s.current.key)
 unfolding has_fault
 too_many_there s delimiter token = refl
 
-unfinished_there : (s : Scanned) (delimiter : Delimiter) (token : Token) → has_fault s delimiter token Unfinished ≡ is_unfinished s.at delimiter
+unfinished_there : (s : ScanState) (delimiter : Delimiter) (token : Token) → has_fault s delimiter token Unfinished ≡ is_unfinished s.at delimiter
 unfolding has_fault
 unfinished_there s delimiter token = refl
 
@@ -305,10 +305,10 @@ same_in_list (ListWord ports) key h = refl
 same_in_list (Membership ports word) key h = refl
 
 -- the definition with this piece is one of those that there is room for
-abbrev pub HasRoom : Scanned → Token → Type 0
+abbrev pub HasRoom : ScanState → Token → Type 0
 HasRoom s token = partition_count (keys_of s.done ++ key_here token s.current.key ∷ []) ≤ PARTITIONS
 
-kept_room : (s : Scanned) (piece : List ℕ) → IsSoundSoFar s → is_in_list s.at ≡ true → HasRoom s (token_of s.at piece)
+kept_room : (s : ScanState) (piece : List ℕ) → IsSoundSoFar s → is_in_list s.at ≡ true → HasRoom s (token_of s.at piece)
 kept_room s piece sound inside = rw (same_in_list (token_of s.at piece) s.current.key (same_list s.at piece ∙ inside)) (sound.room inside)
 
 in_list_by_equals : (token : Token) → is_in_list (after_equals token) ≡ true → is_of_list token ≡ true
@@ -331,13 +331,13 @@ few_enough : (b : Bool) (n : ℕ) → b ≡ false → ((true && not b) && nat_lt
 few_enough true n e h = absurd cc
 few_enough false n e h = ltb-false PARTITIONS n h
 
-room_after_colon : (s : Scanned) (piece : List ℕ) (b : Bool) → is_in_list s.at ≡ b → IsSoundSoFar s
+room_after_colon : (s : ScanState) (piece : List ℕ) (b : Bool) → is_in_list s.at ≡ b → IsSoundSoFar s
     → is_one_too_many s.at Colon (keys_of s.done) (key_here (token_of s.at piece) s.current.key) ≡ false → HasRoom s (token_of s.at piece)
 room_after_colon s piece true e sound h = kept_room s piece sound e
 room_after_colon s piece false e sound h = few_enough (is_in_list s.at) _ e h
 
 -- where the next part is of the list, or the definition ends, there is room for it
-pub has_room : (s : Scanned) (delimiter : Delimiter) (piece : List ℕ) → IsSoundSoFar s → fault_of s delimiter (token_of s.at piece) ≡ None
+pub has_room : (s : ScanState) (delimiter : Delimiter) (piece : List ℕ) → IsSoundSoFar s → fault_of s delimiter (token_of s.at piece) ≡ None
     → (is_semicolon delimiter || is_in_list (part_after s.at delimiter (token_of s.at piece))) ≡ true → HasRoom s (token_of s.at piece)
 has_room s Equals piece sound none h = kept_room s piece sound (sym (same_list s.at piece) ∙ in_list_by_equals (token_of s.at piece) h)
 has_room s Comma piece sound none h = kept_room s piece sound (in_list_by_comma (is_in_list s.at) h)
@@ -348,14 +348,14 @@ has_room s Semicolon piece sound none h =
     let token = token_of s.at piece in
     kept_room s piece sound (not-false (is_in_list s.at) (sym (unfinished_there s Semicolon token) ∙ none_there s Semicolon token none Unfinished))
 
-pub has_key : (s : Scanned) (delimiter : Delimiter) (piece : List ℕ) → IsSoundSoFar s → fault_of s delimiter (token_of s.at piece) ≡ None
+pub has_key : (s : ScanState) (delimiter : Delimiter) (piece : List ℕ) → IsSoundSoFar s → fault_of s delimiter (token_of s.at piece) ≡ None
     → is_sound_key (key_here (token_of s.at piece) s.current.key) ≡ true
 has_key s delimiter piece sound none =
     let token = token_of s.at piece in
     sound_key token delimiter s.current.key sound.valid (fits s.at piece) (sym (reserved_there s delimiter token) ∙ none_there s delimiter token none ReservedKey)
 
 -- the definition d is the current one with one more piece
-pub still_sound : (s : Scanned) (delimiter : Delimiter) (token : Token) (piece : List ℕ) (d : Definition) → IsSoundSoFar s
+pub still_sound : (s : ScanState) (delimiter : Delimiter) (token : Token) (piece : List ℕ) (d : Definition) → IsSoundSoFar s
     → token ≡ token_of s.at piece → fault_of s delimiter token ≡ None
     → d ≡ with_piece s.current token delimiter piece → IsSoundSoFar (record { at = part_after s.at delimiter token; current = d; done = s.done })
 still_sound s delimiter token piece d sound says none h =
@@ -378,7 +378,7 @@ pub record MayEnd (before : List Definition) (d : Definition) : Type 0 where
   pub flags : are_within d.flags ≡ true
   pub room : partition_count (keys_of before ++ d.key ∷ []) ≤ PARTITIONS
 
-pub may_end : (s : Scanned) (delimiter : Delimiter) (token : Token) (piece : List ℕ) (d : Definition) → IsSoundSoFar s → token ≡ token_of s.at piece
+pub may_end : (s : ScanState) (delimiter : Delimiter) (token : Token) (piece : List ℕ) (d : Definition) → IsSoundSoFar s → token ≡ token_of s.at piece
     → fault_of s delimiter token ≡ None
     → d ≡ with_piece s.current token delimiter piece → is_semicolon delimiter ≡ true → MayEnd s.done d
 may_end s delimiter token piece d sound says none h ended =
@@ -394,6 +394,6 @@ may_end s delimiter token piece d sound says none h ended =
         }
 
 -- a piece that was not taken leaves the definition's key
-pub as_before : (s : Scanned) (d : Definition) → IsSoundSoFar s → d.key ≡ s.current.key → d.flags ≡ s.current.flags
+pub as_before : (s : ScanState) (d : Definition) → IsSoundSoFar s → d.key ≡ s.current.key → d.flags ≡ s.current.flags
     → IsSoundSoFar (record { at = s.at; current = d; done = s.done })
 as_before s d sound h k = record { valid = rw h sound.valid; flags = rw k sound.flags; room = λ inside. rw h (sound.room inside) }

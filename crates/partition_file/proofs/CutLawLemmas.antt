@@ -19,7 +19,7 @@ use Rattle.partition_file.specs.Definitions.{after, after_byte, at_end, is_insid
 use Rattle.partition_file.specs.Laws.{TextsAreCut}
 use Rattle.partition_file.specs.Partitions.{partitions_in, partitions_of}
 use Rattle.partition_file.specs.Pieces.{delimiter_of, folded, is_allowed, is_delimiter, is_semicolon, line_after, piece_after, since, without_comments}
-use Rattle.partition_file.specs.Scanned.{Scanned, blank, start}
+use Rattle.partition_file.specs.ScanState.{ScanState, blank, start}
 use Rattle.partition_file.specs.Tokens.{token_of}
 use Rattle.partition_file.proofs.CaseLemmas.{none_there}
 use Rattle.partition_file.proofs.CutLemmas.{IsOpen, byte_is, byte_of, no_semicolon, open_more, parts_of, split_behind, split_here, split_nowhere}
@@ -43,7 +43,7 @@ told_on at other d e piece first [] h = refl
 told_on at other d e piece first (following ∷ rest) h = ap (λ (x : Definition). x ∷ map definition_in (ended (following ∷ rest))) h
 
 -- what the text from an open piece on gives to a state
-abbrev IsCut : Scanned → List ℕ → Scanned → Type 0
+abbrev IsCut : ScanState → List ℕ → ScanState → Type 0
 IsCut s text t = t.done ≡ s.done ++ told s.at s.current (slice_split at_semicolon text)
 
 -- ---- one byte
@@ -51,12 +51,12 @@ line_ok : {A : Type 0} (n : ℕ) (r : Result A PartitionCause) (x : A) → on_li
 line_ok {A = A} n (Ok y) x h = ap (λ (z : A). Ok z) (same_ok {E = AtLine PartitionCause} y x h)
 line_ok n (Err e) x h = absurd cc
 
-same_state : (s u : Scanned) (allowed : Bool) (piece : List ℕ) → judged_at s None allowed piece ≡ Ok u → u ≡ s
+same_state : (s u : ScanState) (allowed : Bool) (piece : List ℕ) → judged_at s None allowed piece ≡ Ok u → u ≡ s
 same_state s u true piece h = sym (same_ok {E = PartitionCause} s u h)
 same_state s u false piece h = absurd cc
 
 -- `=`, `,` and `:` go on with the definition
-goes_on : (s t : Scanned) (delimiter : Delimiter) (raw rest : List ℕ) → IsOpen raw → IsBegun s.at s.current → is_semicolon delimiter ≡ false
+goes_on : (s t : ScanState) (delimiter : Delimiter) (raw rest : List ℕ) → IsOpen raw → IsBegun s.at s.current → is_semicolon delimiter ≡ false
     → at_semicolon (byte_of delimiter) ≡ false
     → fault_of s delimiter (token_of s.at (folded raw)) ≡ None
     → IsCut (record { at = part_after s.at delimiter (token_of s.at (folded raw)); current = with_piece s.current (token_of s.at (folded raw)) delimiter (folded raw); done = s.done }) rest t
@@ -77,7 +77,7 @@ goes_on s t delimiter raw rest free fresh goes other none h =
     ∙ ap (λ (pieces : List (List ℕ)). s.done ++ told s.at s.current pieces) (sym all)
 
 -- `;` ends it
-stops : (s t : Scanned) (raw rest : List ℕ) → IsOpen raw → fault_of s Semicolon (token_of s.at (folded raw)) ≡ None
+stops : (s t : ScanState) (raw rest : List ℕ) → IsOpen raw → fault_of s Semicolon (token_of s.at (folded raw)) ≡ None
     → IsCut (record { at = part.Name; current = blank; done = s.done ++ with_piece s.current (token_of s.at (folded raw)) Semicolon (folded raw) ∷ [] }) rest t
     → IsCut s (raw ++ 59 ∷ rest) t
 stops s t raw rest free none h =
@@ -93,12 +93,12 @@ stops s t raw rest free none h =
     ∙ ap (λ (pieces : List (List ℕ)). s.done ++ told s.at s.current pieces) (sym all)
 
 -- a delimiter, which has no fault
-next_on : (s : Scanned) (delimiter : Delimiter) (token : Token) (piece : List ℕ) → is_semicolon delimiter ≡ false
+next_on : (s : ScanState) (delimiter : Delimiter) (token : Token) (piece : List ℕ) → is_semicolon delimiter ≡ false
     → next s delimiter token piece ≡ record { at = part_after s.at delimiter token; current = with_piece s.current token delimiter piece; done = s.done }
 unfolding next
 next_on s delimiter token piece goes = rw goes refl
 
-passes : (s u t : Scanned) (delimiter : Delimiter) (raw rest : List ℕ) → IsOpen raw → IsBegun s.at s.current → is_semicolon delimiter ≡ false
+passes : (s u t : ScanState) (delimiter : Delimiter) (raw rest : List ℕ) → IsOpen raw → IsBegun s.at s.current → is_semicolon delimiter ≡ false
     → at_semicolon (byte_of delimiter) ≡ false
     → judged s delimiter (folded raw) ≡ Ok u → (IsBegun u.at u.current → IsCut u rest t) → IsCut s (raw ++ byte_of delimiter ∷ rest) t
 passes s u t delimiter raw rest free fresh goes other h later =
@@ -107,9 +107,9 @@ passes s u t delimiter raw rest free fresh goes other h later =
     let passed = unless_ok (fault_of s delimiter token) (next s delimiter token (folded raw)) u h in
     let same : record { at = part_after s.at delimiter token; current = d; done = s.done } ≡ u = sym (next_on s delimiter token (folded raw) goes) ∙ passed.1 in
     goes_on s t delimiter raw rest free fresh goes other passed.0
-    (subst (λ (v : Scanned). IsCut v rest t) (sym same) (later (subst (λ (v : Scanned). IsBegun v.at v.current) same (begun s.at delimiter token d goes))))
+    (subst (λ (v : ScanState). IsCut v rest t) (sym same) (later (subst (λ (v : ScanState). IsBegun v.at v.current) same (begun s.at delimiter token d goes))))
 
-ends_piece : (s u t : Scanned) (delimiter : Delimiter) (raw rest : List ℕ) → IsOpen raw → IsBegun s.at s.current → judged s delimiter (folded raw) ≡ Ok u
+ends_piece : (s u t : ScanState) (delimiter : Delimiter) (raw rest : List ℕ) → IsOpen raw → IsBegun s.at s.current → judged s delimiter (folded raw) ≡ Ok u
     → (IsBegun u.at u.current → IsCut u rest t) → IsCut s (raw ++ byte_of delimiter ∷ rest) t
 unfolding next
 ends_piece s u t Equals raw rest free fresh h later = passes s u t Equals raw rest free fresh refl refl h later
@@ -119,15 +119,15 @@ ends_piece s u t Semicolon raw rest free fresh h later =
     let token = token_of s.at (folded raw) in
     let passed = unless_ok (fault_of s Semicolon token) (next s Semicolon token (folded raw)) u h in
     stops s t raw rest free passed.0
-    (subst (λ (v : Scanned). IsCut v rest t) (sym passed.1) (later (subst (λ (v : Scanned). IsBegun v.at v.current) passed.1 refl)))
+    (subst (λ (v : ScanState). IsCut v rest t) (sym passed.1) (later (subst (λ (v : ScanState). IsBegun v.at v.current) passed.1 refl)))
 
 -- ---- all bytes
-cut_after : (rest so_far : List ℕ) (s t : Scanned) → IsOpen (since is_delimiter so_far) → IsBegun s.at s.current → after so_far s rest ≡ Ok t
+cut_after : (rest so_far : List ℕ) (s t : ScanState) → IsOpen (since is_delimiter so_far) → IsBegun s.at s.current → after so_far s rest ≡ Ok t
     → IsCut s (since is_delimiter so_far ++ rest) t
 unfolding after after_byte
 cut_after [] so_far s t free fresh h =
     let raw = since is_delimiter so_far in
-    ap (λ (u : Scanned). u.done) (sym (same_ok {E = AtLine PartitionCause} s t h))
+    ap (λ (u : ScanState). u.done) (sym (same_ok {E = AtLine PartitionCause} s t h))
     ∙ sym (append-nil s.done)
     ∙ ap (λ (pieces : List (List ℕ)). s.done ++ told s.at s.current pieces) (sym (ap (slice_split at_semicolon) (append-nil raw) ∙ split_nowhere at_semicolon raw (no_semicolon raw free)))
 cut_after (byte ∷ rest) so_far s t free fresh h =
@@ -138,16 +138,16 @@ cut_after (byte ∷ rest) so_far s t free fresh h =
     more : (o : Option Delimiter) → delimiter_of byte ≡ o → since is_delimiter (so_far ++ byte ∷ []) ≡ cond (is_some o) [] (since is_delimiter so_far ++ byte ∷ [])
     more o e = since_more is_delimiter so_far byte ∙ ap (λ (d : Option Delimiter). cond (is_some d) [] (since is_delimiter so_far ++ byte ∷ [])) e
 
-    by : (o : Option Delimiter) → delimiter_of byte ≡ o → (u : Scanned) → judged_at s o (is_allowed byte) (piece_after so_far) ≡ Ok u
+    by : (o : Option Delimiter) → delimiter_of byte ≡ o → (u : ScanState) → judged_at s o (is_allowed byte) (piece_after so_far) ≡ Ok u
         → (IsOpen (since is_delimiter (so_far ++ byte ∷ [])) → IsBegun u.at u.current → IsCut u (since is_delimiter (so_far ++ byte ∷ []) ++ rest) t)
         → IsCut s (since is_delimiter so_far ++ byte ∷ rest) t
     by None e u there later =
         let raw = since is_delimiter so_far in
         let same : u ≡ s = same_state s u (is_allowed byte) (piece_after so_far) there in
-        let begun_still : IsBegun u.at u.current = subst (λ (v : Scanned). IsBegun v.at v.current) (sym same) fresh in
+        let begun_still : IsBegun u.at u.current = subst (λ (v : ScanState). IsBegun v.at v.current) (sym same) fresh in
         let cut = later (subst IsOpen (sym (more None e)) (open_more raw byte free e)) begun_still in
         subst (λ (text : List ℕ). IsCut s text t) (ap (λ (front : List ℕ). front ++ rest) (more None e) ∙ append_assoc raw (byte ∷ []) rest)
-        (subst (λ (v : Scanned). IsCut v (since is_delimiter (so_far ++ byte ∷ []) ++ rest) t) same cut)
+        (subst (λ (v : ScanState). IsCut v (since is_delimiter (so_far ++ byte ∷ []) ++ rest) t) same cut)
     by (Some delimiter) e u there later =
         let raw = since is_delimiter so_far in
         let open_now : IsOpen (since is_delimiter (so_far ++ byte ∷ [])) = subst IsOpen (sym (more (Some delimiter) e)) tt in
@@ -163,7 +163,7 @@ whole_is_cut shown definitions h =
     let done = by (is_inside (read.0).at (piece_after shown)) read.0 (line_ok (line_after shown) (at_end read.0 (piece_after shown)) definitions read.2) in
     done ∙ cut_after shown [] start read.0 tt refl read.1 ∙ told_blank (slice_split at_semicolon shown)
   where
-    by : (b : Bool) (s : Scanned) → cond b (Err Unfinished) (Ok s.done) ≡ Ok definitions → definitions ≡ s.done
+    by : (b : Bool) (s : ScanState) → cond b (Err Unfinished) (Ok s.done) ≡ Ok definitions → definitions ≡ s.done
     by true s there = absurd cc
     by false s there = sym (same_ok {E = PartitionCause} s.done definitions there)
 

@@ -26,7 +26,7 @@ use Rattle.partition_file.specs.Definitions.{after_equals, part_after, with_item
 use Rattle.partition_file.specs.Flags.{flag_of, is_full_by_default, with_flag}
 use Rattle.partition_file.specs.Pieces.{folded, is_equals, is_semicolon}
 use Rattle.partition_file.specs.Ports.{ports_named}
-use Rattle.partition_file.specs.Scanned.{Scanned, blank, is_in_list}
+use Rattle.partition_file.specs.ScanState.{ScanState, blank, is_in_list}
 use Rattle.partition_file.specs.Tokens.{base_in, flag_token, is_empty, is_full, list_token, membership_in, token_of, value_of}
 use Rattle.partition_file.proofs.CutLemmas.{IsOpen, after_behind, after_through, any_behind, before_behind, before_through, byte_of, no_colon}
 use Rattle.partition_file.proofs.CutLemmas.{no_comma, no_equals, parts_of, split_behind, split_here, split_nowhere}
@@ -243,14 +243,14 @@ item_piece d delimiter piece plain other = by (is_empty piece) refl (bytes_eq pi
     by false e false none = word_piece d delimiter (ports_named piece) piece plain
 
 -- ---- no piece goes on where a fault is
-pub record IsFaultless (s : Scanned) (delimiter : Delimiter) (token : Token) : Type 0 where
+pub record IsFaultless (s : ScanState) (delimiter : Delimiter) (token : Token) : Type 0 where
   pub character : is_bad_character token delimiter ≡ false
   pub number : is_bad_number token delimiter ≡ false
   pub flag : is_unknown_flag token delimiter ≡ false
   pub mgid : is_mgid_item token ≡ false
   pub finished : is_unfinished s.at delimiter ≡ false
 
-pub faultless : (s : Scanned) (delimiter : Delimiter) (token : Token) → ((fault : PartitionCause) → has_fault s delimiter token fault ≡ false) → IsFaultless s delimiter token
+pub faultless : (s : ScanState) (delimiter : Delimiter) (token : Token) → ((fault : PartitionCause) → has_fault s delimiter token fault ≡ false) → IsFaultless s delimiter token
 unfolding has_fault
 faultless s delimiter token none =
     record { character = none BadCharacter; number = none BadNumber; flag = none UnknownFlag; mgid = none MgidItem; finished = none Unfinished }

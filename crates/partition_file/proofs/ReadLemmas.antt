@@ -13,7 +13,7 @@ use Rattle.result_words.specs.Steps.{◌>>=◌}
 use Rattle.text_words.specs.Lines.{is_line_end}
 use Rattle.partition_file.specs.Pieces.{folded, is_delimiter, line_after, piece_after, since}
 use Rattle.partition_file.specs.Definitions.{after, after_byte, at_end, whole}
-use Rattle.partition_file.specs.Scanned.{Scanned, start}
+use Rattle.partition_file.specs.ScanState.{ScanState, start}
 use Rattle.result_words.specs.Gives.{Fails}
 
 -- ---- the piece that is open, after one more byte
@@ -32,7 +32,7 @@ since_more passes text byte =
     ∙ since_by passes text byte (passes byte)
 
 -- ---- how far the text is read
-pub record IsReadTo (text : List ℕ) (i from number : ℕ) (s : Scanned) : Type 0 where
+pub record IsReadTo (text : List ℕ) (i from number : ℕ) (s : ScanState) : Type 0 where
   pub gives : whole text ≡ (after (take i text) s (drop i text) >>= λ t. on_line (line_after text) (at_end t (piece_after text)))
   pub line : number ≡ line_after (take i text)
   pub few : number ≤ i + 1
@@ -83,7 +83,7 @@ below_by from i true h = omega arith
 below_by from i false h = omega arith
 
 -- the byte at i, judged where it stands
-judged_here : (text : List ℕ) (i from number : ℕ) (s : Scanned) (byte : ℕ) → byte ≡ get_or text i 0 → i < length text → IsReadTo text i from number s
+judged_here : (text : List ℕ) (i from number : ℕ) (s : ScanState) (byte : ℕ) → byte ≡ get_or text i 0 → i < length text → IsReadTo text i from number s
     → after (take i text) s (drop i text) ≡ (on_line number (after_byte s (folded (take (i - from) (drop from text))) byte) >>= λ t. after (take (i + 1) text) t (drop (i + 1) text))
 unfolding after
 judged_here text i from number s byte e within so_far =
@@ -91,15 +91,15 @@ judged_here text i from number s byte e within so_far =
     let cut : drop i text ≡ get_or text i 0 ∷ drop (i + 1) text = drop-cons text i 0 within ∙ ap (λ k. get_or text i 0 ∷ drop k text) after_it in
     rw (cut, e, so_far.raw, so_far.line, take_more text i 0 within) refl
 
-goes_so : (text : List ℕ) (i from number : ℕ) (s : Scanned) (byte : ℕ) → byte ≡ get_or text i 0 → i < length text → IsReadTo text i from number s
+goes_so : (text : List ℕ) (i from number : ℕ) (s : ScanState) (byte : ℕ) → byte ≡ get_or text i 0 → i < length text → IsReadTo text i from number s
     → whole text ≡ (on_line number (after_byte s (folded (take (i - from) (drop from text))) byte) >>= λ t. after (take (i + 1) text) t (drop (i + 1) text) >>= λ u. on_line (line_after text) (at_end u (piece_after text)))
 goes_so text i from number s byte e within so_far =
-    let finish = λ (t : Scanned). on_line (line_after text) (at_end t (piece_after text)) in
+    let finish = λ (t : ScanState). on_line (line_after text) (at_end t (piece_after text)) in
     so_far.gives
-    ∙ ap (λ (given : Result Scanned (AtLine PartitionCause)). given >>= finish) (judged_here text i from number s byte e within so_far)
+    ∙ ap (λ (given : Result ScanState (AtLine PartitionCause)). given >>= finish) (judged_here text i from number s byte e within so_far)
     ∙ bind_twice (on_line number (after_byte s (folded (take (i - from) (drop from text))) byte)) (λ t. after (take (i + 1) text) t (drop (i + 1) text)) finish
 
-pub goes_on : (text : List ℕ) (i from number : ℕ) (s t : Scanned) (byte : ℕ) → byte ≡ get_or text i 0 → i < length text → IsReadTo text i from number s
+pub goes_on : (text : List ℕ) (i from number : ℕ) (s t : ScanState) (byte : ℕ) → byte ≡ get_or text i 0 → i < length text → IsReadTo text i from number s
     → on_line number (after_byte s (folded (take (i - from) (drop from text))) byte) ≡ Ok t
     → IsReadTo text (i + 1) (next_from (is_delimiter byte) from i) (next_line (is_line_end byte) number) t
 goes_on text i from number s t byte e within so_far judged = record {
@@ -112,7 +112,7 @@ goes_on text i from number s t byte e within so_far judged = record {
   raw = raw_next text i from byte e within so_far.below so_far.raw;
 }
 
-pub stops : (told : Option (AtLine PartitionCause)) (text : List ℕ) (i from number : ℕ) (s : Scanned) (byte : ℕ) → byte ≡ get_or text i 0
+pub stops : (told : Option (AtLine PartitionCause)) (text : List ℕ) (i from number : ℕ) (s : ScanState) (byte : ℕ) → byte ≡ get_or text i 0
     → i < length text → IsReadTo text i from number s
     → Fails told (on_line number (after_byte s (folded (take (i - from) (drop from text))) byte)) → Fails told (whole text)
 stops told text i from number s byte e within so_far h =
@@ -120,7 +120,7 @@ stops told text i from number s byte e within so_far h =
     (fails_on told (on_line number (after_byte s (folded (take (i - from) (drop from text))) byte)) (λ t. after (take (i + 1) text) t (drop (i + 1) text) >>= λ u. on_line (line_after text) (at_end u (piece_after text))) h)
 
 -- all bytes are read
-pub ends : (text : List ℕ) (i from number : ℕ) (s : Scanned) → length text ≤ i → i ≤ length text → IsReadTo text i from number s
+pub ends : (text : List ℕ) (i from number : ℕ) (s : ScanState) → length text ≤ i → i ≤ length text → IsReadTo text i from number s
     → whole text ≡ on_line number (at_end s (folded (take (length text - from) (drop from text))))
 unfolding after
 ends text i from number s past within so_far =

@@ -15,7 +15,7 @@ use Rattle.pkey_rules.specs.PKey.{default_base, is_base}
 use Rattle.partition_file.specs.declared.definition.Definition.{Definition}
 use Rattle.partition_file.specs.declared.partition.Partition.{Partition}
 use Rattle.partition_file.specs.Counting.{has_base, keys_of, named, partition_count, with_base}
-use Rattle.partition_file.specs.Partitions.{Ruled, group_by, group_of, makes_group, base_for, bases_of, first_free, least_free, partition_of}
+use Rattle.partition_file.specs.Partitions.{RuleState, group_by, group_of, makes_group, base_for, bases_of, first_free, least_free, partition_of}
 use Rattle.partition_file.specs.Partitions.{partitions_in, rules_after, rules_of, taken_after}
 use Rattle.pkey_rules.specs.declared.key_table.TheConstants.{PARTITIONS}
 use Rattle.partition_file.specs.declared.flag.Flag.TheVariants.{Rate, Mtu, ServiceLevel, Scope}
@@ -32,7 +32,7 @@ bases_of_rules : (taken : List ℕ) (definitions : List Definition) → map (λ 
 bases_of_rules taken [] = refl
 bases_of_rules taken (definition ∷ rest) = ap (λ (bases : List ℕ). base_for taken definition.key ∷ bases) (bases_of_rules (taken_after taken definition.key) rest)
 
-bases_of_partitions : (rules : List Ruled) (bases : List ℕ) → all_bases (map (partition_of rules) bases) ≡ bases
+bases_of_partitions : (rules : List RuleState) (bases : List ℕ) → all_bases (map (partition_of rules) bases) ≡ bases
 bases_of_partitions rules [] = refl
 bases_of_partitions rules (base ∷ bases) = ap (λ (rest : List ℕ). base ∷ rest) (bases_of_partitions rules bases)
 
@@ -215,7 +215,7 @@ fits_by flags h =
     let rest = and_parts (is_within (greatest ServiceLevel) flags.service_level) (is_within (greatest Scope) flags.scope) mtu.1 in
     and_from _ _ (fit_or 5 3 flags.rate rate.0 refl) (and_from _ _ (fit_or 4 4 flags.mtu mtu.0 refl) (and_from _ _ (fit_or 15 0 flags.service_level rest.0 refl) (fit_or 15 2 flags.scope rest.1 refl)))
 
-group_fits : (test : Ruled → Bool) (rules : List Ruled) → list_all (λ rule. are_within rule.definition.flags) rules ≡ true
+group_fits : (test : RuleState → Bool) (rules : List RuleState) → list_all (λ rule. are_within rule.definition.flags) rules ≡ true
     → has_fit_group (option_map (λ rule. group_by rule.definition.flags) (find test rules)) ≡ true
 group_fits test [] h = refl
 group_fits test (rule ∷ rules) h =
@@ -227,7 +227,7 @@ group_fits test (rule ∷ rules) h =
     by true here later = here
     by false here later = later
 
-groups_fit : (rules : List Ruled) (bases : List ℕ) → list_all (λ rule. are_within rule.definition.flags) rules ≡ true
+groups_fit : (rules : List RuleState) (bases : List ℕ) → list_all (λ rule. are_within rule.definition.flags) rules ≡ true
     → list_all (λ partition. has_fit_group partition.group) (map (partition_of rules) bases) ≡ true
 groups_fit rules [] h = refl
 groups_fit rules (base ∷ bases) h = and_from (has_fit_group (group_of rules base)) _ (group_fits (makes_group base) rules h) (groups_fit rules bases h)

@@ -12,7 +12,7 @@ use Rattle.partition_file.specs.Pieces.{delimiter_of, is_allowed, piece_after}
 use Rattle.partition_file.specs.Cases.{fault_of, has_fault, in_turn}
 use Rattle.partition_file.specs.declared.token.Token.{Token}
 use Rattle.partition_file.specs.Definitions.{after_byte, judged_as, judged_at, next}
-use Rattle.partition_file.specs.Scanned.{Scanned}
+use Rattle.partition_file.specs.ScanState.{ScanState}
 use Rattle.partition_file.specs.Tokens.{token_of}
 use Rattle.result_words.proofs.StepLemmas.{unless_err, unless_ok}
 use Rattle.partition_file.specs.FirstFault.{faults_of, is_fault_at, turn}
@@ -97,23 +97,23 @@ found_so holds None f h none k first = absurd (let gone = none refl in cc)
 found_so holds (Some g) f h none k first =
     ap (λ (x : PartitionCause). Some x) (both_ways g f (first_found holds in_turn 0 g f all_in_order h k (omega arith)) (first g (found_there holds in_turn g h)))
 
-told_so : (s : Scanned) (delimiter : Delimiter) (token : Token) (f : PartitionCause) → has_fault s delimiter token f ≡ true
+told_so : (s : ScanState) (delimiter : Delimiter) (token : Token) (f : PartitionCause) → has_fault s delimiter token f ≡ true
     → ((g : PartitionCause) → has_fault s delimiter token g ≡ true → turn f ≤ turn g) → fault_of s delimiter token ≡ Some f
 unfolding fault_of
 told_so s delimiter token f h first =
     found_so (has_fault s delimiter token) (find (has_fault s delimiter token) in_turn) f refl (λ none. none_there s delimiter token none f) h first
 
-told_there : (s : Scanned) (delimiter : Delimiter) (token : Token) (f : PartitionCause) → fault_of s delimiter token ≡ Some f → has_fault s delimiter token f ≡ true
+told_there : (s : ScanState) (delimiter : Delimiter) (token : Token) (f : PartitionCause) → fault_of s delimiter token ≡ Some f → has_fault s delimiter token f ≡ true
 unfolding fault_of
 told_there s delimiter token f h = found_there (has_fault s delimiter token) in_turn f h
 
-told_first : (s : Scanned) (delimiter : Delimiter) (token : Token) (f g : PartitionCause) → fault_of s delimiter token ≡ Some f
+told_first : (s : ScanState) (delimiter : Delimiter) (token : Token) (f g : PartitionCause) → fault_of s delimiter token ≡ Some f
     → has_fault s delimiter token g ≡ true → turn f ≤ turn g
 unfolding fault_of
 told_first s delimiter token f g h k = first_found (has_fault s delimiter token) in_turn 0 f g all_in_order h k (omega arith)
 
 -- ---- one byte
-refused_at : (s : Scanned) (o : Option Delimiter) (allowed : Bool) (piece : List ℕ) (f : PartitionCause) → faults_of s o allowed piece f ≡ true
+refused_at : (s : ScanState) (o : Option Delimiter) (allowed : Bool) (piece : List ℕ) (f : PartitionCause) → faults_of s o allowed piece f ≡ true
     → ((g : PartitionCause) → faults_of s o allowed piece g ≡ true → turn f ≤ turn g) → judged_at s o allowed piece ≡ Err f
 refused_at s (Some delimiter) allowed piece f h first =
     ap (λ (o : Option PartitionCause). unless o (next s delimiter (token_of s.at piece) piece)) (told_so s delimiter (token_of s.at piece) f h first)
@@ -128,7 +128,7 @@ refused_at s None allowed piece TooManyPartitions h first = absurd cc
 refused_at s None allowed piece Unfinished h first = absurd cc
 refused_at s None allowed piece BadFlagValue h first = absurd cc
 
-pub refused_here : (s : Scanned) (before : List ℕ) (byte : ℕ) (f : PartitionCause) → is_fault_at s before byte f ≡ true
+pub refused_here : (s : ScanState) (before : List ℕ) (byte : ℕ) (f : PartitionCause) → is_fault_at s before byte f ≡ true
     → ((g : PartitionCause) → is_fault_at s before byte g ≡ true → turn f ≤ turn g)
     → after_byte s (piece_after before) byte ≡ Err f
 unfolding after_byte is_fault_at
@@ -139,13 +139,13 @@ pub record IsToldFor (holds : PartitionCause → Bool) (f : PartitionCause) : Ty
   pub there : holds f ≡ true
   pub first : (g : PartitionCause) → holds g ≡ true → turn f ≤ turn g
 
-told_by : (s : Scanned) (delimiter : Delimiter) (token : Token) (piece : List ℕ) (f : PartitionCause) → judged_as s delimiter token piece ≡ Err f
+told_by : (s : ScanState) (delimiter : Delimiter) (token : Token) (piece : List ℕ) (f : PartitionCause) → judged_as s delimiter token piece ≡ Err f
     → IsToldFor (has_fault s delimiter token) f
 told_by s delimiter token piece f h =
     let told : fault_of s delimiter token ≡ Some f = unless_err (fault_of s delimiter token) (next s delimiter token piece) f h in
     record { there = told_there s delimiter token f told; first = λ other k. told_first s delimiter token f other told k }
 
-only_character : (s : Scanned) (piece : List ℕ) (g : PartitionCause) → faults_of s None false piece g ≡ true → turn BadCharacter ≤ turn g
+only_character : (s : ScanState) (piece : List ℕ) (g : PartitionCause) → faults_of s None false piece g ≡ true → turn BadCharacter ≤ turn g
 only_character s piece BadCharacter h = omega arith
 only_character s piece BadNumber h = absurd cc
 only_character s piece ReservedKey h = absurd cc
@@ -156,7 +156,7 @@ only_character s piece TooManyPartitions h = absurd cc
 only_character s piece Unfinished h = absurd cc
 only_character s piece BadFlagValue h = absurd cc
 
-told_at_byte : (s : Scanned) (o : Option Delimiter) (allowed : Bool) (piece : List ℕ) (f : PartitionCause) → judged_at s o allowed piece ≡ Err f
+told_at_byte : (s : ScanState) (o : Option Delimiter) (allowed : Bool) (piece : List ℕ) (f : PartitionCause) → judged_at s o allowed piece ≡ Err f
     → IsToldFor (faults_of s o allowed piece) f
 told_at_byte s (Some delimiter) allowed piece f h = told_by s delimiter (token_of s.at piece) piece f h
 told_at_byte s None true piece f h = absurd cc
@@ -164,13 +164,13 @@ told_at_byte s None false piece f h =
     let same : BadCharacter ≡ f = grind arith in
     subst (λ (g : PartitionCause). IsToldFor (faults_of s None false piece) g) same (record { there = refl; first = λ g k. only_character s piece g k })
 
-pub told_here : (s : Scanned) (before : List ℕ) (byte : ℕ) (f : PartitionCause) → after_byte s (piece_after before) byte ≡ Err f → IsToldFor (is_fault_at s before byte) f
+pub told_here : (s : ScanState) (before : List ℕ) (byte : ℕ) (f : PartitionCause) → after_byte s (piece_after before) byte ≡ Err f → IsToldFor (is_fault_at s before byte) f
 unfolding after_byte is_fault_at
 told_here s before byte f h =
     let told = told_at_byte s (delimiter_of byte) (is_allowed byte) (piece_after before) f h in
     record { there = told.there; first = told.first }
 
-no_character : (s : Scanned) (piece : List ℕ) (g : PartitionCause) → faults_of s None true piece g ≡ false
+no_character : (s : ScanState) (piece : List ℕ) (g : PartitionCause) → faults_of s None true piece g ≡ false
 no_character s piece BadCharacter = refl
 no_character s piece BadNumber = refl
 no_character s piece ReservedKey = refl
@@ -181,7 +181,7 @@ no_character s piece TooManyPartitions = refl
 no_character s piece Unfinished = refl
 no_character s piece BadFlagValue = refl
 
-clean_at_byte : (s t : Scanned) (o : Option Delimiter) (allowed : Bool) (piece : List ℕ) → judged_at s o allowed piece ≡ Ok t → (g : PartitionCause)
+clean_at_byte : (s t : ScanState) (o : Option Delimiter) (allowed : Bool) (piece : List ℕ) → judged_at s o allowed piece ≡ Ok t → (g : PartitionCause)
     → faults_of s o allowed piece g ≡ false
 clean_at_byte s t (Some delimiter) allowed piece h g =
     let token = token_of s.at piece in
@@ -189,6 +189,6 @@ clean_at_byte s t (Some delimiter) allowed piece h g =
 clean_at_byte s t None true piece h g = no_character s piece g
 clean_at_byte s t None false piece h g = absurd cc
 
-pub clean_here : (s t : Scanned) (before : List ℕ) (byte : ℕ) → after_byte s (piece_after before) byte ≡ Ok t → (g : PartitionCause) → is_fault_at s before byte g ≡ false
+pub clean_here : (s t : ScanState) (before : List ℕ) (byte : ℕ) → after_byte s (piece_after before) byte ≡ Ok t → (g : PartitionCause) → is_fault_at s before byte g ≡ false
 unfolding after_byte is_fault_at
 clean_here s t before byte h g = clean_at_byte s t (delimiter_of byte) (is_allowed byte) (piece_after before) h g

@@ -16,7 +16,7 @@ use Rattle.partition_file.specs.declared.token.Value.TheVariants.{Empty, Misspel
 use Rattle.partition_file.specs.Pieces.{is_equals, is_colon, is_semicolon}
 use Rattle.partition_file.specs.Flags.{takes_value, is_given}
 use Rattle.partition_file.specs.Counting.{keys_of, partition_count}
-use Rattle.partition_file.specs.Scanned.{Scanned, is_in_list}
+use Rattle.partition_file.specs.ScanState.{ScanState, is_in_list}
 
 -- a name that begins with a digit, a second `=` in a piece or an item, a `:` in a list
 abbrev pub is_bad_character : Token → Delimiter → Bool
@@ -98,7 +98,7 @@ is_bad_flag_value (FlagValue Refused) delimiter flags = true
 is_bad_flag_value _ delimiter flags = false
 
 -- the fault is one of a piece that says this and ends at this delimiter, where the text before says that
-unfoldable pub has_fault : Scanned → Delimiter → Token → PartitionCause → Bool
+unfoldable pub has_fault : ScanState → Delimiter → Token → PartitionCause → Bool
 has_fault s delimiter token BadCharacter = is_bad_character token delimiter
 has_fault s delimiter token BadNumber = is_bad_number token delimiter
 has_fault s delimiter token ReservedKey = is_reserved_key token delimiter
@@ -114,5 +114,5 @@ abbrev pub in_turn : List PartitionCause
 in_turn =
     BothMembership ∷ MgidItem ∷ BadCharacter ∷ BadNumber ∷ ReservedKey ∷ UnknownFlag ∷ TooManyPartitions ∷ Unfinished ∷ BadFlagValue ∷ []
 
-unfoldable pub fault_of : Scanned → Delimiter → Token → Option PartitionCause
+unfoldable pub fault_of : ScanState → Delimiter → Token → Option PartitionCause
 fault_of s delimiter token = find (has_fault s delimiter token) in_turn

@@ -16,7 +16,7 @@ use Rattle.partition_file.specs.declared.token.Token.{Token}
 use Rattle.partition_file.specs.declared.token.Token.TheVariants.{Name, Key, FlagWord, FlagValue, ListWord, Membership}
 use Rattle.partition_file.specs.declared.token.Value.TheVariants.{Taken}
 use Rattle.partition_file.specs.Cases.{fault_of}
-use Rattle.partition_file.specs.Scanned.{Scanned, blank, start, is_in_list}
+use Rattle.partition_file.specs.ScanState.{ScanState, blank, start, is_in_list}
 use Rattle.partition_file.specs.Tokens.{is_empty, is_full, token_of}
 
 -- ---- the part that follows
@@ -46,35 +46,35 @@ with_piece d (Membership ports word) delimiter piece = with_item d ports (is_ful
 with_piece d _ delimiter piece = d
 
 -- ---- the state after a piece that has no fault; `;` ends the definition
-abbrev pub moved : Scanned → Delimiter → Token → Definition → Scanned
+abbrev pub moved : ScanState → Delimiter → Token → Definition → ScanState
 moved s delimiter token d =
     if is_semicolon delimiter then record { at = part.Name; current = blank; done = s.done ++ d ∷ [] }
     else record { at = part_after s.at delimiter token; current = d; done = s.done }
 
-unfoldable pub next : Scanned → Delimiter → Token → List ℕ → Scanned
+unfoldable pub next : ScanState → Delimiter → Token → List ℕ → ScanState
 next s delimiter token piece = moved s delimiter token (with_piece s.current token delimiter piece)
 
-abbrev pub judged_as : Scanned → Delimiter → Token → List ℕ → Result Scanned PartitionCause
+abbrev pub judged_as : ScanState → Delimiter → Token → List ℕ → Result ScanState PartitionCause
 judged_as s delimiter token piece = unless (fault_of s delimiter token) (next s delimiter token piece)
 
 -- what the piece says is told by the part that it is
-abbrev pub judged : Scanned → Delimiter → List ℕ → Result Scanned PartitionCause
+abbrev pub judged : ScanState → Delimiter → List ℕ → Result ScanState PartitionCause
 judged s delimiter piece = judged_as s delimiter (token_of s.at piece) piece
 
-abbrev pub passed : Scanned → Bool → Result Scanned PartitionCause
+abbrev pub passed : ScanState → Bool → Result ScanState PartitionCause
 passed s true = Ok s
 passed s false = Err BadCharacter
 
 -- a delimiter ends the piece before it; any other byte is white space, printable, or a bad character
-abbrev pub judged_at : Scanned → Option Delimiter → Bool → List ℕ → Result Scanned PartitionCause
+abbrev pub judged_at : ScanState → Option Delimiter → Bool → List ℕ → Result ScanState PartitionCause
 judged_at s (Some delimiter) allowed piece = judged s delimiter piece
 judged_at s None allowed piece = passed s allowed
 
-unfoldable pub after_byte : Scanned → List ℕ → ℕ → Result Scanned PartitionCause
+unfoldable pub after_byte : ScanState → List ℕ → ℕ → Result ScanState PartitionCause
 after_byte s piece byte = judged_at s (delimiter_of byte) (is_allowed byte) piece
 
 -- the state after the bytes that follow the text so far, or their first fault
-unfoldable pub after : List ℕ → Scanned → List ℕ → Result Scanned (AtLine PartitionCause)
+unfoldable pub after : List ℕ → ScanState → List ℕ → Result ScanState (AtLine PartitionCause)
 after so_far s [] = Ok s
 after so_far s (byte ∷ rest) =
     on_line (line_after so_far) (after_byte s (piece_after so_far) byte) >>= λ t. after (so_far ++ byte ∷ []) t rest
@@ -87,7 +87,7 @@ is_name _ = false
 abbrev pub is_inside : Part → List ℕ → Bool
 is_inside at piece = not (is_name at) || not (is_empty piece)
 
-abbrev pub at_end : Scanned → List ℕ → Result (List Definition) PartitionCause
+abbrev pub at_end : ScanState → List ℕ → Result (List Definition) PartitionCause
 at_end s piece = if is_inside s.at piece then Err Unfinished else Ok s.done
 
 -- a text whose comments are blanked

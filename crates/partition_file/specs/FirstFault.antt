@@ -9,7 +9,7 @@ use Rattle.result_words.specs.AtLine.{AtLine}
 use Rattle.partition_file.specs.Pieces.{delimiter_of, is_allowed, line_after, piece_after}
 use Rattle.partition_file.specs.Cases.{has_fault}
 use Rattle.partition_file.specs.Definitions.{after, is_inside}
-use Rattle.partition_file.specs.Scanned.{Scanned, start}
+use Rattle.partition_file.specs.ScanState.{ScanState, start}
 use Rattle.partition_file.specs.Tokens.{token_of}
 
 -- the turn of a fault: the membership `both`, then the item `mgid`, then by code
@@ -25,17 +25,17 @@ turn Unfinished = 7
 turn BadFlagValue = 8
 
 -- a delimiter has the faults of the piece that it ends; another byte has one if it may not stand outside comments
-abbrev pub faults_of : Scanned → Option Delimiter → Bool → List ℕ → PartitionCause → Bool
+abbrev pub faults_of : ScanState → Option Delimiter → Bool → List ℕ → PartitionCause → Bool
 faults_of s (Some delimiter) allowed piece fault = has_fault s delimiter (token_of s.at piece) fault
 faults_of s None allowed piece BadCharacter = not allowed
 faults_of s None allowed piece _ = false
 
 -- the byte that follows this beginning of a text has the fault
-unfoldable pub is_fault_at : Scanned → List ℕ → ℕ → PartitionCause → Bool
+unfoldable pub is_fault_at : ScanState → List ℕ → ℕ → PartitionCause → Bool
 is_fault_at s before byte fault = faults_of s (delimiter_of byte) (is_allowed byte) (piece_after before) fault
 
 -- this beginning of a text was gone through without a fault, and this is the state after it
-abbrev pub IsClean : List ℕ → Scanned → Type 0
+abbrev pub IsClean : List ℕ → ScanState → Type 0
 IsClean text s = after [] start text ≡ Ok s
 
 -- the byte after a clean beginning has this fault, and none before it in turn; its line is that of the byte
@@ -43,7 +43,7 @@ pub record HasFaultInside (shown : List ℕ) (e : AtLine PartitionCause) : Type 
   pub before : List ℕ
   pub byte : ℕ
   pub rest : List ℕ
-  pub state : Scanned
+  pub state : ScanState
   pub cut : shown ≡ before ++ byte ∷ rest
   pub clean : IsClean before state
   pub there : is_fault_at state before byte e.cause ≡ true
@@ -52,7 +52,7 @@ pub record HasFaultInside (shown : List ℕ) (e : AtLine PartitionCause) : Type 
 
 -- all of a text is clean, and it ends inside a definition
 pub record HasFaultAtEnd (shown : List ℕ) (e : AtLine PartitionCause) : Type 0 where
-  pub state : Scanned
+  pub state : ScanState
   pub clean : IsClean shown state
   pub inside : is_inside state.at (piece_after shown) ≡ true
   pub cause : e.cause ≡ Unfinished

@@ -7,7 +7,7 @@ use Rattle.partition_file.specs.declared.definition.Definition.{Definition}
 use Rattle.partition_file.specs.declared.fault.PartitionCause.{PartitionCause}
 use Rattle.partition_file.specs.declared.partition.Partition.{Partition}
 use Rattle.partition_file.specs.Pieces.{without_comments}
-use Rattle.partition_file.specs.Scanned.{Scanned}
+use Rattle.partition_file.specs.ScanState.{ScanState}
 use Rattle.partition_file.specs.Cut.{definitions_cut}
 use Rattle.partition_file.specs.FirstFault.{HasFaultAtEnd, HasFaultInside, IsClean, is_fault_at}
 use Rattle.partition_file.specs.Generated.{AllGetFree}
@@ -31,8 +31,8 @@ OnlySoRefused = (text : List ℕ) (e : AtLine PartitionCause) → partitions_of 
 
 -- no byte of a clean beginning has a fault: each follows a clean beginning of its own, and has none after it
 abbrev pub CleanThroughout : Type 0
-CleanThroughout = (before rest : List ℕ) (byte : ℕ) (s : Scanned) → IsClean (before ++ byte ∷ rest) s
-    → (t : Scanned) × (IsClean before t × ((fault : PartitionCause) → is_fault_at t before byte fault ≡ false))
+CleanThroughout = (before rest : List ℕ) (byte : ℕ) (s : ScanState) → IsClean (before ++ byte ∷ rest) s
+    → (t : ScanState) × (IsClean before t × ((fault : PartitionCause) → is_fault_at t before byte fault ≡ false))
 
 -- the beginnings of a text without its comments are the beginnings of the text, without theirs
 abbrev pub CommentsByBeginning : Type 0

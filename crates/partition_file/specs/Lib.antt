@@ -4,7 +4,7 @@ pub mod Numbers
 pub mod Flags
 pub mod Ports
 pub mod Counting
-pub mod Scanned
+pub mod ScanState
 pub mod Tokens
 pub mod Cases
 pub mod Definitions

@@ -25,7 +25,7 @@ abbrev pub least_free : List ℕ → ℕ
 least_free taken = unwrap_or (first_free taken) 1
 
 -- a definition with the base of its partition
-pub record Ruled : Type 0 where
+pub record RuleState : Type 0 where
   pub base : ℕ
   pub definition : Definition
 
@@ -38,27 +38,27 @@ taken_after taken (Some base) = taken
 taken_after taken None = taken ++ least_free taken ∷ []
 
 -- a definition that names no base gets the least that is neither named by any nor given before
-abbrev pub rules_after : List ℕ → List Definition → List Ruled
+abbrev pub rules_after : List ℕ → List Definition → List RuleState
 rules_after taken [] = []
 rules_after taken (definition ∷ rest) =
     record { base = base_for taken definition.key; definition = definition } ∷ rules_after (taken_after taken definition.key) rest
 
-abbrev pub rules_of : List Definition → List Ruled
+abbrev pub rules_of : List Definition → List RuleState
 rules_of definitions = rules_after (filter_map (λ definition. definition.key) definitions) definitions
 
 -- the default partition first, then each other base as it first appears
-abbrev pub bases_of : List Ruled → List ℕ
+abbrev pub bases_of : List RuleState → List ℕ
 bases_of rules = fold with_base (default_base ∷ []) (map (λ rule. rule.base) rules)
 
 -- ---- what the rules of one base make
-abbrev pub is_of : ℕ → Ruled → Bool
+abbrev pub is_of : ℕ → RuleState → Bool
 is_of base rule = rule.base == base
 
-abbrev pub is_ruled : ℕ → List Ruled → Bool
+abbrev pub is_ruled : ℕ → List RuleState → Bool
 is_ruled base rules = list_any (is_of base) rules
 
 -- the name of the first rule; the default partition has one without a rule too
-abbrev pub name_of : List Ruled → ℕ → List ℕ
+abbrev pub name_of : List RuleState → ℕ → List ℕ
 name_of rules base = unwrap_or (option_map (λ rule. rule.definition.name) (find (is_of base) rules)) (codes "Default")
 
 -- the group that a rule with `ipoib` makes, by its own flags and by defaults
@@ -71,18 +71,18 @@ group_by flags = record {
   q_key = unwrap_or flags.q_key 2843;
 }
 
-abbrev pub makes_group : ℕ → Ruled → Bool
+abbrev pub makes_group : ℕ → RuleState → Bool
 makes_group base rule = if is_of base rule then rule.definition.flags.ipoib else false
 
 -- the first rule with `ipoib` makes the group
-abbrev pub group_of : List Ruled → ℕ → Option BroadcastGroup
+abbrev pub group_of : List RuleState → ℕ → Option BroadcastGroup
 group_of rules base = option_map (λ rule. group_by rule.definition.flags) (find (makes_group base) rules)
 
 -- what all rules list, in order
-abbrev pub listed_by : ℕ → Ruled → List Item
+abbrev pub listed_by : ℕ → RuleState → List Item
 listed_by base rule = if is_of base rule then rule.definition.items else []
 
-abbrev pub listed : List Ruled → ℕ → List Item
+abbrev pub listed : List RuleState → ℕ → List Item
 listed rules base = flat_map (listed_by base) rules
 
 abbrev pub all_limited : Item
@@ -95,11 +95,11 @@ abbrev pub manager_full : Item
 manager_full = record { ports = Manager; full = true }
 
 -- in the default partition the manager is always full, and without a rule for it all ports are limited
-abbrev pub built_in : List Ruled → ℕ → List Item
+abbrev pub built_in : List RuleState → ℕ → List Item
 built_in rules base =
     if base == default_base then (if is_ruled base rules then manager_full ∷ [] else all_limited ∷ manager_full ∷ []) else []
 
-abbrev pub partition_of : List Ruled → ℕ → Partition
+abbrev pub partition_of : List RuleState → ℕ → Partition
 partition_of rules base = record {
   base = base;
   name = name_of rules base;
@@ -108,7 +108,7 @@ partition_of rules base = record {
 }
 
 -- ---- all of them; the place in the list is a partition's number
-abbrev pub partitions_by : List Ruled → List Partition
+abbrev pub partitions_by : List RuleState → List Partition
 partitions_by rules = map (partition_of rules) (bases_of rules)
 
 abbrev pub partitions_in : List Definition → List Partition

@@ -10,7 +10,7 @@ use Rattle.partition_file.specs.declared.broadcast_group.BroadcastGroup.{Broadca
 use Rattle.partition_file.specs.declared.partition.Partition.{Partition}
 use Rattle.partition_file.specs.Flags.{greatest}
 use Rattle.partition_file.specs.Counting.{keys_of, named, partition_count, with_base}
-use Rattle.partition_file.specs.Scanned.{Scanned, is_in_list}
+use Rattle.partition_file.specs.ScanState.{ScanState, is_in_list}
 
 abbrev pub is_sound_key : Option ℕ → Bool
 is_sound_key (Some base) = is_base base
@@ -40,7 +40,7 @@ pub record AreCounted (definitions : List Definition) (seen : List ℕ) (others 
   pub rest : others ≡ count_by is_none (keys_of definitions)
 
 -- so it is in the middle of a text, and a definition whose list has begun is counted too
-pub record IsSoundSoFar (s : Scanned) : Type 0 where
+pub record IsSoundSoFar (s : ScanState) : Type 0 where
   pub valid : is_sound_key s.current.key ≡ true
   pub flags : are_within s.current.flags ≡ true
   pub room : is_in_list s.at ≡ true → partition_count (keys_of s.done ++ s.current.key ∷ []) ≤ PARTITIONS

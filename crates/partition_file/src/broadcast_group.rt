@@ -1,3 +1,5 @@
+//! The group that all members of a partition share.
+
 ghost use Rattle.std.specs.Prelude.{◌≡◌};
 ghost use Rattle.partition_file.specs.Partitions.{group_by, mgid_of};
 

@@ -1,7 +1,9 @@
+//! A definition as it is read, and the list of all.
+
 ghost use Rattle.std.specs.Prelude.{◌≡◌, ◌≤◌, ◌++◌, ◌∷◌, [], true, OnOk, OnErr, IfOk};
 ghost use Rattle.pkey_rules.specs.declared.key_table.TheConstants.{PARTITIONS};
 ghost use Rattle.partition_file.specs.Counting.{further, has_base, keys_of, one_if_none, partition_count, with_base, with_key};
-ghost use Rattle.partition_file.specs.Scanned.{blank};
+ghost use Rattle.partition_file.specs.ScanState.{blank};
 ghost use Rattle.partition_file.specs.Sound.{AreSound, are_within, is_sound_key};
 
 use crate::flag::Flags;

@@ -2,7 +2,7 @@
 
 ghost use Rattle.std.specs.Prelude.{◌≡◌};
 ghost use Rattle.partition_file.specs.Definitions.{after_equals, is_inside, is_name, part_after};
-ghost use Rattle.partition_file.specs.Scanned.{is_in_list};
+ghost use Rattle.partition_file.specs.ScanState.{is_in_list};
 
 use crate::flag::Flag;
 use crate::item::Ports;

@@ -1,3 +1,5 @@
+//! The flags of a definition.
+
 ghost use Rattle.std.specs.Prelude.{◌≡◌};
 ghost use Rattle.partition_file.specs.Flags.{flag_of, is_full_by_default, is_given, no_flags, setting_of, takes_value, with_flag, with_setting};
 

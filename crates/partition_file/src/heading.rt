@@ -1,3 +1,5 @@
+//! A partition without its members.
+
 ghost use Rattle.std.specs.Prelude.{◌≡◌, IfOk, option_map};
 ghost use Rattle.partition_file.specs.Members.{heading_of};
 ghost use Rattle.partition_file.specs.Partitions.{mgid_of};

@@ -1,3 +1,5 @@
+//! The items of a list: which ports, and how.
+
 ghost use Rattle.std.specs.Prelude.{◌≡◌, ◌++◌, ◌∷◌, [], OnOk, IfOk};
 ghost use Rattle.partition_file.specs.Ports.{ports_named};
 

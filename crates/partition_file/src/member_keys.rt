@@ -1,3 +1,5 @@
+//! The keys that partitions give to end ports.
+
 ghost use Rattle.std.specs.Prelude.{◌≡◌, ◌≤◌, length};
 ghost use Rattle.pkey_rules.specs.declared.key_table.TheConstants.{PARTITIONS};
 ghost use Rattle.partition_file.specs.Members.{AreSoundHeadings};

@@ -1,3 +1,5 @@
+//! A partition: all that definitions say of one base.
+
 ghost use Rattle.std.specs.Prelude.{◌≡◌, ◌≤◌, length};
 ghost use Rattle.pkey_rules.specs.declared.key_table.TheConstants.{PARTITIONS};
 ghost use Rattle.partition_file.specs.Sound.{IsSound};

@@ -1,3 +1,5 @@
+//! The pieces between delimiters.
+
 ghost use Rattle.std.specs.Prelude.{◌≡◌, ◌≤◌, ◌++◌, ◌∷◌, false, length, map, flat_map, IfOk, OnOk};
 ghost use Rattle.text_words.specs.Lines.{words_between, is_line_end};
 ghost use Rattle.partition_file.specs.Pieces.{blanked, delimiter_of, folded, is_allowed, is_colon, is_commented, is_delimiter, is_equals, is_semicolon, is_white, spaced, without_comments};

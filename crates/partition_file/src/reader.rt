@@ -1,3 +1,5 @@
+//! The reader of a whole partition file.
+
 ghost use Rattle.std.specs.Prelude.{◌≡◌, IfOk};
 ghost use Rattle.partition_file.specs.Definitions.{definitions_of};
 ghost use Rattle.partition_file.specs.Fault.{fault_in};

@@ -19,9 +19,9 @@ pub(crate) struct Rule<'a> {
 }
 
 impl<'a> Model for Rule<'a> {
-    ghost use Rattle.partition_file.specs.Partitions.{Ruled};
+    ghost use Rattle.partition_file.specs.Partitions.{RuleState};
 
-    ghost Value = { Ruled };
+    ghost Value = { RuleState };
 
     ghost view = { λ rule. record { base = rule.base; definition = rule.definition.now } };
 }

@@ -7,7 +7,7 @@ ghost use Rattle.partition_file.specs.Pieces.{folded};
 ghost use Rattle.partition_file.specs.Cases.{fault_of, is_one_too_many, key_here};
 ghost use Rattle.partition_file.specs.Counting.{keys_of};
 ghost use Rattle.partition_file.specs.Definitions.{after_byte, at_end, next, with_item, with_piece};
-ghost use Rattle.partition_file.specs.Scanned.{start};
+ghost use Rattle.partition_file.specs.ScanState.{start};
 ghost use Rattle.partition_file.specs.Tokens.{token_of};
 ghost use Rattle.result_words.specs.Gives.{Gives};
 
@@ -78,10 +78,10 @@ pub(crate) struct Scan {
 }
 
 impl Model for Scan {
-    ghost use Rattle.partition_file.specs.Scanned.{Scanned};
+    ghost use Rattle.partition_file.specs.ScanState.{ScanState};
     ghost use Rattle.partition_file.specs.Sound.{IsSoundSoFar};
 
-    ghost Value = { Scanned };
+    ghost Value = { ScanState };
 
     ghost view = { λ scan. record { at = scan.part; current = scan.current; done = scan.done } };
 

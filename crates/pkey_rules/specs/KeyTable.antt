@@ -1,4 +1,4 @@
--- What a port holds (InfiniBand volume 1, 14.2.5.7), seen as the list of its keys.
+-- What a port holds (IBA volume 1, 14.2.5.7), seen as the list of its keys.
 use Rattle.std.specs.Prelude.{ℕ, ◌≡◌, Bool, true, ◌==◌, ◌&&◌, List, Option, find}
 use Rattle.std.specs.List.{list_any}
 use Rattle.pkey_rules.specs.PKey.{base_of, matches}

@@ -1,4 +1,4 @@
--- A P_Key (InfiniBand volume 1, 14.2.5.7): 15 bits that name a partition, below one bit of membership.
+-- A P_Key (IBA volume 1, 14.2.5.7): 15 bits that name a partition, below one bit of membership.
 use Rattle.std.specs.Prelude.{ℕ, ◌+◌, ◌%◌, Bool, true, not, ◌==◌, ◌&&◌, ◌||◌, nat_le, if◌then◌else◌}
 
 -- the partition that a key names; 0 names none

@@ -1,3 +1,5 @@
+//! An end port, as partitions know it.
+
 /// An end port of a subnet, as membership rules see it: a cabled port of a channel adapter, or port
 /// 0 of a switch.
 #[derive(Clone, Copy, Debug, PartialEq, Eq)]

@@ -1,3 +1,5 @@
+//! The keys of a port, no two of one base.
+
 ghost use Rattle.std.specs.Prelude.{◌≡◌, ◌≤◌, ◌<◌, ◌↔◌, false, true, [], ◌∷◌, ◌++◌, length, ◌==◌, find, is_some, IfSome, IsErrOf, OnOk, OnErr};
 ghost use Rattle.pkey_rules.specs.PKey.{base_of};
 ghost use Rattle.pkey_rules.specs.KeyTable.{accepts, holds, find_base, has_base, shares, SomeSharedBase};

@@ -1,3 +1,5 @@
+//! The laws of keys. Each function's contract is its law; it does nothing.
+
 ghost use Rattle.std.specs.Prelude.{◌≡◌};
 ghost use Rattle.pkey_rules.specs.declared.key_table.TheConstants.{PARTITIONS};
 ghost use Rattle.pkey_rules.specs.declared.p_key.TheConstants.{BASES, DEFAULT_BASE};

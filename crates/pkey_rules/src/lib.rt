@@ -4,7 +4,7 @@
 //! holds: a list of keys, no two of one partition. Contracts see a key as its number and a table as its list of numbers,
 //! and every layer above cites the two tests that stand here: whether two keys match (`specs/PKey.antt`), and whether
 //! two tables share a partition (`specs/KeyTable.antt`). What the words of a stored key table mean is in
-//! `specs/StoredKeys.antt`. The keys and their table are those of the InfiniBand Architecture Specification, volume 1,
+//! `specs/StoredKeys.antt`. The keys and their table are those of the IBA volume 1,
 //! 14.2.5.7.
 #![tactic(auto)]
 

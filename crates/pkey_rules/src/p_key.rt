@@ -1,3 +1,5 @@
+//! Partition keys: a base and a bit of membership.
+
 ghost use Rattle.std.specs.Prelude.{◌≡◌, ◌≢◌, ◌↔◌, ◌<◌, true, IfOk, IsOk};
 ghost use Rattle.pkey_rules.specs.PKey.{base_of, is_base, is_full, key_of, matches};
 

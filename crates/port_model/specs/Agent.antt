@@ -1,4 +1,4 @@
--- How a port of a channel adapter answers SMPs (InfiniBand volume 1, chapter 14): which attributes it
+-- How a port of a channel adapter answers SMPs (IBA volume 1, chapter 14): which attributes it
 -- has, and which of them can be set. The rest is what all agents share.
 use Rattle.std.specs.Prelude.{ℕ, ◌==◌, Bool, false, ◌||◌, if◌then◌else◌, List, Option, Result, Ok, Err}
 use Rattle.mad_layout.specs.declared.status.MadStatus.{MadStatus}

@@ -4,6 +4,7 @@ use Rattle.std.specs.Option.{option_map_or}
 use Rattle.attr_tables.specs.PortState.{port_state_code}
 use Rattle.attr_tables.specs.declared.port_info.PortInfo.{PortInfo}
 use Rattle.attr_tables.specs.declared.port_state.PortState.TheVariants.{Active}
+use Rattle.data_packet.specs.QueuePair.{is_subnet_management}
 use Rattle.data_packet.specs.declared.packet.Packet.{Packet}
 use Rattle.data_packet.specs.declared.refusal.Refusal.{Refusal}
 use Rattle.data_packet.specs.declared.refusal.Refusal.TheVariants.{PortNotActive, KeyNotHeld, QpZero, ReservedDlid}
@@ -23,7 +24,7 @@ refusal_of port dlid p_key destination_qp =
     then Some PortNotActive
     else if not (holds p_key (stored_keys port.keys))
     then Some KeyNotHeld
-    else if destination_qp == 0
+    else if is_subnet_management destination_qp
     then Some QpZero
     else if is_reserved dlid
     then Some ReservedDlid

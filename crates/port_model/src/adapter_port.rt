@@ -1,3 +1,5 @@
+//! A port of a channel adapter: what SMPs read and set of it, and what it sends and takes.
+
 ghost use Rattle.std.specs.Prelude.{◌≡◌, ◌≢◌, ◌≤◌, true, ◌-◌, ◌++◌, ◌||◌, length, replicate, is_some, unwrap_or, IfOk, Some, None, MatchResult, if◌then◌else◌};
 ghost use Rattle.mad_layout.specs.Bits.{field};
 ghost use Rattle.agent_rules.specs.Agent.{Leaves, answer, held_after};
@@ -242,7 +244,7 @@ impl AdapterPort {
         let Some(key) = self.held_key(p_key) else {
             return Err(Refusal::KeyNotHeld);
         };
-        if destination_qp.number() == 0 {
+        if destination_qp.is_subnet_management() {
             return Err(Refusal::QpZero);
         }
         if is_reserved(dlid) {

@@ -1,3 +1,5 @@
+//! The laws of ports of channel adapters. Each function's contract is its law; it does nothing.
+
 ghost use Rattle.port_model.specs.Laws.{GoodPortsGiveAttributes, NewPortsAreGood, SmpsAreReadAlike, SmpsChangeWhatTheyName, SmpsKeepGood, SmpsSettle, UnseenComesBack};
 
 /// An SMP changes at most what it names, and a port is Down afterwards exactly where it was Down. Like

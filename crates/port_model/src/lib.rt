@@ -5,8 +5,8 @@
 //! whether there is a reply, each bit of it, and what the port holds from then on. A wire needs to know
 //! nothing else. [`AdapterPort::stamp`] makes a packet or says why none is sent, and
 //! [`AdapterPort::accept`] says which the port takes, by what SMPs wrote (`specs/Packets.antt`). What all
-//! agents share stands in `agent_rules`. The attributes are those of the InfiniBand Architecture
-//! Specification, volume 1, chapter 14; what a port holds at power-up is ours.
+//! agents share stands in `agent_rules`. The attributes are those of the IBA volume 1
+//!, chapter 14; what a port holds at power-up is ours.
 #![tactic(auto)]
 
 mod adapter_port;

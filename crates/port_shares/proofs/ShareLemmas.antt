@@ -10,7 +10,7 @@ use Rattle.std.proofs.lemmas.List.Elements.{filter-append}
 use Rattle.std.proofs.lemmas.List.Folds.{flat_map-map}
 use Rattle.std.proofs.lemmas.List.Kept.{IsStrictlyIncreasing-filter}
 use Rattle.result_words.proofs.ListLemmas.{list_any_weaker}
-use Rattle.lid_assign.proofs.RisingLemmas.{rises, same_rising}
+use Rattle.result_words.proofs.RisingLemmas.{rises, same_rising}
 use Rattle.pkey_rules.specs.KeyTable.{shares_base}
 use Rattle.pkey_rules.specs.PKey.{base_of, is_full, matches}
 use Rattle.subnet_model.specs.declared.subnet_port.SubnetPort.{SubnetPort}

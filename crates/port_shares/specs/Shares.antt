@@ -1,4 +1,4 @@
--- Who may talk to whom: for each two end ports the partitions in which their keys match (InfiniBand volume 1, 14.2.5.7).
+-- Who may talk to whom: for each two end ports the partitions in which their keys match (IBA volume 1, 14.2.5.7).
 use Rattle.std.specs.Prelude.{ℕ, Bool, true, ◌==◌, ◌||◌, List, [], ◌∷◌, ◌++◌, Option, Some, None, codes, filter, map}
 use Rattle.std.specs.List.{flat_map, range_with_len}
 use Rattle.std.specs.Int.{w16, to_be_bytes}

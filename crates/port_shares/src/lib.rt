@@ -2,7 +2,7 @@
 //!
 //! [`shares_text`] is the call that a command makes: for each two end ports of a subnet, and for each partition in which their keys
 //! match, a line; or only those that name one port. Two keys match where they name one partition and at least one of
-//! them is a full member's (InfiniBand Architecture Specification, volume 1, 14.2.5.7). `specs/Shares.antt` says it
+//! them is a full member's (IBA volume 1, 14.2.5.7). `specs/Shares.antt` says it
 //! over key tables alone, and `specs/Laws.antt` that two ports have a line exactly where they are near each other.
 #![tactic(auto)]
 

@@ -5,9 +5,9 @@ use crate::keys::{fill_key_tables, keys_of_one_partition, keys_stand, other_tabl
 use crate::linear::{entries_stand, fill_tables};
 use crate::ports::{ends_stand, fill_infos, switch_ports_stand, tops_stand};
 use fabric_wire::{Fabric, SmpWire};
-use pushed_ways::push_all;
 use std::alloc::Global;
 use std::test::Fail;
+use table_push::push_all;
 use updn_routes::Routes;
 
 /// The fabric after all three pushes, with the keys of one partition.

@@ -6,10 +6,10 @@ use crate::fixtures::{Push, routes_over};
 use crate::keys::table_of;
 use fabric_wire::{CountingWire, Fabric, SmpWire};
 use pkey_rules::{KeyTable, PARTITIONS};
-use pushed_ways::push_all;
 use std::alloc::Global;
 use std::process::Abort;
 use std::test::Fail;
+use table_push::push_all;
 use test_fabrics::fat_tree_of;
 use updn_routes::Routes;
 

@@ -3,3 +3,8 @@ pub mod LineLemmas
 pub mod TestLemmas
 pub mod ListLemmas
 pub mod PlaceLemmas
+pub mod ElementLemmas
+pub mod FilterLemmas
+pub mod RangeLemmas
+pub mod DistinctLemmas
+pub mod RisingLemmas

@@ -1,3 +1,5 @@
+//! Why a reader of lines stops.
+
 ghost use Rattle.std.specs.Prelude.{◌≡◌};
 ghost use Rattle.result_words.specs.declared.line_error.LineError.TheVariants.{NoMemory};
 

@@ -11,14 +11,14 @@ use Rattle.std.proofs.lemmas.List.{take_all, length-take}
 use Rattle.rmpp_core.specs.declared.receiver.ReceiveFault.{ReceiveFault}
 use Rattle.rmpp_core.specs.declared.receiver.ReceiveFault.TheVariants.{UnexpectedSegment, WrongLength}
 use Rattle.rmpp_core.specs.Laws.{told_in, IsSegmentAt, IsTable, WhatIsReceivedIsATable, after_all}
-use Rattle.rmpp_core.specs.Receiving.{Received, nothing, rmpp_in, data_in, is_data, is_first, is_last, is_expected, first_length_of, has_right_length, grown, with_segment, whole_bytes}
+use Rattle.rmpp_core.specs.Receiving.{ReassemblyState, nothing, rmpp_in, data_in, is_data, is_first, is_last, is_expected, first_length_of, has_right_length, grown, with_segment, whole_bytes}
 
 -- ---- what comes of one segment
 abbrev choice : Bool → Bool → Bool → ℕ → Result ℕ ReceiveFault
 choice expected last right own =
     if not expected then Err UnexpectedSegment else if not last then Ok 200 else if right then Ok (own - 20) else Err WrongLength
 
-abbrev one_on : Received → List ℕ → ℕ → Received
+abbrev one_on : ReassemblyState → List ℕ → ℕ → ReassemblyState
 one_on r mad count =
     record {
       segments = r.segments + 1;
@@ -27,17 +27,17 @@ one_on r mad count =
       is_whole = is_last (rmpp_in mad);
     }
 
-record Refused (r : Received) (mad : List ℕ) : Type 0 where
+record Refused (r : ReassemblyState) (mad : List ℕ) : Type 0 where
   fault : ReceiveFault
   is : with_segment r mad ≡ Err fault
 
-record Taken (r : Received) (mad : List ℕ) (count : ℕ) (ends : Bool) : Type 0 where
+record Taken (r : ReassemblyState) (mad : List ℕ) (count : ℕ) (ends : Bool) : Type 0 where
   expected : is_expected r (rmpp_in mad) ≡ true
   last : is_last (rmpp_in mad) ≡ ends
   right : ends ≡ true → has_right_length r (rmpp_in mad) ≡ true
   is : with_segment r mad ≡ Ok (one_on r mad count)
 
-segment_gives : (r : Received) (mad : List ℕ) (a b c : Bool) → is_expected r (rmpp_in mad) ≡ a → is_last (rmpp_in mad) ≡ b → has_right_length r (rmpp_in mad) ≡ c
+segment_gives : (r : ReassemblyState) (mad : List ℕ) (a b c : Bool) → is_expected r (rmpp_in mad) ≡ a → is_last (rmpp_in mad) ≡ b → has_right_length r (rmpp_in mad) ≡ c
     → with_segment r mad ≡ grown r (rmpp_in mad) (data_in mad) (choice a b c (told_in mad))
 unfolding with_segment
 segment_gives r mad a b c e f g =
@@ -46,7 +46,7 @@ segment_gives r mad a b c e f g =
     (ap (λ (x : Bool). choice x (is_last rmpp) (has_right_length r rmpp) (told_in mad)) e
     ∙ ap (λ (x : Bool). choice a x (has_right_length r rmpp) (told_in mad)) f ∙ ap (λ (x : Bool). choice a b x (told_in mad)) g)
 
-outcome : (r : Received) (mad : List ℕ) → Refused r mad ⊎ (Taken r mad 200 false ⊎ Taken r mad (told_in mad - 20) true)
+outcome : (r : ReassemblyState) (mad : List ℕ) → Refused r mad ⊎ (Taken r mad 200 false ⊎ Taken r mad (told_in mad - 20) true)
 outcome r mad = by (is_expected r (rmpp_in mad)) (is_last (rmpp_in mad)) (has_right_length r (rmpp_in mad)) refl refl refl
   where
     by : (a b c : Bool) → is_expected r (rmpp_in mad) ≡ a → is_last (rmpp_in mad) ≡ b → has_right_length r (rmpp_in mad) ≡ c
@@ -65,7 +65,7 @@ no_more true b e = e
 no_more false b e = refl
 
 -- after the last segment nothing is taken
-after_last : (r : Received) (mad : List ℕ) → r.is_whole ≡ true → with_segment r mad ≡ Err UnexpectedSegment
+after_last : (r : ReassemblyState) (mad : List ℕ) → r.is_whole ≡ true → with_segment r mad ≡ Err UnexpectedSegment
 after_last r mad whole =
     let rmpp = rmpp_in mad in
     let later = (rmpp.segment_number == r.segments + 1) && (if r.segments == 0 then is_first rmpp else not (is_first rmpp)) in
@@ -78,7 +78,7 @@ record IsInner (place : ℕ) (mad : List ℕ) : Type 0 where
   number : (rmpp_in mad).segment_number ≡ place + 1
   first : is_first (rmpp_in mad) ≡ (place == 0)
 
-record Held (done : List (List ℕ)) (r : Received) : Type 0 where
+record Held (done : List (List ℕ)) (r : ReassemblyState) : Type 0 where
   open_still : r.is_whole ≡ false
   count : r.segments ≡ length done
   bytes : r.bytes ≡ flat_map data_in done
@@ -91,7 +91,7 @@ turn_back true f h = h
 turn_back false true h = absurd cc
 turn_back false false h = refl
 
-inner_is : (done : List (List ℕ)) (r : Received) (mad : List ℕ) → Held done r → is_expected r (rmpp_in mad) ≡ true → IsInner (length done) mad
+inner_is : (done : List (List ℕ)) (r : ReassemblyState) (mad : List ℕ) → Held done r → is_expected r (rmpp_in mad) ≡ true → IsInner (length done) mad
 inner_is done r mad held e =
     let rmpp = rmpp_in mad in
     let turn = if r.segments == 0 then is_first rmpp else not (is_first rmpp) in
@@ -104,7 +104,7 @@ inner_is done r mad held e =
       first = turn_back (r.segments == 0) (is_first rmpp) c.1 ∙ ap (λ (n : ℕ). n == 0) held.count;
     }
 
-first_kept : (done : List (List ℕ)) (r : Received) (mad : List ℕ) → Held done r → first_length_of r (rmpp_in mad) ≡ told_in (get_or (done ++ mad ∷ []) 0 [])
+first_kept : (done : List (List ℕ)) (r : ReassemblyState) (mad : List ℕ) → Held done r → first_length_of r (rmpp_in mad) ≡ told_in (get_or (done ++ mad ∷ []) 0 [])
 first_kept [] r mad held = let none : (r.segments == 0) ≡ true = eq-eqb r.segments 0 held.count in rw none refl
 first_kept (d ∷ ds) r mad held =
     let some : (r.segments == 0) ≡ false = ap (λ (n : ℕ). n == 0) held.count ∙ grind (arith, nat_tests) in
@@ -128,7 +128,7 @@ at_places P done mad each last place h =
 all_data : (mad : List ℕ) → length mad ≡ 256 → length (data_in mad) ≡ 200
 all_data mad size = let a = length-drop 56 mad in let b = length-take 200 (drop 56 mad) in omega arith
 
-held_on : (done : List (List ℕ)) (r : Received) (mad : List ℕ) → Held done r → length mad ≡ 256 → Taken r mad 200 false → Held (done ++ mad ∷ []) (one_on r mad 200)
+held_on : (done : List (List ℕ)) (r : ReassemblyState) (mad : List ℕ) → Held done r → length mad ≡ 256 → Taken r mad 200 false → Held (done ++ mad ∷ []) (one_on r mad 200)
 held_on done r mad held size taken =
     let long = all_data mad size in
     let one = flat_map-append data_in done (mad ∷ []) in
@@ -144,11 +144,11 @@ held_on done r mad held size taken =
     }
 
 -- ---- and when the last one comes
-ended : (r : Received) (mads : List (List ℕ)) (bytes : List ℕ) → r.is_whole ≡ true → whole_bytes (after_all (Ok r) mads) ≡ Some bytes
+ended : (r : ReassemblyState) (mads : List (List ℕ)) (bytes : List ℕ) → r.is_whole ≡ true → whole_bytes (after_all (Ok r) mads) ≡ Some bytes
     → (mads ≡ []) × (Some r.bytes ≡ Some bytes)
 ended r [] bytes whole h = (refl, rw whole at h)
 ended r (mad ∷ mads) bytes whole h =
-    let P : Result Received ReceiveFault → Type 0 = λ given. whole_bytes (after_all given mads) ≡ Some bytes in
+    let P : Result ReassemblyState ReceiveFault → Type 0 = λ given. whole_bytes (after_all given mads) ≡ Some bytes in
     let none : None ≡ Some bytes = sym (ap whole_bytes (after_fault UnexpectedSegment mads)) ∙ subst P (after_last r mad whole) h in
     absurd cc
 
@@ -162,7 +162,7 @@ some_is xs ys e = ap (λ (o : Option (List ℕ)). or_none o) e
 last_of : (count place : ℕ) (mad : List ℕ) → IsInner place mad → is_last (rmpp_in mad) ≡ (place + 1 == count) → IsSegmentAt count place mad
 last_of count place mad inner last = record { segment = inner.segment; number = inner.number; first = inner.first; last = last }
 
-table_is : (done : List (List ℕ)) (r : Received) (mad : List ℕ) (bytes : List ℕ) → Held done r → length mad ≡ 256 → Taken r mad (told_in mad - 20) true
+table_is : (done : List (List ℕ)) (r : ReassemblyState) (mad : List ℕ) (bytes : List ℕ) → Held done r → length mad ≡ 256 → Taken r mad (told_in mad - 20) true
     → r.bytes ++ take (told_in mad - 20) (data_in mad) ≡ bytes → IsTable (done ++ mad ∷ []) bytes
 table_is done r mad bytes held size taken joined =
     let rmpp = rmpp_in mad in
@@ -195,11 +195,11 @@ table_is done r mad bytes held size taken joined =
       whole_length = sym first ∙ all ∙ omega (arith, held.count, count, bytes_long);
     }
 
-go : (rest done : List (List ℕ)) (r : Received) (bytes : List ℕ) → AllByRecursion (λ mad. length mad ≡ 256) rest → Held done r
+go : (rest done : List (List ℕ)) (r : ReassemblyState) (bytes : List ℕ) → AllByRecursion (λ mad. length mad ≡ 256) rest → Held done r
     → whole_bytes (after_all (Ok r) rest) ≡ Some bytes → IsTable (done ++ rest) bytes
 go [] done r bytes sizes held h = let none : None ≡ Some bytes = rw held.open_still at h in absurd cc
 go (mad ∷ mads) done r bytes sizes held h =
-    let P : Result Received ReceiveFault → Type 0 = λ given. whole_bytes (after_all given mads) ≡ Some bytes in
+    let P : Result ReassemblyState ReceiveFault → Type 0 = λ given. whole_bytes (after_all given mads) ≡ Some bytes in
     elim (outcome r mad) [
       | inl refused ↦
           let none : None ≡ Some bytes = sym (ap whole_bytes (after_fault refused.fault mads)) ∙ subst P refused.is h in

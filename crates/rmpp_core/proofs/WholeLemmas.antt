@@ -11,7 +11,7 @@ use Rattle.mad_layout.specs.Bits.{bit_of}
 use Rattle.rmpp_core.specs.declared.receiver.ReceiveFault.{ReceiveFault}
 use Rattle.rmpp_core.specs.declared.receiver.ReceiveFault.TheVariants.{UnexpectedSegment, WrongLength}
 use Rattle.rmpp_core.specs.Laws.{IsTransfer, segment_mads, after_all, SegmentsAreReceived}
-use Rattle.rmpp_core.specs.Receiving.{Received, nothing, is_last, is_expected, first_length_of, has_right_length, carried, grown, with_segment, whole_bytes}
+use Rattle.rmpp_core.specs.Receiving.{ReassemblyState, nothing, is_last, is_expected, first_length_of, has_right_length, carried, grown, with_segment, whole_bytes}
 use Rattle.rmpp_core.specs.Receiving.{data_in}
 use Rattle.rmpp_core.specs.Segments.{Transfer, segment_count, segment_of, payload_size, payload_length, padded_segment, segment_rmpp, segment_mad}
 use Rattle.rmpp_core.proofs.CutLemmas.{segment_is, segment_length}
@@ -37,7 +37,7 @@ last_set false true = refl
 last_set false false = refl
 
 -- ---- what has come once so many segments have
-abbrev so_far : Transfer → ℕ → Received
+abbrev so_far : Transfer → ℕ → ReassemblyState
 so_far t k =
     record {
       segments = k;
@@ -61,7 +61,7 @@ expected t k h =
     (and_from _ _ (ap (λ (b : Bool). not b) more)
     (and_from _ _ (eq-eqb (k + 1) (k + 1) refl) (turn_is k _ (first_set (k + 1 == 1) (k + 1 == count)))))
 
-carried_is : (r : Received) (rmpp : RmppHeader) (count : ℕ) → is_expected r rmpp ≡ true → (is_last rmpp ≡ false → count ≡ 200)
+carried_is : (r : ReassemblyState) (rmpp : RmppHeader) (count : ℕ) → is_expected r rmpp ≡ true → (is_last rmpp ≡ false → count ≡ 200)
     → (is_last rmpp ≡ true → (has_right_length r rmpp ≡ true) × (rmpp.payload_length_or_new_window_last - 20 ≡ count)) → carried r rmpp ≡ Ok count
 carried_is r rmpp count e full last = by (is_expected r rmpp) (is_last rmpp) (has_right_length r rmpp) e full last
   where
@@ -123,7 +123,7 @@ step t k is h =
     let start : (n == 0) ≡ false = grind (arith, nat_tests) in
     let first : first_length_of (so_far t k) rmpp ≡ (if n == 0 then 0 else payload_size bytes) = rw start (first_told t k) in
     let grows : grown (so_far t k) rmpp (padded_segment bytes n) (Ok (length part)) ≡ Ok (so_far t n) =
-    ap (λ (r : Received). Ok r) (λ p. record {
+    ap (λ (r : ReassemblyState). Ok r) (λ p. record {
       segments = n;
       first_length = first p;
       bytes = (ap (λ (xs : List ℕ). take (200 * k) bytes ++ xs) kept ∙ joined) p;
@@ -138,7 +138,7 @@ from_here : (t : Transfer) (k left : ℕ) → IsTransfer t → k + left ≡ segm
     → after_all (Ok (so_far t k)) (map (segment_mad t) (range_with_len (k + 1) left)) ≡ Ok (so_far t (segment_count t.bytes))
 from_here t k zero is e = let same : k ≡ segment_count t.bytes = omega (arith, e) in ap (λ (n : ℕ). Ok (so_far t n)) same
 from_here t k (suc left) is e =
-    ap (λ (r : Result Received ReceiveFault). after_all r (map (segment_mad t) (range_with_len (k + 1 + 1) left))) (step t k is (omega (arith, e)))
+    ap (λ (r : Result ReassemblyState ReceiveFault). after_all r (map (segment_mad t) (range_with_len (k + 1 + 1) left))) (step t k is (omega (arith, e)))
     ∙ from_here t (k + 1) left is (omega (arith, e))
 
 pub received : SegmentsAreReceived
@@ -147,6 +147,6 @@ received t is =
     let some : (0 == count) ≡ false = grind (arith, nat_tests) in
     let start : nothing ≡ so_far t 0 = λ p. record { segments = 0; first_length = 0; bytes = []; is_whole = sym some p } in
     let all : after_all (Ok nothing) (segment_mads t) ≡ Ok (so_far t count) =
-    ap (λ (r : Received). after_all (Ok r) (segment_mads t)) start ∙ from_here t 0 count is (omega arith) in
+    ap (λ (r : ReassemblyState). after_all (Ok r) (segment_mads t)) start ∙ from_here t 0 count is (omega arith) in
     let done : (count == count) ≡ true = eq-eqb count count refl in
     ap whole_bytes all ∙ rw done (ap (λ (xs : List ℕ). Some xs) (take_all (200 * count) t.bytes (omega arith)))

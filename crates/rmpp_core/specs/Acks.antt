@@ -1,4 +1,4 @@
--- What an ACK brings, and an ABORT (InfiniBand volume 1, chapter 13).
+-- What an ACK brings, and an ABORT (IBA volume 1, chapter 13).
 use Rattle.std.specs.Prelude.{ℕ, ◌+◌, ◌==◌, nat_lt, if◌then◌else◌, List, replicate, max, min, Result, Ok, Err}
 use Rattle.mad_layout.specs.declared.rmpp_header.RmppHeader.{RmppHeader}
 use Rattle.mad_layout.specs.declared.rmpp_kind.RmppKind.TheVariants.{Abort}

@@ -8,7 +8,7 @@ use Rattle.rmpp_core.specs.declared.abort.AbortCause.{AbortCause}
 use Rattle.rmpp_core.specs.declared.receiver.ReceiveFault.{ReceiveFault}
 use Rattle.rmpp_core.specs.declared.sender.Acknowledged.{Acknowledged}
 use Rattle.rmpp_core.specs.Acks.{after_ack}
-use Rattle.rmpp_core.specs.Receiving.{Received, nothing, rmpp_in, data_in, told, is_data, is_first, is_last, after_data, whole_bytes}
+use Rattle.rmpp_core.specs.Receiving.{ReassemblyState, nothing, rmpp_in, data_in, told, is_data, is_first, is_last, after_data, whole_bytes}
 use Rattle.rmpp_core.specs.Segments.{Transfer, segment_count, segments_of, segment_of, payload_size, segment_mad}
 
 -- ---- the cut: put together the segments are the bytes; each but the last has 200, and the last has some where there
@@ -59,7 +59,7 @@ pub record IsTransfer (transfer : Transfer) : Type 0 where
 abbrev pub segment_mads : Transfer → List (List ℕ)
 segment_mads transfer = map (segment_mad transfer) (range_with_len 1 (segment_count transfer.bytes))
 
-abbrev pub after_all : Result Received ReceiveFault → List (List ℕ) → Result Received ReceiveFault
+abbrev pub after_all : Result ReassemblyState ReceiveFault → List (List ℕ) → Result ReassemblyState ReceiveFault
 after_all received [] = received
 after_all received (mad ∷ mads) = after_all (after_data received mad) mads
 

@@ -1,4 +1,4 @@
--- Which segments a receiver takes (InfiniBand volume 1, chapter 13).
+-- Which segments a receiver takes (IBA volume 1, chapter 13).
 use Rattle.std.specs.Prelude.{ℕ, ◌≡◌, ◌+◌, ◌-◌, ◌*◌, ◌==◌, Bool, false, ◌&&◌, not, nat_le, if◌then◌else◌, bit_and}
 use Rattle.std.specs.Prelude.{List, [], ◌++◌, length, take, slice_range, Option, Some, None, Result, Ok, Err}
 use Rattle.mad_layout.specs.declared.rmpp_header.RmppHeader.{RmppHeader}
@@ -42,17 +42,17 @@ abbrev pub is_last : RmppHeader → Bool
 is_last rmpp = has_flag 4 rmpp
 
 -- ---- what has come: how many segments, the length that the first one told, the bytes, and whether the last one came
-pub record Received : Type 0 where
+pub record ReassemblyState : Type 0 where
   pub segments : ℕ
   pub first_length : ℕ
   pub bytes : List ℕ
   pub is_whole : Bool
 
-abbrev pub nothing : Received
+abbrev pub nothing : ReassemblyState
 nothing = record { segments = 0; first_length = 0; bytes = []; is_whole = false }
 
 -- the next segment has the next number; First is on number 1 alone, and after Last none is next
-abbrev pub is_expected : Received → RmppHeader → Bool
+abbrev pub is_expected : ReassemblyState → RmppHeader → Bool
 is_expected so_far rmpp =
     is_data rmpp
     && (not so_far.is_whole
@@ -60,25 +60,25 @@ is_expected so_far rmpp =
     && (if so_far.segments == 0 then is_first rmpp else not (is_first rmpp))))
 
 -- the length that the first segment told, which may be this one
-abbrev pub first_length_of : Received → RmppHeader → ℕ
+abbrev pub first_length_of : ReassemblyState → RmppHeader → ℕ
 first_length_of so_far rmpp = if so_far.segments == 0 then told rmpp else so_far.first_length
 
 -- beside its data each segment counts for 20 bytes: the last tells its own length, the first that of all
-abbrev pub has_right_length : Received → RmppHeader → Bool
+abbrev pub has_right_length : ReassemblyState → RmppHeader → Bool
 has_right_length so_far rmpp =
     nat_le 20 (told rmpp)
     && (nat_le (told rmpp) 220
     && (first_length_of so_far rmpp == 20 * (so_far.segments + 1) + (length so_far.bytes + (told rmpp - 20))))
 
 -- how many bytes of its data a segment has
-abbrev pub carried : Received → RmppHeader → Result ℕ ReceiveFault
+abbrev pub carried : ReassemblyState → RmppHeader → Result ℕ ReceiveFault
 carried so_far rmpp =
     if not (is_expected so_far rmpp) then Err UnexpectedSegment
     else if not (is_last rmpp) then Ok 200
     else if has_right_length so_far rmpp then Ok (told rmpp - 20)
     else Err WrongLength
 
-abbrev pub grown : Received → RmppHeader → List ℕ → Result ℕ ReceiveFault → Result Received ReceiveFault
+abbrev pub grown : ReassemblyState → RmppHeader → List ℕ → Result ℕ ReceiveFault → Result ReassemblyState ReceiveFault
 grown so_far rmpp bytes (Ok count) =
     Ok (record {
       segments = so_far.segments + 1;
@@ -88,32 +88,32 @@ grown so_far rmpp bytes (Ok count) =
     })
 grown so_far rmpp bytes (Err fault) = Err fault
 
-unfoldable pub with_segment : Received → List ℕ → Result Received ReceiveFault
+unfoldable pub with_segment : ReassemblyState → List ℕ → Result ReassemblyState ReceiveFault
 with_segment so_far mad = grown so_far (rmpp_in mad) (data_in mad) (carried so_far (rmpp_in mad))
 
 -- ---- a receiver has what has come, or the fault for which it takes no more
-abbrev pub unless : Option ReceiveFault → Received → Result Received ReceiveFault
+abbrev pub unless : Option ReceiveFault → ReassemblyState → Result ReassemblyState ReceiveFault
 unless None so_far = Ok so_far
 unless (Some fault) so_far = Err fault
 
-abbrev pub after_data : Result Received ReceiveFault → List ℕ → Result Received ReceiveFault
+abbrev pub after_data : Result ReassemblyState ReceiveFault → List ℕ → Result ReassemblyState ReceiveFault
 after_data (Ok so_far) mad = with_segment so_far mad
 after_data (Err fault) mad = Err fault
 
-abbrev pub whole_of : Received → Option (List ℕ)
+abbrev pub whole_of : ReassemblyState → Option (List ℕ)
 whole_of so_far = if so_far.is_whole then Some so_far.bytes else None
 
-abbrev pub whole_bytes : Result Received ReceiveFault → Option (List ℕ)
+abbrev pub whole_bytes : Result ReassemblyState ReceiveFault → Option (List ℕ)
 whole_bytes (Ok so_far) = whole_of so_far
 whole_bytes (Err fault) = None
 
 -- a call does what is defined, or memory is refused where the definition refuses nothing
-abbrev pub Grows : Result Received ReceiveFault → Result (Unit {0}) ReceiveFault → Received → Type 0
+abbrev pub Grows : Result ReassemblyState ReceiveFault → Result (Unit {0}) ReceiveFault → ReassemblyState → Type 0
 Grows (Err fault) result new = result ≡ Err fault
 Grows (Ok next) (Ok done) new = new ≡ next
 Grows (Ok next) (Err fault) new = fault ≡ NoMemory
 
-abbrev pub Takes : Result Received ReceiveFault → Result (Unit {0}) ReceiveFault → Result Received ReceiveFault → Type 0
+abbrev pub Takes : Result ReassemblyState ReceiveFault → Result (Unit {0}) ReceiveFault → Result ReassemblyState ReceiveFault → Type 0
 Takes (Err fault) result new = (result ≡ Err fault) × (new ≡ Err fault)
 Takes (Ok next) (Ok done) new = new ≡ Ok next
 Takes (Ok next) (Err fault) new = (fault ≡ NoMemory) × (new ≡ Err NoMemory)

@@ -1,4 +1,4 @@
--- A MAD of subnet administration as a whole (InfiniBand volume 1, 15.2.1.1): the header of every MAD, the RMPP
+-- A MAD of subnet administration as a whole (IBA volume 1, 15.2.1.1): the header of every MAD, the RMPP
 -- header, and then the fields and the data of subnet administration.
 use Rattle.std.specs.Prelude.{ℕ, List, ◌++◌, replicate}
 use Rattle.mad_layout.specs.declared.mad_header.Header.{Header}

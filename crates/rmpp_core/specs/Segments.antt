@@ -1,4 +1,4 @@
--- The segments of a table of records (InfiniBand volume 1, chapter 13; 15.2.1.1 for their layout).
+-- The segments of a table of records (IBA volume 1, chapter 13; 15.2.1.1 for their layout).
 use Rattle.std.specs.Prelude.{ℕ, ◌+◌, ◌-◌, ◌*◌, ◌/◌, ◌==◌, if◌then◌else◌, List, [], ◌++◌, length, replicate, get_or, max}
 use Rattle.std.specs.Simd.{first_chunks}
 use Rattle.mad_layout.specs.declared.rmpp_header.RmppHeader.{RmppHeader}

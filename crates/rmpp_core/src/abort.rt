@@ -1,3 +1,5 @@
+//! Why a transfer is aborted.
+
 ghost use Rattle.std.specs.Prelude.{◌≡◌};
 ghost use Rattle.rmpp_core.specs.Acks.{abort_code};
 

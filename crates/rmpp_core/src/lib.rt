@@ -1,7 +1,7 @@
 //! Segments: how an answer that is longer than one management datagram (MAD) goes over the wire.
 //!
 //! Subnet administration sends a table of records in segments of 200 bytes by the Reliable Multi-Packet
-//! Protocol (RMPP; InfiniBand Architecture Specification, volume 1, chapter 13, as 15.2.1.1 lays its header
+//! Protocol (RMPP; IBA volume 1, chapter 13, as 15.2.1.1 lays its header
 //! before that of subnet administration). A [`Sender`] holds the bytes of one table: it gives each
 //! segment as a MAD, and says of each ACK which segments to send next, or why the transfer aborts. A
 //! [`Receiver`] takes segments in order and has the bytes once the last has come. `specs/Segments.antt` says

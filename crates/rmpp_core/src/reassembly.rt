@@ -21,9 +21,9 @@ pub(crate) struct Reassembly {
 
 impl Model for Reassembly {
     ghost use Rattle.std.specs.Prelude.{length, ◌≤◌, ◌*◌};
-    ghost use Rattle.rmpp_core.specs.Receiving.{Received};
+    ghost use Rattle.rmpp_core.specs.Receiving.{ReassemblyState};
 
-    ghost Value = { Received };
+    ghost Value = { ReassemblyState };
 
     ghost view = { λ r. record {
       segments = r.segments;

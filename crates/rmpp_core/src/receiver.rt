@@ -52,9 +52,9 @@ pub struct Receiver {
 impl Model for Receiver {
     ghost use Rattle.std.specs.Prelude.{Result};
     ghost use Rattle.rmpp_core.specs.declared.receiver.ReceiveFault.{ReceiveFault};
-    ghost use Rattle.rmpp_core.specs.Receiving.{Received, unless};
+    ghost use Rattle.rmpp_core.specs.Receiving.{ReassemblyState, unless};
 
-    ghost Value = { Result Received ReceiveFault };
+    ghost Value = { Result ReassemblyState ReceiveFault };
 
     ghost view = { λ receiver. unless receiver.fault receiver.so_far };
 }

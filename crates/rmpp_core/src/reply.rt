@@ -1,3 +1,5 @@
+//! A MAD of an answer, from its headers and data.
+
 ghost use Rattle.std.specs.Prelude.{◌≡◌, ◌<◌};
 ghost use Rattle.mad_layout.specs.Layout.{Spells};
 ghost use Rattle.rmpp_core.specs.Reply.{reply_fields, reply_bytes};

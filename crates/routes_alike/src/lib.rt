@@ -2,8 +2,8 @@
 //!
 //! `specs/Alike.antt` says when two cablings differ in the order of their switches alone. Then switches have the same ranks
 //! in both, legal paths (up, and then down) lead between the same switches, and the first pair that none joins is the same
-//! by its LIDs; and two graphs of one fabric are so. Sweeps and routes are those of the InfiniBand Architecture
-//! Specification, volume 1, chapter 14.
+//! by its LIDs; and two graphs of one fabric are so. Sweeps and routes are those of the IBA volume 1
+//!, chapter 14.
 #![tactic(auto)]
 
 mod laws;

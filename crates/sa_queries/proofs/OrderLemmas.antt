@@ -8,13 +8,13 @@ use Rattle.std.proofs.lemmas.List.Folds.{list_all-append}
 use Rattle.pkey_rules.specs.PKey.{base_of}
 use Rattle.pkey_rules.specs.KeyTable.{accepts}
 use Rattle.subnet_model.specs.declared.subnet_port.SubnetPort.{SubnetPort}
-use Rattle.sa_model.specs.Groups.{MulticastGroup, PartitionGroups}
-use Rattle.sa_model.specs.Sound.{pairwise, lower_mlid, is_in_range, is_sound_group, is_sound_partition}
-use Rattle.sa_model.proofs.ListLemmas.{all_map, all_filter, pairwise_filter}
-use Rattle.sa_model.proofs.SoundLemmas.{sound_parts, partition_parts}
-use Rattle.sa_requests.specs.KeyOrder.{by_base, is_lower_base}
-use Rattle.sa_requests.proofs.KeyOrderLemmas.{stand_by_base}
-use Rattle.sa_requests.proofs.ServiceSoundLemmas.{pairwise_append}
+use Rattle.sa_groups.specs.Groups.{MulticastGroup, PartitionGroups}
+use Rattle.sa_groups.specs.Sound.{pairwise, lower_mlid, is_in_range, is_sound_group, is_sound_partition}
+use Rattle.sa_groups.proofs.ListLemmas.{all_map, all_filter, pairwise_filter}
+use Rattle.sa_groups.proofs.SoundLemmas.{sound_parts, partition_parts}
+use Rattle.sa_services.specs.KeyOrder.{by_base, is_lower_base}
+use Rattle.sa_services.proofs.KeyOrderLemmas.{stand_by_base}
+use Rattle.sa_services.proofs.ServiceSoundLemmas.{pairwise_append}
 use Rattle.sa_queries.specs.Visible.{Path, GroupOfBase, may_know, keys_to, paths_to, is_in, groups_of}
 use Rattle.sa_queries.specs.Order.{lower_lid, goes_before, of_lower_mlid, lower_number, VisibleStandsInOrder}
 

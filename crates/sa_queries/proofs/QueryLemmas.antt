@@ -16,12 +16,12 @@ use Rattle.sa_records.specs.ServiceRecord.{service_record_selected}
 use Rattle.subnet_model.specs.declared.subnet_port.SubnetPort.{SubnetPort}
 use Rattle.subnet_model.specs.Delivery.{port_with_guid}
 use Rattle.subnet_model.specs.Near.{is_near}
-use Rattle.sa_model.specs.Groups.{PartitionGroups}
-use Rattle.sa_model.specs.Sound.{is_sound}
-use Rattle.sa_model.specs.Sight.{seen}
-use Rattle.sa_model.proofs.ChangeLemmas.{every_run_is_seen_alike}
-use Rattle.sa_requests.specs.Services.{no_services}
-use Rattle.sa_requests.proofs.ServiceLemmas.{services_depend}
+use Rattle.sa_groups.specs.Groups.{PartitionGroups}
+use Rattle.sa_groups.specs.Sound.{is_sound}
+use Rattle.sa_groups.specs.Sight.{seen}
+use Rattle.sa_groups.proofs.ChangeLemmas.{every_run_is_seen_alike}
+use Rattle.sa_services.specs.Services.{no_services}
+use Rattle.sa_services.proofs.ServiceLemmas.{services_depend}
 use Rattle.sa_queries.specs.Visible.{SaState, paths_to, visible_nodes, visible_groups, services_of, visible_services}
 use Rattle.sa_queries.specs.Shown.{node_record_of, group_record_of, service_record_of, path_record_of}
 use Rattle.sa_queries.specs.Shown.{node_entry, path_entry, group_entry, service_entry}

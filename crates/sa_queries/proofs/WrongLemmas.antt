@@ -1,6 +1,6 @@
 -- What wrong rules tell: a limited member of another, and of groups in a partition that a port has no part in.
 use Rattle.std.proofs.Common.{Bool, true, false, List, [], ◌∷◌, ◌≡◌, ap, refl}
-use Rattle.sa_model.specs.Examples.{ports, nobody, both}
+use Rattle.sa_groups.specs.Examples.{ports, nobody, both}
 use Rattle.sa_queries.specs.Shown.{Entry}
 use Rattle.sa_queries.specs.Examples.{manager, limited}
 use Rattle.sa_queries.specs.WrongRules.{PathsByBaseTell, GroupsOfAllTell}

@@ -6,7 +6,7 @@ use Rattle.sa_records.specs.NodeRecord.{node_record_bytes}
 use Rattle.sa_records.specs.PathRecord.{path_record_bytes}
 use Rattle.sa_records.specs.McMemberRecord.{mc_member_record_bytes}
 use Rattle.sa_records.specs.ServiceRecord.{service_record_bytes}
-use Rattle.sa_model.specs.Examples.{ports}
+use Rattle.sa_groups.specs.Examples.{ports}
 use Rattle.sa_queries.specs.Shown.{node_record_of, path_record_of, group_record_of, service_record_of}
 use Rattle.sa_queries.specs.Shown.{node_entry, path_entry, group_entry, service_entry}
 use Rattle.sa_queries.specs.Outcome.{got, table}

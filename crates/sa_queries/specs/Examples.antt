@@ -3,10 +3,10 @@ use Rattle.std.specs.Prelude.{ℕ, ◌+◌, false, List, [], ◌∷◌, replicat
 use Rattle.sa_records.specs.declared.path_record.PathRecord.{PathRecord}
 use Rattle.sa_records.specs.PathMask as path_mask
 use Rattle.subnet_model.specs.declared.subnet_port.SubnetPort.{SubnetPort}
-use Rattle.sa_model.specs.Groups.{Creator, start_of}
-use Rattle.sa_model.specs.Examples.{adapter, ports, nobody, with_broadcast_group, parameters}
-use Rattle.sa_requests.specs.Services.{Service, no_services}
-use Rattle.sa_requests.specs.ServiceChange.{Deed, services_changed}
+use Rattle.sa_groups.specs.Groups.{Creator, start_of}
+use Rattle.sa_groups.specs.Examples.{adapter, ports, nobody, with_broadcast_group, parameters}
+use Rattle.sa_services.specs.Services.{Service, no_services}
+use Rattle.sa_services.specs.ServiceChange.{Deed, services_changed}
 use Rattle.sa_queries.specs.Gid.{gid_of}
 use Rattle.sa_queries.specs.Visible.{SaState, Path, GroupOfBase, ServiceOfPort}
 use Rattle.sa_queries.specs.Shown.{node_record_of, group_record_of, service_record_of}

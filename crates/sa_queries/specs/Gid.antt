@@ -1,4 +1,4 @@
--- The GIDs of ports: the subnet's prefix, which PortInfo shows (InfiniBand volume 1, 14.2.5.6), and a port's GUID.
+-- The GIDs of ports: the subnet's prefix, which PortInfo shows (IBA volume 1, 14.2.5.6), and a port's GUID.
 use Rattle.std.specs.Prelude.{ℕ, ◌+◌, ◌*◌, ◌^◌}
 
 abbrev pub gid_prefix : ℕ

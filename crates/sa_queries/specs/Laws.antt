@@ -2,16 +2,16 @@
 use Rattle.std.specs.Prelude.{ℕ, ◌≡◌, Bool, true, List, Option, Some, map, IfOk}
 use Rattle.std.specs.List.{list_all}
 use Rattle.subnet_model.specs.declared.subnet_port.SubnetPort.{SubnetPort}
-use Rattle.subnet_model.specs.Configuration.{Configured}
+use Rattle.subnet_model.specs.Configuration.{ConfigurationState}
 use Rattle.subnet_model.specs.Delivery.{port_with_guid}
 use Rattle.subnet_model.specs.Near.{is_near}
-use Rattle.sa_model.specs.Groups.{Creator, PartitionGroups, start_of}
-use Rattle.sa_model.specs.Changes.{Change, after_changes, changes_near}
-use Rattle.sa_model.specs.Sound.{is_sound}
-use Rattle.sa_model.specs.Sight.{seen}
-use Rattle.sa_requests.specs.Services.{no_services}
-use Rattle.sa_requests.specs.ServiceChange.{ServiceChange, services_after, service_changes_near}
-use Rattle.sa_requests.specs.ServiceSight.{services_seen}
+use Rattle.sa_groups.specs.Groups.{Creator, PartitionGroups, start_of}
+use Rattle.sa_groups.specs.Changes.{Change, after_changes, changes_near}
+use Rattle.sa_groups.specs.Sound.{is_sound}
+use Rattle.sa_groups.specs.Sight.{seen}
+use Rattle.sa_services.specs.Services.{no_services}
+use Rattle.sa_services.specs.ServiceChange.{ServiceChange, services_after, service_changes_near}
+use Rattle.sa_services.specs.ServiceSight.{services_seen}
 use Rattle.sa_queries.specs.Visible.{SaState, GroupOfBase, visible_nodes, visible_paths, visible_groups, visible_services}
 use Rattle.sa_queries.specs.Shown.{Entry, node_entry, path_entry, group_entry, service_entry}
 use Rattle.sa_queries.specs.Selected.{Query, selected}
@@ -51,14 +51,14 @@ QueriesEndAlike =
     → SeesSame ports own.guid s t → SameOutcomes ports own s t query
 
 -- the state after joins and leaves, and after Sets and Deletes of services
-abbrev pub state_after : Configured → List Change → List ServiceChange → SaState
+abbrev pub state_after : ConfigurationState → List Change → List ServiceChange → SaState
 state_after configuration changes service_changes = record {
   partitions = after_changes configuration.ports (start_of configuration) changes;
   services = services_after (no_services configuration.ports) service_changes;
 }
 
 -- the same after those of the ports near p alone
-abbrev pub state_near : Configured → ℕ → List Change → List ServiceChange → SaState
+abbrev pub state_near : ConfigurationState → ℕ → List Change → List ServiceChange → SaState
 state_near configuration p changes service_changes =
     state_after configuration (changes_near configuration.ports p changes)
     (service_changes_near configuration.ports p service_changes)
@@ -66,7 +66,7 @@ state_near configuration p changes service_changes =
 -- whatever ports did, a request ends as it would if the ports near its requester alone had done it
 abbrev pub QueriesDependOnNear : Type 0
 QueriesDependOnNear =
-    (configuration : Configured) (own : SubnetPort) (changes : List Change) (service_changes : List ServiceChange) (query : Query)
+    (configuration : ConfigurationState) (own : SubnetPort) (changes : List Change) (service_changes : List ServiceChange) (query : Query)
     → port_with_guid configuration.ports own.guid ≡ Some own
     → SameOutcomes configuration.ports own (state_after configuration changes service_changes)
     (state_near configuration own.guid changes service_changes) query

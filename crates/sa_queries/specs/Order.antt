@@ -2,8 +2,8 @@
 use Rattle.std.specs.Prelude.{◌≡◌, Bool, true, ◌==◌, ◌&&◌, ◌||◌, nat_lt, nat_le, List}
 use Rattle.pkey_rules.specs.PKey.{base_of}
 use Rattle.subnet_model.specs.declared.subnet_port.SubnetPort.{SubnetPort}
-use Rattle.sa_model.specs.Groups.{PartitionGroups}
-use Rattle.sa_model.specs.Sound.{pairwise, is_sound}
+use Rattle.sa_groups.specs.Groups.{PartitionGroups}
+use Rattle.sa_groups.specs.Sound.{pairwise, is_sound}
 use Rattle.sa_queries.specs.Visible.{SaState, Path, GroupOfBase, visible_nodes, visible_paths, visible_groups}
 
 -- nodes by LID

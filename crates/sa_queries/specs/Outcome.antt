@@ -1,4 +1,4 @@
--- What comes of a request for records (InfiniBand volume 1, 15.2.2): one of them, a table of them, or a status that refuses it.
+-- What comes of a request for records (IBA volume 1, 15.2.2): one of them, a table of them, or a status that refuses it.
 use Rattle.std.specs.Prelude.{List, [], ◌∷◌, Option, Some, None, Result, Ok, Err}
 use Rattle.mad_layout.specs.declared.status.MadStatus.{MadStatus}
 use Rattle.mad_layout.specs.declared.status.MadStatus.TheVariants.{NoRecords, TooManyRecords}

@@ -1,4 +1,4 @@
--- Why a request for records is refused (InfiniBand volume 1, 13.4.7 and chapter 15).
+-- Why a request for records is refused (IBA volume 1, 13.4.7 and chapter 15).
 use Rattle.std.specs.Prelude.{ℕ, Bool, not, ◌==◌, ◌&&◌, nat_le, if◌then◌else◌, List, [], ◌∷◌, Option, Some, None}
 use Rattle.mad_layout.specs.declared.status.MadStatus.{MadStatus}
 use Rattle.mad_layout.specs.declared.status.MadStatus.TheVariants.{RequestInvalid, InvalidGid, InsufficientComponents}

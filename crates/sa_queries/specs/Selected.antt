@@ -1,4 +1,4 @@
--- Which of what a port can be shown a request selects (InfiniBand volume 1, 15.2.1.1 and 15.2.5).
+-- Which of what a port can be shown a request selects (IBA volume 1, 15.2.1.1 and 15.2.5).
 use Rattle.std.specs.Prelude.{ℕ, Bool, ◌==◌, bit_and, if◌then◌else◌, List, Option, Some, None, filter, map, take}
 use Rattle.std.specs.List.{flat_map}
 use Rattle.sa_records.specs.declared.node_record.NodeRecord.{NodeRecord}

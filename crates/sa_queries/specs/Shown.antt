@@ -1,4 +1,4 @@
--- How what a port is shown is shown: as records of subnet administration (InfiniBand volume 1, 15.2.5).
+-- How what a port is shown is shown: as records of subnet administration (IBA volume 1, 15.2.5).
 use Rattle.std.specs.Prelude.{ℕ, ◌-◌, true, false, ◌++◌, length, replicate}
 use Rattle.fabric_parts.specs.NodeType.{node_type_code}
 use Rattle.pkey_rules.specs.PKey.{key_of}
@@ -12,7 +12,7 @@ use Rattle.sa_records.specs.declared.path_record.PathRecord.{PathRecord}
 use Rattle.sa_records.specs.declared.mc_member_record.McMemberRecord.{McMemberRecord}
 use Rattle.sa_records.specs.declared.service_record.ServiceRecord.{ServiceRecord}
 use Rattle.subnet_model.specs.declared.subnet_port.SubnetPort.{SubnetPort}
-use Rattle.sa_model.specs.Groups.{Creator}
+use Rattle.sa_groups.specs.Groups.{Creator}
 use Rattle.sa_queries.specs.Gid.{gid_of}
 use Rattle.sa_queries.specs.Visible.{Path, GroupOfBase, ServiceOfPort}
 

@@ -4,10 +4,10 @@ use Rattle.std.specs.List.{flat_map}
 use Rattle.pkey_rules.specs.PKey.{key_of}
 use Rattle.pkey_rules.specs.KeyTable.{accepts, shares}
 use Rattle.subnet_model.specs.declared.subnet_port.SubnetPort.{SubnetPort}
-use Rattle.sa_model.specs.Groups.{MulticastGroup, PartitionGroups}
-use Rattle.sa_requests.specs.KeyOrder.{by_base}
-use Rattle.sa_requests.specs.Services.{Service, PortServices}
-use Rattle.sa_requests.specs.ServiceSight.{services_seen}
+use Rattle.sa_groups.specs.Groups.{MulticastGroup, PartitionGroups}
+use Rattle.sa_services.specs.KeyOrder.{by_base}
+use Rattle.sa_services.specs.Services.{Service, PortServices}
+use Rattle.sa_services.specs.ServiceSight.{services_seen}
 
 -- what subnet administration remembers, beside the ports: the groups of the partitions, and the services
 pub record SaState : Type 0 where

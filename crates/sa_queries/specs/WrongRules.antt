@@ -6,8 +6,8 @@ use Rattle.pkey_rules.specs.KeyTable.{has_base}
 use Rattle.subnet_model.specs.declared.subnet_port.SubnetPort.{SubnetPort}
 use Rattle.subnet_model.specs.Delivery.{port_with_guid}
 use Rattle.subnet_model.specs.Near.{is_near}
-use Rattle.sa_model.specs.Groups.{PartitionGroups}
-use Rattle.sa_requests.specs.KeyOrder.{by_base}
+use Rattle.sa_groups.specs.Groups.{PartitionGroups}
+use Rattle.sa_services.specs.KeyOrder.{by_base}
 use Rattle.sa_queries.specs.Visible.{GroupOfBase, keys_to, paths_under, groups_of}
 use Rattle.sa_queries.specs.Laws.{ShowsAlike}
 

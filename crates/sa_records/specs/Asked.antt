@@ -1,4 +1,4 @@
--- What a record is asked by (InfiniBand volume 1, 15.2.1.1): a field that a request may set, with its bits in the
+-- What a record is asked by (IBA volume 1, 15.2.1.1): a field that a request may set, with its bits in the
 -- ComponentMask.
 use Rattle.std.specs.Prelude.{ℕ, ◌==◌, ◌^◌, Bool, nat_lt, if◌then◌else◌, List, [], ◌∷◌, Option, Some, None, map, option_map}
 use Rattle.std.specs.List.{find}

@@ -1,4 +1,4 @@
--- Which records a request asks for (InfiniBand volume 1, 15.2.1.1): its ComponentMask names the components by which it
+-- Which records a request asks for (IBA volume 1, 15.2.1.1): its ComponentMask names the components by which it
 -- asks, a bit for each.
 use Rattle.std.specs.Prelude.{ℕ, Bool, true, ◌==◌, nat_lt, ◌||◌, not, if◌then◌else◌, bit_and, ◌+◌, List, slice_range}
 use Rattle.std.specs.List.{list_all}

@@ -1,4 +1,4 @@
--- What the bits of the ComponentMask name in a request by an MCMemberRecord (InfiniBand volume 1, 15.2.5).
+-- What the bits of the ComponentMask name in a request by an MCMemberRecord (IBA volume 1, 15.2.5).
 use Rattle.std.specs.Prelude.{ℕ}
 
 abbrev pub mgid : ℕ

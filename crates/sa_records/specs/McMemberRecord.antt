@@ -1,4 +1,4 @@
--- MCMemberRecord (InfiniBand volume 1, 15.2.5): the places of its fields.
+-- MCMemberRecord (IBA volume 1, 15.2.5): the places of its fields.
 use Rattle.std.specs.Prelude.{ℕ, Bool, ◌==◌, List, [], ◌∷◌, replicate, codes}
 use Rattle.mad_layout.specs.Bits.{bit_of}
 use Rattle.mad_layout.specs.Layout.{Field, at, put_all}

@@ -1,4 +1,4 @@
--- NodeRecord (InfiniBand volume 1, 15.2.5): a LID, 16 bits that are reserved, NodeInfo (14.2.5.3) and NodeDescription.
+-- NodeRecord (IBA volume 1, 15.2.5): a LID, 16 bits that are reserved, NodeInfo (14.2.5.3) and NodeDescription.
 use Rattle.std.specs.Prelude.{ℕ, Bool, ◌==◌, List, [], ◌∷◌, replicate, codes}
 use Rattle.mad_layout.specs.Bits.{number}
 use Rattle.mad_layout.specs.Layout.{Field, at, put_all}

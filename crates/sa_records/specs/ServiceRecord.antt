@@ -1,4 +1,4 @@
--- ServiceRecord (InfiniBand volume 1, 15.2.5.14): the places of its fields.
+-- ServiceRecord (IBA volume 1, 15.2.5.14): the places of its fields.
 use Rattle.std.specs.Prelude.{ℕ, Bool, ◌==◌, ◌&&◌, List, [], ◌∷◌, replicate, codes}
 use Rattle.mad_layout.specs.Bits.{number}
 use Rattle.mad_layout.specs.Layout.{Field, at, put_all}

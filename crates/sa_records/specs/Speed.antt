@@ -1,4 +1,4 @@
--- How fast a path is (InfiniBand volume 1, 15.2.5): codes of rates don't rise with their speed.
+-- How fast a path is (IBA volume 1, 15.2.5): codes of rates don't rise with their speed.
 use Rattle.std.specs.Prelude.{ℕ, ◌==◌, Bool, false, List, [], ◌∷◌, Option, Some, None, option_map}
 use Rattle.std.specs.List.{find}
 use Rattle.attr_tables.specs.declared.rate.Rate.{Rate}

@@ -10,12 +10,12 @@ use Rattle.mad_layout.specs.declared.rmpp_header.RmppHeader.{RmppHeader}
 use Rattle.rmpp_core.proofs.ReadBackLemmas.{rmpp_held}
 use Rattle.rmpp_core.specs.Receiving.{rmpp_in}
 use Rattle.subnet_model.specs.declared.subnet_port.SubnetPort.{SubnetPort}
-use Rattle.subnet_model.specs.Configuration.{Configured}
+use Rattle.subnet_model.specs.Configuration.{ConfigurationState}
 use Rattle.subnet_model.specs.Report.{answered_in_turn}
-use Rattle.sa_answers.proofs.SightLemmas.{transfers_are_unseen}
-use Rattle.sa_answers.specs.Answer.{Administration, answer}
-use Rattle.sa_answers.specs.Laws.{SeesAlike}
-use Rattle.sa_answers.specs.Request.{header_in, request_in}
+use Rattle.sa_replies.proofs.SightLemmas.{transfers_are_unseen}
+use Rattle.sa_replies.specs.Answer.{Administration, answer}
+use Rattle.sa_replies.specs.Laws.{SeesAlike}
+use Rattle.sa_replies.specs.Request.{header_in, request_in}
 use Rattle.sa_runs.proofs.AckReadLemmas.{ack_held}
 use Rattle.sa_runs.specs.Asking.{ack_header, ack_mad, ack_rmpp, ack_sa, acknowledgements, is_first_segment, segments_told}
 
@@ -44,7 +44,7 @@ through ports p a s t x y = record {
 nothing_changed : (ports : List SubnetPort) (p : ℕ) (s : Administration) → SeesAlike ports p s s
 nothing_changed ports p s = record { remembered = record { groups = refl; services = refl }; own_table = refl }
 
-acks_unseen : (configuration : Configured) (p : ℕ) (own : SubnetPort) (mad : List ℕ) (count first left : ℕ) (s : Administration) → (own.guid == p) ≡ false
+acks_unseen : (configuration : ConfigurationState) (p : ℕ) (own : SubnetPort) (mad : List ℕ) (count first left : ℕ) (s : Administration) → (own.guid == p) ≡ false
     → first + left < 2 ^ 32
     → SeesAlike configuration.ports p
     (answered_in_turn (λ sent state. answer configuration.ports own sent state) (map (ack_mad (header_in mad) count) (range_with_len first left)) s).1 s
@@ -59,7 +59,7 @@ acks_unseen configuration p own mad count first (suc left) s other low =
 few : (length : ℕ) → length < 2 ^ 32 → 1 + segments_told length < 2 ^ 32
 few length low = omega (arith, low)
 
-pub acknowledged_unseen : (configuration : Configured) (p : ℕ) (own : SubnetPort) (mads : List (List ℕ)) (s : Administration) → (own.guid == p) ≡ false
+pub acknowledged_unseen : (configuration : ConfigurationState) (p : ℕ) (own : SubnetPort) (mads : List (List ℕ)) (s : Administration) → (own.guid == p) ≡ false
     → SeesAlike configuration.ports p (answered_in_turn (λ sent state. answer configuration.ports own sent state) (acknowledgements mads) s).1 s
 acknowledged_unseen configuration p own [] s other = nothing_changed configuration.ports p s
 acknowledged_unseen configuration p own (mad ∷ mads) s other = by (is_first_segment (rmpp_in mad))

@@ -2,44 +2,44 @@
 use Rattle.std.proofs.Common.{ℕ, true, List, ◌≡◌, ap}
 use Rattle.std.proofs.lemmas.Bool.{and_from, and_parts}
 use Rattle.subnet_model.proofs.IsolationLemmas.{keepers_isolate}
-use Rattle.subnet_model.specs.Configuration.{Configured}
+use Rattle.subnet_model.specs.Configuration.{ConfigurationState}
 use Rattle.subnet_model.specs.declared.subnet_port.SubnetPort.{SubnetPort}
 use Rattle.subnet_model.specs.Laws.{Isolated}
 use Rattle.subnet_model.specs.State.{Alike}
-use Rattle.sa_model.proofs.DeliveryLemmas.{receives_alike}
-use Rattle.sa_model.proofs.SoundLemmas.{start_sound as groups_start_sound}
-use Rattle.sa_model.specs.Groups.{start_of}
-use Rattle.sa_model.specs.Sound.{is_sound}
-use Rattle.sa_requests.proofs.ServiceSoundLemmas.{start_sound}
-use Rattle.sa_requests.specs.Services.{no_services}
-use Rattle.sa_requests.specs.ServiceSound.{are_sound_services}
-use Rattle.sa_answers.proofs.AlikeLemmas.{answered_alike}
-use Rattle.sa_answers.proofs.OtherLemmas.{answers_seen}
-use Rattle.sa_answers.proofs.SightLemmas.{answers_keep_sound, far_requests}
-use Rattle.sa_answers.specs.Answer.{Administration, answer}
-use Rattle.sa_answers.specs.Laws.{IsSound, SeesAlike}
+use Rattle.sa_groups.proofs.DeliveryLemmas.{receives_alike}
+use Rattle.sa_groups.proofs.SoundLemmas.{start_sound as groups_start_sound}
+use Rattle.sa_groups.specs.Groups.{start_of}
+use Rattle.sa_groups.specs.Sound.{is_sound}
+use Rattle.sa_services.proofs.ServiceSoundLemmas.{start_sound}
+use Rattle.sa_services.specs.Services.{no_services}
+use Rattle.sa_services.specs.ServiceSound.{are_sound_services}
+use Rattle.sa_replies.proofs.AlikeLemmas.{answered_alike}
+use Rattle.sa_replies.proofs.OtherLemmas.{answers_seen}
+use Rattle.sa_replies.proofs.SightLemmas.{answers_keep_sound, far_requests}
+use Rattle.sa_replies.specs.Answer.{Administration, answer}
+use Rattle.sa_replies.specs.Laws.{IsSound, SeesAlike}
 use Rattle.sa_runs.proofs.AckLemmas.{acknowledged_unseen}
 use Rattle.sa_runs.specs.Administration.{subnet_administration}
 use Rattle.sa_runs.specs.Laws.{AdministrationKeepsApart, RunsAreIsolated, RunsStaySound}
 use Rattle.sa_runs.specs.Sight.{Seen, is_sound_state, sees}
 
 -- ---- what a port sees, as one value and in its parts
-pub sound_parts : (configuration : Configured) (s : Administration) → is_sound_state configuration s ≡ true → IsSound configuration.ports s
+pub sound_parts : (configuration : ConfigurationState) (s : Administration) → is_sound_state configuration s ≡ true → IsSound configuration.ports s
 sound_parts configuration s sound =
     let parts = and_parts (is_sound configuration.ports s.remembered.partitions) (are_sound_services configuration.ports s.remembered.services) sound in
     record { groups = parts.0; services = parts.1 }
 
-sound_whole : (configuration : Configured) (s : Administration) → IsSound configuration.ports s → is_sound_state configuration s ≡ true
+sound_whole : (configuration : ConfigurationState) (s : Administration) → IsSound configuration.ports s → is_sound_state configuration s ≡ true
 sound_whole configuration s sound =
     and_from (is_sound configuration.ports s.remembered.partitions) (are_sound_services configuration.ports s.remembered.services) sound.groups sound.services
 
-seen_parts : (configuration : Configured) (p : ℕ) (s t : Administration) → sees configuration p s ≡ sees configuration p t → SeesAlike configuration.ports p s t
+seen_parts : (configuration : ConfigurationState) (p : ℕ) (s t : Administration) → sees configuration p s ≡ sees configuration p t → SeesAlike configuration.ports p s t
 seen_parts configuration p s t same = record {
   remembered = record { groups = ap (λ (seen : Seen). seen.groups) same; services = ap (λ (seen : Seen). seen.services) same };
   own_table = ap (λ (seen : Seen). seen.own_table) same;
 }
 
-seen_whole : (configuration : Configured) (p : ℕ) (s t : Administration) → SeesAlike configuration.ports p s t → sees configuration p s ≡ sees configuration p t
+seen_whole : (configuration : ConfigurationState) (p : ℕ) (s t : Administration) → SeesAlike configuration.ports p s t → sees configuration p s ≡ sees configuration p t
 seen_whole configuration p s t alike = λ place. record {
   groups = alike.remembered.groups place;
   services = alike.remembered.services place;
@@ -80,7 +80,7 @@ administration_keeps_apart configuration = record {
     right : (p : ℕ) (s t : Administration) → Alike (is_sound_state configuration) (sees configuration) p s t → IsSound configuration.ports t
     right p s t alike = sound_parts configuration t alike.right_sound
 
-isolated : (configuration : Configured) → Isolated configuration subnet_administration (is_sound_state configuration) (sees configuration)
+isolated : (configuration : ConfigurationState) → Isolated configuration subnet_administration (is_sound_state configuration) (sees configuration)
 isolated configuration =
     keepers_isolate configuration subnet_administration (is_sound_state configuration) (sees configuration) (administration_keeps_apart configuration)
 

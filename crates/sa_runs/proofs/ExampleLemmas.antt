@@ -7,7 +7,7 @@ use Rattle.sa_records.specs.McMemberRecord.{mc_member_record_bytes, mc_member_re
 use Rattle.sa_records.specs.NodeRecord.{node_record_bytes, node_record_selected}
 use Rattle.sa_records.specs.ServiceRecord.{data16_selected, data32_selected, data64_selected, data8_back_selected, data8_front_selected, names_selected, service_record_bytes, service_record_selected}
 use Rattle.sa_records.specs.Speed.{speed_of}
-use Rattle.sa_answers.specs.Request.{group_in, node_in, request_in, service_in}
+use Rattle.sa_replies.specs.Request.{group_in, node_in, request_in, service_in}
 use Rattle.sa_runs.specs.ExampleLaws.{WhoHearsAGroup, WhatAskingBrings, WholeTable, ShorterTable, Closed, FirstSegment, NoMad, NoServices, OneService, HiddenService, GroupOfFile, Refused}
 
 pub who_hears_a_group : WhoHearsAGroup

@@ -1,12 +1,12 @@
 -- Whatever ports sent and asked, open tables come from near.
 use Rattle.std.proofs.Common.{List, [], ◌∷◌}
 use Rattle.subnet_model.specs.declared.subnet_port.SubnetPort.{SubnetPort}
-use Rattle.sa_answers.proofs.SightLemmas.{answers_keep_sound}
-use Rattle.sa_answers.proofs.SourceLemmas.{tables_keep_their_sources}
-use Rattle.sa_answers.specs.Answer.{Administration}
-use Rattle.sa_answers.specs.Laws.{IsSound}
-use Rattle.sa_answers.specs.Sources.{TablesComeFromNear}
-use Rattle.sa_answers.specs.Transfers.{no_transfers}
+use Rattle.sa_replies.proofs.SightLemmas.{answers_keep_sound}
+use Rattle.sa_replies.proofs.SourceLemmas.{tables_keep_their_sources}
+use Rattle.sa_replies.specs.Answer.{Administration}
+use Rattle.sa_replies.specs.Laws.{IsSound}
+use Rattle.sa_replies.specs.Sources.{TablesComeFromNear}
+use Rattle.sa_replies.specs.Transfers.{no_transfers}
 use Rattle.sa_runs.proofs.ApartLemmas.{administration_keeps_apart, sound_parts}
 use Rattle.subnet_model.proofs.KeptLemmas.{run_keeps}
 use Rattle.sa_runs.specs.Administration.{at_start, subnet_administration}

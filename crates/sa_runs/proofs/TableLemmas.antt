@@ -17,17 +17,17 @@ use Rattle.rmpp_core.specs.Receiving.{data_in, nothing, rmpp_in, whole_bytes}
 use Rattle.rmpp_core.specs.Segments.{Transfer, opened, payload_size, segment_count, segment_mad, segment_rmpp, segment_sa}
 use Rattle.subnet_model.specs.declared.subnet_port.SubnetPort.{SubnetPort}
 use Rattle.subnet_model.proofs.KeptLemmas.{run_keeps}
-use Rattle.subnet_model.specs.Configuration.{Configured}
+use Rattle.subnet_model.specs.Configuration.{ConfigurationState}
 use Rattle.subnet_model.specs.Delivery.{port_with_guid}
 use Rattle.subnet_model.specs.Report.{answered_in_turn, answered_whole}
 use Rattle.subnet_model.specs.declared.command.Command.{Command}
-use Rattle.sa_answers.proofs.AlikeLemmas.{own_place}
-use Rattle.sa_answers.proofs.AnswerLemmas.{answer_leaves}
-use Rattle.sa_answers.specs.Answer.{Administration, Answered, after_rmpp, answer, answer_to, told}
-use Rattle.sa_answers.specs.Reply.{reply_header, table_header}
-use Rattle.sa_answers.specs.Request.{Request, header_in, request_in}
-use Rattle.sa_answers.specs.Success.{Success}
-use Rattle.sa_answers.specs.Transfers.{PortTransfer, no_transfers, on_ack, place_of, with_table}
+use Rattle.sa_replies.proofs.AlikeLemmas.{own_place}
+use Rattle.sa_replies.proofs.AnswerLemmas.{answer_leaves}
+use Rattle.sa_replies.specs.Answer.{Administration, Answered, after_rmpp, answer, answer_to, told}
+use Rattle.sa_replies.specs.Reply.{reply_header, table_header}
+use Rattle.sa_replies.specs.Request.{Request, header_in, request_in}
+use Rattle.sa_replies.specs.Success.{Success}
+use Rattle.sa_replies.specs.Transfers.{PortTransfer, no_transfers, on_ack, place_of, with_table}
 use Rattle.sa_runs.proofs.AckReadLemmas.{ack_held, header_held}
 use Rattle.sa_runs.specs.Administration.{at_start, subnet_administration}
 use Rattle.sa_runs.specs.Asking.{ack_header, ack_mad, ack_rmpp, ack_sa, acknowledgements, acks_of, is_first_segment, segments_told}
@@ -230,7 +230,7 @@ place_found guid (port ∷ ports) own (x ∷ xs) same found = elim (cases_Bool (
       (next.0, rw other next.1)
 ]
 
-places_stay : (configuration : Configured) (commands : List Command) → HasPlaces configuration.ports (remembered_after configuration commands)
+places_stay : (configuration : ConfigurationState) (commands : List Command) → HasPlaces configuration.ports (remembered_after configuration commands)
 places_stay configuration commands =
     run_keeps (HasPlaces configuration.ports) subnet_administration configuration
     (λ own mad state found so.

@@ -1,4 +1,4 @@
--- How a port that asks acknowledges a table that answers it in segments (InfiniBand volume 1, chapter 13).
+-- How a port that asks acknowledges a table that answers it in segments (IBA volume 1, chapter 13).
 use Rattle.std.specs.Prelude.{ℕ, ◌+◌, ◌/◌, ◌==◌, Bool, ◌&&◌, if◌then◌else◌, List, [], ◌∷◌, map, max, replicate}
 use Rattle.std.specs.List.{range_with_len}
 use Rattle.mad_layout.specs.Method.{method_code}
@@ -10,7 +10,7 @@ use Rattle.mad_layout.specs.declared.rmpp_kind.RmppKind.TheVariants.{Ack}
 use Rattle.mad_layout.specs.declared.sa_mad.SaMad.{SaMad}
 use Rattle.rmpp_core.specs.Receiving.{is_data, is_first, rmpp_in}
 use Rattle.rmpp_core.specs.Reply.{reply_bytes}
-use Rattle.sa_answers.specs.Request.{header_in}
+use Rattle.sa_replies.specs.Request.{header_in}
 
 -- the segments of the table whose first one tells this length: each has 200 bytes, and counts for 20 more
 abbrev pub segments_told : ℕ → ℕ

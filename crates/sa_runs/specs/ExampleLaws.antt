@@ -1,7 +1,7 @@
 -- What ports of our examples receive. The first 56 bytes of a MAD are its header, the RMPP header and the ComponentMask.
 use Rattle.std.specs.Prelude.{◌≡◌, ◌+◌, ◌*◌, ◌^◌, [], ◌∷◌, take}
-use Rattle.sa_model.specs.Examples.{with_broadcast_group}
-use Rattle.sa_answers.specs.Examples.{making, joining, leaving, nodes_wanted, ack}
+use Rattle.sa_groups.specs.Examples.{with_broadcast_group}
+use Rattle.sa_replies.specs.Examples.{making, joining, leaving, nodes_wanted, ack}
 use Rattle.sa_runs.specs.Examples.{ask, send_mad, send_to_group, setting, services_wanted, groups_wanted, without_default, heard, heard_in}
 
 -- a full member makes a group and a limited member joins it: a packet of another limited member reaches the full one

@@ -6,14 +6,14 @@ use Rattle.subnet_model.specs.declared.command.Command.{Command}
 use Rattle.subnet_model.specs.declared.command.Command.TheVariants.{Ask, Send}
 use Rattle.subnet_model.specs.declared.event.Outcome.{Outcome}
 use Rattle.subnet_model.specs.declared.event.Outcome.TheVariants.{Received, Refused}
-use Rattle.subnet_model.specs.Configuration.{Configured}
+use Rattle.subnet_model.specs.Configuration.{ConfigurationState}
 use Rattle.subnet_model.specs.Report.{events_from, state_from, step_by}
-use Rattle.sa_model.specs.Examples.{adapter, configuration}
+use Rattle.sa_groups.specs.Examples.{adapter, configuration}
 use Rattle.sa_records.specs.ServiceRecord.{service_record_bytes}
 use Rattle.sa_records.specs.ServiceMask as service_mask
 use Rattle.sa_queries.specs.Gid.{gid_of}
-use Rattle.sa_answers.specs.Examples.{asking, header_of}
-use Rattle.sa_answers.specs.Reply.{no_rmpp}
+use Rattle.sa_replies.specs.Examples.{asking, header_of}
+use Rattle.sa_replies.specs.Reply.{no_rmpp}
 use Rattle.sa_runs.specs.Administration.{at_start, subnet_administration}
 
 -- ---- the commands: a port asks by a MAD, sends a MAD to subnet administration itself, or a byte to an MLID
@@ -51,7 +51,7 @@ abbrev pub groups_wanted : ℕ → List ℕ
 groups_wanted transaction = asking (header_of 18 transaction 56) no_rmpp 0 []
 
 -- two ports alone, the second of which holds no key of the default partition
-abbrev pub without_default : Configured
+abbrev pub without_default : ConfigurationState
 without_default = record configuration { ports = adapter 1 0x101 (0xffff ∷ []) ∷ adapter 4 0x111 (0x8001 ∷ []) ∷ [] }
 
 -- ---- what the last command brings, after those before it: for each packet its receiver, SLID, DLID and key, and its
@@ -60,7 +60,7 @@ abbrev pub heard_as : ℕ → Outcome → List (List ℕ)
 heard_as guid (Received packet) = (guid ∷ packet.slid ∷ packet.dlid ∷ packet.p_key ∷ number (take 56 packet.payload) ∷ []) ∷ []
 heard_as guid (Refused refusal) = (guid ∷ []) ∷ []
 
-abbrev pub heard_in : Configured → List Command → Command → List (List ℕ)
+abbrev pub heard_in : ConfigurationState → List Command → Command → List (List ℕ)
 heard_in subnet before command =
     flat_map (λ event. heard_as event.port_guid event.what)
     (events_from (step_by subnet_administration subnet) (state_from (step_by subnet_administration subnet) (at_start subnet) before) (command ∷ []))

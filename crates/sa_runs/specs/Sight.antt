@@ -1,14 +1,14 @@
 -- What a port sees of what subnet administration remembers.
 use Rattle.std.specs.Prelude.{ℕ, Bool, ◌&&◌, List, Option}
-use Rattle.subnet_model.specs.Configuration.{Configured}
-use Rattle.sa_model.specs.Groups.{PartitionGroups}
-use Rattle.sa_model.specs.Sight.{seen}
-use Rattle.sa_model.specs.Sound.{is_sound}
-use Rattle.sa_requests.specs.Services.{PortServices}
-use Rattle.sa_requests.specs.ServiceSight.{services_seen}
-use Rattle.sa_requests.specs.ServiceSound.{are_sound_services}
-use Rattle.sa_answers.specs.Answer.{Administration}
-use Rattle.sa_answers.specs.Transfers.{PortTransfer, place_of}
+use Rattle.subnet_model.specs.Configuration.{ConfigurationState}
+use Rattle.sa_groups.specs.Groups.{PartitionGroups}
+use Rattle.sa_groups.specs.Sight.{seen}
+use Rattle.sa_groups.specs.Sound.{is_sound}
+use Rattle.sa_services.specs.Services.{PortServices}
+use Rattle.sa_services.specs.ServiceSight.{services_seen}
+use Rattle.sa_services.specs.ServiceSound.{are_sound_services}
+use Rattle.sa_replies.specs.Answer.{Administration}
+use Rattle.sa_replies.specs.Transfers.{PortTransfer, place_of}
 
 -- the groups of its partitions with their members that are near it, the services that it is shown, and its own table
 pub record Seen : Type 0 where
@@ -16,7 +16,7 @@ pub record Seen : Type 0 where
   pub services : List PortServices
   pub own_table : Option PortTransfer
 
-abbrev pub sees : Configured → ℕ → Administration → Seen
+abbrev pub sees : ConfigurationState → ℕ → Administration → Seen
 sees configuration p state = record {
   groups = seen configuration.ports p state.remembered.partitions;
   services = services_seen configuration.ports p state.remembered.services;
@@ -24,6 +24,6 @@ sees configuration p state = record {
 }
 
 -- the groups are sound, and so are the services
-abbrev pub is_sound_state : Configured → Administration → Bool
+abbrev pub is_sound_state : ConfigurationState → Administration → Bool
 is_sound_state configuration state =
     is_sound configuration.ports state.remembered.partitions && are_sound_services configuration.ports state.remembered.services

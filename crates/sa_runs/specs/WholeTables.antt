@@ -1,18 +1,18 @@
--- A port that asks for a table is brought all of it within its command (InfiniBand volume 1, chapter 13).
+-- A port that asks for a table is brought all of it within its command (IBA volume 1, chapter 13).
 use Rattle.std.specs.Prelude.{ℕ, ◌≡◌, List, Some, None, Ok}
 use Rattle.rmpp_core.specs.Laws.{IsTransfer, after_all, segment_mads}
 use Rattle.rmpp_core.specs.Receiving.{nothing, whole_bytes}
 use Rattle.rmpp_core.specs.Segments.{Transfer, opened}
-use Rattle.subnet_model.specs.Configuration.{Configured}
+use Rattle.subnet_model.specs.Configuration.{ConfigurationState}
 use Rattle.subnet_model.specs.Delivery.{port_with_guid}
 use Rattle.subnet_model.specs.Report.{answered_whole}
 use Rattle.subnet_model.specs.declared.command.Command.{Command}
 use Rattle.subnet_model.specs.declared.subnet_port.SubnetPort.{SubnetPort}
-use Rattle.sa_answers.specs.Answer.{Administration, Answered, answer, told}
-use Rattle.sa_answers.specs.Reply.{table_header}
-use Rattle.sa_answers.specs.Request.{request_in}
-use Rattle.sa_answers.specs.Success.{Success}
-use Rattle.sa_answers.specs.Transfers.{with_table}
+use Rattle.sa_replies.specs.Answer.{Administration, Answered, answer, told}
+use Rattle.sa_replies.specs.Reply.{table_header}
+use Rattle.sa_replies.specs.Request.{request_in}
+use Rattle.sa_replies.specs.Success.{Success}
+use Rattle.sa_replies.specs.Transfers.{with_table}
 use Rattle.sa_runs.specs.Asking.{acknowledgements}
 use Rattle.sa_runs.specs.Laws.{remembered_after}
 
@@ -21,7 +21,7 @@ abbrev pub table_asked : List ℕ → ℕ → List ℕ → Transfer
 table_asked mad spacing records = opened (table_header (request_in mad) spacing) records
 
 -- a MAD that is answered by a table
-abbrev pub AsksForTable : Configured → SubnetPort → List ℕ → Administration → ℕ → List ℕ → Type 0
+abbrev pub AsksForTable : ConfigurationState → SubnetPort → List ℕ → Administration → ℕ → List ℕ → Type 0
 AsksForTable configuration own mad state spacing records =
     answer configuration.ports own mad state ≡ told own (request_in mad) state (Ok (Success.whole_table spacing records))
 
@@ -35,7 +35,7 @@ pub record IsBroughtWhole (own : SubnetPort) (state : Administration) (transfer 
 -- so it is after any commands, for each port, and each table whose length can be told
 abbrev pub TablesAreBroughtWhole : Type 0
 TablesAreBroughtWhole =
-    (configuration : Configured) (commands : List Command) (own : SubnetPort) (mad : List ℕ) (spacing : ℕ) (records : List ℕ)
+    (configuration : ConfigurationState) (commands : List Command) (own : SubnetPort) (mad : List ℕ) (spacing : ℕ) (records : List ℕ)
     → port_with_guid configuration.ports own.guid ≡ Some own
     → AsksForTable configuration own mad (remembered_after configuration commands) spacing records
     → IsTransfer (table_asked mad spacing records)

@@ -20,8 +20,8 @@ pub fn runs_stay_sound()
     ensures { RunsStaySound }
 {}
 
-/// Whatever ports sent and asked, the table that is open to a port has records that come from ports near it or from the
-/// partition file.
+/// Whatever ports sent and asked, the table that is open to a port is spelt by some records with sources near it. Which
+/// source a record has is not said yet.
 pub fn open_tables_come_from_near()
     ensures { OpenTablesComeFromNear }
 {}

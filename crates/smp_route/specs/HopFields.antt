@@ -1,4 +1,4 @@
--- Where a directed-route SMP (InfiniBand volume 1, 14.2.1.2) has what its hops read and write, as bytes; and
+-- Where a directed-route SMP (IBA volume 1, 14.2.1.2) has what its hops read and write, as bytes; and
 -- its direction bit.
 use Rattle.std.specs.Prelude.{ℕ, ◌+◌, ◌==◌, Bool, List, slice_index, slice_set}
 use Rattle.mad_layout.specs.Bits.{field, put_field}

@@ -1,4 +1,4 @@
--- The hops of directed-route SMPs (InfiniBand volume 1, chapter 14), at one node: where the SMP goes from
+-- The hops of directed-route SMPs (IBA volume 1, chapter 14), at one node: where the SMP goes from
 -- there, and what it is then. A discarded SMP is left as it came.
 use Rattle.std.specs.Prelude.{ℕ, ◌+◌, ◌-◌, ◌==◌, ◌||◌, ◌&&◌, nat_lt, nat_le, if◌then◌else◌, Bool, true, not, List}
 use Rattle.fabric_parts.specs.declared.node_type.NodeType.{NodeType}

@@ -1,4 +1,4 @@
--- The bytes that hops read and write are the fields of a directed-route SMP (InfiniBand volume 1,
+-- The bytes that hops read and write are the fields of a directed-route SMP (IBA volume 1,
 -- 14.2.1.2): the hop pointer is the field of 8 bits at bit 48, the hop count that at bit 56, and port k of
 -- the initial path and of the return path those at bits 1024 + 8 k and 1536 + 8 k.
 use Rattle.std.specs.Prelude.{ℕ, ◌≡◌, ◌+◌, ◌*◌, ◌<◌, List, length}

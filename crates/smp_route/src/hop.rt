@@ -1,3 +1,5 @@
+//! What a node does with a directed-route SMP.
+
 /// Where a directed-route SMP goes from a node.
 #[derive(Clone, Copy, Debug, PartialEq, Eq)]
 pub enum Hop {

@@ -1,3 +1,5 @@
+//! The numbers and fields of directed routes, written out.
+
 ghost use Rattle.std.specs.Prelude.{◌≡◌};
 ghost use Rattle.smp_route.specs.declared.fields.TheConstants.{MAX_HOPS};
 ghost use Rattle.smp_route.specs.Laws.{PlacesAreFields};

@@ -2,8 +2,8 @@
 //!
 //! [`outward`] takes an SMP on its way from the subnet manager, [`back`] its answer on the way back. Each
 //! knows only the kind of node and the port by which the SMP came in, and moves the hop pointer by one.
-//! Their contracts are the equations of `specs/Hops.antt`, to the byte: the hop rules of the InfiniBand
-//! Architecture Specification, volume 1, chapter 14, over the fields of 14.2.1.2.
+//! Their contracts are the equations of `specs/Hops.antt`, to the byte: the hop rules of the IBA volume 1
+//!, chapter 14, over the fields of 14.2.1.2.
 #![tactic(auto)]
 
 mod fields;

@@ -1,5 +1,3 @@
-pub mod ListLemmas
-pub mod DistinctLemmas
 pub mod CableLemmas
 pub mod RequestLemmas
 pub mod WalkLemmas

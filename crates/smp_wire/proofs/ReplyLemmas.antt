@@ -32,7 +32,7 @@ use Rattle.smp_wire.specs.FabricState.{FabricState, adapter_ports_after, after_a
 use Rattle.smp_wire.specs.Good.{IsGoodNode}
 use Rattle.smp_wire.specs.Walk.{returned}
 use Rattle.smp_wire.proofs.ArrivalLemmas.{put_below}
-use Rattle.smp_wire.proofs.ListLemmas.{set_back}
+use Rattle.result_words.proofs.ElementLemmas.{set_back}
 use Rattle.result_words.proofs.ListLemmas.{all_have}
 use Rattle.agent_rules.specs.declared.power_up.TheConstants.{LINEAR_TABLE, MULTICAST_TABLE}
 use Rattle.port_model.specs.Good.{IsGoodPort}

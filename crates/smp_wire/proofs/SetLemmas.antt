@@ -28,7 +28,7 @@ use Rattle.smp_wire.specs.Walk.{arrived, exchange_after, last_of, returned, walk
 use Rattle.smp_wire.proofs.ArrivalLemmas.{IsCarrier}
 use Rattle.smp_wire.proofs.GivenLemmas.{AreAttributes, attributes_given, nothing_given}
 use Rattle.smp_wire.proofs.KeptLemmas.{after_exchange, good, walk_same}
-use Rattle.smp_wire.proofs.ListLemmas.{get_written, set_back}
+use Rattle.result_words.proofs.ElementLemmas.{get_written, set_back}
 use Rattle.smp_wire.proofs.TellLemmas.{IsAsked, set_asked, told_is, walk_is}
 use Rattle.smp_wire.proofs.WalkedLemmas.{carried, no_walk_after, no_walk_reply, walk_after, walk_reply}
 

@@ -1,4 +1,4 @@
--- The way of a directed-route SMP through a fabric (InfiniBand volume 1, chapter 14): a walk over cables by
+-- The way of a directed-route SMP through a fabric (IBA volume 1, chapter 14): a walk over cables by
 -- a list of ports, and the answer that comes back.
 use Rattle.std.specs.Prelude.{ℕ, ◌+◌, ◌==◌, ◌&&◌, ◌||◌, nat_le, Bool, true, false, if◌then◌else◌, List, [], ◌∷◌, take, drop, Option, Some, None, option_map}
 use Rattle.std.specs.Option.{option_and_then}

@@ -6,8 +6,8 @@
 //! and nothing else is promised. [`PlainWire`] keeps a fabric as lists of [`Node`]s and cables and follows
 //! the definition; [`CountingWire`] and [`SilencedWire`] stand round another wire. [`get_attribute`] and
 //! [`set_attribute`] read and set one attribute over any wire, and [`read_reply`] tells what one reply means.
-//! The walk is that of directed-route SMPs of the InfiniBand Architecture
-//! Specification, volume 1, 14.2.1.2 and chapter 14.
+//! The walk is that of directed-route SMPs of the IBA volume 1
+//!, 14.2.1.2 and chapter 14.
 #![tactic(auto)]
 
 mod asking;

@@ -1,3 +1,5 @@
+//! The nodes of a fabric: switches, and channel adapters with their ports.
+
 ghost use Rattle.std.specs.Prelude.{◌≡◌, is_some, unwrap_or, slice_get};
 ghost use Rattle.smp_wire.specs.FabricState.{adapter_port, adapter_ports_after, node_after, node_reply, port_count};
 ghost use Rattle.agent_rules.specs.Request.{KeepsRest};

@@ -1,3 +1,5 @@
+//! A wire that walks: what all wires that stand for a fabric do, in the fewest words.
+
 ghost use Rattle.std.specs.Prelude.{◌≡◌, Some};
 
 use crate::node::Node;

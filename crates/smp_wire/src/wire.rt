@@ -1,3 +1,5 @@
+//! What a wire is.
+
 ghost use Rattle.std.specs.Prelude.{◌≡◌, Option, Some};
 ghost use Rattle.std.specs.Option.{ForSome};
 ghost use Rattle.smp_wire.specs.FabricState.{FabricState};

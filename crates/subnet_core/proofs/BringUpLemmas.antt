@@ -7,10 +7,10 @@ use Rattle.std.proofs.lemmas.Bool.Decides.{nat_tests}
 use Rattle.fabric_parts.specs.declared.cable.PortRef.{PortRef}
 use Rattle.result_words.specs.Gives.{Fails}
 use Rattle.subnet_core.specs.BringUp.{Becomes, ComesTo, FailsWith, IsUp, WithFabric, up_from}
-use Rattle.subnet_core.specs.Roster.{IsRostered, Rostered, fault_in}
+use Rattle.subnet_core.specs.Roster.{IsRostered, RosterState, fault_in}
 use Rattle.subnet_core.specs.declared.fault.RunFault.{RunFault}
 use Rattle.subnet_core.specs.declared.fault.RunFault.TheVariants.{NoMemory, Topology, Partitions, Sweep, NoLegalPath, Push, Script}
-use Rattle.subnet_fabric.specs.BringUp.{AreAssigned, HasNoPath, IsFound, Up}
+use Rattle.subnet_fabric.specs.BringUp.{AreAssigned, HasNoPath, IsFound, BroughtUpState}
 use Rattle.subnet_fabric.specs.Laws.{all_keys}
 use Rattle.subnet_fabric.proofs.ListedLemmas.{numbers_of}
 use Rattle.subnet_model.specs.declared.subnet_port.SubnetPort.{SubnetPort}
@@ -23,27 +23,27 @@ use Rattle.updn_routes.specs.Routes.{home_of}
 use Rattle.updn_routes.specs.Subnet.{home_in, homes_of}
 
 -- ---- answers
-pub mapped : (given : Result Rostered RunFault) (P Q : Option RunFault → Type 0) → ((stop : Option RunFault) → P stop → Q stop) → WithFabric given P → WithFabric given Q
+pub mapped : (given : Result RosterState RunFault) (P Q : Option RunFault → Type 0) → ((stop : Option RunFault) → P stop → Q stop) → WithFabric given P → WithFabric given Q
 mapped given P Q f so = record { stop = so.stop; becomes = so.becomes; is = f so.stop so.is }
 
-pub fails_mapped : {Y Z : Type 0} (given : Result Rostered RunFault) (told : Option RunFault) (f : Option RunFault → Result Y RunFault) (g : Option RunFault → Result Z RunFault)
+pub fails_mapped : {Y Z : Type 0} (given : Result RosterState RunFault) (told : Option RunFault) (f : Option RunFault → Result Y RunFault) (g : Option RunFault → Result Z RunFault)
     → ((fault : RunFault) (stop : Option RunFault) → f stop ≡ Err fault → g stop ≡ Err fault) → FailsWith given told f → FailsWith given told g
 fails_mapped given None f g more so = tt
 fails_mapped given (Some fault) f g more so = mapped given (λ stop. f stop ≡ Err fault) (λ stop. g stop ≡ Err fault) (more fault) so
 
 -- a text is at fault
-pub texts_fail : (given : Result Rostered RunFault) (told : Option RunFault) → Fails told given → FailsWith given told (up_from given)
+pub texts_fail : (given : Result RosterState RunFault) (told : Option RunFault) → Fails told given → FailsWith given told (up_from given)
 unfolding up_from
 texts_fail given None fails = tt
 texts_fail given (Some fault) fails = record { stop = None; becomes = rw fails tt; is = rw fails refl }
 
-stopped : (given : Result Rostered RunFault) (roster : Rostered) (fault : RunFault) → given ≡ Ok roster → Becomes (Ok roster) (Some fault)
+stopped : (given : Result RosterState RunFault) (roster : RosterState) (fault : RunFault) → given ≡ Ok roster → Becomes (Ok roster) (Some fault)
     → WithFabric given (λ stop. up_from given stop ≡ Err fault)
 unfolding up_from
 stopped given roster fault is becomes = record { stop = Some fault; becomes = rw is becomes; is = rw is refl }
 
 -- the fabric is not brought up
-pub fabric_fails : (given : Result Rostered RunFault) (roster : Rostered) (fault : RunFault) → given ≡ Ok roster → ComesTo roster (Err fault)
+pub fabric_fails : (given : Result RosterState RunFault) (roster : RosterState) (fault : RunFault) → given ≡ Ok roster → ComesTo roster (Err fault)
     → FailsWith given (fault_in fault) (up_from given)
 fabric_fails given roster NoMemory is comes = tt
 fabric_fails given roster (Topology line cause) is comes = absurd comes
@@ -54,7 +54,7 @@ fabric_fails given roster (Push fault) is comes = absurd comes
 fabric_fails given roster (Script line cause) is comes = absurd comes
 
 -- it is brought up
-pub comes_up : (given : Result Rostered RunFault) (roster : Rostered) (up : Up) → given ≡ Ok roster → IsUp roster up
+pub comes_up : (given : Result RosterState RunFault) (roster : RosterState) (up : BroughtUpState) → given ≡ Ok roster → IsUp roster up
     → WithFabric given (λ stop. up_from given stop ≡ Ok roster)
 unfolding up_from
 comes_up given roster up is by = record { stop = None; becomes = rw is (up, by); is = rw is refl }
@@ -74,12 +74,12 @@ lid_at ports i port order inside here =
     ∙ (ap (λ (lids : List ℕ). get_or lids i 0) order ∙ get_or-range_with_len 1 (length ports) i 0 inside))
 
 -- ---- LIDs at which something hangs are those of listed ports
-pub lids_in_order : (roster : Rostered) → IsRostered roster → HaveLidsInOrder roster.configuration.ports
+pub lids_in_order : (roster : RosterState) → IsRostered roster → HaveLidsInOrder roster.configuration.ports
 lids_in_order roster is =
     let ends = end_ports_stand_in_order is.partitions roster.plan is.topology in
     rw is.listed ends.lids
 
-pub record AreListed (roster : Rostered) (lid : ℕ) : Type 0 where
+pub record AreListed (roster : RosterState) (lid : ℕ) : Type 0 where
   pub first : 1 ≤ lid
   pub last : lid ≤ length roster.configuration.ports
 
@@ -93,7 +93,7 @@ hangs_at homes lid home is = by (lid == 0) refl is
         let within = slice_get_within homes (lid - 1) home is in
         (some, omega (arith, some, within))
 
-as_many : (roster : Rostered) → IsRostered roster → (graph : GraphState) (guids : List ℕ) → IsFound roster.plan graph → AreAssigned graph guids
+as_many : (roster : RosterState) → IsRostered roster → (graph : GraphState) (guids : List ℕ) → IsFound roster.plan graph → AreAssigned graph guids
     → length roster.configuration.ports ≡ length (homes_of graph guids)
 as_many roster is graph guids found assigned =
     let of_graph = sweeps_find_what_is_listed is.partitions roster.plan graph guids is.topology found.of assigned.lids assigned.order in
@@ -104,13 +104,13 @@ as_many roster is graph guids found assigned =
     let same = ap length of_graph.lids in
     rw is.listed (omega (arith, pairs, numbered, homes, same))
 
-pub switch_is_listed : (roster : Rostered) → IsRostered roster → (a b : ℕ) → HasNoPath roster.plan a b → AreListed roster a
+pub switch_is_listed : (roster : RosterState) → IsRostered roster → (a b : ℕ) → HasNoPath roster.plan a b → AreListed roster a
 switch_is_listed roster is a b none =
     let many = as_many roster is none.graph none.guids none.found none.assigned in
     let at = hangs_at _ a _ none.refused.first.pair.switch in
     record { first = at.0; last = omega (arith, many, at.1) }
 
-pub port_is_listed : (roster : Rostered) → IsRostered roster → (a b : ℕ) → HasNoPath roster.plan a b → AreListed roster b
+pub port_is_listed : (roster : RosterState) → IsRostered roster → (a b : ℕ) → HasNoPath roster.plan a b → AreListed roster b
 port_is_listed roster is a b none =
     let many = as_many roster is none.graph none.guids none.found none.assigned in
     let at = hangs_at _ b _ none.refused.first.pair.adapter in

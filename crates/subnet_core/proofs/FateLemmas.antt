@@ -6,10 +6,10 @@ use Rattle.fabric_wire.specs.OfTopology.{fabric_of}
 use Rattle.result_words.proofs.StepLemmas.{bind_done, bind_ok, same_ok}
 use Rattle.result_words.specs.AtLine.{AtLine}
 use Rattle.result_words.specs.Steps.{◌>>=◌}
-use Rattle.subnet_fabric.specs.BringUp.{Up}
+use Rattle.subnet_fabric.specs.BringUp.{BroughtUpState}
 use Rattle.subnet_core.specs.BringUp.{Becomes, HasNoPathOf, IsStopped, IsUp, up_from}
 use Rattle.subnet_core.specs.Laws.{OneThingBecomesOfAFabric, TextsHaveOneAnswer}
-use Rattle.subnet_core.specs.Roster.{Rostered, of_text, partitions_for, roster_of, rostered}
+use Rattle.subnet_core.specs.Roster.{RosterState, of_text, partitions_for, roster_of, rostered}
 use Rattle.subnet_core.specs.Run.{report_of, told_of}
 use Rattle.subnet_core.specs.Script.{commands_in}
 use Rattle.subnet_core.specs.declared.fault.RunFault.{RunFault}
@@ -27,7 +27,7 @@ use Rattle.topo_file.specs.Sound.{IsSound}
 use Rattle.topo_file.specs.Topology.{topology_of}
 
 -- ---- a roster that texts give is of a sound topology, and lists ports in order of LID
-record IsPlanned (roster : Rostered) : Type 0 where
+record IsPlanned (roster : RosterState) : Type 0 where
   sound : IsSound roster.plan
   order : HaveLidsInOrder roster.configuration.ports
 
@@ -35,7 +35,7 @@ told : {X Cause : Type 0} (fault : ℕ → Cause → RunFault) (r : Result X (At
 told fault (Ok y) x h = ap (λ (z : _). Ok z) (same_ok y x h)
 told fault (Err at) x h = absurd cc
 
-planned : (topology : List ℕ) (partitions : Option (List ℕ)) (roster : Rostered) → roster_of topology partitions ≡ Ok roster
+planned : (topology : List ℕ) (partitions : Option (List ℕ)) (roster : RosterState) → roster_of topology partitions ≡ Ok roster
     → IsPlanned roster
 unfolding roster_of
 planned topology partitions roster h =
@@ -57,18 +57,18 @@ one_listed ports a b order one other same =
     stands port has = slice_get-get_or ports has.0 port has.1 ∙ ap (λ (port : SubnetPort). Some port) has.2
 
 -- ---- what may stop it
-record IsFar (roster : Rostered) (fault : RunFault) : Type 0 where
+record IsFar (roster : RosterState) (fault : RunFault) : Type 0 where
   told : fault ≡ Sweep sweep.TooManyHops
   far : IsTooFar (fabric_of roster.plan)
 
-record IsWithoutPath (roster : Rostered) (fault : RunFault) : Type 0 where
+record IsWithoutPath (roster : RosterState) (fault : RunFault) : Type 0 where
   switch : List ℕ
   node : List ℕ
   number : ℕ
   told : fault ≡ NoLegalPath switch node number
   none : HasNoPathOf roster switch node number
 
-why : (roster : Rostered) (fault : RunFault) → IsStopped roster fault → IsFar roster fault ⊎ IsWithoutPath roster fault
+why : (roster : RosterState) (fault : RunFault) → IsStopped roster fault → IsFar roster fault ⊎ IsWithoutPath roster fault
 why roster NoMemory is = absurd is
 why roster (Topology line cause) is = absurd is
 why roster (Partitions line cause) is = absurd is
@@ -81,7 +81,7 @@ why roster (NoLegalPath switch node number) is = inr (record { switch = switch; 
 why roster (Push fault) is = absurd is
 why roster (Script line cause) is = absurd is
 
-one_fault : (roster : Rostered) (fault other : RunFault) → IsPlanned roster → IsFar roster fault ⊎ IsWithoutPath roster fault
+one_fault : (roster : RosterState) (fault other : RunFault) → IsPlanned roster → IsFar roster fault ⊎ IsWithoutPath roster fault
     → IsFar roster other ⊎ IsWithoutPath roster other → fault ≡ other
 one_fault roster fault other is (inl far) (inl too) = far.told ∙ sym too.told
 one_fault roster fault other is (inl far) (inr gone) =
@@ -100,7 +100,7 @@ one_fault roster fault other is (inr gone) (inr too) =
     let number : gone.number ≡ too.number = one.number_is ∙ ap (λ (port : SubnetPort). port.number) to ∙ sym more.number_is in
     gone.told ∙ (λ i. NoLegalPath (switch i) (node i) (number i)) ∙ sym too.told
 
-not_up : (roster : Rostered) (fault : RunFault) (up : Up) → IsPlanned roster → IsFar roster fault ⊎ IsWithoutPath roster fault
+not_up : (roster : RosterState) (fault : RunFault) (up : BroughtUpState) → IsPlanned roster → IsFar roster fault ⊎ IsWithoutPath roster fault
     → IsUp roster up → ⊥
 not_up roster fault up is (inl far) by =
     (too_far_excludes_the_rest roster.plan (all_keys roster.configuration.ports) up.fabric 0 0 far.far).1 (record { routes = up.routes; by = by })
@@ -108,7 +108,7 @@ not_up roster fault up is (inr gone) by =
     no_path_excludes_coming_up roster.plan (all_keys roster.configuration.ports) up.fabric gone.none.from.lid gone.none.to.lid is.sound gone.none.none
     (record { routes = up.routes; by = by })
 
-one_stop : (roster : Rostered) (stop other : Option RunFault) → IsPlanned roster → Becomes (Ok roster) stop → Becomes (Ok roster) other
+one_stop : (roster : RosterState) (stop other : Option RunFault) → IsPlanned roster → Becomes (Ok roster) stop → Becomes (Ok roster) other
     → stop ≡ other
 one_stop roster None None is one other = refl
 one_stop roster None (Some fault) is up stopped = absurd (not_up roster fault up.0 is (why roster fault stopped) up.1)
@@ -121,8 +121,8 @@ one_thing_becomes_of_a_fabric topology partitions roster stop other given one tw
     one_stop roster stop other (planned topology partitions roster given) one two
 
 -- ---- answers
-same_up : (given : Result Rostered RunFault) (stop other : Option RunFault)
-    → ((roster : Rostered) → given ≡ Ok roster → Becomes (Ok roster) stop → Becomes (Ok roster) other → stop ≡ other)
+same_up : (given : Result RosterState RunFault) (stop other : Option RunFault)
+    → ((roster : RosterState) → given ≡ Ok roster → Becomes (Ok roster) stop → Becomes (Ok roster) other → stop ≡ other)
     → Becomes given stop → Becomes given other → up_from given stop ≡ up_from given other
 unfolding up_from
 same_up (Ok roster) stop other same one two = ap (up_from (Ok roster)) (same roster refl one two)
@@ -131,6 +131,6 @@ same_up (Err fault) stop other same one two = refl
 pub texts_have_one_answer : TextsHaveOneAnswer
 unfolding report_of
 texts_have_one_answer topology partitions script stop other one two =
-    ap (λ (up : Result Rostered RunFault).
+    ap (λ (up : Result RosterState RunFault).
     up >>= λ roster. of_text Script (commands_in roster.plan script) >>= λ commands. Ok (told_of roster.configuration commands))
     (same_up (roster_of topology partitions) stop other (λ roster. one_thing_becomes_of_a_fabric topology partitions roster stop other) one two)

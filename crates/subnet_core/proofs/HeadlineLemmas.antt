@@ -1,6 +1,6 @@
 -- A run that is answered keeps partitions apart.
 use Rattle.std.proofs.Common.{◌≡◌, ℕ, List, Option, Some, None, Result, Ok, Err, IfOk, refl, sym, ap, subst}
-use Rattle.topo_file.specs.Topology.{Plan, topology_of}
+use Rattle.topo_file.specs.Topology.{TopologyState, topology_of}
 use Rattle.partition_file.specs.declared.partition.Partition.{Partition}
 use Rattle.subnet_model.proofs.IsolationLemmas.{report_is_isolated, slids_name_their_ports}
 use Rattle.subnet_model.specs.declared.command.Command.{Command}
@@ -15,13 +15,13 @@ use Rattle.subnet_ports.specs.EndPorts.{HaveLidsInOrder}
 use Rattle.subnet_ports.proofs.LidLemmas.{own_lids}
 
 -- the roster of texts that are accepted
-rosters : (topology : List ℕ) (partitions : Option (List ℕ)) (plan : Plan) (all : List Partition) → topology_of topology ≡ Ok plan
+rosters : (topology : List ℕ) (partitions : Option (List ℕ)) (plan : TopologyState) (all : List Partition) → topology_of topology ≡ Ok plan
     → partitions_for partitions ≡ Ok all → roster_of topology partitions ≡ Ok (rostered plan all)
 unfolding roster_of
 rosters topology partitions plan all e p = rw (e, p) refl
 
 -- a run that is answered is not stopped, and tells what its commands bring about
-told : (topology script : List ℕ) (partitions : Option (List ℕ)) (stop : Option RunFault) (r : ReportState) (plan : Plan) (all : List Partition) (commands : List Command)
+told : (topology script : List ℕ) (partitions : Option (List ℕ)) (stop : Option RunFault) (r : ReportState) (plan : TopologyState) (all : List Partition) (commands : List Command)
     → roster_of topology partitions ≡ Ok (rostered plan all) → commands_in plan script ≡ Ok commands
     → report_of topology partitions script stop ≡ Ok r → told_of (configuration_of all plan) commands ≡ r
 unfolding report_of up_from

@@ -1,3 +1,4 @@
+pub mod LookupLemmas
 pub mod CommandLemmas
 pub mod HeadlineLemmas
 pub mod BringUpLemmas

@@ -2,7 +2,7 @@
 use Rattle.std.proofs.Common.{ℕ, ◌≡◌, List, Option, Some, None, Ok, Err, refl}
 use Rattle.result_words.specs.Gives.{Fails}
 use Rattle.subnet_core.specs.BringUp.{FailsWith, WithFabric, up_from}
-use Rattle.subnet_core.specs.Roster.{Rostered, of_text, roster_of}
+use Rattle.subnet_core.specs.Roster.{RosterState, of_text, roster_of}
 use Rattle.subnet_core.specs.Run.{report_of, told_of}
 use Rattle.subnet_core.specs.Script.{commands_in}
 use Rattle.subnet_core.specs.declared.fault.RunFault.{RunFault}
@@ -21,12 +21,12 @@ module _ (topology : List ℕ) (partitions : Option (List ℕ)) (script : List �
   run_stops told fails = fails_mapped (roster_of topology partitions) told (up_from (roster_of topology partitions)) (report_of topology partitions script) not_up fails
 
   -- its script is at fault
-  with_fault : (roster : Rostered) (fault : RunFault) → of_text Script (commands_in roster.plan script) ≡ Err fault
+  with_fault : (roster : RosterState) (fault : RunFault) → of_text Script (commands_in roster.plan script) ≡ Err fault
       → (stop : Option RunFault) → up_from (roster_of topology partitions) stop ≡ Ok roster → report_of topology partitions script stop ≡ Err fault
   unfolding report_of
   with_fault roster fault fails stop is = rw (is, fails) refl
 
-  pub script_fails : (roster : Rostered) (told : Option RunFault) → WithFabric (roster_of topology partitions) (λ stop. up_from (roster_of topology partitions) stop ≡ Ok roster)
+  pub script_fails : (roster : RosterState) (told : Option RunFault) → WithFabric (roster_of topology partitions) (λ stop. up_from (roster_of topology partitions) stop ≡ Ok roster)
       → Fails told (of_text Script (commands_in roster.plan script)) → FailsWith (roster_of topology partitions) told (report_of topology partitions script)
   script_fails roster None up fails = tt
   script_fails roster (Some fault) up fails =
@@ -34,13 +34,13 @@ module _ (topology : List ℕ) (partitions : Option (List ℕ)) (script : List �
       (with_fault roster fault fails) up
 
   -- its commands are carried out
-  with_commands : (roster : Rostered) (commands : List Command) → of_text Script (commands_in roster.plan script) ≡ Ok commands
+  with_commands : (roster : RosterState) (commands : List Command) → of_text Script (commands_in roster.plan script) ≡ Ok commands
       → (stop : Option RunFault) → up_from (roster_of topology partitions) stop ≡ Ok roster
       → report_of topology partitions script stop ≡ Ok (told_of roster.configuration commands)
   unfolding report_of
   with_commands roster commands given stop is = rw (is, given) refl
 
-  pub run_tells : (roster : Rostered) (commands : List Command) → WithFabric (roster_of topology partitions) (λ stop. up_from (roster_of topology partitions) stop ≡ Ok roster)
+  pub run_tells : (roster : RosterState) (commands : List Command) → WithFabric (roster_of topology partitions) (λ stop. up_from (roster_of topology partitions) stop ≡ Ok roster)
       → of_text Script (commands_in roster.plan script) ≡ Ok commands
       → WithFabric (roster_of topology partitions) (λ stop. report_of topology partitions script stop ≡ Ok (told_of roster.configuration commands))
   run_tells roster commands up given =

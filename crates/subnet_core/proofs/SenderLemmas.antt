@@ -13,7 +13,7 @@ use Rattle.fabric_parts.specs.declared.cable.PortRef.{PortRef}
 use Rattle.result_words.proofs.ListLemmas.{all_have}
 use Rattle.result_words.proofs.StepLemmas.{bind_done, bind_ok, let_through, not_stopped, same_ok}
 use Rattle.result_words.specs.AtLine.{after_lines, on_line}
-use Rattle.subnet_model.specs.Configuration.{Configured}
+use Rattle.subnet_model.specs.Configuration.{ConfigurationState}
 use Rattle.subnet_model.specs.Delivery.{port_with_guid}
 use Rattle.subnet_model.specs.declared.command.Command.{Command}
 use Rattle.subnet_model.specs.declared.command.Command.TheVariants.{Ask, Send}
@@ -22,16 +22,16 @@ use Rattle.subnet_ports.proofs.EndPortLemmas.{end_ports_stand_in_order}
 use Rattle.subnet_ports.proofs.OwnEndLemmas.{one_end}
 use Rattle.subnet_ports.specs.EndPorts.{AreEndPorts, IsEndPort, is_end_port}
 use Rattle.subnet_ports.proofs.GraphPortLemmas.{type_kept}
-use Rattle.subnet_ways.proofs.ListLemmas.{found_among}
+use Rattle.subnet_sends.proofs.ListLemmas.{found_among}
 use Rattle.text_words.specs.Lines.{lines, words_of}
 use Rattle.text_words.specs.Words.{port_in}
 use Rattle.topo_file.specs.Cable.{port_at}
 use Rattle.topo_file.specs.Node.{is_switch_at, place_of, port_guid_at, ports_at}
 use Rattle.topo_file.specs.Sound.{is_port}
-use Rattle.topo_file.specs.Topology.{Plan}
+use Rattle.topo_file.specs.Topology.{TopologyState}
 use Rattle.subnet_core.specs.Laws.{EachCommandNamesASender}
-use Rattle.subnet_core.specs.Roster.{IsRostered, Rostered}
-use Rattle.subnet_core.specs.Script.{command_in, command_of, field_of, fitting, payload_of, send_of, send_spelt, sender_at, sender_of, with_line, written_in}
+use Rattle.subnet_core.specs.Roster.{IsRostered, RosterState}
+use Rattle.subnet_core.specs.Script.{command_in, command_of, field_of, fitting, payload_of, send_of, send_spelt, sender_at, sender_of, u16_field, with_line, written_in}
 use Rattle.subnet_core.specs.Senders.{NamesSender}
 use Rattle.subnet_core.specs.declared.fault.ScriptCause.TheVariants.{Malformed, UnknownPort, ManagerPort, UncabledPort}
 
@@ -59,17 +59,17 @@ found {X = X} p (x ∷ xs) any = by (p x) refl (λ later. found p xs later)
         (rest.0, found_later p x xs rest.0 fails rest.1)
 
 -- ---- a port that a script may name: it is an adapter's, and has a cable
-record IsSendingPort (plan : Plan) (guid : ℕ) : Type 0 where
+record IsSendingPort (plan : TopologyState) (guid : ℕ) : Type 0 where
   at : PortRef
   there : is_end_port plan at ≡ true
   adapter : is_switch_at plan.nodes at.node ≡ false
   guid_is : port_guid_at plan.nodes at ≡ guid
 
-abbrev IsSentFrom : Plan → Command → Type 0
+abbrev IsSentFrom : TopologyState → Command → Type 0
 IsSentFrom plan (Send command) = IsSendingPort plan command.port_guid
 IsSentFrom plan (Ask command) = IsSendingPort plan command.port_guid
 
-port_there : (plan : Plan) (place number : ℕ) (at : PortRef) → port_at plan.nodes place number ≡ Some at → is_port plan.nodes at ≡ true
+port_there : (plan : TopologyState) (place number : ℕ) (at : PortRef) → port_at plan.nodes place number ≡ Some at → is_port plan.nodes at ≡ true
 port_there plan place number at is = by (nat_le 1 number && nat_le number (ports_at plan.nodes place)) refl is
   where
     by : (b : Bool) → (nat_le 1 number && nat_le number (ports_at plan.nodes place)) ≡ b → (if b then Some (record { node = place; port = number }) else None) ≡ Some at
@@ -77,7 +77,7 @@ port_there plan place number at is = by (nat_le 1 number && nat_le number (ports
     by true within is = ap (is_port plan.nodes) (sym (same_Some (record { node = place; port = number }) at is)) ∙ within
     by false within is = absurd (none-some at is)
 
-sends_at : (plan : Plan) (at : PortRef) (guid : ℕ) → is_port plan.nodes at ≡ true → sender_at plan at ≡ Ok guid → IsSendingPort plan guid
+sends_at : (plan : TopologyState) (at : PortRef) (guid : ℕ) → is_port plan.nodes at ≡ true → sender_at plan at ≡ Ok guid → IsSendingPort plan guid
 sends_at plan at guid port is =
     let adapter = not_stopped (is_switch_at plan.nodes at.node) UnknownPort _ guid is in
     let other = not_stopped (is_same_port at plan.sm) ManagerPort _ guid adapter.1 in
@@ -89,7 +89,7 @@ sends_at plan at guid port is =
       guid_is = same_ok (port_guid_at plan.nodes at) guid cabled.1;
     }
 
-sends : (plan : Plan) (word : List ℕ) (guid : ℕ) → sender_of plan word ≡ Ok guid → IsSendingPort plan guid
+sends : (plan : TopologyState) (word : List ℕ) (guid : ℕ) → sender_of plan word ≡ Ok guid → IsSendingPort plan guid
 unfolding sender_of
 sends plan word guid is =
     let port = bind_ok (ok_or (port_in word) UnknownPort) _ guid is in
@@ -98,19 +98,19 @@ sends plan word guid is =
     sends_at plan at.0 guid (port_there plan place.0 port.0.number at.0 (some_of _ UnknownPort at.0 at.1)) at.2
 
 -- ---- the command of a line
-spelt_sends : (plan : Plan) (port dlid p_key qp payload : List ℕ) (command : Command) → send_spelt plan port dlid p_key qp payload ≡ Ok command → IsSentFrom plan command
+spelt_sends : (plan : TopologyState) (port dlid p_key qp payload : List ℕ) (command : Command) → send_spelt plan port dlid p_key qp payload ≡ Ok command → IsSentFrom plan command
 unfolding send_spelt
 spelt_sends plan port dlid p_key qp payload command is =
     let sender = bind_ok (sender_of plan port) _ command is in
     let written = bind_ok (fitting (written_in payload)) _ command sender.2 in
-    let lid = bind_ok (field_of (2 ^ 16) dlid) _ command written.2 in
-    let key = bind_ok (field_of (2 ^ 16) p_key) _ command lid.2 in
+    let lid = bind_ok (u16_field dlid) _ command written.2 in
+    let key = bind_ok (u16_field p_key) _ command lid.2 in
     let number = bind_ok (field_of (2 ^ 24) qp) _ command key.2 in
     let bytes = bind_ok (payload_of written.0) _ command number.2 in
     let made : Command = Send (record { port_guid = sender.0; dlid = lid.0; p_key = key.0; destination_qp = number.0; payload = bytes.0 }) in
     subst (IsSentFrom plan) (same_ok made command bytes.2) (sends plan port sender.0 sender.1)
 
-words_send : (plan : Plan) (words : List (List ℕ)) (command : Command) → send_of plan words ≡ Ok command → IsSentFrom plan command
+words_send : (plan : TopologyState) (words : List (List ℕ)) (command : Command) → send_of plan words ≡ Ok command → IsSentFrom plan command
 unfolding send_of
 words_send plan [] command is = absurd cc
 words_send plan (a ∷ []) command is = absurd cc
@@ -120,7 +120,7 @@ words_send plan (a ∷ b ∷ c ∷ d ∷ []) command is = absurd cc
 words_send plan (a ∷ b ∷ c ∷ d ∷ e ∷ []) command is = spelt_sends plan a b c d e command is
 words_send plan (a ∷ b ∷ c ∷ d ∷ e ∷ f ∷ rest) command is = absurd cc
 
-all_words_send : (plan : Plan) (words : List (List ℕ)) (command : Command) → command_in plan words ≡ Ok (Some command) → IsSentFrom plan command
+all_words_send : (plan : TopologyState) (words : List (List ℕ)) (command : Command) → command_in plan words ≡ Ok (Some command) → IsSentFrom plan command
 unfolding command_in
 all_words_send plan [] command is = absurd (none-some command (same_ok None (Some command) is))
 all_words_send plan (first ∷ rest) command is =
@@ -128,7 +128,7 @@ all_words_send plan (first ∷ rest) command is =
     let made = bind_done (send_of plan rest) (λ (command : Command). Some command) (Some command) sent.1 in
     words_send plan rest command (made.1 ∙ ap (λ (command : Command). Ok command) (same_Some made.0 command made.2))
 
-line_sends : (plan : Plan) (line : List ℕ) (command : Command) → command_of plan line ≡ Ok (Some command) → IsSentFrom plan command
+line_sends : (plan : TopologyState) (line : List ℕ) (command : Command) → command_of plan line ≡ Ok (Some command) → IsSentFrom plan command
 unfolding command_of
 line_sends plan line command is =
     let words = bind_ok (ok_or (words_of line) Malformed) _ (Some command) is in
@@ -140,7 +140,7 @@ more : (P : Command → Type 0) (so_far : List Command) (one : Option Command) �
 more P so_far None has before = subst (All P) (sym (append-nil so_far)) before
 more P so_far (Some command) has before = All-push P so_far command before (has command refl)
 
-each_line : (plan : Plan) (P : Command → Type 0) → ((line : List ℕ) (command : Command) → command_of plan line ≡ Ok (Some command) → P command)
+each_line : (plan : TopologyState) (P : Command → Type 0) → ((line : List ℕ) (command : Command) → command_of plan line ≡ Ok (Some command) → P command)
     → (number : ℕ) (so_far : List Command) (left : List (List ℕ)) (commands : List Command) → All P so_far
     → after_lines (with_line plan) number so_far left ≡ Ok commands → All P commands
 unfolding after_lines with_line
@@ -152,8 +152,8 @@ each_line plan P has number so_far (line ∷ rest) commands before is =
     each_line plan P has (number + 1) taken.0 rest commands (subst (All P) made.2 now) taken.2
 
 -- ---- the roster lists each such port
-module _ (roster : Rostered) (is : IsRostered roster) where
-  abbrev plan : Plan
+module _ (roster : RosterState) (is : IsRostered roster) where
+  abbrev plan : TopologyState
   plan = roster.plan
 
   abbrev ports : List SubnetPort
@@ -161,7 +161,7 @@ module _ (roster : Rostered) (is : IsRostered roster) where
 
   ends : AreEndPorts is.partitions plan ports
   ends =
-      subst (λ (configuration : Configured). AreEndPorts is.partitions plan configuration.ports) (sym is.listed)
+      subst (λ (configuration : ConfigurationState). AreEndPorts is.partitions plan configuration.ports) (sym is.listed)
       (end_ports_stand_in_order is.partitions plan is.topology)
 
   -- the port of a GUID, and that it is a channel adapter's
@@ -190,7 +190,7 @@ module _ (roster : Rostered) (is : IsRostered roster) where
       (listed.0, record { named = listed.1.named; adapter = listed.1.adapter })
 
 -- what a line gives, if it gives a command
-pub line_names_sender : (roster : Rostered) → IsRostered roster → (line : List ℕ) (given : Option Command)
+pub line_names_sender : (roster : RosterState) → IsRostered roster → (line : List ℕ) (given : Option Command)
     → command_of roster.plan line ≡ Ok given → IfSome given (NamesSender roster.configuration.ports)
 line_names_sender roster is line None read = tt
 line_names_sender roster is line (Some command) read = names_sender roster is command (line_sends roster.plan line command read)

@@ -21,7 +21,7 @@ use Rattle.topo_file.specs.Cable.{may_join, port_at}
 use Rattle.topo_file.specs.Connectivity.{is_connected}
 use Rattle.topo_file.specs.Node.{HasGuids, is_one_too_many, is_switch_at, lacks_guids, last_guid, place_of, ports_at}
 use Rattle.topo_file.specs.Sound.{IsSound, IsSoundSoFar, ends_at_ports, is_manager_port, is_port, on_adapter}
-use Rattle.topo_file.specs.Topology.{Declarations, Plan, after_line, after_words, cable_of, cable_spelt, declarations_of, manager_of, manager_spelt, name_of, new_node}
+use Rattle.topo_file.specs.Topology.{DraftState, TopologyState, after_line, after_words, cable_of, cable_spelt, declarations_of, manager_of, manager_spelt, name_of, new_node}
 use Rattle.topo_file.specs.Topology.{node_of, node_spelt, nothing, number_up_to, plan_of, port_of, is_root, root_of, root_spelt, topology_of, whole, with_cable, with_manager, with_node, with_root}
 use Rattle.topo_file.specs.declared.fault.TopologyCause.{TopologyCause}
 use Rattle.topo_file.specs.declared.fault.TopologyCause.TheVariants.{DuplicateGuid, DuplicateName, NoSuchPort, OverLimit, PortTaken, RootNotSwitch, WrongCableEnds, WrongManager}
@@ -100,7 +100,7 @@ root_is nodes roots (word ∷ []) made h =
 root_is nodes roots (word ∷ more ∷ rest) made h = absurd cc
 
 -- a manager's port is one of an adapter
-manager_is : (so_far : Declarations) (number : ℕ) (words : List (List ℕ)) (made : _)
+manager_is : (so_far : DraftState) (number : ℕ) (words : List (List ℕ)) (made : _)
     → manager_of so_far.nodes so_far.manager number words ≡ Ok made → is_manager_port so_far.nodes made.port ≡ true
 unfolding manager_of manager_spelt
 manager_is so_far number [] made h = absurd cc
@@ -116,12 +116,12 @@ manager_is so_far number (word ∷ []) made h =
 manager_is so_far number (word ∷ more ∷ rest) made h = absurd cc
 
 -- ---- a line leaves what stands before it sound
-either : (next : Declarations) (b : Bool) (r s : Result Declarations TopologyCause) → (if b then r else s) ≡ Ok next
+either : (next : DraftState) (b : Bool) (r s : Result DraftState TopologyCause) → (if b then r else s) ≡ Ok next
     → (r ≡ Ok next → IsSoundSoFar next) → (s ≡ Ok next → IsSoundSoFar next) → IsSoundSoFar next
 either next true r s h one other = one h
 either next false r s h one other = other h
 
-module _ (number : ℕ) (so_far next : Declarations) (sound : IsSoundSoFar so_far) where
+module _ (number : ℕ) (so_far next : DraftState) (sound : IsSoundSoFar so_far) where
   after_node : (kind : NodeType) (words : List (List ℕ)) → with_node so_far (node_of kind so_far.nodes words) ≡ Ok next → IsSoundSoFar next
   after_node kind words h =
       let node = bind_done (node_of kind so_far.nodes words) (λ node. record so_far { nodes = so_far.nodes ++ node ∷ [] }) next h in
@@ -167,7 +167,7 @@ told : {X Cause : Type 0} (number : ℕ) (r : Result X Cause) (x : X) → on_lin
 told number (Ok y) x h = ap (λ (z : _). Ok z) (same_ok y x h)
 told number (Err cause) x h = absurd cc
 
-all_lines : (number : ℕ) (so_far all : Declarations) (text : List (List ℕ)) → IsSoundSoFar so_far
+all_lines : (number : ℕ) (so_far all : DraftState) (text : List (List ℕ)) → IsSoundSoFar so_far
     → after_lines after_line number so_far text ≡ Ok all → IsSoundSoFar all
 unfolding after_lines
 all_lines number so_far all [] sound h = subst IsSoundSoFar (same_ok so_far all h) sound
@@ -180,7 +180,7 @@ there : {X Cause : Type 0} (o : Option X) (cause : Cause) (x : X) → ok_or o ca
 there None cause x h = absurd cc
 there (Some y) cause x h = ap (λ (z : _). Some z) (same_ok y x h)
 
-whole_is_sound : (all : Declarations) (plan : Plan) → IsSoundSoFar all → whole all ≡ Ok plan → IsSound plan
+whole_is_sound : (all : DraftState) (plan : TopologyState) → IsSoundSoFar all → whole all ≡ Ok plan → IsSound plan
 unfolding whole
 whole_is_sound all plan sound h =
     let manager = bind_ok (on_line 0 (ok_or all.manager WrongManager)) (plan_of all) plan h in
@@ -195,7 +195,7 @@ whole_is_sound all plan sound h =
       manager_cabled = not-false (is_cabled all.cables manager.0.port) cabled.0;
     })
 
-pub topology_is_sound : (text : List ℕ) (plan : Plan) → topology_of text ≡ Ok plan → IsSound plan
+pub topology_is_sound : (text : List ℕ) (plan : TopologyState) → topology_of text ≡ Ok plan → IsSound plan
 unfolding topology_of
 topology_is_sound text plan h =
     let all = bind_ok (declarations_of text) whole plan h in

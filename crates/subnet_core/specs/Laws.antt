@@ -3,7 +3,7 @@ use Rattle.std.specs.Prelude.{ℕ, ◌≡◌, List, Option, Ok}
 use Rattle.std.specs.List.{All}
 use Rattle.subnet_model.specs.declared.command.Command.{Command}
 use Rattle.subnet_core.specs.BringUp.{Becomes}
-use Rattle.subnet_core.specs.Roster.{IsRostered, Rostered, roster_of}
+use Rattle.subnet_core.specs.Roster.{IsRostered, RosterState, roster_of}
 use Rattle.subnet_core.specs.Run.{report_of}
 use Rattle.subnet_core.specs.Script.{commands_in}
 use Rattle.subnet_core.specs.Senders.{NamesSender}
@@ -12,13 +12,13 @@ use Rattle.subnet_core.specs.declared.fault.RunFault.{RunFault}
 -- each command that a script gives names a port of a channel adapter that the roster lists
 abbrev pub EachCommandNamesASender : Type 0
 EachCommandNamesASender =
-    (roster : Rostered) → IsRostered roster → (script : List ℕ) (commands : List Command) → commands_in roster.plan script ≡ Ok commands
+    (roster : RosterState) → IsRostered roster → (script : List ℕ) (commands : List Command) → commands_in roster.plan script ≡ Ok commands
     → All (NamesSender roster.configuration.ports) commands
 
 -- no roster's fabric both comes up and is stopped, and no two faults stop it
 abbrev pub OneThingBecomesOfAFabric : Type 0
 OneThingBecomesOfAFabric =
-    (topology : List ℕ) (partitions : Option (List ℕ)) (roster : Rostered) (stop other : Option RunFault)
+    (topology : List ℕ) (partitions : Option (List ℕ)) (roster : RosterState) (stop other : Option RunFault)
     → roster_of topology partitions ≡ Ok roster → Becomes (Ok roster) stop → Becomes (Ok roster) other → stop ≡ other
 
 -- so what a run answers is one function of its texts

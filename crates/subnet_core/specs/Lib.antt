@@ -1,3 +1,4 @@
+pub mod Lookup
 pub mod Fault
 pub mod Script
 pub mod NamedPort

@@ -5,7 +5,7 @@ use Rattle.std.specs.Option.{option_map_or}
 use Rattle.std.specs.Int.{w16, w64, to_be_bytes}
 use Rattle.pkey_rules.specs.KeyTable.{find_base}
 use Rattle.partition_file.specs.declared.heading.Heading.{Heading}
-use Rattle.subnet_model.specs.Configuration.{Configured}
+use Rattle.subnet_model.specs.Configuration.{ConfigurationState}
 use Rattle.subnet_model.specs.declared.subnet_port.SubnetPort.{SubnetPort}
 use Rattle.line_parts.specs.Lines.{heading_line, member_line}
 use Rattle.line_parts.specs.Parts.{hex_text, port_text}
@@ -27,7 +27,7 @@ partition_text ports placed =
     heading_line placed.0 placed.1 ++ flat_map (member_text placed.1.base) ports
 
 -- all end ports, then all partitions; the place of a partition is its number
-abbrev pub listing_text : Configured → List ℕ
+abbrev pub listing_text : ConfigurationState → List ℕ
 listing_text configuration =
     flat_map port_line configuration.ports
     ++ flat_map (partition_text configuration.ports) (enumerate_from 0 configuration.partitions)

@@ -7,31 +7,31 @@ use Rattle.fabric_parts.specs.Cable.{is_cabled}
 use Rattle.result_words.specs.Steps.{◌>>=◌}
 use Rattle.topo_file.specs.Cable.{port_at}
 use Rattle.topo_file.specs.Node.{is_switch_at, place_of, port_guid_at}
-use Rattle.topo_file.specs.Topology.{Plan}
+use Rattle.topo_file.specs.Topology.{TopologyState}
 use Rattle.subnet_ports.specs.Ports.{guid_at}
 use Rattle.subnet_core.specs.declared.fault.ScriptCause.{ScriptCause}
 use Rattle.subnet_core.specs.declared.fault.ScriptCause.TheVariants.{UnknownPort, UncabledPort}
 
 -- of a switch port 0 alone
-abbrev pub switch_port : Plan → ℕ → ℕ → Result ℕ ScriptCause
+abbrev pub switch_port : TopologyState → ℕ → ℕ → Result ℕ ScriptCause
 switch_port plan place number = if number == 0 then Ok (guid_at plan.nodes place) else Err UnknownPort
 
 -- of a channel adapter each port that has a cable
-abbrev pub cabled_port : Plan → PortRef → Result ℕ ScriptCause
+abbrev pub cabled_port : TopologyState → PortRef → Result ℕ ScriptCause
 cabled_port plan at = if is_cabled plan.cables at then Ok (port_guid_at plan.nodes at) else Err UncabledPort
 
-abbrev pub adapter_port : Plan → ℕ → ℕ → Result ℕ ScriptCause
+abbrev pub adapter_port : TopologyState → ℕ → ℕ → Result ℕ ScriptCause
 adapter_port plan place number = ok_or (port_at plan.nodes place number) UnknownPort >>= λ at. cabled_port plan at
 
 -- ---- of channel adapters alone
 -- the place of a port of a channel adapter that has a cable
-abbrev pub place_if_cabled : Plan → PortRef → Result PortRef ScriptCause
+abbrev pub place_if_cabled : TopologyState → PortRef → Result PortRef ScriptCause
 place_if_cabled plan at =
     if is_switch_at plan.nodes at.node then Err UnknownPort
     else if is_cabled plan.cables at then Ok at
     else Err UncabledPort
 
-unfoldable pub adapter_place : Plan → List ℕ → Result PortRef ScriptCause
+unfoldable pub adapter_place : TopologyState → List ℕ → Result PortRef ScriptCause
 adapter_place plan word = do
   port ← ok_or (port_in word) UnknownPort
   place ← ok_or (place_of port.name plan.nodes) UnknownPort
@@ -39,7 +39,7 @@ adapter_place plan word = do
   place_if_cabled plan at
 
 -- ---- of all
-unfoldable pub named_port : Plan → List ℕ → Result ℕ ScriptCause
+unfoldable pub named_port : TopologyState → List ℕ → Result ℕ ScriptCause
 named_port plan word = do
   port ← ok_or (port_in word) UnknownPort
   place ← ok_or (place_of port.name plan.nodes) UnknownPort

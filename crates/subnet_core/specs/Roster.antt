@@ -9,21 +9,21 @@ use Rattle.result_words.specs.Gives.{Gives}
 use Rattle.result_words.specs.Steps.{◌>>=◌}
 use Rattle.subnet_core.specs.declared.fault.RunFault.{RunFault}
 use Rattle.subnet_core.specs.declared.fault.RunFault.TheVariants.{NoMemory, Topology, Partitions, Sweep, NoLegalPath, Push, Script}
-use Rattle.subnet_model.specs.Configuration.{Configured}
+use Rattle.subnet_model.specs.Configuration.{ConfigurationState}
 use Rattle.subnet_ports.specs.Ports.{configuration_of}
 use Rattle.topo_file.specs.Sound.{IsSound}
-use Rattle.topo_file.specs.Topology.{Plan, topology_of}
+use Rattle.topo_file.specs.Topology.{TopologyState, topology_of}
 
 -- nodes and cables; and the end ports by LID with their keys, and the partitions
-pub record Rostered : Type 0 where
-  pub plan : Plan
-  pub configuration : Configured
+pub record RosterState : Type 0 where
+  pub plan : TopologyState
+  pub configuration : ConfigurationState
 
-abbrev pub rostered : Plan → List Partition → Rostered
+abbrev pub rostered : TopologyState → List Partition → RosterState
 rostered plan partitions = record { plan = plan; configuration = configuration_of partitions plan }
 
 -- some partitions are those that it lists
-pub record IsRostered (roster : Rostered) : Type 0 where
+pub record IsRostered (roster : RosterState) : Type 0 where
   pub topology : IsSound roster.plan
   pub partitions : List Partition
   pub sound : ArePartitions partitions
@@ -40,7 +40,7 @@ partitions_for (Some text) = of_text Partitions (partitions_of text)
 partitions_for None = Ok no_file
 
 -- the topology is read first
-unfoldable pub roster_of : List ℕ → Option (List ℕ) → Result Rostered RunFault
+unfoldable pub roster_of : List ℕ → Option (List ℕ) → Result RosterState RunFault
 roster_of topology partitions = do
   plan ← of_text Topology (topology_of topology)
   all ← partitions_for partitions

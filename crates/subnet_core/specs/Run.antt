@@ -7,12 +7,12 @@ use Rattle.subnet_core.specs.Roster.{of_text, roster_of}
 use Rattle.subnet_core.specs.Script.{command_of, commands_in}
 use Rattle.subnet_core.specs.declared.fault.RunFault.{RunFault}
 use Rattle.subnet_core.specs.declared.fault.RunFault.TheVariants.{Script}
-use Rattle.subnet_model.specs.Configuration.{Configured}
+use Rattle.subnet_model.specs.Configuration.{ConfigurationState}
 use Rattle.subnet_model.specs.Report.{report}
 use Rattle.subnet_model.specs.declared.command.Command.{Command}
 use Rattle.subnet_model.specs.declared.event.Event.{Event}
 use Rattle.subnet_model.specs.declared.subnet_port.SubnetPort.{SubnetPort}
-use Rattle.topo_file.specs.Topology.{Plan}
+use Rattle.topo_file.specs.Topology.{TopologyState}
 
 -- a report, and the ports whose names it prints
 pub record ReportState : Type 0 where
@@ -20,11 +20,11 @@ pub record ReportState : Type 0 where
   pub events : List Event
 
 -- the command of one line of a script
-abbrev pub parsed : Plan → ℕ → List ℕ → Result (Option Command) RunFault
+abbrev pub parsed : TopologyState → ℕ → List ℕ → Result (Option Command) RunFault
 parsed plan number line = of_text Script (on_line number (command_of plan line))
 
 -- what is told of these commands, one after the other from the start
-abbrev pub told_of : Configured → List Command → ReportState
+abbrev pub told_of : ConfigurationState → List Command → ReportState
 told_of configuration commands = record { ports = configuration.ports; events = report configuration commands }
 
 -- topology and partitions first, then the fabric, then the whole script, and only then its commands

@@ -5,7 +5,7 @@ use Rattle.std.specs.Str.{bytes_eq}
 use Rattle.hex.specs.Hex.{decode_of}
 use Rattle.text_words.specs.Cut.{cut_at}
 use Rattle.text_words.specs.Lines.{lines, words_of}
-use Rattle.text_words.specs.Number.{number_in}
+use Rattle.text_words.specs.Number.{number_in, u16_in}
 use Rattle.text_words.specs.Words.{port_in}
 use Rattle.fabric_parts.specs.declared.cable.PortRef.{PortRef}
 use Rattle.fabric_parts.specs.Cable.{is_cabled, is_same_port}
@@ -13,7 +13,7 @@ use Rattle.result_words.specs.AtLine.{AtLine, after_lines}
 use Rattle.result_words.specs.Steps.{◌>>=◌}
 use Rattle.topo_file.specs.Node.{is_switch_at, place_of, port_guid_at}
 use Rattle.topo_file.specs.Cable.{port_at}
-use Rattle.topo_file.specs.Topology.{Plan}
+use Rattle.topo_file.specs.Topology.{TopologyState}
 use Rattle.subnet_model.specs.declared.command.Command.{Command}
 use Rattle.subnet_model.specs.declared.command.Command.TheVariants.{Send}
 use Rattle.subnet_core.specs.declared.fault.ScriptCause.{ScriptCause}
@@ -21,14 +21,14 @@ use Rattle.subnet_core.specs.declared.fault.ScriptCause.TheVariants.{Malformed, 
 
 -- ---- the port that sends
 -- an adapter's port that is not the subnet manager's and has a cable
-abbrev pub sender_at : Plan → PortRef → Result ℕ ScriptCause
+abbrev pub sender_at : TopologyState → PortRef → Result ℕ ScriptCause
 sender_at plan at =
     if is_switch_at plan.nodes at.node then Err UnknownPort
     else if is_same_port at plan.sm then Err ManagerPort
     else if not (is_cabled plan.cables at) then Err UncabledPort
     else Ok (port_guid_at plan.nodes at)
 
-unfoldable pub sender_of : Plan → List ℕ → Result ℕ ScriptCause
+unfoldable pub sender_of : TopologyState → List ℕ → Result ℕ ScriptCause
 sender_of plan word = do
   port ← ok_or (port_in word) UnknownPort
   place ← ok_or (place_of port.name plan.nodes) UnknownPort
@@ -39,6 +39,9 @@ sender_of plan word = do
 abbrev pub below : ℕ → Option ℕ → Result ℕ ScriptCause
 below top (Some n) = if nat_lt n top then Ok n else Err BadField
 below top None = Err BadField
+
+abbrev pub u16_field : List ℕ → Result ℕ ScriptCause
+u16_field word = ok_or (u16_in word) BadField
 
 -- a number under this one
 abbrev pub field_of : ℕ → List ℕ → Result ℕ ScriptCause
@@ -78,35 +81,35 @@ payload_of (Some written) = spelt written.size written.digits
 payload_of None = Err BadField
 
 -- ---- `send PORT DLID PKEY QP PAYLOAD`
-unfoldable pub send_spelt : Plan → List ℕ → List ℕ → List ℕ → List ℕ → List ℕ → Result Command ScriptCause
+unfoldable pub send_spelt : TopologyState → List ℕ → List ℕ → List ℕ → List ℕ → List ℕ → Result Command ScriptCause
 send_spelt plan port dlid p_key qp payload = do
   sender ← sender_of plan port
   written ← fitting (written_in payload)
-  lid ← field_of (2 ^ 16) dlid
-  key ← field_of (2 ^ 16) p_key
+  lid ← u16_field dlid
+  key ← u16_field p_key
   number ← field_of (2 ^ 24) qp
   bytes ← payload_of written
   Ok (Send (record { port_guid = sender; dlid = lid; p_key = key; destination_qp = number; payload = bytes }))
 
-unfoldable pub send_of : Plan → List (List ℕ) → Result Command ScriptCause
+unfoldable pub send_of : TopologyState → List (List ℕ) → Result Command ScriptCause
 send_of plan (port ∷ dlid ∷ p_key ∷ qp ∷ payload ∷ []) = send_spelt plan port dlid p_key qp payload
 send_of plan _ = Err Malformed
 
 -- ---- a line: a command, or nothing
-unfoldable pub command_in : Plan → List (List ℕ) → Result (Option Command) ScriptCause
+unfoldable pub command_in : TopologyState → List (List ℕ) → Result (Option Command) ScriptCause
 command_in plan [] = Ok None
 command_in plan (first ∷ rest) =
     if bytes_eq first (codes "send") then (send_of plan rest >>= λ command. Ok (Some command)) else Err Malformed
 
-unfoldable pub command_of : Plan → List ℕ → Result (Option Command) ScriptCause
+unfoldable pub command_of : TopologyState → List ℕ → Result (Option Command) ScriptCause
 command_of plan line = do
   words ← ok_or (words_of line) Malformed
   command_in plan words
 
 -- ---- the lines one after the other: the commands so far, and that of one more line
-unfoldable pub with_line : Plan → ℕ → List Command → List ℕ → Result (List Command) ScriptCause
+unfoldable pub with_line : TopologyState → ℕ → List Command → List ℕ → Result (List Command) ScriptCause
 with_line plan number so_far line = command_of plan line >>= λ command. Ok (so_far ++ option_to_list command)
 
 -- the commands of the whole script
-abbrev pub commands_in : Plan → List ℕ → Result (List Command) (AtLine ScriptCause)
+abbrev pub commands_in : TopologyState → List ℕ → Result (List Command) (AtLine ScriptCause)
 commands_in plan script = after_lines (with_line plan) 1 [] (lines script)

@@ -6,7 +6,7 @@ use Rattle.subnet_model.specs.declared.command.Command.TheVariants.{Ask, Send}
 use Rattle.subnet_model.specs.declared.subnet_port.SubnetPort.{SubnetPort}
 use Rattle.subnet_sends.specs.Sends.{ComesOf, ComesOfAsk, asked_as}
 use Rattle.subnet_sends.specs.declared.event.Event.{Event}
-use Rattle.subnet_ways.specs.Laws.{IsSender}
+use Rattle.subnet_sends.specs.Laws.{IsSender}
 
 -- a command names a listed port of a channel adapter
 abbrev pub NamesSender : List SubnetPort → Command → Type 0

@@ -1,12 +1,14 @@
+//! The lines of a report.
+
 ghost use Rattle.std.specs.Prelude.{◌≡◌, ◌≤◌, ◌++◌, [], ◌∷◌, length, map, OnOk, IfOk};
 ghost use Rattle.subnet_sends.specs.Sends.{event_of};
 ghost use Rattle.data_packet.specs.declared.payload.TheConstants.{PAYLOAD_BYTES};
 ghost use Rattle.subnet_model.specs.Delivery.{port_with_guid};
 ghost use Rattle.subnet_core.specs.EventLines.{name_text, trimmed, payload_text, packet_text, outcome_text, line_text, report_text};
 
+use crate::lookup::PortIndex;
 use data_packet::{PAYLOAD_BYTES, Packet};
 use line_parts::{digits_of, push_decimal, push_hex, push_port};
-use port_index::PortIndex;
 use std::alloc::{AllocError, Global};
 use subnet_model::SubnetPort;
 use subnet_sends::Event;

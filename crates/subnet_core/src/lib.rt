@@ -14,6 +14,7 @@ mod event_lines;
 mod fault;
 mod laws;
 mod listing;
+mod lookup;
 mod named_port;
 mod report;
 mod roster;

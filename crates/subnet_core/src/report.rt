@@ -1,3 +1,5 @@
+//! What a run answers.
+
 ghost use Rattle.std.specs.Prelude.{◌≡◌, map, IfOk};
 ghost use Rattle.subnet_sends.specs.Sends.{event_of};
 ghost use Rattle.subnet_core.specs.EventLines.{report_text};

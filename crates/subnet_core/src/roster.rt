@@ -28,9 +28,9 @@ pub struct Roster {
 }
 
 impl Model for Roster {
-    ghost use Rattle.subnet_core.specs.Roster.{IsRostered, Rostered};
+    ghost use Rattle.subnet_core.specs.Roster.{IsRostered, RosterState};
 
-    ghost Value = { Rostered };
+    ghost Value = { RosterState };
 
     ghost view = { λ roster. record { plan = roster.topology; configuration = roster.configuration } };
 

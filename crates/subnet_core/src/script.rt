@@ -1,17 +1,19 @@
+//! The lines of a script.
+
 ghost use Rattle.std.specs.Prelude.{◌≡◌, ◌^◌, ◌≤◌, IfOk};
 ghost use Rattle.std.specs.Option.{ForSome, option_map};
 ghost use Rattle.result_words.specs.Gives.{seen_by};
 ghost use Rattle.topo_file.specs.Node.{ports_at};
 ghost use Rattle.data_packet.specs.declared.payload.TheConstants.{PAYLOAD_BYTES};
 ghost use Rattle.subnet_core.specs.Seen.{written};
-ghost use Rattle.subnet_core.specs.Script.{command_of, field_of, fitting, payload_of, send_of, send_spelt, sender_at, sender_of, spelt, written_in};
+ghost use Rattle.subnet_core.specs.Script.{command_of, field_of, fitting, payload_of, send_of, send_spelt, sender_at, sender_of, spelt, u16_field, written_in};
 
 use crate::fault::ScriptCause;
 use data_packet::{PAYLOAD_BYTES, Payload, QueuePair};
 use fabric_parts::PortRef;
 use hex::decode_to_slice;
 use subnet_model::{Command, SendCommand};
-use text_words::{Words, cut_at, number_in, port_in};
+use text_words::{Words, cut_at, number_in, port_in, u16_in};
 use topo_file::Topology;
 
 /// The command that a line gives, with its LF where it has one and with its comment; none for a line
@@ -108,12 +110,9 @@ fn sender_at(topology: &Topology, at: PortRef) -> Result<u64, ScriptCause>
 
 /// A field of 16 bits.
 fn u16_field(word: &[u8]) -> Result<u16, ScriptCause>
-    ensures { result ≡ field_of (2 ^ 16) word.now }
+    ensures { result ≡ u16_field word.now }
 {
-    match number_in(word) {
-        Some(number) if number < 1 << 16 => Ok(number as u16),
-        _ => Err(ScriptCause::BadField),
-    }
+    u16_in(word).ok_or(ScriptCause::BadField)
 }
 
 /// A field of 24 bits.

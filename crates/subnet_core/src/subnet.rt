@@ -1,3 +1,5 @@
+//! A subnet on its fabric, command by command.
+
 ghost use Rattle.std.specs.Prelude.{◌≡◌, true, ◌↔◌, ◌++◌, map, All, IsErrOf, IfOk, IfSome, OnOk, OnErr};
 ghost use Rattle.subnet_model.specs.Report.{events_from, step};
 ghost use Rattle.subnet_model.specs.State.{start};
@@ -33,9 +35,9 @@ pub struct Subnet {
 }
 
 impl Model for Subnet {
-    ghost use Rattle.subnet_core.specs.BringUp.{IsUp, Running};
+    ghost use Rattle.subnet_core.specs.BringUp.{IsUp, SubnetState};
 
-    ghost Value = { Running };
+    ghost Value = { SubnetState };
 
     ghost view = { λ subnet. record {
       roster = subnet.roster;

@@ -12,18 +12,18 @@ use Rattle.sweep.specs.Sweeps.{Fails, IsSweepable}
 use Rattle.sweep.specs.declared.fault.SweepFault.{SweepFault}
 use Rattle.sweep.specs.declared.fault.SweepFault.TheVariants.{NoMemory, NoReply, WrongReply, TooManyHops, TooManyNodes}
 use Rattle.topo_file.specs.Sound.{IsSound}
-use Rattle.topo_file.specs.Topology.{Plan}
+use Rattle.topo_file.specs.Topology.{TopologyState}
 use Rattle.updn_routes.specs.Fault.{IsFaultOf}
 use Rattle.updn_routes.specs.Routes.{AllReached, AreRoutesOf, order_of}
-use Rattle.updn_routes.specs.Subnet.{SubnetRoutes, guids_of, homes_of, rows_of}
+use Rattle.updn_routes.specs.Subnet.{RoutesState, guids_of, homes_of, rows_of}
 use Rattle.updn_routes.specs.declared.fault.RouteFault.{RouteFault}
 use Rattle.updn_routes.specs.declared.fault.RouteFault.TheVariants as routes
 
-pub sweepable : (plan : Plan) → IsSound plan → IsSweepable (fabric_of plan)
+pub sweepable : (plan : TopologyState) → IsSound plan → IsSweepable (fabric_of plan)
 sweepable plan sound = record { good = good plan sound; links = links plan; joined = joined plan sound }
 
 -- of a sweep's faults two may come
-pub stops : (plan : Plan) (fault : SweepFault) → IsSound plan → Fails (fabric_of plan) fault → Stops plan (of_sweep fault)
+pub stops : (plan : TopologyState) (fault : SweepFault) → IsSound plan → Fails (fabric_of plan) fault → Stops plan (of_sweep fault)
 stops plan NoMemory sound fails = tt
 stops plan NoReply sound fails = fails
 stops plan WrongReply sound fails = fails
@@ -31,7 +31,7 @@ stops plan TooManyHops sound fails = fails
 stops plan TooManyNodes sound fails = not_too_big plan sound fails
 
 -- routes that are made are those of the topology
-pub are_routes : (plan : Plan) (graph : GraphState) (lids roots : List ℕ) (routes : SubnetRoutes) → IsFound plan graph → AreAssigned graph lids
+pub are_routes : (plan : TopologyState) (graph : GraphState) (lids roots : List ℕ) (routes : RoutesState) → IsFound plan graph → AreAssigned graph lids
     → roots ≡ root_guids plan → routes.graph ≡ graph → routes.lids ≡ lids
     → AreRoutesOf (rows_of graph) (guids_of graph) roots (homes_of graph lids) routes.between
     → AllReached (rows_of graph) (order_of routes.between) (homes_of graph lids) → AreRoutesOfPlan plan routes
@@ -44,7 +44,7 @@ are_routes plan graph lids roots routes found assigned named is_of has made reac
     }
 
 -- and routes that are not made have no path
-pub no_path : (plan : Plan) (graph : GraphState) (lids roots : List ℕ) (fault : RouteFault) → IsFound plan graph → AreAssigned graph lids
+pub no_path : (plan : TopologyState) (graph : GraphState) (lids roots : List ℕ) (fault : RouteFault) → IsFound plan graph → AreAssigned graph lids
     → roots ≡ root_guids plan → IsFaultOf (rows_of graph) (guids_of graph) roots (homes_of graph lids) fault → Stops plan (of_routes fault)
 no_path plan graph lids roots routes.NoMemory found assigned named fault = tt
 no_path plan graph lids roots (routes.NoLegalPath switch port) found assigned named fault =

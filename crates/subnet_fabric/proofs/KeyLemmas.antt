@@ -35,13 +35,13 @@ record AreOwn (keys : List ℕ) : Type 0 where
   named : list_all (λ key. not (base_of key == 0)) keys ≡ true
   own : IsDistinct same_base keys
 
-are_own : (port : EndPort) (partitions : List Partition) → IsDistinct nat_eq (all_bases partitions) → list_all is_base (all_bases partitions) ≡ true
+known_distinct : (port : EndPort) (partitions : List Partition) → IsDistinct nat_eq (all_bases partitions) → list_all is_base (all_bases partitions) ≡ true
     → AreOwn (keys_in partitions port)
-are_own port [] distinct valid = record { named = refl; own = IsDistinct-nil same_base }
-are_own port (partition ∷ rest) distinct valid =
+known_distinct port [] distinct valid = record { named = refl; own = IsDistinct-nil same_base }
+known_distinct port (partition ∷ rest) distinct valid =
     let parts = and_parts (is_base partition.base) (list_all is_base (all_bases rest)) valid in
     by (key_in port partition) (key_of_partition port partition parts.0) parts.0 parts.1
-    (are_own port rest (IsDistinct-tail nat_eq partition.base (all_bases rest) distinct) parts.1)
+    (known_distinct port rest (IsDistinct-tail nat_eq partition.base (all_bases rest) distinct) parts.1)
   where
     by : (o : Option ℕ) → KeyOf partition.base o → is_base partition.base ≡ true → list_all is_base (all_bases rest) ≡ true → AreOwn (keys_in rest port)
         → AreOwn (cons_option o (keys_in rest port))
@@ -59,6 +59,6 @@ are_own port (partition ∷ rest) distinct valid =
 pub stored : (port : EndPort) (partitions : List Partition) → IsSound partitions → stored_keys (key_table false (keys_in partitions port)) ≡ keys_in partitions port
 stored port partitions sound =
     let keys = keys_in partitions port in
-    let all = are_own port partitions sound.bases.distinct sound.bases.valid in
+    let all = known_distinct port partitions sound.bases.distinct sound.bases.valid in
     ap (λ (held : List ℕ). stored_keys (held ++ replicate (PARTITIONS - length keys) 0)) (map-id keys)
     ∙ keys_are_stored keys (PARTITIONS - length keys) all.named all.own

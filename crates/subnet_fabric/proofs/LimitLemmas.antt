@@ -19,7 +19,7 @@ use Rattle.fabric_parts.specs.declared.node_type.NodeType.TheVariants.{ChannelAd
 use Rattle.fabric_wire.proofs.OfTopologyGoodLemmas.{good}
 use Rattle.fabric_wire.proofs.OfTopologyLemmas.{port_there, switch_there}
 use Rattle.fabric_wire.specs.OfTopology.{fabric_of}
-use Rattle.lid_assign.proofs.RisingLemmas.{counted}
+use Rattle.result_words.proofs.RisingLemmas.{counted}
 use Rattle.result_words.proofs.ListLemmas.{all_there}
 use Rattle.smp_wire.proofs.CableLemmas.{cabled_is_port, itself, same_port}
 use Rattle.smp_wire.specs.FabricState.{is_switch_at as is_switch_in}
@@ -28,7 +28,7 @@ use Rattle.sweep.proofs.FoundLemmas.{any_at}
 use Rattle.sweep.specs.Limits.{IsTooBig, is_adapter_port}
 use Rattle.topo_file.specs.Node.{adapter_ports, is_switch, is_switch_at, port_guids, ports_at, switch_count}
 use Rattle.topo_file.specs.Sound.{IsSound}
-use Rattle.topo_file.specs.Topology.{Plan}
+use Rattle.topo_file.specs.Topology.{TopologyState}
 use Rattle.topo_file.specs.declared.node.Node.{Node}
 
 either : (a b : Bool) → b ≡ true → (a || b) ≡ true
@@ -72,7 +72,7 @@ switch_place first (node ∷ nodes) (suc k) place is switch =
     by true is rest = rw is (either (nat_eq place first) _ rest)
     by false is rest = rw is rest
 
-few_switches : (plan : Plan) (some : List ℕ) → IsDistinct nat_eq some → list_all (is_switch_in (fabric_of plan).nodes) some ≡ true
+few_switches : (plan : TopologyState) (some : List ℕ) → IsDistinct nat_eq some → list_all (is_switch_in (fabric_of plan).nodes) some ≡ true
     → length some ≤ switch_count plan.nodes
 few_switches plan some once are =
     subst (λ (n : ℕ). length some ≤ n) (as_many_switches 0 plan.nodes)
@@ -142,7 +142,7 @@ same_ports = record {
   congr = λ a b c same. ap (λ (p : PortRef). is_same_port p c) (same_port a b same);
 }
 
-few_ports : (plan : Plan) (some : List PortRef) → IsSound plan → IsDistinct is_same_port some → list_all (is_adapter_port (fabric_of plan)) some ≡ true
+few_ports : (plan : TopologyState) (some : List PortRef) → IsSound plan → IsDistinct is_same_port some → list_all (is_adapter_port (fabric_of plan)) some ≡ true
     → length some ≤ adapter_ports plan.nodes
 few_ports plan some sound once are =
     subst (λ (n : ℕ). length some ≤ n) (as_many_ports 0 plan.nodes)
@@ -160,6 +160,6 @@ few_ports plan some sound once are =
         port_place 0 plan.nodes at.node at (omega arith) (sym (switch_there plan.cables plan.nodes at.node) ∙ not-true _ parts.0)
         (leb-true 1 at.port bounds.0) (leb-true at.port (ports_at plan.nodes at.node) bounds.1)
 
-pub not_too_big : (plan : Plan) → IsSound plan → IsTooBig (fabric_of plan) → ⊥
+pub not_too_big : (plan : TopologyState) → IsSound plan → IsTooBig (fabric_of plan) → ⊥
 not_too_big plan sound (inl over) = omega (arith, over.many, few_switches plan over.some over.once over.are, sound.lines.limits.0)
 not_too_big plan sound (inr over) = omega (arith, over.many, few_ports plan over.some sound over.once over.are, sound.lines.limits.1)

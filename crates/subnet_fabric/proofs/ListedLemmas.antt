@@ -11,7 +11,7 @@ use Rattle.std.proofs.lemmas.Option.{none-some, same_Some, slice_get-map, slice_
 use Rattle.fabric_parts.specs.Cable.{is_cabled}
 use Rattle.fabric_parts.specs.NodeType.{is_switch_type}
 use Rattle.fabric_parts.specs.declared.cable.PortRef.{PortRef}
-use Rattle.fabric_wire.proofs.EndPortLemmas.{are_own}
+use Rattle.fabric_wire.proofs.EndPortLemmas.{known_distinct}
 use Rattle.fabric_wire.proofs.OfTopologyGoodLemmas.{good}
 use Rattle.fabric_wire.specs.OfTopology.{fabric_of}
 use Rattle.lid_assign.proofs.LawLemmas.{lids_and_guids_name_each_other}
@@ -22,12 +22,12 @@ use Rattle.partition_file.specs.Sound.{IsSound as ArePartitions}
 use Rattle.partition_file.specs.declared.partition.Partition.{Partition}
 use Rattle.pkey_rules.specs.StoredKeys.{stored_keys}
 use Rattle.port_model.specs.AdapterState.{AdapterState}
-use Rattle.pushed_ways.proofs.BroughtUpLemmas.{brings_up}
-use Rattle.pushed_ways.proofs.EndLemmas.{end_ports_stay}
-use Rattle.pushed_ways.proofs.ForwardsLemmas.{brought_up_forwards_by_lid}
-use Rattle.pushed_ways.proofs.SeatLemmas.{is_no_switch}
-use Rattle.pushed_ways.specs.BroughtUp.{IsBroughtUp, RoutesLeadHome}
-use Rattle.pushed_ways.specs.Pushed.{ArePushed, all_pushed}
+use Rattle.table_push.proofs.BroughtUpLemmas.{brings_up}
+use Rattle.table_push.proofs.EndLemmas.{end_ports_stay}
+use Rattle.table_push.proofs.ForwardsLemmas.{brought_up_forwards_by_lid}
+use Rattle.table_push.proofs.SeatLemmas.{is_no_switch}
+use Rattle.table_push.specs.BroughtUp.{IsBroughtUp, RoutesLeadHome}
+use Rattle.table_push.specs.Pushed.{ArePushed, all_pushed}
 use Rattle.result_words.proofs.ListLemmas.{all_have}
 use Rattle.smp_wire.specs.FabricState.{FabricState, adapter_port}
 use Rattle.smp_wire.specs.declared.node.Node.{Node}
@@ -41,7 +41,7 @@ use Rattle.subnet_ports.proofs.OwnEndLemmas.{one_end}
 use Rattle.subnet_ports.specs.EndPorts.{AreEndPorts, IsEndPort, end_port_at, is_end_port}
 use Rattle.subnet_ports.specs.FabricPorts.{AreOfGraph, planned_port}
 use Rattle.subnet_ports.specs.Ports.{ports_of}
-use Rattle.subnet_ways.specs.OfFabric.{IsFabricOf, IsListed, IsSetUp, IsThere}
+use Rattle.subnet_sends.specs.OfFabric.{IsFabricOf, IsListed, IsSetUpAsListed, IsThere}
 use Rattle.sweep.proofs.CabledLemmas.{cabled_of, far_of}
 use Rattle.sweep.proofs.EndPortLemmas.{there_is}
 use Rattle.sweep.specs.EndPorts.{FabricPort, end_port_in, held_in, is_end_port_of, port_held}
@@ -49,8 +49,8 @@ use Rattle.smp_wire.proofs.CableLemmas.{cabled_is_port}
 use Rattle.table_push.specs.Keys.{key_table}
 use Rattle.topo_file.specs.Node.{is_switch_at, port_guid_at}
 use Rattle.topo_file.specs.Sound.{IsSound}
-use Rattle.topo_file.specs.Topology.{Plan}
-use Rattle.updn_routes.specs.Subnet.{SubnetRoutes}
+use Rattle.topo_file.specs.Topology.{TopologyState}
+use Rattle.updn_routes.specs.Subnet.{RoutesState}
 use Rattle.subnet_fabric.proofs.KeyLemmas.{stored}
 use Rattle.subnet_fabric.specs.BringUp.{AreRoutesOfPlan}
 use Rattle.subnet_fabric.specs.Laws.{AFabricIsBroughtUpAsListed, all_keys}
@@ -103,8 +103,8 @@ adapter_end fabric at end is adapter = by (is_end_port_of fabric at) refl (slice
         with_port ports stands (and_parts (nat_le 1 at.port && nat_le at.port (length ports)) _ cabled).1 (adapter_port ports at.port) refl is
 
 -- ---- the fabric that is brought up
-module _ (plan : Plan) (partitions : List Partition) (sound : IsSound plan) (whole : ArePartitions partitions)
-    (routes : SubnetRoutes) (are : AreRoutesOfPlan plan routes) (home : RoutesLeadHome routes)
+module _ (plan : TopologyState) (partitions : List Partition) (sound : IsSound plan) (whole : ArePartitions partitions)
+    (routes : RoutesState) (are : AreRoutesOfPlan plan routes) (home : RoutesLeadHome routes)
     (pushed : ArePushed routes (all_keys (ports_of partitions plan)) (fabric_of plan)) where
   abbrev ports : List SubnetPort
   ports = ports_of partitions plan
@@ -167,7 +167,7 @@ module _ (plan : Plan) (partitions : List Partition) (sound : IsSound plan) (who
   -- ---- a listed port of a channel adapter is there
   record IsUp (port : SubnetPort) (at : PortRef) : Type 0 where
     one : AdapterState
-    is : IsSetUp fabric port at one
+    is : IsSetUpAsListed fabric port at one
 
   set_up : (k : ℕ) (port : SubnetPort) → slice_get ports k ≡ Some port → (end : IsEndPort partitions plan port) → is_switch_type port.node_type ≡ false → IsUp port end.at
   set_up k port there end adapter =
@@ -217,7 +217,7 @@ module _ (plan : Plan) (partitions : List Partition) (sound : IsSound plan) (who
       record {
         port = port.0;
         among = there_is ports k port.0 port.1;
-        is = subst (IsSetUp fabric port.0 at) (same_Some is.one one (sym is.is.cabled.there ∙ cabled.there)) is.is;
+        is = subst (IsSetUpAsListed fabric port.0 at) (same_Some is.one one (sym is.is.cabled.there ∙ cabled.there)) is.is;
       }
     where
       by : (b : Bool) → (if b then None else slice_get routes.lids (one.info.lid - 1)) ≡ Some one.port_guid → slice_get routes.lids (one.info.lid - 1) ≡ Some one.port_guid
@@ -257,7 +257,7 @@ module _ (plan : Plan) (partitions : List Partition) (sound : IsSound plan) (who
   pub is_fabric : IsFabricOf ports fabric
   is_fabric = record {
     forwards = brought_up_forwards_by_lid routes keys fabric home (length-map ports (λ (port : SubnetPort). port.keys) ∙ as_many) up;
-    own_guids = λ guid a b one other. are_own fabric.nodes up.good.end_guids.own a b guid one other;
+    own_guids = λ guid a b one other. known_distinct fabric.nodes up.good.end_guids.own a b guid one other;
     own_lids = own_lids 1 ports ends.lids;
     there =
         All-from_recursion (λ port. is_switch_type port.node_type ≡ false → IsThere fabric port) ports

@@ -10,7 +10,7 @@ use Rattle.routes_alike.specs.Alike.{AreAlike, layout_of}
 use Rattle.subnet_ports.proofs.GraphPortLemmas.{sweeps_find_what_is_listed}
 use Rattle.sweep.specs.Graph.{GraphState}
 use Rattle.topo_file.specs.Sound.{IsSound}
-use Rattle.topo_file.specs.Topology.{Plan}
+use Rattle.topo_file.specs.Topology.{TopologyState}
 use Rattle.updn_routes.specs.Fault.{IsRefused}
 use Rattle.updn_routes.specs.Order.{precedes}
 use Rattle.updn_routes.specs.Routes.{AllReached, order_of}
@@ -27,14 +27,14 @@ numbered first [] = refl
 numbered first (x ∷ xs) = ap (λ (rest : List ℕ). x ∷ rest) (numbered (first + 1) xs)
 
 -- LIDs are those that are listed, and so one list
-one_list : (plan : Plan) (one other : GraphState) (guids others : List ℕ) → IsSound plan → IsFound plan one → IsFound plan other
+one_list : (plan : TopologyState) (one other : GraphState) (guids others : List ℕ) → IsSound plan → IsFound plan one → IsFound plan other
     → AreAssigned one guids → AreAssigned other others → others ≡ guids
 one_list plan one other guids others sound found found_too assigned assigned_too =
     let here = sweeps_find_what_is_listed [] plan one guids sound found.of assigned.lids assigned.order in
     let there = sweeps_find_what_is_listed [] plan other others sound found_too.of assigned_too.lids assigned_too.order in
     sym (numbered 1 others) ∙ ap (map (λ (p : ℕ × ℕ). p.1)) (sym there.lids ∙ here.lids) ∙ numbered 1 guids
 
-are_alike : (plan : Plan) (one other : GraphState) (guids others : List ℕ) → IsSound plan → IsFound plan one → IsFound plan other
+are_alike : (plan : TopologyState) (one other : GraphState) (guids others : List ℕ) → IsSound plan → IsFound plan one → IsFound plan other
     → AreAssigned one guids → AreAssigned other others → AreAlike (layout_of one guids) (layout_of other guids)
 are_alike plan one other guids others sound found found_too assigned assigned_too =
     graphs_of_one_fabric_are_alike (fabric_of plan) one other guids (good plan sound) found.of found_too.of assigned.lids

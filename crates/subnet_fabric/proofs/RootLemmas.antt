@@ -16,13 +16,13 @@ use Rattle.sweep.specs.OfFabric.{Found, IsGraphOf, guid_at as guid_in_fabric, no
 use Rattle.sweep.specs.declared.graph.GraphSwitch.{GraphSwitch}
 use Rattle.topo_file.specs.Node.{is_switch_at}
 use Rattle.topo_file.specs.Sound.{IsSound, is_sized}
-use Rattle.topo_file.specs.Topology.{Plan}
+use Rattle.topo_file.specs.Topology.{TopologyState}
 use Rattle.topo_file.specs.declared.node.Node.{Node}
 use Rattle.updn_routes.specs.Subnet.{guids_of}
 use Rattle.subnet_fabric.specs.BringUp.{root_guids}
 
 -- a node of the fabric has the GUID that the topology says
-same_guid : (plan : Plan) (node : ℕ) → list_all is_sized plan.nodes ≡ true → guid_in_fabric (fabric_of plan) node ≡ guid_at plan.nodes node
+same_guid : (plan : TopologyState) (node : ℕ) → list_all is_sized plan.nodes ≡ true → guid_in_fabric (fabric_of plan) node ≡ guid_at plan.nodes node
 same_guid plan node sized =
     ap (λ (o : Option _). option_map_or node_guid o 0) (node_at plan.cables plan.nodes node) ∙ by (slice_get plan.nodes node) refl
   where
@@ -32,7 +32,7 @@ same_guid plan node sized =
     by (Some one) there = guid_of plan.cables node one (all_there is_sized plan.nodes node one sized there)
 
 -- that of a switch is a GUID of the graph
-is_named : (plan : Plan) (graph : GraphState) (root : ℕ) → IsSound plan → IsGraphOf graph (fabric_of plan) → is_switch_at plan.nodes root ≡ true
+is_named : (plan : TopologyState) (graph : GraphState) (root : ℕ) → IsSound plan → IsGraphOf graph (fabric_of plan) → is_switch_at plan.nodes root ≡ true
     → list_any (λ guid. guid == guid_at plan.nodes root) (guids_of graph) ≡ true
 is_named plan graph root sound of switch =
     let place = among_place (nodes_of of.found) root (of.all root ∙ switch_there plan.cables plan.nodes root ∙ switch) in
@@ -52,7 +52,7 @@ is_named plan graph root sound of switch =
         ∙ by k (slice_get of.found k) refl (sym (slice_get-map (λ (one : Found). one.node) of.found k) ∙ there)
         ∙ ap (λ (guid : ℕ). Some guid) (same_guid plan root sound.lines.sizes)
 
-pub are_named : (plan : Plan) (graph : GraphState) → IsSound plan → IsGraphOf graph (fabric_of plan)
+pub are_named : (plan : TopologyState) (graph : GraphState) → IsSound plan → IsGraphOf graph (fabric_of plan)
     → list_all (λ root. list_any (λ guid. guid == root) (guids_of graph)) (root_guids plan) ≡ true
 are_named plan graph sound of = each plan.roots sound.roots.switches
   where

@@ -7,10 +7,10 @@ use Rattle.partition_file.specs.declared.partition.Partition.{Partition}
 use Rattle.smp_wire.specs.FabricState.{FabricState}
 use Rattle.subnet_model.specs.declared.subnet_port.SubnetPort.{SubnetPort}
 use Rattle.subnet_ports.specs.Ports.{ports_of}
-use Rattle.subnet_ways.specs.OfFabric.{IsFabricOf}
+use Rattle.subnet_sends.specs.OfFabric.{IsFabricOf}
 use Rattle.sweep.specs.Hops.{IsTooFar}
 use Rattle.topo_file.specs.Sound.{IsSound}
-use Rattle.topo_file.specs.Topology.{Plan}
+use Rattle.topo_file.specs.Topology.{TopologyState}
 use Rattle.subnet_fabric.specs.BringUp.{HasNoPath, IsBroughtUpOf}
 
 -- the keys of listed ports, in order of LID
@@ -20,23 +20,23 @@ all_keys ports = map (λ port. port.keys) ports
 -- a fabric that is brought up with the keys of the listed ports is the fabric of the list
 abbrev pub AFabricIsBroughtUpAsListed : Type 0
 AFabricIsBroughtUpAsListed =
-    (plan : Plan) (partitions : List Partition) (fabric : FabricState) → IsSound plan → ArePartitions partitions
+    (plan : TopologyState) (partitions : List Partition) (fabric : FabricState) → IsSound plan → ArePartitions partitions
     → IsBroughtUpOf plan (all_keys (ports_of partitions plan)) fabric → IsFabricOf (ports_of partitions plan) fabric
 
 -- ---- one thing becomes of a topology's fabric
 -- where a cable is too far, no pair is told that has no path, and the fabric does not come up
 abbrev pub TooFarExcludesTheRest : Type 0
 TooFarExcludesTheRest =
-    (plan : Plan) (keys : List (List ℕ)) (fabric : FabricState) (switch port : ℕ) → IsTooFar (fabric_of plan)
+    (plan : TopologyState) (keys : List (List ℕ)) (fabric : FabricState) (switch port : ℕ) → IsTooFar (fabric_of plan)
     → (HasNoPath plan switch port → ⊥) × (IsBroughtUpOf plan keys fabric → ⊥)
 
 -- where a pair has no path, the fabric does not come up, whatever the keys
 abbrev pub NoPathExcludesComingUp : Type 0
 NoPathExcludesComingUp =
-    (plan : Plan) (keys : List (List ℕ)) (fabric : FabricState) (switch port : ℕ) → IsSound plan
+    (plan : TopologyState) (keys : List (List ℕ)) (fabric : FabricState) (switch port : ℕ) → IsSound plan
     → HasNoPath plan switch port → IsBroughtUpOf plan keys fabric → ⊥
 
 -- the pair that is told is one
 abbrev pub OnePairHasNoPath : Type 0
 OnePairHasNoPath =
-    (plan : Plan) (a b c d : ℕ) → IsSound plan → HasNoPath plan a b → HasNoPath plan c d → (a ≡ c) × (b ≡ d)
+    (plan : TopologyState) (a b c d : ℕ) → IsSound plan → HasNoPath plan a b → HasNoPath plan c d → (a ≡ c) × (b ≡ d)

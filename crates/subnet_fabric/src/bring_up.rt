@@ -8,11 +8,11 @@ use crate::fault::FabricFault;
 use fabric_wire::Fabric;
 use lid_assign::assign;
 use pkey_rules::{KeyTable, PARTITIONS};
-use pushed_ways::{push_all, routes_lead_home};
 use std::alloc::{AllocError, Global};
 use std::marker::Model;
 use subnet_ports::guid_at;
 use sweep::{Graph, sweep};
+use table_push::{known_to_lead_home, push_all};
 use topo_file::Topology;
 use updn_routes::{Routes, routes};
 
@@ -26,9 +26,9 @@ pub struct BroughtUp {
 }
 
 impl Model for BroughtUp {
-    ghost use Rattle.subnet_fabric.specs.BringUp.{Up};
+    ghost use Rattle.subnet_fabric.specs.BringUp.{BroughtUpState};
 
-    ghost Value = { Up };
+    ghost Value = { BroughtUpState };
 
     ghost view = { λ up. record { routes = up.routes; fabric = up.fabric } };
 }
@@ -47,7 +47,7 @@ pub fn bring_up_fabric(
     let mut fabric = Fabric::new(alloc, topology)?;
     let graph = graph_of(alloc, topology, &mut fabric)?;
     let routes = routes_of(alloc, topology, graph)?;
-    routes_lead_home(&routes);
+    known_to_lead_home(&routes);
     match push_all(&mut fabric, &routes, keys) {
         Ok(()) => Ok(BroughtUp { routes, fabric }),
         Err(fault) => Err(FabricFault::Push(fault)),

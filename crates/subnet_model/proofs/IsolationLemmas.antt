@@ -21,7 +21,7 @@ use Rattle.subnet_model.specs.declared.event.Outcome.{Outcome}
 use Rattle.subnet_model.specs.declared.event.Outcome.TheVariants.{Received, Refused}
 use Rattle.subnet_model.specs.declared.state.State.{State}
 use Rattle.subnet_model.specs.Administrator.{Administrator, silent}
-use Rattle.subnet_model.specs.Configuration.{Configured}
+use Rattle.subnet_model.specs.Configuration.{ConfigurationState}
 use Rattle.subnet_model.specs.State.{Alike}
 use Rattle.subnet_model.specs.Near.{shares_with, ports_share, is_near}
 use Rattle.subnet_model.specs.Delivery.{port_with_guid, refusal_of, reaches_joined, is_for_sa, key_that_matches, manager_key, asking_key}
@@ -150,7 +150,7 @@ moved : {S V : Type 0} {is_sound : S → Bool} {sees : ℕ → S → V} (p : ℕ
     → Alike is_sound sees p after t
 moved p s t after alike sound same = record { left_sound = sound; right_sound = alike.right_sound; same = same ∙ alike.same }
 
-turns_sound : {S V : Type 0} {configuration : Configured} {administrator : Administrator S} {is_sound : S → Bool} {sees : ℕ → S → V}
+turns_sound : {S V : Type 0} {configuration : ConfigurationState} {administrator : Administrator S} {is_sound : S → Bool} {sees : ℕ → S → V}
     → KeepsApart configuration administrator is_sound sees → (own : SubnetPort) (mads : List (List ℕ)) (s : S) → is_sound s ≡ true
     → is_sound (answered_in_turn (administrator.answer configuration own) mads s).1 ≡ true
 turns_sound law own [] s sound = sound
@@ -162,7 +162,7 @@ record AnsweredAlike {S V : Type 0} (is_sound : S → Bool) (sees : ℕ → S �
   mads : own.guid ≡ p → x.0 ≡ y.0
   after : Alike is_sound sees p x.1 y.1
 
-one_alike : {S V : Type 0} {configuration : Configured} {administrator : Administrator S} {is_sound : S → Bool} {sees : ℕ → S → V}
+one_alike : {S V : Type 0} {configuration : ConfigurationState} {administrator : Administrator S} {is_sound : S → Bool} {sees : ℕ → S → V}
     → KeepsApart configuration administrator is_sound sees → (p : ℕ) (own : SubnetPort) (mad : List ℕ) (s t : S)
     → port_with_guid configuration.ports own.guid ≡ Some own → Alike is_sound sees p s t
     → AnsweredAlike is_sound sees p own (administrator.answer configuration own mad s) (administrator.answer configuration own mad t)
@@ -175,7 +175,7 @@ one_alike {is_sound = is_sound} {sees = sees} law p own mad s t found alike = re
   };
 }
 
-turns_alike : {S V : Type 0} {configuration : Configured} {administrator : Administrator S} {is_sound : S → Bool} {sees : ℕ → S → V}
+turns_alike : {S V : Type 0} {configuration : ConfigurationState} {administrator : Administrator S} {is_sound : S → Bool} {sees : ℕ → S → V}
     → KeepsApart configuration administrator is_sound sees → (p : ℕ) (own : SubnetPort) (mads : List (List ℕ)) (s t : S)
     → port_with_guid configuration.ports own.guid ≡ Some own → Alike is_sound sees p s t
     → AnsweredAlike is_sound sees p own (answered_in_turn (administrator.answer configuration own) mads s) (answered_in_turn (administrator.answer configuration own) mads t)
@@ -185,7 +185,7 @@ turns_alike {configuration = configuration} {administrator = administrator} law 
     let later = turns_alike law p own mads (administrator.answer configuration own mad s).1 (administrator.answer configuration own mad t).1 found here.after in
     record { mads = λ itself. rw (here.mads itself, later.mads itself) refl; after = later.after }
 
-whole_alike : {S V : Type 0} {configuration : Configured} {administrator : Administrator S} {is_sound : S → Bool} {sees : ℕ → S → V}
+whole_alike : {S V : Type 0} {configuration : ConfigurationState} {administrator : Administrator S} {is_sound : S → Bool} {sees : ℕ → S → V}
     → KeepsApart configuration administrator is_sound sees → (p : ℕ) (own : SubnetPort) (mad : List ℕ) (s t : S)
     → port_with_guid configuration.ports own.guid ≡ Some own → Alike is_sound sees p s t
     → AnsweredAlike is_sound sees p own (answered_whole (administrator.answer configuration own) administrator.acknowledgements mad s)
@@ -219,7 +219,7 @@ whole_alike {S = S} {configuration = configuration} {administrator = administrat
     here : AnsweredAlike is_sound sees p own first second
     here = one_alike law p own mad s t found alike
 
-whole_far : {S V : Type 0} {configuration : Configured} {administrator : Administrator S} {is_sound : S → Bool} {sees : ℕ → S → V}
+whole_far : {S V : Type 0} {configuration : ConfigurationState} {administrator : Administrator S} {is_sound : S → Bool} {sees : ℕ → S → V}
     → KeepsApart configuration administrator is_sound sees → (p : ℕ) (own : SubnetPort) (mad : List ℕ) (s t : S)
     → is_near configuration.ports p own.guid ≡ false → Alike is_sound sees p s t
     → Alike is_sound sees p (answered_whole (administrator.answer configuration own) administrator.acknowledgements mad s).1 t
@@ -264,7 +264,7 @@ pub found_by_own : (ports : List SubnetPort) (guid : ℕ) (own : SubnetPort) →
 found_by_own ports guid own found = ap (port_with_guid ports) (found_guid ports guid own found) ∙ found
 
 -- ---- of a port that is far
-delivered_far : {S V : Type 0} {configuration : Configured} {administrator : Administrator S} {is_sound : S → Bool} {sees : ℕ → S → V}
+delivered_far : {S V : Type 0} {configuration : ConfigurationState} {administrator : Administrator S} {is_sound : S → Bool} {sees : ℕ → S → V}
     → KeepsApart configuration administrator is_sound sees → (p : ℕ) (command : SendCommand) (sender : SubnetPort) (s t : S)
     → port_with_guid configuration.ports command.port_guid ≡ Some sender → is_near configuration.ports p command.port_guid ≡ false
     → holds command.p_key sender.keys ≡ true → Alike is_sound sees p s t → Unmoved is_sound sees p t (delivered administrator configuration sender command s)
@@ -288,7 +288,7 @@ delivered_far {configuration = configuration} {administrator = administrator} {i
         (λ reached. both_ways (is_near configuration.ports p command.port_guid) far
         (reached_is_near configuration.ports (administrator.receives s command.dlid) p sender command found held reached))
 
-refused_far : {S V : Type 0} {configuration : Configured} {administrator : Administrator S} {is_sound : S → Bool} {sees : ℕ → S → V}
+refused_far : {S V : Type 0} {configuration : ConfigurationState} {administrator : Administrator S} {is_sound : S → Bool} {sees : ℕ → S → V}
     → KeepsApart configuration administrator is_sound sees → (p : ℕ) (command : SendCommand) (sender : SubnetPort) (s t : S)
     → port_with_guid configuration.ports command.port_guid ≡ Some sender → is_near configuration.ports p command.port_guid ≡ false
     → (refusal : Option Refusal) → refusal_of sender command ≡ refusal → Alike is_sound sees p s t
@@ -299,14 +299,14 @@ refused_far {configuration = configuration} law p command sender s t found far (
 }
 refused_far law p command sender s t found far None e alike = delivered_far law p command sender s t found far (held_unless_refused sender command e) alike
 
-sent_far : {S V : Type 0} {configuration : Configured} {administrator : Administrator S} {is_sound : S → Bool} {sees : ℕ → S → V}
+sent_far : {S V : Type 0} {configuration : ConfigurationState} {administrator : Administrator S} {is_sound : S → Bool} {sees : ℕ → S → V}
     → KeepsApart configuration administrator is_sound sees → (p : ℕ) (command : SendCommand) (s t : S) (sender : Option SubnetPort)
     → port_with_guid configuration.ports command.port_guid ≡ sender → is_near configuration.ports p command.port_guid ≡ false
     → Alike is_sound sees p s t → Unmoved is_sound sees p t (sent administrator configuration sender command s)
 sent_far law p command s t None found far alike = record { events = refl; after = alike }
 sent_far law p command s t (Some sender) found far alike = refused_far law p command sender s t found far (refusal_of sender command) refl alike
 
-conversation_far : {S V : Type 0} {configuration : Configured} {administrator : Administrator S} {is_sound : S → Bool} {sees : ℕ → S → V}
+conversation_far : {S V : Type 0} {configuration : ConfigurationState} {administrator : Administrator S} {is_sound : S → Bool} {sees : ℕ → S → V}
     → KeepsApart configuration administrator is_sound sees → (p : ℕ) (own : SubnetPort) (key : Option ℕ) (mad : List ℕ) (s t : S)
     → is_near configuration.ports p own.guid ≡ false → Alike is_sound sees p s t
     → Unmoved is_sound sees p t (conversation administrator configuration own key mad s)
@@ -318,7 +318,7 @@ conversation_far {configuration = configuration} law p own None mad s t far alik
   after = alike;
 }
 
-asked_far : {S V : Type 0} {configuration : Configured} {administrator : Administrator S} {is_sound : S → Bool} {sees : ℕ → S → V}
+asked_far : {S V : Type 0} {configuration : ConfigurationState} {administrator : Administrator S} {is_sound : S → Bool} {sees : ℕ → S → V}
     → KeepsApart configuration administrator is_sound sees → (p guid : ℕ) (mad : List ℕ) (s t : S) (own : Option SubnetPort)
     → port_with_guid configuration.ports guid ≡ own → is_near configuration.ports p guid ≡ false
     → Alike is_sound sees p s t → Unmoved is_sound sees p t (asked administrator configuration own mad s)
@@ -326,7 +326,7 @@ asked_far law p guid mad s t None found far alike = record { events = refl; afte
 asked_far {configuration = configuration} law p guid mad s t (Some own) found far alike =
     conversation_far law p own (asking_key own.keys) mad s t (ap (is_near configuration.ports p) (found_guid configuration.ports guid own found) ∙ far) alike
 
-step_far : {S V : Type 0} {configuration : Configured} {administrator : Administrator S} {is_sound : S → Bool} {sees : ℕ → S → V}
+step_far : {S V : Type 0} {configuration : ConfigurationState} {administrator : Administrator S} {is_sound : S → Bool} {sees : ℕ → S → V}
     → KeepsApart configuration administrator is_sound sees → (p : ℕ) (command : Command) (s t : S) → is_near configuration.ports p (actor command) ≡ false
     → Alike is_sound sees p s t → Unmoved is_sound sees p t (step_by administrator configuration s command)
 step_far {configuration = configuration} law p (Send command) s t far alike = sent_far law p command s t (port_with_guid configuration.ports command.port_guid) refl far alike
@@ -334,7 +334,7 @@ step_far {configuration = configuration} law p (Ask command) s t far alike =
     asked_far law p command.port_guid command.mad s t (port_with_guid configuration.ports command.port_guid) refl far alike
 
 -- ---- of any port
-delivered_alike : {S V : Type 0} {configuration : Configured} {administrator : Administrator S} {is_sound : S → Bool} {sees : ℕ → S → V}
+delivered_alike : {S V : Type 0} {configuration : ConfigurationState} {administrator : Administrator S} {is_sound : S → Bool} {sees : ℕ → S → V}
     → KeepsApart configuration administrator is_sound sees → (p : ℕ) (command : SendCommand) (sender : SubnetPort) (s t : S)
     → port_with_guid configuration.ports sender.guid ≡ Some sender → Alike is_sound sees p s t
     → SameAt is_sound sees p (delivered administrator configuration sender command s) (delivered administrator configuration sender command t)
@@ -354,7 +354,7 @@ refused_alike : {S V : Type 0} {is_sound : S → Bool} {sees : ℕ → S → V} 
 refused_alike p guid s t (Some refusal) x y alike same = record { events = refl; after = alike }
 refused_alike p guid s t None x y alike same = same
 
-sent_alike : {S V : Type 0} {configuration : Configured} {administrator : Administrator S} {is_sound : S → Bool} {sees : ℕ → S → V}
+sent_alike : {S V : Type 0} {configuration : ConfigurationState} {administrator : Administrator S} {is_sound : S → Bool} {sees : ℕ → S → V}
     → KeepsApart configuration administrator is_sound sees → (p : ℕ) (command : SendCommand) (s t : S) (sender : Option SubnetPort)
     → port_with_guid configuration.ports command.port_guid ≡ sender
     → Alike is_sound sees p s t → SameAt is_sound sees p (sent administrator configuration sender command s) (sent administrator configuration sender command t)
@@ -363,7 +363,7 @@ sent_alike {configuration = configuration} law p command s t (Some sender) found
     refused_alike p command.port_guid s t (refusal_of sender command) _ _ alike
     (delivered_alike law p command sender s t (found_by_own configuration.ports command.port_guid sender found) alike)
 
-conversation_alike : {S V : Type 0} {configuration : Configured} {administrator : Administrator S} {is_sound : S → Bool} {sees : ℕ → S → V}
+conversation_alike : {S V : Type 0} {configuration : ConfigurationState} {administrator : Administrator S} {is_sound : S → Bool} {sees : ℕ → S → V}
     → KeepsApart configuration administrator is_sound sees → (p : ℕ) (own : SubnetPort) (key : Option ℕ) (mad : List ℕ) (s t : S)
     → port_with_guid configuration.ports own.guid ≡ Some own → Alike is_sound sees p s t
     → SameAt is_sound sees p (conversation administrator configuration own key mad s) (conversation administrator configuration own key mad t)
@@ -371,7 +371,7 @@ conversation_alike {configuration = configuration} law p own (Some key) mad s t 
     replied_alike p own (manager_key configuration.ports key) s t _ _ alike (whole_alike law p own mad s t found alike)
 conversation_alike law p own None mad s t found alike = record { events = refl; after = alike }
 
-asked_alike : {S V : Type 0} {configuration : Configured} {administrator : Administrator S} {is_sound : S → Bool} {sees : ℕ → S → V}
+asked_alike : {S V : Type 0} {configuration : ConfigurationState} {administrator : Administrator S} {is_sound : S → Bool} {sees : ℕ → S → V}
     → KeepsApart configuration administrator is_sound sees → (p guid : ℕ) (mad : List ℕ) (s t : S) (own : Option SubnetPort)
     → port_with_guid configuration.ports guid ≡ own
     → Alike is_sound sees p s t → SameAt is_sound sees p (asked administrator configuration own mad s) (asked administrator configuration own mad t)
@@ -379,14 +379,14 @@ asked_alike law p guid mad s t None found alike = record { events = refl; after 
 asked_alike {configuration = configuration} law p guid mad s t (Some own) found alike =
     conversation_alike law p own (asking_key own.keys) mad s t (found_by_own configuration.ports guid own found) alike
 
-step_alike : {S V : Type 0} {configuration : Configured} {administrator : Administrator S} {is_sound : S → Bool} {sees : ℕ → S → V}
+step_alike : {S V : Type 0} {configuration : ConfigurationState} {administrator : Administrator S} {is_sound : S → Bool} {sees : ℕ → S → V}
     → KeepsApart configuration administrator is_sound sees → (p : ℕ) (command : Command) (s t : S)
     → Alike is_sound sees p s t → SameAt is_sound sees p (step_by administrator configuration s command) (step_by administrator configuration t command)
 step_alike {configuration = configuration} law p (Send command) s t alike = sent_alike law p command s t (port_with_guid configuration.ports command.port_guid) refl alike
 step_alike {configuration = configuration} law p (Ask command) s t alike =
     asked_alike law p command.port_guid command.mad s t (port_with_guid configuration.ports command.port_guid) refl alike
 
-steps_isolate : {S V : Type 0} {configuration : Configured} {administrator : Administrator S} {is_sound : S → Bool} {sees : ℕ → S → V}
+steps_isolate : {S V : Type 0} {configuration : ConfigurationState} {administrator : Administrator S} {is_sound : S → Bool} {sees : ℕ → S → V}
     → KeepsApart configuration administrator is_sound sees → (p : ℕ)
     → Isolates (administrator.begins configuration) (step_by administrator configuration) (Alike is_sound sees p)
     (λ command. is_near configuration.ports p (actor command)) (events_at p)
@@ -472,7 +472,7 @@ refusal_slid ports p guid refusal =
     All-filter (λ event. event.port_guid == p) (λ event. HasSlidNear ports p event.what) (record { port_guid = guid; what = Refused refusal } ∷ [])
     (All-cons (λ event. HasSlidNear ports p event.what) (record { port_guid = guid; what = Refused refusal }) [] tt (All-nil (λ event. HasSlidNear ports p event.what)))
 
-delivered_slids : {S : Type 0} (administrator : Administrator S) (configuration : Configured) (p : ℕ) (command : SendCommand) (sender : SubnetPort) (state : S)
+delivered_slids : {S : Type 0} (administrator : Administrator S) (configuration : ConfigurationState) (p : ℕ) (command : SendCommand) (sender : SubnetPort) (state : S)
     → port_with_guid configuration.ports command.port_guid ≡ Some sender → holds command.p_key sender.keys ≡ true
     → HaveSlidsNear configuration.ports p (delivered administrator configuration sender command state).0
 delivered_slids administrator configuration p command sender state found held = elim (cases_Bool (is_for_sa command)) [
@@ -481,14 +481,14 @@ delivered_slids administrator configuration p command sender state found held = 
   | inr other ↦ rw other (received_slids configuration.ports p (administrator.receives state command.dlid) command sender found held)
 ]
 
-unless_refused_slids : {S : Type 0} (administrator : Administrator S) (configuration : Configured) (p : ℕ) (command : SendCommand) (sender : SubnetPort) (state : S)
+unless_refused_slids : {S : Type 0} (administrator : Administrator S) (configuration : ConfigurationState) (p : ℕ) (command : SendCommand) (sender : SubnetPort) (state : S)
     → port_with_guid configuration.ports command.port_guid ≡ Some sender → (refusal : Option Refusal) → refusal_of sender command ≡ refusal
     → HaveSlidsNear configuration.ports p (unless_refused refusal command.port_guid state (delivered administrator configuration sender command state)).0
 unless_refused_slids administrator configuration p command sender state found (Some refusal) e = refusal_slid configuration.ports p command.port_guid refusal
 unless_refused_slids administrator configuration p command sender state found None e =
     delivered_slids administrator configuration p command sender state found (held_unless_refused sender command e)
 
-sent_slids : {S : Type 0} (administrator : Administrator S) (configuration : Configured) (p : ℕ) (command : SendCommand) (sender : Option SubnetPort) (state : S)
+sent_slids : {S : Type 0} (administrator : Administrator S) (configuration : ConfigurationState) (p : ℕ) (command : SendCommand) (sender : Option SubnetPort) (state : S)
     → port_with_guid configuration.ports command.port_guid ≡ sender → HaveSlidsNear configuration.ports p (sent administrator configuration sender command state).0
 sent_slids administrator configuration p command None state found = All-nil (λ event. HasSlidNear configuration.ports p event.what)
 sent_slids administrator configuration p command (Some sender) state found =
@@ -503,7 +503,7 @@ asking_held keys key e = elim (cases_Bool (holds (key_of default_base true) keys
   ]
 ]
 
-conversation_slids : {S : Type 0} (administrator : Administrator S) (configuration : Configured) (p : ℕ) (own : SubnetPort) (key : Option ℕ) (mad : List ℕ) (state : S)
+conversation_slids : {S : Type 0} (administrator : Administrator S) (configuration : ConfigurationState) (p : ℕ) (own : SubnetPort) (key : Option ℕ) (mad : List ℕ) (state : S)
     → asking_key own.keys ≡ key → port_with_guid configuration.ports own.guid ≡ Some own
     → HaveSlidsNear configuration.ports p (conversation administrator configuration own key mad state).0
 conversation_slids administrator configuration p own (Some key) mad state asking found =
@@ -511,20 +511,20 @@ conversation_slids administrator configuration p own (Some key) mad state asking
     (answered_whole (administrator.answer configuration own) administrator.acknowledgements mad state) refl found (asking_held own.keys key asking)
 conversation_slids administrator configuration p own None mad state asking found = refusal_slid configuration.ports p own.guid KeyNotHeld
 
-asked_slids : {S : Type 0} (administrator : Administrator S) (configuration : Configured) (p guid : ℕ) (mad : List ℕ) (own : Option SubnetPort) (state : S)
+asked_slids : {S : Type 0} (administrator : Administrator S) (configuration : ConfigurationState) (p guid : ℕ) (mad : List ℕ) (own : Option SubnetPort) (state : S)
     → port_with_guid configuration.ports guid ≡ own → HaveSlidsNear configuration.ports p (asked administrator configuration own mad state).0
 asked_slids administrator configuration p guid mad None state found = All-nil (λ event. HasSlidNear configuration.ports p event.what)
 asked_slids administrator configuration p guid mad (Some own) state found =
     conversation_slids administrator configuration p own (asking_key own.keys) mad state refl (found_by_own configuration.ports guid own found)
 
-step_slids : {S : Type 0} (administrator : Administrator S) (configuration : Configured) (p : ℕ) (state : S) (command : Command)
+step_slids : {S : Type 0} (administrator : Administrator S) (configuration : ConfigurationState) (p : ℕ) (state : S) (command : Command)
     → HaveSlidsNear configuration.ports p (step_by administrator configuration state command).0
 step_slids administrator configuration p state (Send command) =
     sent_slids administrator configuration p command (port_with_guid configuration.ports command.port_guid) state refl
 step_slids administrator configuration p state (Ask command) =
     asked_slids administrator configuration p command.port_guid command.mad (port_with_guid configuration.ports command.port_guid) state refl
 
-run_slids : {S : Type 0} (administrator : Administrator S) (configuration : Configured) (p : ℕ) (commands : List Command) (state : S)
+run_slids : {S : Type 0} (administrator : Administrator S) (configuration : ConfigurationState) (p : ℕ) (commands : List Command) (state : S)
     → HaveSlidsNear configuration.ports p (events_from (step_by administrator configuration) state commands)
 run_slids administrator configuration p [] state = All-nil (λ event. HasSlidNear configuration.ports p event.what)
 run_slids administrator configuration p (command ∷ commands) state =
@@ -546,7 +546,7 @@ isolated_states {step = step} {is_near = is_near} law (c ∷ cs) s t same = elim
   | inr far ↦ rw far (isolated_states law cs (step s c).1 t (law.far s t c far same).1)
 ]
 
-pub keepers_isolate : {S V : Type 0} (configuration : Configured) (administrator : Administrator S) (is_sound : S → Bool) (sees : ℕ → S → V)
+pub keepers_isolate : {S V : Type 0} (configuration : ConfigurationState) (administrator : Administrator S) (is_sound : S → Bool) (sees : ℕ → S → V)
     → KeepsApart configuration administrator is_sound sees → Isolated configuration administrator is_sound sees
 keepers_isolate configuration administrator is_sound sees law = record {
   steps = λ p. steps_isolate law p;
@@ -558,7 +558,7 @@ keepers_isolate configuration administrator is_sound sees law = record {
 }
 
 -- ---- as long as nobody answers
-pub silence_keeps_apart : (configuration : Configured) → KeepsApart configuration silent (λ state. true) (λ p state. state)
+pub silence_keeps_apart : (configuration : ConfigurationState) → KeepsApart configuration silent (λ state. true) (λ p state. state)
 silence_keeps_apart configuration = record {
   begins = refl;
   stays_sound = λ own mad s sound. refl;
@@ -569,7 +569,7 @@ silence_keeps_apart configuration = record {
   acknowledged_unseen = λ p own mads s other sound. refl;
 }
 
-silent_delivery : (configuration : Configured) (sender : SubnetPort) (command : SendCommand) (state : State) (refusal : Option Refusal)
+silent_delivery : (configuration : ConfigurationState) (sender : SubnetPort) (command : SendCommand) (state : State) (refusal : Option Refusal)
     → unless_refused refusal command.port_guid state (delivered silent configuration sender command state)
     ≡ (received_unless_refused refusal configuration.ports sender command, state)
 silent_delivery configuration sender command state (Some refusal) = refl
@@ -582,12 +582,12 @@ silent_delivery configuration sender command state None = elim (cases_Bool (is_f
     silent_reply own (Some key) state = refl
     silent_reply own None state = refl
 
-silent_send : (configuration : Configured) (command : SendCommand) (state : State) (sender : Option SubnetPort)
+silent_send : (configuration : ConfigurationState) (command : SendCommand) (state : State) (sender : Option SubnetPort)
     → sent silent configuration sender command state ≡ (sent_from sender configuration.ports command, state)
 silent_send configuration command state None = refl
 silent_send configuration command state (Some sender) = silent_delivery configuration sender command state (refusal_of sender command)
 
-silent_conversation : (configuration : Configured) (own : SubnetPort) (mad : List ℕ) (state : State) (key : Option ℕ)
+silent_conversation : (configuration : ConfigurationState) (own : SubnetPort) (mad : List ℕ) (state : State) (key : Option ℕ)
     → conversation silent configuration own key mad state ≡ (refused_unless key own.guid, state)
 silent_conversation configuration own mad state (Some key) = silent_reply (manager_key configuration.ports key)
   where
@@ -596,7 +596,7 @@ silent_conversation configuration own mad state (Some key) = silent_reply (manag
     silent_reply None = refl
 silent_conversation configuration own mad state None = refl
 
-silent_ask : (configuration : Configured) (mad : List ℕ) (state : State) (own : Option SubnetPort)
+silent_ask : (configuration : ConfigurationState) (mad : List ℕ) (state : State) (own : Option SubnetPort)
     → asked silent configuration own mad state ≡ (asked_from own, state)
 silent_ask configuration mad state None = refl
 silent_ask configuration mad state (Some own) = silent_conversation configuration own mad state (asking_key own.keys)
@@ -608,7 +608,7 @@ steps_while_silent = record {
 }
 
 -- what is the report of the commands is isolated
-pub report_is_isolated : (configuration : Configured) (commands : List Command) (events : List Event) → events ≡ report configuration commands
+pub report_is_isolated : (configuration : ConfigurationState) (commands : List Command) (events : List Event) → events ≡ report configuration commands
     → IsIsolated configuration commands events
 report_is_isolated configuration commands events same =
     rw same ((keepers_isolate configuration silent (λ state. true) (λ p state. state) (silence_keeps_apart configuration)).runs commands)

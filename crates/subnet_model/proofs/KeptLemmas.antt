@@ -3,7 +3,7 @@ use Rattle.std.proofs.Common.{ℕ, Bool, true, false, List, [], ◌∷◌, Optio
 use Rattle.data_packet.specs.declared.refusal.Refusal.{Refusal}
 use Rattle.subnet_model.proofs.IsolationLemmas.{found_by_own}
 use Rattle.subnet_model.specs.Administrator.{Administrator}
-use Rattle.subnet_model.specs.Configuration.{Configured}
+use Rattle.subnet_model.specs.Configuration.{ConfigurationState}
 use Rattle.subnet_model.specs.Delivery.{asking_key, is_for_sa, manager_key, port_with_guid, reaches_joined, refusal_of}
 use Rattle.subnet_model.specs.Report.{answered_in_turn, answered_whole, asked, conversation, delivered, received_by, replied, sent, state_from, step_by, unless_refused}
 use Rattle.subnet_model.specs.declared.command.Command.{Command}
@@ -12,7 +12,7 @@ use Rattle.subnet_model.specs.declared.command.SendCommand.{SendCommand}
 use Rattle.subnet_model.specs.declared.event.Event.{Event}
 use Rattle.subnet_model.specs.declared.subnet_port.SubnetPort.{SubnetPort}
 
-module _ {S : Type 0} (P : S → Type 0) (administrator : Administrator S) (configuration : Configured)
+module _ {S : Type 0} (P : S → Type 0) (administrator : Administrator S) (configuration : ConfigurationState)
     (kept : (own : SubnetPort) (mad : List ℕ) (s : S) → port_with_guid configuration.ports own.guid ≡ Some own → P s
     → P (administrator.answer configuration own mad s).1) where
   turns_keep : (own : SubnetPort) (mads : List (List ℕ)) (s : S) → port_with_guid configuration.ports own.guid ≡ Some own → P s

@@ -4,6 +4,6 @@ use Rattle.partition_file.specs.declared.heading.Heading.{Heading}
 use Rattle.subnet_model.specs.declared.subnet_port.SubnetPort.{SubnetPort}
 
 -- its end ports in order of LID, and its partitions in order of their numbers
-pub record Configured : Type 0 where
+pub record ConfigurationState : Type 0 where
   pub ports : List SubnetPort
   pub partitions : List Heading

@@ -1,9 +1,10 @@
 -- Whether a packet may be sent, and whom it reaches.
 use Rattle.std.specs.Prelude.{ℕ, Bool, true, false, not, ◌==◌, ◌&&◌, ◌||◌, List, Option, Some, None, if◌then◌else◌, find}
-use Rattle.fabric_parts.specs.Lid.{is_reserved}
+use Rattle.fabric_parts.specs.Lid.{is_reserved, manager_lid}
 use Rattle.fabric_parts.specs.NodeType.{is_switch_type}
 use Rattle.pkey_rules.specs.KeyTable.{accepts, holds}
 use Rattle.pkey_rules.specs.PKey.{default_base, key_of, matches}
+use Rattle.data_packet.specs.QueuePair.{general_services_qp, is_general_services, is_subnet_management}
 use Rattle.data_packet.specs.declared.refusal.Refusal.{Refusal}
 use Rattle.data_packet.specs.declared.refusal.Refusal.TheVariants.{KeyNotHeld, QpZero, ReservedDlid}
 use Rattle.subnet_model.specs.declared.subnet_port.SubnetPort.{SubnetPort}
@@ -19,7 +20,7 @@ abbrev pub refusal_of : SubnetPort → SendCommand → Option Refusal
 refusal_of sender command =
     if not (holds command.p_key sender.keys)
     then Some KeyNotHeld
-    else if command.destination_qp == 0
+    else if is_subnet_management command.destination_qp
     then Some QpZero
     else if is_reserved command.dlid
     then Some ReservedDlid
@@ -37,9 +38,9 @@ abbrev pub reaches : SendCommand → SubnetPort → Bool
 reaches command port = reaches_joined (λ guid. false) command port
 
 -- ---- subnet administration
--- what is sent to LID 1, which is the subnet manager's port's, and to queue pair 1 is for it
+-- what is sent to the subnet manager's port, and to the queue pair of general services, is for it
 abbrev pub is_for_sa : SendCommand → Bool
-is_for_sa command = (command.dlid == 1) && (command.destination_qp == 1)
+is_for_sa command = (command.dlid == manager_lid) && is_general_services command.destination_qp
 
 -- the key by which the subnet manager's port answers what travels under this key: the one of its own that matches
 abbrev pub key_that_matches : ℕ → Option SubnetPort → Option ℕ
@@ -47,7 +48,7 @@ key_that_matches key (Some manager) = find (λ held. matches held key) manager.k
 key_that_matches key None = None
 
 abbrev pub manager_key : List SubnetPort → ℕ → Option ℕ
-manager_key ports key = key_that_matches key (find (λ port. port.lid == 1) ports)
+manager_key ports key = key_that_matches key (find (λ port. port.lid == manager_lid) ports)
 
 -- a port asks under the key of the default partition that it holds
 abbrev pub asking_key : List ℕ → Option ℕ
@@ -62,8 +63,8 @@ asking_key keys =
 abbrev pub sent_to_ask : AskCommand → ℕ → SendCommand
 sent_to_ask command key = record {
   port_guid = command.port_guid;
-  dlid = 1;
+  dlid = manager_lid;
   p_key = key;
-  destination_qp = 1;
+  destination_qp = general_services_qp;
   payload = command.mad;
 }

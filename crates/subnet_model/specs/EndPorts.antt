@@ -1,4 +1,4 @@
--- How the end ports of a subnet are named by LIDs (InfiniBand volume 1, chapter 14).
+-- How the end ports of a subnet are named by LIDs (IBA volume 1, chapter 14).
 use Rattle.std.specs.Prelude.{ℕ, ◌+◌, ◌&&◌, not, List, map, count_by, if◌then◌else◌, nat_lt}
 use Rattle.pkey_rules.specs.declared.end_port.EndPort.{EndPort}
 

@@ -4,7 +4,7 @@ use Rattle.subnet_model.specs.declared.subnet_port.SubnetPort.{SubnetPort}
 use Rattle.subnet_model.specs.declared.command.Command.{Command}
 use Rattle.subnet_model.specs.declared.event.Event.{Event}
 use Rattle.subnet_model.specs.Administrator.{Administrator, silent}
-use Rattle.subnet_model.specs.Configuration.{Configured}
+use Rattle.subnet_model.specs.Configuration.{ConfigurationState}
 use Rattle.subnet_model.specs.Delivery.{port_with_guid}
 use Rattle.subnet_model.specs.Near.{is_near}
 use Rattle.subnet_model.specs.Report.{answered_in_turn, report_by}
@@ -15,7 +15,7 @@ use Rattle.subnet_model.specs.State.{Alike}
 -- An administrator keeps ports apart, where some states are sound and each port sees something of a state: what a port
 -- far from another sends changes nothing that the other sees; a port that sees the same in two states is answered the
 -- same, and receives what is sent to the same groups; and what two states show alike, they show alike after a MAD.
-pub record KeepsApart {S V : Type 0} (configuration : Configured) (administrator : Administrator S) (is_sound : S → Bool)
+pub record KeepsApart {S V : Type 0} (configuration : ConfigurationState) (administrator : Administrator S) (is_sound : S → Bool)
     (sees : ℕ → S → V) : Type 0 where
   pub begins : is_sound (administrator.begins configuration) ≡ true
   pub stays_sound : (own : SubnetPort) (mad : List ℕ) (s : S) → is_sound s ≡ true
@@ -50,18 +50,18 @@ pub record Isolates {S C E : Type 0} (start : S) (step : S → C → List E × S
   pub nothing : own_events [] ≡ []
 
 -- the events at p are those that the commands of the ports near p alone would bring it
-abbrev pub DependsOnNearBy : {S : Type 0} → Administrator S → Configured → ℕ → List Command → List Event → Type 0
+abbrev pub DependsOnNearBy : {S : Type 0} → Administrator S → ConfigurationState → ℕ → List Command → List Event → Type 0
 DependsOnNearBy administrator configuration p commands events =
     events_at p events ≡ events_at p (report_by administrator configuration (commands_of (is_near configuration.ports p) commands))
 
 -- so it is at every port, and what each receives has the SLID of a port near it
-abbrev pub IsIsolatedBy : {S : Type 0} → Administrator S → Configured → List Command → List Event → Type 0
+abbrev pub IsIsolatedBy : {S : Type 0} → Administrator S → ConfigurationState → List Command → List Event → Type 0
 IsIsolatedBy administrator configuration commands events =
     (p : ℕ) → DependsOnNearBy administrator configuration p commands events × HaveSlidsNear configuration.ports p events
 
 -- as long as nobody answers what is asked of subnet administration
-abbrev pub DependsOnNear : Configured → ℕ → List Command → List Event → Type 0
+abbrev pub DependsOnNear : ConfigurationState → ℕ → List Command → List Event → Type 0
 DependsOnNear configuration p commands events = DependsOnNearBy silent configuration p commands events
 
-abbrev pub IsIsolated : Configured → List Command → List Event → Type 0
+abbrev pub IsIsolated : ConfigurationState → List Command → List Event → Type 0
 IsIsolated configuration commands events = IsIsolatedBy silent configuration commands events

@@ -5,7 +5,7 @@ use Rattle.subnet_model.specs.declared.subnet_port.SubnetPort.{SubnetPort}
 use Rattle.subnet_model.specs.declared.command.Command.{Command}
 use Rattle.subnet_model.specs.declared.event.Event.{Event}
 use Rattle.subnet_model.specs.Administrator.{Administrator, silent}
-use Rattle.subnet_model.specs.Configuration.{Configured}
+use Rattle.subnet_model.specs.Configuration.{ConfigurationState}
 use Rattle.subnet_model.specs.State.{Alike}
 use Rattle.subnet_model.specs.Near.{is_near}
 use Rattle.subnet_model.specs.Report.{step_by, report_by, report, state_from}
@@ -16,7 +16,7 @@ use Rattle.subnet_model.specs.Isolation.{Isolates, IsIsolated, IsIsolatedBy, Kee
 -- Whoever answers what is asked of subnet administration, and keeps ports apart: the step of a subnet keeps each port to
 -- itself and to those near it, so does every run, and what is remembered after it is to each port as if the ports near
 -- it alone had done anything
-pub record Isolated {S V : Type 0} (configuration : Configured) (administrator : Administrator S) (is_sound : S → Bool)
+pub record Isolated {S V : Type 0} (configuration : ConfigurationState) (administrator : Administrator S) (is_sound : S → Bool)
     (sees : ℕ → S → V) : Type 0 where
   pub steps : (p : ℕ)
       → Isolates (administrator.begins configuration) (step_by administrator configuration) (Alike is_sound sees p)
@@ -31,17 +31,17 @@ pub record Isolated {S V : Type 0} (configuration : Configured) (administrator :
 
 abbrev pub EveryKeeperIsolates : Type 0 → Type 0 → Type 0
 EveryKeeperIsolates S V =
-    (configuration : Configured) (administrator : Administrator S) (is_sound : S → Bool) (sees : ℕ → S → V)
+    (configuration : ConfigurationState) (administrator : Administrator S) (is_sound : S → Bool) (sees : ℕ → S → V)
     → KeepsApart configuration administrator is_sound sees → Isolated configuration administrator is_sound sees
 
 -- who never answers keeps ports apart
 abbrev pub SilenceKeepsApart : Type 0
-SilenceKeepsApart = (configuration : Configured) → KeepsApart configuration silent (λ state. true) (λ p state. state)
+SilenceKeepsApart = (configuration : ConfigurationState) → KeepsApart configuration silent (λ state. true) (λ p state. state)
 
 -- so that every run is isolated as long as nobody answers, whatever the ports and the commands
 abbrev pub EveryRunIsIsolated : Type 0
 EveryRunIsIsolated =
-    (configuration : Configured) (commands : List Command) → IsIsolated configuration commands (report configuration commands)
+    (configuration : ConfigurationState) (commands : List Command) → IsIsolated configuration commands (report configuration commands)
 
 -- where no two ports have one LID, the port of a LID near p is near p
 abbrev pub ThePortOfALidIsNear : Type 0

@@ -1,6 +1,8 @@
 -- What happens in a subnet, command by command, whoever answers what is asked of subnet administration.
 use Rattle.std.specs.Prelude.{ℕ, Bool, if◌then◌else◌, List, [], ◌∷◌, ◌++◌, Option, Some, None, filter, fold, map}
+use Rattle.data_packet.specs.QueuePair.{general_services_qp}
 use Rattle.data_packet.specs.declared.packet.Packet.{Packet}
+use Rattle.fabric_parts.specs.Lid.{manager_lid}
 use Rattle.data_packet.specs.declared.refusal.Refusal.{Refusal}
 use Rattle.data_packet.specs.declared.refusal.Refusal.TheVariants.{KeyNotHeld}
 use Rattle.subnet_model.specs.declared.subnet_port.SubnetPort.{SubnetPort}
@@ -11,7 +13,7 @@ use Rattle.subnet_model.specs.declared.event.Event.{Event}
 use Rattle.subnet_model.specs.declared.event.Outcome.TheVariants.{Received, Refused}
 use Rattle.subnet_model.specs.declared.state.State.{State}
 use Rattle.subnet_model.specs.Administrator.{Administrator, silent}
-use Rattle.subnet_model.specs.Configuration.{Configured}
+use Rattle.subnet_model.specs.Configuration.{ConfigurationState}
 use Rattle.subnet_model.specs.Delivery.{asking_key, is_for_sa, manager_key, port_with_guid, reaches_joined, refusal_of}
 
 -- the packet as it arrives
@@ -52,7 +54,7 @@ answered_whole answer acknowledgements mad state = (
 abbrev pub reply_to : SubnetPort → ℕ → List ℕ → Event
 reply_to own key mad = record {
   port_guid = own.guid;
-  what = Received (record { slid = 1; dlid = own.lid; p_key = key; destination_qp = 1; payload = mad });
+  what = Received (record { slid = manager_lid; dlid = own.lid; p_key = key; destination_qp = general_services_qp; payload = mad });
 }
 
 -- where no key of the subnet manager's port matches the packet's, it does not come to subnet administration
@@ -61,33 +63,33 @@ replied own (Some key) state answered = (map (reply_to own key) answered.0, answ
 replied own None state answered = ([], state)
 
 -- ---- one command
-abbrev pub delivered : {S : Type 0} → Administrator S → Configured → SubnetPort → SendCommand → S → List Event × S
+abbrev pub delivered : {S : Type 0} → Administrator S → ConfigurationState → SubnetPort → SendCommand → S → List Event × S
 delivered administrator configuration sender command state =
     if is_for_sa command
     then replied sender (manager_key configuration.ports command.p_key) state
     (administrator.answer configuration sender command.payload state)
     else (received_by (reaches_joined (administrator.receives state command.dlid) command) configuration.ports sender command, state)
 
-abbrev pub sent : {S : Type 0} → Administrator S → Configured → Option SubnetPort → SendCommand → S → List Event × S
+abbrev pub sent : {S : Type 0} → Administrator S → ConfigurationState → Option SubnetPort → SendCommand → S → List Event × S
 sent administrator configuration (Some sender) command state =
     unless_refused (refusal_of sender command) command.port_guid state (delivered administrator configuration sender command state)
 sent administrator configuration None command state = ([], state)
 
 -- a port that asks acknowledges what answers it
-abbrev pub conversation : {S : Type 0} → Administrator S → Configured → SubnetPort → Option ℕ → List ℕ → S → List Event × S
+abbrev pub conversation : {S : Type 0} → Administrator S → ConfigurationState → SubnetPort → Option ℕ → List ℕ → S → List Event × S
 conversation administrator configuration own (Some key) mad state =
     replied own (manager_key configuration.ports key) state
     (answered_whole (administrator.answer configuration own) administrator.acknowledgements mad state)
 conversation administrator configuration own None mad state =
     (record { port_guid = own.guid; what = Refused KeyNotHeld } ∷ [], state)
 
-abbrev pub asked : {S : Type 0} → Administrator S → Configured → Option SubnetPort → List ℕ → S → List Event × S
+abbrev pub asked : {S : Type 0} → Administrator S → ConfigurationState → Option SubnetPort → List ℕ → S → List Event × S
 asked administrator configuration (Some own) mad state =
     conversation administrator configuration own (asking_key own.keys) mad state
 asked administrator configuration None mad state = ([], state)
 
 -- the events of one command, and the state after it
-abbrev pub step_by : {S : Type 0} → Administrator S → Configured → S → Command → List Event × S
+abbrev pub step_by : {S : Type 0} → Administrator S → ConfigurationState → S → Command → List Event × S
 step_by administrator configuration state (Send command) =
     sent administrator configuration (port_with_guid configuration.ports command.port_guid) command state
 step_by administrator configuration state (Ask command) =
@@ -105,13 +107,13 @@ abbrev pub state_from : {S C E : Type 0} → (S → C → List E × S) → S →
 state_from step state commands = fold (λ before command. (step before command).1) state commands
 
 -- the report of a list of commands
-abbrev pub report_by : {S : Type 0} → Administrator S → Configured → List Command → List Event
+abbrev pub report_by : {S : Type 0} → Administrator S → ConfigurationState → List Command → List Event
 report_by administrator configuration commands =
     events_from (step_by administrator configuration) (administrator.begins configuration) commands
 
 -- ---- as long as nobody answers
-abbrev pub step : Configured → State → Command → List Event × State
+abbrev pub step : ConfigurationState → State → Command → List Event × State
 step configuration state command = step_by silent configuration state command
 
-abbrev pub report : Configured → List Command → List Event
+abbrev pub report : ConfigurationState → List Command → List Event
 report configuration commands = report_by silent configuration commands

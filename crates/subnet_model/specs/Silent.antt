@@ -9,7 +9,7 @@ use Rattle.subnet_model.specs.declared.command.SendCommand.{SendCommand}
 use Rattle.subnet_model.specs.declared.event.Event.{Event}
 use Rattle.subnet_model.specs.declared.event.Outcome.TheVariants.{Refused}
 use Rattle.subnet_model.specs.declared.state.State.{State}
-use Rattle.subnet_model.specs.Configuration.{Configured}
+use Rattle.subnet_model.specs.Configuration.{ConfigurationState}
 use Rattle.subnet_model.specs.Delivery.{asking_key, is_for_sa, port_with_guid, reaches, refusal_of}
 use Rattle.subnet_model.specs.Report.{received_by, step}
 
@@ -36,8 +36,8 @@ asked_from None = []
 
 -- each step is one of these, and leaves the state as it is
 pub record StepsWhileSilent : Type 0 where
-  pub sending : (configuration : Configured) (state : State) (command : SendCommand)
+  pub sending : (configuration : ConfigurationState) (state : State) (command : SendCommand)
       → step configuration state (Send command)
       ≡ (sent_from (port_with_guid configuration.ports command.port_guid) configuration.ports command, state)
-  pub asking : (configuration : Configured) (state : State) (command : AskCommand)
+  pub asking : (configuration : ConfigurationState) (state : State) (command : AskCommand)
       → step configuration state (Ask command) ≡ (asked_from (port_with_guid configuration.ports command.port_guid), state)

@@ -1,10 +1,10 @@
 -- What a subnet remembers between two commands, and when two such states are alike to a port.
 use Rattle.std.specs.Prelude.{ℕ, ◌≡◌, Bool, true}
 use Rattle.subnet_model.specs.declared.state.State.{State}
-use Rattle.subnet_model.specs.Configuration.{Configured}
+use Rattle.subnet_model.specs.Configuration.{ConfigurationState}
 
 -- as long as nobody answers, nothing is remembered
-abbrev pub start : Configured → State
+abbrev pub start : ConfigurationState → State
 start configuration = record {}
 
 -- two sound states are alike to the port of this GUID where it sees the same of them

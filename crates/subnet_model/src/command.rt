@@ -1,4 +1,10 @@
+//! What ports are told to do.
+
+ghost use Rattle.std.specs.Prelude.{◌≡◌};
+ghost use Rattle.subnet_model.specs.Delivery.{is_for_sa};
+
 use data_packet::{Payload, QueuePair};
+use fabric_parts::MANAGER_LID;
 
 /// What a port is told to do.
 #[derive(Debug, Drop, PartialEq, Eq)]
@@ -24,8 +30,17 @@ pub struct SendCommand {
     pub payload: Payload,
 }
 
+impl SendCommand {
+    /// Whether the packet is for subnet administration.
+    pub fn is_for_sa(&self) -> bool
+        ensures { result ≡ is_for_sa self.now }
+    {
+        self.dlid == MANAGER_LID && self.destination_qp.is_general_services()
+    }
+}
+
 /// What a port is told to ask of the subnet administration: it sends this MAD to it, under the key of the default
-/// partition that it holds, and acknowledges what answers it (InfiniBand Architecture Specification, volume 1,
+/// partition that it holds, and acknowledges what answers it (IBA volume 1,
 /// chapters 13 and 15).
 #[derive(Debug, Drop, PartialEq, Eq)]
 pub struct AskCommand {

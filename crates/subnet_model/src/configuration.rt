@@ -1,3 +1,5 @@
+//! The ports of a subnet, and its partitions.
+
 ghost use Rattle.std.specs.Prelude.{◌≡◌};
 
 use crate::subnet_port::SubnetPort;
@@ -13,15 +15,15 @@ pub struct Configuration {
 }
 
 impl Model for Configuration {
-    ghost use Rattle.subnet_model.specs.Configuration.{Configured};
+    ghost use Rattle.subnet_model.specs.Configuration.{ConfigurationState};
 
-    ghost Value = { Configured };
+    ghost Value = { ConfigurationState };
 
     ghost view = { λ configuration. record { ports = configuration.ports.items; partitions = configuration.partitions.items } };
 }
 
 impl Configuration {
-    ghost use Rattle.subnet_model.specs.Configuration.{Configured};
+    ghost use Rattle.subnet_model.specs.Configuration.{ConfigurationState};
 
     /// The configuration of these ports and partitions.
     pub fn new(ports: Vec<SubnetPort>, partitions: Vec<Heading>) -> Configuration

@@ -1,7 +1,9 @@
+//! What the definitions say of runs in which nobody answers, as a plain program.
+
 ghost use Rattle.std.specs.Prelude.{◌≡◌, [], ◌∷◌, ◌++◌, Some, None, IfOk, OnOk, MatchResult};
 ghost use Rattle.std.specs.Option.{option_copied};
 ghost use Rattle.subnet_model.specs.declared.event.Outcome.TheVariants.{Received, Refused};
-ghost use Rattle.subnet_model.specs.Delivery.{asking_key, port_with_guid, refusal_of, reaches, is_for_sa};
+ghost use Rattle.subnet_model.specs.Delivery.{asking_key, port_with_guid, refusal_of, reaches};
 ghost use Rattle.subnet_model.specs.Isolation.{IsIsolated};
 ghost use Rattle.subnet_model.specs.Report.{events_from, packet_of, step, report};
 ghost use Rattle.subnet_model.specs.Silent.{asked_from, received, sent_from};
@@ -75,7 +77,7 @@ fn push_sent(
         return Ok(());
     };
     match key_to_send(sender, command) {
-        Ok(_) if is_for_sa(command) => Ok(()),
+        Ok(_) if command.is_for_sa() => Ok(()),
         Ok(key) => push_received(events, ports, sender, key, command),
         Err(refusal) => push_refused(events, command.port_guid, refusal),
     }
@@ -124,7 +126,7 @@ fn key_to_send(sender: &SubnetPort, command: &SendCommand) -> Result<PKey, Refus
     let Some(key) = sender.keys.find(command.p_key) else {
         return Err(Refusal::KeyNotHeld);
     };
-    if command.destination_qp.number() == 0 {
+    if command.destination_qp.is_subnet_management() {
         return Err(Refusal::QpZero);
     }
     if is_reserved(command.dlid) {
@@ -200,11 +202,4 @@ fn reaches(command: &SendCommand, key: PKey, port: &SubnetPort) -> bool
     ensures { result ≡ reaches command.now port.now }
 {
     port.lid == command.dlid && port.node_type == NodeType::ChannelAdapter && port.keys.accepts(key)
-}
-
-/// Whether the packet is for the subnet administration.
-fn is_for_sa(command: &SendCommand) -> bool
-    ensures { result ≡ is_for_sa command.now }
-{
-    command.dlid == 1 && command.destination_qp.number() == 1
 }

@@ -1,3 +1,5 @@
+//! What happens at a port.
+
 use data_packet::{Packet, Refusal};
 
 /// Something that happens at a port.

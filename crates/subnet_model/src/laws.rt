@@ -2,7 +2,6 @@
 //! contract is the law.
 
 ghost use Rattle.std.specs.Prelude.{◌≡◌};
-ghost use Rattle.subnet_model.specs.declared.node_name.TheConstants.{NODE_NAME_BYTES};
 ghost use Rattle.subnet_model.specs.Groups.{GroupsReachOthers};
 ghost use Rattle.subnet_model.specs.Laws.{EveryKeeperIsolates, EveryRunIsIsolated, SilenceKeepsApart, SlidsNameTheirPorts, ThePortOfALidIsNear};
 ghost use Rattle.subnet_model.specs.Silent.{StepsWhileSilent};
@@ -44,9 +43,4 @@ pub fn the_port_of_a_lid_is_near()
 /// Where no two ports have one LID, what a port receives comes from the ports near it.
 pub fn slids_name_their_ports()
     ensures { SlidsNameTheirPorts }
-{}
-
-/// How long a node's name may be, written out: the number is ours.
-pub fn the_numbers()
-    ensures node_name_bytes { NODE_NAME_BYTES ≡ 32 }
 {}

@@ -26,10 +26,10 @@ pub use crate::evaluation::{carry_out, port_with_guid, report, step};
 pub use crate::event::{Event, Outcome};
 pub use crate::laws::{
     every_keeper_isolates, every_run_is_isolated, groups_reach_others, silence_keeps_apart,
-    slids_name_their_ports, steps_while_silent, the_numbers, the_port_of_a_lid_is_near,
+    slids_name_their_ports, steps_while_silent, the_port_of_a_lid_is_near,
 };
 pub use crate::lids::{lid_of, lids_of};
 pub use crate::nearness::{is_near, near};
-pub use crate::node_name::{NODE_NAME_BYTES, NodeName};
+pub use crate::node_name::NodeName;
 pub use crate::state::State;
 pub use crate::subnet_port::SubnetPort;

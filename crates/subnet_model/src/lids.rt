@@ -1,3 +1,5 @@
+//! The LIDs of end ports.
+
 ghost use Rattle.std.specs.Prelude.{◌≡◌, ◌<◌, length, IfOk};
 ghost use Rattle.fabric_parts.specs.declared.lid.TheConstants.{LAST_UNICAST_LID};
 ghost use Rattle.subnet_model.specs.EndPorts.{lid_of, lids_of};

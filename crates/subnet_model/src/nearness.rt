@@ -1,3 +1,5 @@
+//! Which ports share a partition.
+
 ghost use Rattle.std.specs.Prelude.{◌≡◌, IfOk};
 ghost use Rattle.subnet_model.specs.Near.{is_near, near, ports_share, shares_with};
 

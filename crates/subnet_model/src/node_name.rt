@@ -1,16 +1,16 @@
+//! The name of a node.
+
 ghost use Rattle.std.specs.Prelude.{◌≡◌, ◌≤◌, length};
-ghost use Rattle.subnet_model.specs.declared.node_name.TheConstants.{NODE_NAME_BYTES};
+ghost use Rattle.fabric_parts.specs.declared.limits.TheConstants.{NAME_BYTES};
 
 use arrayvec::ArrayVec;
+use fabric_parts::NAME_BYTES;
 use std::marker::Model;
-
-/// How many bytes the name of a node has at most.
-pub const NODE_NAME_BYTES: usize = 32;
 
 /// The name of a node, as its description shows it.
 #[derive(Debug, Drop, PartialEq, Eq)]
 pub struct NodeName {
-    bytes: ArrayVec<u8, NODE_NAME_BYTES>,
+    bytes: ArrayVec<u8, NAME_BYTES>,
 }
 
 impl Model for NodeName {
@@ -26,7 +26,7 @@ impl Model for NodeName {
 impl NodeName {
     /// The name that these bytes spell.
     pub fn new(bytes: &[u8]) -> NodeName
-        requires { length bytes.now ≤ NODE_NAME_BYTES }
+        requires { length bytes.now ≤ NAME_BYTES }
         ensures { result ≡ bytes.now }
     {
         let mut name = ArrayVec::new();
@@ -37,7 +37,7 @@ impl NodeName {
     /// Its bytes.
     pub fn as_slice(&self) -> &[u8]
         ensures value { result.now ≡ self.now }
-        ensures fits { length result.now ≤ NODE_NAME_BYTES }
+        ensures fits { length result.now ≤ NAME_BYTES }
     {
         self.bytes.as_slice()
     }

@@ -1,3 +1,5 @@
+//! What a subnet remembers while nobody answers: nothing.
+
 ghost use Rattle.std.specs.Prelude.{◌≡◌};
 
 use crate::configuration::Configuration;

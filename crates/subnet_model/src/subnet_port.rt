@@ -1,3 +1,5 @@
+//! A port of a subnet.
+
 use crate::node_name::NodeName;
 use fabric_parts::NodeType;
 use pkey_rules::{KeyTable, PARTITIONS};

@@ -11,7 +11,7 @@ use Rattle.std.proofs.lemmas.List.Sorted.{IsPermutation-refl, IsPermutation-tran
 use Rattle.std.proofs.lemmas.List.Sorted.{IsPermutation-insert, All-permutation, sum_by-IsPermutation}
 use Rattle.std.proofs.lemmas.Map.Keys.{IsDistinct-IsPermutation}
 use Rattle.result_words.proofs.TestLemmas.{same_either_way}
-use Rattle.lid_assign.proofs.RisingLemmas.{counted}
+use Rattle.result_words.proofs.RisingLemmas.{counted}
 use Rattle.partition_file.specs.declared.partition.Partition.{Partition}
 use Rattle.partition_file.specs.Members.{keys_in}
 use Rattle.pkey_rules.specs.declared.end_port.EndPort.{EndPort}
@@ -20,7 +20,7 @@ use Rattle.fabric_parts.specs.Cable.{is_cabled, is_same_port}
 use Rattle.topo_file.specs.declared.node.Node.{Node}
 use Rattle.topo_file.specs.Node.{is_switch_at, port_guid_at, ports_at}
 use Rattle.topo_file.specs.Sound.{IsSound, is_port}
-use Rattle.topo_file.specs.Topology.{Plan}
+use Rattle.topo_file.specs.Topology.{TopologyState}
 use Rattle.subnet_model.specs.declared.subnet_port.SubnetPort.{SubnetPort}
 use Rattle.subnet_model.specs.EndPorts.{lid_of}
 use Rattle.subnet_model.specs.Source.{same_lid}
@@ -301,7 +301,7 @@ pub any_map : {X Y : Type 0} (f : X → Y) (p : Y → Bool) (xs : List X) → li
 any_map f p [] = refl
 any_map f p (x ∷ xs) = ap (λ b. p (f x) || b) (any_map f p xs)
 
-is_of_seat : (partitions : List Partition) (plan : Plan) (all : List EndPort) (seat : Seat) → IsSeat plan seat → IsEndPort partitions plan (known partitions plan.nodes all seat)
+is_of_seat : (partitions : List Partition) (plan : TopologyState) (all : List EndPort) (seat : Seat) → IsSeat plan seat → IsEndPort partitions plan (known partitions plan.nodes all seat)
 is_of_seat partitions plan all seat h = record {
   at = place_of seat;
   there = h.there;
@@ -315,7 +315,7 @@ is_of_seat partitions plan all seat h = record {
 }
 
 -- the subnet manager's seat has the GUID of its port
-sm_guid : (plan : Plan) (seat : Seat) → IsSeat plan seat → seat.port.is_sm ≡ true → seat.port.guid ≡ port_guid_at plan.nodes plan.sm
+sm_guid : (plan : TopologyState) (seat : Seat) → IsSeat plan seat → seat.port.is_sm ≡ true → seat.port.guid ≡ port_guid_at plan.nodes plan.sm
 sm_guid plan seat h is =
     let same : is_same_port (place_of seat) plan.sm ≡ true = sym (ap (λ (port : EndPort). port.is_sm) h.port) ∙ is in
     let parts = and_parts (seat.place == plan.sm.node) (seat.number == plan.sm.port) same in
@@ -323,36 +323,36 @@ sm_guid plan seat h is =
     let number : seat.number ≡ plan.sm.port = eqb-true seat.number plan.sm.port parts.1 in
     ap (λ (port : EndPort). port.guid) h.port ∙ rw (node, number) refl
 
-guid_there : (plan : Plan) (at : PortRef) (seat : Seat) → IsSeat plan seat → is_same_port (place_of seat) at ≡ true → (seat.port.guid == port_guid_at plan.nodes at) ≡ true
+guid_there : (plan : TopologyState) (at : PortRef) (seat : Seat) → IsSeat plan seat → is_same_port (place_of seat) at ≡ true → (seat.port.guid == port_guid_at plan.nodes at) ≡ true
 guid_there plan at seat h same =
     let parts = and_parts (seat.place == at.node) (seat.number == at.port) same in
     let node : seat.place ≡ at.node = eqb-true seat.place at.node parts.0 in
     let number : seat.number ≡ at.port = eqb-true seat.number at.port parts.1 in
     eq-eqb seat.port.guid (port_guid_at plan.nodes at) (ap (λ (port : EndPort). port.guid) h.port ∙ rw (node, number) refl)
 
-is_sm_there : (plan : Plan) (seat : Seat) → IsSeat plan seat → is_same_port (place_of seat) plan.sm ≡ true → sits_sm seat ≡ true
+is_sm_there : (plan : TopologyState) (seat : Seat) → IsSeat plan seat → is_same_port (place_of seat) plan.sm ≡ true → sits_sm seat ≡ true
 is_sm_there plan seat h same = ap (λ (port : EndPort). port.is_sm) h.port ∙ same
 
 -- what is so of the seats of a sound topology
-pub record AreSeats (plan : Plan) (some : List Seat) : Type 0 where
+pub record AreSeats (plan : TopologyState) (some : List Seat) : Type 0 where
   pub each : AllByRecursion (IsSeat plan) some
   pub own : IsDistinct one_guid some
   pub all : (at : PortRef) → is_end_port plan at ≡ true → list_any (λ seat. is_same_port (place_of seat) at) some ≡ true
   pub one : sm_count (end_ports some) ≡ 1
   pub there : AllByRecursion (λ (seat : Seat). IsThere (end_ports some) seat.port) some
 
-pub sm_is_end_port : (plan : Plan) → IsSound plan → is_end_port plan plan.sm ≡ true
+pub sm_is_end_port : (plan : TopologyState) → IsSound plan → is_end_port plan plan.sm ≡ true
 sm_is_end_port plan sound =
     let parts = and_parts (not (is_switch_at plan.nodes plan.sm.node)) (is_port plan.nodes plan.sm) sound.manager_port in
     let no_switch : is_switch_at plan.nodes plan.sm.node ≡ false = not-true (is_switch_at plan.nodes plan.sm.node) parts.0 in
     rw no_switch (and_from (is_port plan.nodes plan.sm) (is_cabled plan.cables plan.sm) parts.1 sound.manager_cabled)
 
-sm_port_counts : (plan : Plan) → IsSound plan → 1 ≤ plan.sm.port
+sm_port_counts : (plan : TopologyState) → IsSound plan → 1 ≤ plan.sm.port
 sm_port_counts plan sound =
     let parts = and_parts (not (is_switch_at plan.nodes plan.sm.node)) (is_port plan.nodes plan.sm) sound.manager_port in
     leb-true 1 plan.sm.port (and_parts (nat_le 1 plan.sm.port) (nat_le plan.sm.port (ports_at plan.nodes plan.sm.node)) parts.1).0
 
-pub of_sound : (plan : Plan) → IsSound plan → AreSeats plan (seats plan)
+pub of_sound : (plan : TopologyState) → IsSound plan → AreSeats plan (seats plan)
 of_sound plan sound =
     let each = all_are_seats plan (sm_port_counts plan sound) in
     let own = seats_are_distinct plan sound.lines.own_guids in
@@ -401,7 +401,7 @@ any_moved p xs ys moved h =
     let same : count_by p ys ≡ count_by p xs = sum_by-IsPermutation (λ x. cond (p x) 1 0) xs ys moved in
     any_from_count p ys (omega (arith, count_some p xs h))
 
-pub end_ports_stand_in_order : (partitions : List Partition) (plan : Plan) → IsSound plan → AreEndPorts partitions plan (ports_of partitions plan)
+pub end_ports_stand_in_order : (partitions : List Partition) (plan : TopologyState) → IsSound plan → AreEndPorts partitions plan (ports_of partitions plan)
 end_ports_stand_in_order partitions plan sound =
     let some = seats plan in
     let all = end_ports some in

@@ -18,14 +18,14 @@ use Rattle.fabric_wire.proofs.OfTopologyLemmas.{count_of, node_at, port_there, s
 use Rattle.fabric_wire.specs.OfTopology.{adapter_port_of, fabric_of, node_of, node_of_type, named}
 use Rattle.smp_wire.specs.FabricState.{adapter_port}
 use Rattle.topo_file.specs.Node.{is_switch, port_guid}
-use Rattle.topo_file.specs.Topology.{Plan}
+use Rattle.topo_file.specs.Topology.{TopologyState}
 use Rattle.topo_file.specs.declared.node.Node.{Node}
 use Rattle.sweep.specs.EndPorts.{FabricPort, held_in, is_end_port_of}
 use Rattle.subnet_ports.specs.EndPorts.{is_end_port}
 use Rattle.subnet_ports.specs.FabricPorts.{planned_port}
 use Rattle.subnet_ports.specs.Laws.{EndPortsAreTheFabrics}
 
-same_ports : (plan : Plan) (at : PortRef) → is_end_port_of (fabric_of plan) at ≡ is_end_port plan at
+same_ports : (plan : TopologyState) (at : PortRef) → is_end_port_of (fabric_of plan) at ≡ is_end_port plan at
 same_ports plan at = rw (switch_there plan.cables plan.nodes at.node, port_there plan.cables plan.nodes at) refl
 
 -- ---- what a node holds that is made of a topology's
@@ -69,7 +69,7 @@ ends_by node_type.ChannelAdapter node number cabled h =
     let numbers = and_parts (nat_le 1 number) (nat_le number node.ports) (and_parts _ cabled h).0 in
     (leb-true 1 number numbers.0, leb-true number node.ports numbers.1)
 
-there_by : (plan : Plan) (at : PortRef) (o : Option Node) → slice_get plan.nodes at.node ≡ o → is_end_port plan at ≡ true
+there_by : (plan : TopologyState) (at : PortRef) (o : Option Node) → slice_get plan.nodes at.node ≡ o → is_end_port plan at ≡ true
     → option_and_then (λ node. held_in node at.port) (option_map (node_of plan.cables at.node) o) ≡ Some (planned_port plan at)
 there_by plan at None e h =
     let none : (nat_le 1 at.port && nat_le at.port 0) && is_cabled plan.cables at ≡ true = rw e at h in
@@ -79,13 +79,13 @@ there_by plan at (Some node) e h =
     let ends : cond (is_switch_type node.node_type) (at.port == 0) ((nat_le 1 at.port && nat_le at.port node.ports) && is_cabled plan.cables at) ≡ true = rw e at h in
     held_of node.node_type plan.cables at.node node at.port refl (ends_by node.node_type node at.port (is_cabled plan.cables at) ends) ∙ (rw e refl)
 
-there : (plan : Plan) (at : PortRef) → is_end_port plan at ≡ true
+there : (plan : TopologyState) (at : PortRef) → is_end_port plan at ≡ true
     → option_and_then (λ node. held_in node at.port) (slice_get (fabric_of plan).nodes at.node) ≡ Some (planned_port plan at)
 there plan at h =
     ap (option_and_then (λ node. held_in node at.port)) (node_at plan.cables plan.nodes at.node)
     ∙ there_by plan at (slice_get plan.nodes at.node) refl h
 
-same_by : (plan : Plan) (at : PortRef) (b : Bool) → is_end_port plan at ≡ b
+same_by : (plan : TopologyState) (at : PortRef) (b : Bool) → is_end_port plan at ≡ b
     → (if b then option_and_then (λ node. held_in node at.port) (slice_get (fabric_of plan).nodes at.node) else None) ≡ (if b then Some (planned_port plan at) else None)
 same_by plan at true e = there plan at e
 same_by plan at false e = refl

@@ -12,7 +12,7 @@ use Rattle.fabric_parts.specs.declared.cable.PortRef.{PortRef}
 use Rattle.fabric_parts.specs.NodeType.{is_switch_type}
 use Rattle.fabric_wire.proofs.OfTopologyGoodLemmas.{good}
 use Rattle.fabric_wire.specs.OfTopology.{fabric_of}
-use Rattle.lid_assign.proofs.RisingLemmas.{Rises, rises, same_rising}
+use Rattle.result_words.proofs.RisingLemmas.{Rises, rises, same_rising}
 use Rattle.lid_assign.specs.Lids.{AreLids, adapter_end, end_ports, lid_in, switch_end}
 use Rattle.partition_file.specs.declared.partition.Partition.{Partition}
 use Rattle.pkey_rules.specs.declared.end_port.EndPort.{EndPort}
@@ -26,7 +26,7 @@ use Rattle.sweep.specs.Graph.{GraphState}
 use Rattle.sweep.specs.OfFabric.{IsGraphOf}
 use Rattle.topo_file.specs.Node.{is_switch_at, port_guid_at}
 use Rattle.topo_file.specs.Sound.{IsSound}
-use Rattle.topo_file.specs.Topology.{Plan}
+use Rattle.topo_file.specs.Topology.{TopologyState}
 use Rattle.subnet_ports.proofs.EndPortLemmas.{any_map, end_ports_stand_in_order, sm_is_end_port}
 use Rattle.subnet_ports.proofs.FabricPortLemmas.{end_ports_are_the_fabrics}
 use Rattle.subnet_ports.specs.EndPorts.{AreEndPorts, IsEndPort, is_end_port, same_guid}
@@ -97,7 +97,7 @@ each_by_recursion ports some all = each some (recursion_from_All (λ a. All (ByG
     each [] all = tt
     each (a ∷ some) all = (recursion_from_All (ByGuid a) ports all.0, each some all.1)
 
-listed : (partitions : List Partition) (plan : Plan) (ports : List SubnetPort) → AreEndPorts partitions plan ports → is_end_port plan plan.sm ≡ true
+listed : (partitions : List Partition) (plan : TopologyState) (ports : List SubnetPort) → AreEndPorts partitions plan ports → is_end_port plan plan.sm ≡ true
     → StandsAsLids (port_guid_at plan.nodes plan.sm) (guids_of ports)
 listed partitions plan [] are there = absurd (false≢true (are.all plan.sm there))
 listed partitions plan (port ∷ ports) are there =
@@ -159,22 +159,22 @@ with_lid graph guids guid are =
         some_has (has_guid guid guids) (lid_of (end_ports graph) at.one) (sym placed ∙ ap (λ (g : ℕ). lid_in guids g) (sym same) ∙ lid)
 
 -- an end port of the topology is one of its fabric, and so of the graph
-planned_at : (plan : Plan) (at : PortRef) → is_end_port plan at ≡ true → end_port_in (fabric_of plan) at ≡ Some (planned_port plan at)
+planned_at : (plan : TopologyState) (at : PortRef) → is_end_port plan at ≡ true → end_port_in (fabric_of plan) at ≡ Some (planned_port plan at)
 planned_at plan at there = end_ports_are_the_fabrics plan at ∙ ap (λ (b : Bool). if b then Some (planned_port plan at) else None) there
 
-record IsPlannedAt (plan : Plan) (end : FabricPort) : Type 0 where
+record IsPlannedAt (plan : TopologyState) (end : FabricPort) : Type 0 where
   at : PortRef
   there : is_end_port plan at ≡ true
   is : planned_port plan at ≡ end
 
-planned_by : (plan : Plan) (at : PortRef) (end : FabricPort) → end_port_in (fabric_of plan) at ≡ Some end → IsPlannedAt plan end
+planned_by : (plan : TopologyState) (at : PortRef) (end : FabricPort) → end_port_in (fabric_of plan) at ≡ Some end → IsPlannedAt plan end
 planned_by plan at end is = by (is_end_port plan at) refl (sym (end_ports_are_the_fabrics plan at) ∙ is)
   where
     by : (b : Bool) → is_end_port plan at ≡ b → (if b then Some (planned_port plan at) else None) ≡ Some end → IsPlannedAt plan end
     by true there is = record { at = at; there = there; is = same_Some (planned_port plan at) end is }
     by false there is = absurd cc
 
-same_guids : (partitions : List Partition) (plan : Plan) (graph : GraphState) (ports : List SubnetPort) (guid : ℕ) → IsSound plan
+same_guids : (partitions : List Partition) (plan : TopologyState) (graph : GraphState) (ports : List SubnetPort) (guid : ℕ) → IsSound plan
     → IsGraphOf graph (fabric_of plan) → AreEndPorts partitions plan ports
     → has_guid guid (guids_of ports) ≡ list_any (λ (end : FabricPort). end.guid == guid) (end_ports_in graph)
 same_guids partitions plan graph ports guid sound is are =
@@ -210,7 +210,7 @@ pub type_kept : (b : Bool) → is_switch_type (type_of b) ≡ b
 type_kept true = refl
 type_kept false = refl
 
-as_planned : (partitions : List Partition) (plan : Plan) (port : SubnetPort) (is : IsEndPort partitions plan port) → listed_port port ≡ planned_port plan is.at
+as_planned : (partitions : List Partition) (plan : TopologyState) (port : SubnetPort) (is : IsEndPort partitions plan port) → listed_port port ≡ planned_port plan is.at
 as_planned partitions plan port is =
     rw (is.guid, is.number, is.node_guid, is.node_name, is.num_ports, is.node_type, type_kept (is_switch_at plan.nodes is.at.node)) refl
 

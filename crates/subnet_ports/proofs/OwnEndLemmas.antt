@@ -13,7 +13,7 @@ use Rattle.smp_wire.proofs.CableLemmas.{same_port}
 use Rattle.sweep.proofs.FoundLemmas.{any_at}
 use Rattle.topo_file.specs.Node.{port_guid_at}
 use Rattle.topo_file.specs.Sound.{IsSound}
-use Rattle.topo_file.specs.Topology.{Plan}
+use Rattle.topo_file.specs.Topology.{TopologyState}
 use Rattle.subnet_ports.proofs.EndPortLemmas.{of_sound}
 use Rattle.subnet_ports.proofs.SeatLemmas.{IsSeat, one_guid, place_of}
 use Rattle.subnet_ports.specs.EndPorts.{is_end_port}
@@ -38,14 +38,14 @@ one_place same (z ∷ xs) (suc i) zero x y own here there to fro =
 one_place same (z ∷ xs) (suc i) (suc j) x y own here there to fro = ap suc (one_place same xs i j x y (IsDistinct-tail same z xs own) here there to fro)
 
 -- the seat of an end port
-record IsSeatOf (plan : Plan) (at : PortRef) : Type 0 where
+record IsSeatOf (plan : TopologyState) (at : PortRef) : Type 0 where
   place : ℕ
   seat : Seat
   there : slice_get (seats plan) place ≡ Some seat
   is : place_of seat ≡ at
   guid : seat.port.guid ≡ port_guid_at plan.nodes at
 
-seat_of : (plan : Plan) (at : PortRef) → IsSound plan → is_end_port plan at ≡ true → IsSeatOf plan at
+seat_of : (plan : TopologyState) (at : PortRef) → IsSound plan → is_end_port plan at ≡ true → IsSeatOf plan at
 seat_of plan at sound there =
     let are = of_sound plan sound in
     let found = any_at (λ seat. is_same_port (place_of seat) at) (seats plan) (are.all at there) in
@@ -59,7 +59,7 @@ seat_of plan at sound there =
       guid = ap (λ (port : EndPort). port.guid) seat.port ∙ ap (port_guid_at plan.nodes) is;
     }
 
-pub one_end : (plan : Plan) (a b : PortRef) → IsSound plan → is_end_port plan a ≡ true → is_end_port plan b ≡ true
+pub one_end : (plan : TopologyState) (a b : PortRef) → IsSound plan → is_end_port plan a ≡ true → is_end_port plan b ≡ true
     → port_guid_at plan.nodes a ≡ port_guid_at plan.nodes b → a ≡ b
 one_end plan a b sound here there same =
     let one = seat_of plan a sound here in

@@ -20,7 +20,7 @@ use Rattle.fabric_parts.specs.declared.node_type.NodeType.TheVariants.{ChannelAd
 use Rattle.fabric_parts.specs.Cable.{is_cabled}
 use Rattle.topo_file.specs.declared.node.Node.{Node}
 use Rattle.topo_file.specs.Node.{adapter_ports, port_guids, switch_count}
-use Rattle.topo_file.specs.Topology.{Plan}
+use Rattle.topo_file.specs.Topology.{TopologyState}
 use Rattle.subnet_ports.specs.declared.end_ports.Seat.{Seat}
 use Rattle.partition_file.specs.declared.partition.Partition.{Partition}
 use Rattle.partition_file.specs.Members.{keys_in}
@@ -40,7 +40,7 @@ insert_in_order (first ∷ rest) port = elim (cases_Bool (nat_le first.lid port.
 ]
 
 -- one more port of an adapter
-pub adapter_seats_more : (plan : Plan) (place : ℕ) (node : Node) (n : ℕ)
+pub adapter_seats_more : (plan : TopologyState) (place : ℕ) (node : Node) (n : ℕ)
     → adapter_seats plan place node (n + 1) ≡ adapter_seats plan place node n ++ seat_if_cabled plan node (record { node = place; port = n + 1 })
 adapter_seats_more plan place node n =
     let f : ℕ → PortRef = λ number. record { node = place; port = number } in
@@ -52,7 +52,7 @@ pair_same : (i j : ℕ) (a b : Node) → i ≡ j → a ≡ b → let p : ℕ × 
 pair_same i j a b e f = rw (e, f) refl
 
 -- one more node
-pub seats_more : (plan : Plan) (i : ℕ) (node : Node) → i < length plan.nodes → get_or plan.nodes i node ≡ node
+pub seats_more : (plan : TopologyState) (i : ℕ) (node : Node) → i < length plan.nodes → get_or plan.nodes i node ≡ node
     → flat_map (seats_at plan) (take (i + 1) (enumerate_from 0 plan.nodes)) ≡ flat_map (seats_at plan) (take i (enumerate_from 0 plan.nodes)) ++ seats_of_type node.node_type plan i node
 seats_more plan i node inside here =
     let all : List (ℕ × Node) = enumerate_from 0 plan.nodes in
@@ -62,13 +62,13 @@ seats_more plan i node inside here =
     ∙ (flat_map-append (seats_at plan) (take i all) (get_or all i (0, node) ∷ [])
     ∙ ap (λ seats. flat_map (seats_at plan) (take i all) ++ seats) (append-nil (seats_at plan (get_or all i (0, node))) ∙ ap (seats_at plan) at))
 
-one_at_most : (plan : Plan) (node : Node) (at : PortRef) → length (seat_if_cabled plan node at) ≤ 1
+one_at_most : (plan : TopologyState) (node : Node) (at : PortRef) → length (seat_if_cabled plan node at) ≤ 1
 one_at_most plan node at = elim (cases_Bool (is_cabled plan.cables at)) [
   | inl cabled ↦ rw cabled (lit≤ tt)
   | inr free ↦ rw free (lit≤ tt)
 ]
 
-few_of_adapter : (plan : Plan) (node : Node) (ats : List PortRef) → length (flat_map (seat_if_cabled plan node) ats) ≤ length ats
+few_of_adapter : (plan : TopologyState) (node : Node) (ats : List PortRef) → length (flat_map (seat_if_cabled plan node) ats) ≤ length ats
 few_of_adapter plan node [] = lit≤ tt
 few_of_adapter plan node (at ∷ ats) =
     omega (arith, length-append (seat_if_cabled plan node at) (flat_map (seat_if_cabled plan node) ats), one_at_most plan node at, few_of_adapter plan node ats)
@@ -77,7 +77,7 @@ abbrev seat_bound : NodeType → ℕ → ℕ
 seat_bound Switch ports = 1
 seat_bound ChannelAdapter ports = ports
 
-few_of_type : (node_type : NodeType) (plan : Plan) (place : ℕ) (node : Node)
+few_of_type : (node_type : NodeType) (plan : TopologyState) (place : ℕ) (node : Node)
     → length (seats_of_type node_type plan place node) ≤ seat_bound node_type node.ports
 few_of_type Switch plan place node = lit≤ tt
 few_of_type ChannelAdapter plan place node =
@@ -89,7 +89,7 @@ counted_of_type : (node_type : NodeType) (node : Node) → node.node_type ≡ no
 counted_of_type Switch node e = rw e refl
 counted_of_type ChannelAdapter node e = rw e (omega arith)
 
-few_from : (plan : Plan) (m : ℕ) (nodes : List Node)
+few_from : (plan : TopologyState) (m : ℕ) (nodes : List Node)
     → length (flat_map (seats_at plan) (enumerate_from m nodes)) ≤ switch_count nodes + adapter_ports nodes
 few_from plan m [] = lit≤ tt
 few_from plan m (node ∷ nodes) =
@@ -102,7 +102,7 @@ few_from plan m (node ∷ nodes) =
     omega (arith, few_from plan (m + 1) nodes)
 
 -- a subnet within the limits has few end ports
-pub few_seats : (plan : Plan) → switch_count plan.nodes ≤ 64 → adapter_ports plan.nodes ≤ 256 → length (seats plan) ≤ 320
+pub few_seats : (plan : TopologyState) → switch_count plan.nodes ≤ 64 → adapter_ports plan.nodes ≤ 256 → length (seats plan) ≤ 320
 few_seats plan switches ports = omega (arith, few_from plan 0 plan.nodes)
 
 -- ---- seats beside their keys

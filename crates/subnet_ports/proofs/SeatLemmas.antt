@@ -11,7 +11,7 @@ use Rattle.fabric_parts.specs.declared.node_type.NodeType.TheVariants.{ChannelAd
 use Rattle.fabric_parts.specs.Cable.{is_cabled, is_same_port, port}
 use Rattle.topo_file.specs.declared.node.Node.{Node}
 use Rattle.topo_file.specs.Node.{last_guid, port_guid, port_guids, shares_guid}
-use Rattle.topo_file.specs.Topology.{Plan}
+use Rattle.topo_file.specs.Topology.{TopologyState}
 use Rattle.subnet_ports.specs.declared.end_ports.Seat.{Seat}
 use Rattle.subnet_ports.specs.EndPorts.{end_port_at, is_end_port}
 use Rattle.subnet_ports.specs.Ports.{adapter_seat, adapter_seats, seat_if_cabled, seats, seats_at, seats_of_type, switch_seat}
@@ -44,7 +44,7 @@ any_so P p q so (x ∷ xs) each h = elim (or_cases (p x) (list_any p xs) h) [
 abbrev pub place_of : Seat → PortRef
 place_of seat = record { node = seat.place; port = seat.number }
 
-pub record IsSeat (plan : Plan) (seat : Seat) : Type 0 where
+pub record IsSeat (plan : TopologyState) (seat : Seat) : Type 0 where
   pub there : is_end_port plan (place_of seat) ≡ true
   pub port : seat.port ≡ end_port_at plan (place_of seat)
 
@@ -58,7 +58,7 @@ from_next nodes m node some h = λ i. let e : m + 1 + i ≡ m + suc i = omega ar
 from_here : (nodes : List Node) (m : ℕ) (node : Node) (some : List Node) → AreFrom nodes m (node ∷ some) → slice_get nodes m ≡ Some node
 from_here nodes m node some h = let e : m + 0 ≡ m = omega arith in rw e at (h 0)
 
-switch_is_seat : (plan : Plan) (m : ℕ) (node : Node) → slice_get plan.nodes m ≡ Some node → node.node_type ≡ Switch → 1 ≤ plan.sm.port
+switch_is_seat : (plan : TopologyState) (m : ℕ) (node : Node) → slice_get plan.nodes m ≡ Some node → node.node_type ≡ Switch → 1 ≤ plan.sm.port
     → IsSeat plan (switch_seat m node)
 switch_is_seat plan m node here type sm =
     let g : node.guid + 0 ≡ node.guid = omega arith in
@@ -66,14 +66,14 @@ switch_is_seat plan m node here type sm =
     let no_sm : ((m == plan.sm.node) && (0 == plan.sm.port)) ≡ false = and_right (m == plan.sm.node) (0 == plan.sm.port) other in
     record { there = rw (here, type) refl; port = rw (here, type, g, no_sm) refl }
 
-adapter_is_seat : (plan : Plan) (m a : ℕ) (node : Node) → slice_get plan.nodes m ≡ Some node → node.node_type ≡ ChannelAdapter → 1 ≤ a → a ≤ node.ports
+adapter_is_seat : (plan : TopologyState) (m a : ℕ) (node : Node) → slice_get plan.nodes m ≡ Some node → node.node_type ≡ ChannelAdapter → 1 ≤ a → a ≤ node.ports
     → is_cabled plan.cables (port m a) ≡ true → IsSeat plan (adapter_seat plan.sm node (port m a))
 adapter_is_seat plan m a node here type low high cabled =
     let l : nat_le 1 a ≡ true = le-leb 1 a low in
     let h : nat_le a node.ports ≡ true = le-leb a node.ports high in
     record { there = rw (here, type, l, h, cabled) refl; port = rw (here, type) refl }
 
-adapter_are_seats : (plan : Plan) (m : ℕ) (node : Node) → slice_get plan.nodes m ≡ Some node → node.node_type ≡ ChannelAdapter → (a n : ℕ) → 1 ≤ a → a + n ≤ node.ports + 1
+adapter_are_seats : (plan : TopologyState) (m : ℕ) (node : Node) → slice_get plan.nodes m ≡ Some node → node.node_type ≡ ChannelAdapter → (a n : ℕ) → 1 ≤ a → a + n ≤ node.ports + 1
     → AllByRecursion (IsSeat plan) (flat_map (seat_if_cabled plan node) (map (port m) (range_with_len a n)))
 adapter_are_seats plan m node here type a zero low high = tt
 adapter_are_seats plan m node here type a (suc n) low high =
@@ -83,12 +83,12 @@ adapter_are_seats plan m node here type a (suc n) low high =
       | inr free ↦ rw free rest
     ]
 
-node_are_seats : (t : NodeType) (plan : Plan) (m : ℕ) (node : Node) → node.node_type ≡ t → slice_get plan.nodes m ≡ Some node → 1 ≤ plan.sm.port
+node_are_seats : (t : NodeType) (plan : TopologyState) (m : ℕ) (node : Node) → node.node_type ≡ t → slice_get plan.nodes m ≡ Some node → 1 ≤ plan.sm.port
     → AllByRecursion (IsSeat plan) (seats_of_type t plan m node)
 node_are_seats Switch plan m node type here sm = (switch_is_seat plan m node here type sm, tt)
 node_are_seats ChannelAdapter plan m node type here sm = adapter_are_seats plan m node here type 1 node.ports (omega arith) (omega arith)
 
-are_seats : (plan : Plan) (m : ℕ) (some : List Node) → AreFrom plan.nodes m some → 1 ≤ plan.sm.port
+are_seats : (plan : TopologyState) (m : ℕ) (some : List Node) → AreFrom plan.nodes m some → 1 ≤ plan.sm.port
     → AllByRecursion (IsSeat plan) (flat_map (seats_at plan) (enumerate_from m some))
 are_seats plan m [] from sm = tt
 are_seats plan m (node ∷ some) from sm =
@@ -99,18 +99,18 @@ are_seats plan m (node ∷ some) from sm =
 from_start : (nodes : List Node) → AreFrom nodes 0 nodes
 from_start nodes = λ i. let e : 0 + i ≡ i = omega arith in rw e refl
 
-pub all_are_seats : (plan : Plan) → 1 ≤ plan.sm.port → AllByRecursion (IsSeat plan) (seats plan)
+pub all_are_seats : (plan : TopologyState) → 1 ≤ plan.sm.port → AllByRecursion (IsSeat plan) (seats plan)
 all_are_seats plan sm = are_seats plan 0 plan.nodes (from_start plan.nodes) sm
 
 -- ---- each end port has a seat
 abbrev sits_at : ℕ → ℕ → Seat → Bool
 sits_at place number seat = (seat.place == place) && (seat.number == number)
 
-abbrev Stands : NodeType → Plan → Node → ℕ → ℕ → Type 0
+abbrev Stands : NodeType → TopologyState → Node → ℕ → ℕ → Type 0
 Stands Switch plan node place number = number ≡ 0
 Stands ChannelAdapter plan node place number = (1 ≤ number) × (number ≤ node.ports) × (is_cabled plan.cables (port place number) ≡ true)
 
-adapter_there : (plan : Plan) (m place number : ℕ) (node : Node) → m ≡ place → is_cabled plan.cables (port place number) ≡ true → (a n : ℕ) → a ≤ number → number < a + n
+adapter_there : (plan : TopologyState) (m place number : ℕ) (node : Node) → m ≡ place → is_cabled plan.cables (port place number) ≡ true → (a n : ℕ) → a ≤ number → number < a + n
     → list_any (sits_at place number) (flat_map (seat_if_cabled plan node) (map (port m) (range_with_len a n))) ≡ true
 adapter_there plan m place number node e cabled a zero low high = absurd (omega arith)
 adapter_there plan m place number node e cabled a (suc n) low high =
@@ -125,7 +125,7 @@ adapter_there plan m place number node e cabled a (suc n) low high =
           (adapter_there plan m place number node e cabled (a + 1) n (omega (arith, other)) (omega arith))
     ])
 
-there_of_type : (t : NodeType) (plan : Plan) (m place number : ℕ) (node : Node) → m ≡ place → Stands t plan node place number
+there_of_type : (t : NodeType) (plan : TopologyState) (m place number : ℕ) (node : Node) → m ≡ place → Stands t plan node place number
     → list_any (sits_at place number) (seats_of_type t plan m node) ≡ true
 there_of_type Switch plan m place number node e k =
     or_left (sits_at place number (switch_seat m node)) false (and_from (m == place) (0 == number) (eq-eqb m place e) (eq-eqb 0 number (sym k)))
@@ -134,7 +134,7 @@ there_of_type ChannelAdapter plan m place number node e k =
     let high = k.1 in
     adapter_there plan m place number node e k.2 1 node.ports low (omega arith)
 
-there_from : (plan : Plan) (place number : ℕ) (node : Node) (some : List Node) (m i : ℕ) → slice_get some i ≡ Some node → m + i ≡ place
+there_from : (plan : TopologyState) (place number : ℕ) (node : Node) (some : List Node) (m i : ℕ) → slice_get some i ≡ Some node → m + i ≡ place
     → Stands node.node_type plan node place number
     → list_any (sits_at place number) (flat_map (seats_at plan) (enumerate_from m some)) ≡ true
 there_from plan place number node [] m i h e k = absurd (cc)
@@ -147,7 +147,7 @@ there_from plan place number node (first ∷ some) m (suc i) h e k =
     list_any-append (sits_at place number) (seats_at plan (m, first)) (flat_map (seats_at plan) (enumerate_from (m + 1) some))
     ∙ or_right (list_any (sits_at place number) (seats_at plan (m, first))) _ (there_from plan place number node some (m + 1) i h (omega arith) k)
 
-stands : (t : NodeType) (plan : Plan) (node : Node) (at : PortRef) → node.node_type ≡ t → slice_get plan.nodes at.node ≡ Some node → is_end_port plan at ≡ true
+stands : (t : NodeType) (plan : TopologyState) (node : Node) (at : PortRef) → node.node_type ≡ t → slice_get plan.nodes at.node ≡ Some node → is_end_port plan at ≡ true
     → Stands t plan node at.node at.port
 stands Switch plan node at type here h = let zero_port : (at.port == 0) ≡ true = rw (here, type) at h in eqb-true at.port 0 zero_port
 stands ChannelAdapter plan node at type here h =
@@ -163,7 +163,7 @@ nothing number cabled h =
     let high : number ≤ 0 = leb-true number 0 bounds.1 in
     absurd (omega arith)
 
-pub seat_there : (plan : Plan) (at : PortRef) → is_end_port plan at ≡ true → list_any (λ seat. is_same_port (place_of seat) at) (seats plan) ≡ true
+pub seat_there : (plan : TopologyState) (at : PortRef) → is_end_port plan at ≡ true → list_any (λ seat. is_same_port (place_of seat) at) (seats plan) ≡ true
 seat_there plan at h = by (slice_get plan.nodes at.node) refl
   where
     by : (found : Option Node) → slice_get plan.nodes at.node ≡ found → list_any (λ seat. is_same_port (place_of seat) at) (seats plan) ≡ true
@@ -177,7 +177,7 @@ one_guid a b = a.port.guid == b.port.guid
 abbrev Within : ℕ → ℕ → Seat → Type 0
 Within low high seat = (low ≤ seat.port.guid) × (seat.port.guid ≤ high)
 
-adapter_within : (plan : Plan) (m : ℕ) (node : Node) (a n : ℕ)
+adapter_within : (plan : TopologyState) (m : ℕ) (node : Node) (a n : ℕ)
     → AllByRecursion (λ (seat : Seat). (node.guid + a ≤ seat.port.guid) × (seat.port.guid < node.guid + a + n)) (flat_map (seat_if_cabled plan node) (map (port m) (range_with_len a n)))
 adapter_within plan m node a zero = tt
 adapter_within plan m node a (suc n) =
@@ -191,7 +191,7 @@ adapter_within plan m node a (suc n) =
 apart_by : (g k : ℕ) → g < k → (g == k) ≡ false
 apart_by g k h = grind (arith, nat_tests)
 
-adapter_distinct : (plan : Plan) (m : ℕ) (node : Node) (a n : ℕ) → IsDistinct one_guid (flat_map (seat_if_cabled plan node) (map (port m) (range_with_len a n)))
+adapter_distinct : (plan : TopologyState) (m : ℕ) (node : Node) (a n : ℕ) → IsDistinct one_guid (flat_map (seat_if_cabled plan node) (map (port m) (range_with_len a n)))
 unfolding IsDistinct
 adapter_distinct plan m node a zero = tt
 adapter_distinct plan m node a (suc n) =
@@ -203,13 +203,13 @@ adapter_distinct plan m node a (suc n) =
       | inr free ↦ rw free (adapter_distinct plan m node (a + 1) n)
     ]
 
-node_within : (t : NodeType) (plan : Plan) (m : ℕ) (node : Node) → AllByRecursion (Within node.guid (port_guid node (port_guids t node.ports))) (seats_of_type t plan m node)
+node_within : (t : NodeType) (plan : TopologyState) (m : ℕ) (node : Node) → AllByRecursion (Within node.guid (port_guid node (port_guids t node.ports))) (seats_of_type t plan m node)
 node_within Switch plan m node = ((omega arith, omega arith), tt)
 node_within ChannelAdapter plan m node =
     each_weaker (λ (seat : Seat). (node.guid + 1 ≤ seat.port.guid) × (seat.port.guid < node.guid + 1 + node.ports)) (Within node.guid (port_guid node node.ports))
     (λ seat h. let l = h.0 in let u = h.1 in (omega arith, omega arith)) (adapter_seats plan m node node.ports) (adapter_within plan m node 1 node.ports)
 
-node_distinct : (t : NodeType) (plan : Plan) (m : ℕ) (node : Node) → IsDistinct one_guid (seats_of_type t plan m node)
+node_distinct : (t : NodeType) (plan : TopologyState) (m : ℕ) (node : Node) → IsDistinct one_guid (seats_of_type t plan m node)
 unfolding IsDistinct
 node_distinct Switch plan m node = (tt, tt)
 node_distinct ChannelAdapter plan m node = adapter_distinct plan m node 1 node.ports
@@ -223,7 +223,7 @@ outside_by low high a b g h k l = grind (arith, nat_tests)
 differ_by : (low high g k : ℕ) → low ≤ g → g ≤ high → (nat_le low k && nat_le k high) ≡ false → (g == k) ≡ false
 differ_by low high g k h l o = grind (arith, nat_tests)
 
-seats_outside : (plan : Plan) (one : Node) (m : ℕ) (some : List Node) → AllByRecursion (λ other. shares_guid one other ≡ false) some
+seats_outside : (plan : TopologyState) (one : Node) (m : ℕ) (some : List Node) → AllByRecursion (λ other. shares_guid one other ≡ false) some
     → AllByRecursion (Outside one.guid (last_guid one)) (flat_map (seats_at plan) (enumerate_from m some))
 seats_outside plan one m [] h = tt
 seats_outside plan one m (node ∷ some) h =
@@ -232,7 +232,7 @@ seats_outside plan one m (node ∷ some) h =
     (seats_at plan (m, node)) (node_within node.node_type plan m node))
     (seats_outside plan one (m + 1) some h.1)
 
-distinct_from : (plan : Plan) (m : ℕ) (some : List Node) → IsDistinct shares_guid some → IsDistinct one_guid (flat_map (seats_at plan) (enumerate_from m some))
+distinct_from : (plan : TopologyState) (m : ℕ) (some : List Node) → IsDistinct shares_guid some → IsDistinct one_guid (flat_map (seats_at plan) (enumerate_from m some))
 unfolding IsDistinct
 distinct_from plan m [] d = tt
 distinct_from plan m (node ∷ some) d =
@@ -242,5 +242,5 @@ distinct_from plan m (node ∷ some) d =
     (λ a k. each_weaker (Outside node.guid (last_guid node)) (λ b. one_guid a b ≡ false) (λ b o. differ_by node.guid (last_guid node) a.port.guid b.port.guid k.0 k.1 o) rest (seats_outside plan node (m + 1) some d.0))
     (seats_at plan (m, node)) (node_within node.node_type plan m node))
 
-pub seats_are_distinct : (plan : Plan) → IsDistinct shares_guid plan.nodes → IsDistinct one_guid (seats plan)
+pub seats_are_distinct : (plan : TopologyState) → IsDistinct shares_guid plan.nodes → IsDistinct one_guid (seats plan)
 seats_are_distinct plan d = distinct_from plan 0 plan.nodes d

@@ -8,17 +8,17 @@ use Rattle.partition_file.specs.declared.partition.Partition.{Partition}
 use Rattle.partition_file.specs.Members.{keys_in}
 use Rattle.topo_file.specs.Node.{is_switch_at, name_at, port_guid_at, ports_at}
 use Rattle.topo_file.specs.Sound.{is_port}
-use Rattle.topo_file.specs.Topology.{Plan}
+use Rattle.topo_file.specs.Topology.{TopologyState}
 use Rattle.subnet_model.specs.declared.subnet_port.SubnetPort.{SubnetPort}
 use Rattle.subnet_ports.specs.Ports.{guid_at, type_of}
 
 -- the end ports of a topology: port 0 of each switch, and each port of an adapter that has a cable
-abbrev pub is_end_port : Plan → PortRef → Bool
+abbrev pub is_end_port : TopologyState → PortRef → Bool
 is_end_port plan at =
     if is_switch_at plan.nodes at.node then at.port == 0 else is_port plan.nodes at && is_cabled plan.cables at
 
 -- one of them as membership rules see it
-abbrev pub end_port_at : Plan → PortRef → EndPort
+abbrev pub end_port_at : TopologyState → PortRef → EndPort
 end_port_at plan at = record {
   guid = port_guid_at plan.nodes at;
   is_switch = is_switch_at plan.nodes at.node;
@@ -26,7 +26,7 @@ end_port_at plan at = record {
 }
 
 -- a port of the list is an end port of the topology, with what the topology and the partitions say of it
-pub record IsEndPort (partitions : List Partition) (plan : Plan) (port : SubnetPort) : Type 0 where
+pub record IsEndPort (partitions : List Partition) (plan : TopologyState) (port : SubnetPort) : Type 0 where
   pub at : PortRef
   pub there : is_end_port plan at ≡ true
   pub guid : port.guid ≡ port_guid_at plan.nodes at
@@ -46,7 +46,7 @@ HaveLidsInOrder ports = map (λ port. port.lid) ports ≡ range_with_len 1 (leng
 
 -- LIDs count from 1; LID 1 is the subnet manager's, and the others follow in order of GUID. Each
 -- port is an end port, each end port is there, and no two have one GUID.
-pub record AreEndPorts (partitions : List Partition) (plan : Plan) (ports : List SubnetPort) : Type 0 where
+pub record AreEndPorts (partitions : List Partition) (plan : TopologyState) (ports : List SubnetPort) : Type 0 where
   pub lids : HaveLidsInOrder ports
   pub manager : All (λ port. port.lid ≡ 1 → port.guid ≡ port_guid_at plan.nodes plan.sm) ports
   pub by_guid : All (λ a. All (λ b. 1 < a.lid → a.lid < b.lid → a.guid < b.guid) ports) ports

@@ -8,12 +8,12 @@ use Rattle.subnet_model.specs.declared.subnet_port.SubnetPort.{SubnetPort}
 use Rattle.sweep.specs.EndPorts.{FabricPort, end_ports_in}
 use Rattle.sweep.specs.Graph.{GraphState}
 use Rattle.topo_file.specs.Node.{is_switch_at, name_at, port_guid_at, ports_at}
-use Rattle.topo_file.specs.Topology.{Plan}
+use Rattle.topo_file.specs.Topology.{TopologyState}
 use Rattle.subnet_ports.specs.EndPorts.{is_end_port}
 use Rattle.subnet_ports.specs.Ports.{guid_at}
 
 -- what a topology says of an end port
-abbrev pub planned_port : Plan → PortRef → FabricPort
+abbrev pub planned_port : TopologyState → PortRef → FabricPort
 planned_port plan at = record {
   guid = port_guid_at plan.nodes at;
   number = at.port;
@@ -24,7 +24,7 @@ planned_port plan at = record {
 }
 
 -- of another port it says nothing
-abbrev pub planned_port_in : Plan → PortRef → Option FabricPort
+abbrev pub planned_port_in : TopologyState → PortRef → Option FabricPort
 planned_port_in plan at = if is_end_port plan at then Some (planned_port plan at) else None
 
 -- what is listed of an end port, its LID and its keys aside

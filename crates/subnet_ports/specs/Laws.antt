@@ -8,7 +8,7 @@ use Rattle.sweep.specs.EndPorts.{end_port_in}
 use Rattle.sweep.specs.Graph.{GraphState}
 use Rattle.sweep.specs.OfFabric.{IsGraphOf}
 use Rattle.topo_file.specs.Sound.{IsSound}
-use Rattle.topo_file.specs.Topology.{Plan}
+use Rattle.topo_file.specs.Topology.{TopologyState}
 use Rattle.subnet_ports.specs.EndPorts.{AreEndPorts}
 use Rattle.subnet_ports.specs.FabricPorts.{AreOfGraph, planned_port_in}
 use Rattle.subnet_ports.specs.Ports.{ports_of}
@@ -16,14 +16,15 @@ use Rattle.subnet_ports.specs.Ports.{ports_of}
 -- the ports of every sound topology, under whatever partitions, are its end ports, each once and in order of LID
 abbrev pub EndPortsStandInOrder : Type 0
 EndPortsStandInOrder =
-    (partitions : List Partition) (plan : Plan) → IsSound plan → AreEndPorts partitions plan (ports_of partitions plan)
+    (partitions : List Partition) (plan : TopologyState) → IsSound plan → AreEndPorts partitions plan (ports_of partitions plan)
 
 -- the end ports of a topology are those of its fabric, with the same GUIDs, names and counts of ports
 abbrev pub EndPortsAreTheFabrics : Type 0
-EndPortsAreTheFabrics = (plan : Plan) (at : PortRef) → end_port_in (fabric_of plan) at ≡ planned_port_in plan at
+EndPortsAreTheFabrics = (plan : TopologyState) (at : PortRef) → end_port_in (fabric_of plan) at ≡ planned_port_in plan at
 
 -- the graph of a topology's fabric has the end ports that are listed, and gives them the LIDs that are listed
 abbrev pub SweepsFindWhatIsListed : Type 0
 SweepsFindWhatIsListed =
-    (partitions : List Partition) (plan : Plan) (graph : GraphState) (guids : List ℕ) → IsSound plan → IsGraphOf graph (fabric_of plan)
+    (partitions : List Partition) (plan : TopologyState) (graph : GraphState) (guids : List ℕ) → IsSound plan
+    → IsGraphOf graph (fabric_of plan)
     → AreLids (end_ports graph) guids → IsInOrder graph.manager guids → AreOfGraph graph guids (ports_of partitions plan)

@@ -5,7 +5,7 @@ use Rattle.std.specs.Option.{option_map_or}
 use Rattle.partition_file.specs.declared.partition.Partition.{Partition}
 use Rattle.partition_file.specs.Members.{heading_of, keys_in}
 use Rattle.pkey_rules.specs.declared.end_port.EndPort.{EndPort}
-use Rattle.subnet_model.specs.Configuration.{Configured}
+use Rattle.subnet_model.specs.Configuration.{ConfigurationState}
 use Rattle.subnet_model.specs.EndPorts.{lid_of}
 use Rattle.subnet_model.specs.declared.subnet_port.SubnetPort.{SubnetPort}
 use Rattle.fabric_parts.specs.declared.cable.PortRef.{PortRef}
@@ -15,7 +15,7 @@ use Rattle.fabric_parts.specs.Cable.{is_cabled, is_same_port}
 use Rattle.topo_file.specs.declared.node.Node.{Node}
 use Rattle.subnet_ports.specs.declared.end_ports.Seat.{Seat}
 use Rattle.topo_file.specs.Node.{name_at, port_guid, ports_at}
-use Rattle.topo_file.specs.Topology.{Plan}
+use Rattle.topo_file.specs.Topology.{TopologyState}
 
 -- port 0 of a switch, which has the GUID of the switch
 abbrev pub switch_seat : ℕ → Node → Seat
@@ -34,24 +34,24 @@ adapter_seat sm node at = record {
 }
 
 -- a port of an adapter is an end port if it has a cable
-abbrev pub seat_if_cabled : Plan → Node → PortRef → List Seat
+abbrev pub seat_if_cabled : TopologyState → Node → PortRef → List Seat
 seat_if_cabled plan node at = if is_cabled plan.cables at then adapter_seat plan.sm node at ∷ [] else []
 
-abbrev pub adapter_seats : Plan → ℕ → Node → ℕ → List Seat
+abbrev pub adapter_seats : TopologyState → ℕ → Node → ℕ → List Seat
 adapter_seats plan place node count =
     flat_map (seat_if_cabled plan node)
     (map (λ number. record { node = place; port = number }) (range_with_len 1 count))
 
-abbrev pub seats_of_type : NodeType → Plan → ℕ → Node → List Seat
+abbrev pub seats_of_type : NodeType → TopologyState → ℕ → Node → List Seat
 seats_of_type Switch plan place node = switch_seat place node ∷ []
 seats_of_type ChannelAdapter plan place node = adapter_seats plan place node node.ports
 
 -- the end ports of the node at its place
-abbrev pub seats_at : Plan → ℕ × Node → List Seat
+abbrev pub seats_at : TopologyState → ℕ × Node → List Seat
 seats_at plan placed = seats_of_type placed.1.node_type plan placed.0 placed.1
 
 -- the end ports of all nodes, one node after the other
-abbrev pub seats : Plan → List Seat
+abbrev pub seats : TopologyState → List Seat
 seats plan = flat_map (seats_at plan) (enumerate_from 0 plan.nodes)
 
 abbrev pub end_ports : List Seat → List EndPort
@@ -96,9 +96,9 @@ abbrev pub in_order : List Node → List EndPort → List (Seat × List ℕ) →
 in_order nodes all some = fold (with_seat nodes all) [] some
 
 -- the end ports of a topology under these partitions
-abbrev pub ports_of : List Partition → Plan → List SubnetPort
+abbrev pub ports_of : List Partition → TopologyState → List SubnetPort
 ports_of partitions plan = in_order plan.nodes (end_ports (seats plan)) (keyed partitions (seats plan))
 
 -- and what a subnet is brought up as
-abbrev pub configuration_of : List Partition → Plan → Configured
+abbrev pub configuration_of : List Partition → TopologyState → ConfigurationState
 configuration_of partitions plan = record { ports = ports_of partitions plan; partitions = map heading_of partitions }

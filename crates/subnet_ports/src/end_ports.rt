@@ -1,7 +1,9 @@
+//! The end ports of a topology, in the order of their LIDs.
+
 ghost use Rattle.std.specs.Prelude.{◌≡◌, ◌+◌, ◌^◌, ◌<◌, ◌≤◌, [], ◌∷◌, ◌++◌, length, map, nat_le, All, IfOk, OnOk};
 ghost use Rattle.std.specs.List.{prefix_len, zip};
 ghost use Rattle.topo_file.specs.Node.{HasGuids, port_guid, ports_at};
-ghost use Rattle.topo_file.specs.declared.node.TheConstants.{SWITCHES, ADAPTER_PORTS};
+ghost use Rattle.fabric_parts.specs.declared.limits.TheConstants.{SWITCHES, ADAPTER_PORTS};
 ghost use Rattle.subnet_ports.specs.EndPorts.{AreEndPorts};
 ghost use Rattle.subnet_ports.specs.Ports.{switch_seat, adapter_seat, seat_if_cabled, adapter_seats, seats_of_type, seats, end_ports, type_of, guid_at, seated, with_port, with_seat, in_order, configuration_of};
 ghost use Rattle.subnet_model.specs.EndPorts.{lid_of};
@@ -11,7 +13,7 @@ use partition_file::{Partitions, members};
 use pkey_rules::{EndPort, KeyTable, PARTITIONS};
 use std::alloc::{AllocError, Global};
 use subnet_model::{Configuration, NodeName, SubnetPort, lid_of};
-use topo_file::{Node, Topology, name_at};
+use topo_file::{Node, Topology, name_at, ports_at};
 
 /// Where an end port stands: the place of its node in the topology, and its number there.
 #[derive(Clone, Copy, Debug)]
@@ -206,15 +208,6 @@ pub fn guid_at(nodes: &[Node], place: usize) -> u64
 {
     match nodes.get(place) {
         Some(node) => node.guid,
-        None => 0,
-    }
-}
-
-fn ports_at(nodes: &[Node], place: usize) -> u8
-    ensures { result ≡ ports_at nodes.now place }
-{
-    match nodes.get(place) {
-        Some(node) => node.ports,
         None => 0,
     }
 }

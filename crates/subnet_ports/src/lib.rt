@@ -2,7 +2,7 @@
 //!
 //! [`configuration_of`] is the one call: the end ports in order of their LIDs, each with the keys that a partition file
 //! gives it (`specs/Ports.antt`). The end port of a switch is its port 0, and each port of a channel adapter that has a
-//! cable is one (InfiniBand Architecture Specification, volume 1, chapter 14). What is so of every such list stands in
+//! cable is one (IBA volume 1, chapter 14). What is so of every such list stands in
 //! `specs/EndPorts.antt`; that it is the list of the simulated fabric's end ports, and of those that a sweep finds, in
 //! `specs/FabricPorts.antt`.
 #![tactic(auto)]

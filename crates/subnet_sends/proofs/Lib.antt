@@ -1,1 +1,3 @@
+pub mod ListLemmas
+pub mod WayLemmas
 pub mod SendLemmas

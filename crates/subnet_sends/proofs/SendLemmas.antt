@@ -5,7 +5,7 @@ use Rattle.std.proofs.lemmas.Bool.{cases_Bool, eqb-true}
 use Rattle.data_packet.specs.declared.packet.Packet.{Packet}
 use Rattle.data_packet.specs.declared.refusal.Refusal.{Refusal}
 use Rattle.fabric_parts.specs.NodeType.{is_switch_type}
-use Rattle.packet_ways.specs.Deliveries.{Delivered, HasPort}
+use Rattle.packet_ways.specs.Deliveries.{DeliveryState, HasPort}
 use Rattle.pkey_rules.specs.KeyTable.{holds}
 use Rattle.pkey_rules.specs.PKey.{default_base, key_of}
 use Rattle.port_model.specs.AdapterState.{AdapterState}
@@ -20,15 +20,15 @@ use Rattle.subnet_model.specs.declared.command.AskCommand.{AskCommand}
 use Rattle.subnet_model.specs.declared.command.SendCommand.{SendCommand}
 use Rattle.subnet_model.specs.declared.event.Event.{Event as SubnetEvent}
 use Rattle.subnet_model.specs.declared.subnet_port.SubnetPort.{SubnetPort}
-use Rattle.subnet_ways.specs.Laws.{IsSender, told}
-use Rattle.subnet_ways.specs.OfFabric.{IsFabricOf, IsThere}
-use Rattle.subnet_ways.proofs.ListLemmas.{found_among}
-use Rattle.subnet_ways.proofs.WayLemmas.{deliveries_are_what_is_told, ports_stamp_as_told}
+use Rattle.subnet_sends.specs.Laws.{IsSender, told}
+use Rattle.subnet_sends.specs.OfFabric.{IsFabricOf, IsThere}
+use Rattle.subnet_sends.proofs.ListLemmas.{found_among}
+use Rattle.subnet_sends.proofs.WayLemmas.{are_told, ports_stamp_as_told}
 use Rattle.subnet_sends.specs.Sends.{AreAsListed, AskIsAsListed, ComesOf, ComesOfAsk, Stamps, asked_as, event_of, events_of_asking, first_held, stamped_as}
 use Rattle.subnet_sends.specs.declared.event.Event.{Event}
 use Rattle.subnet_sends.specs.declared.event.Event.TheVariants.{Received}
 
-told_events : (deliveries : List Delivered) → map event_of (map Received deliveries) ≡ map told deliveries
+told_events : (deliveries : List DeliveryState) → map event_of (map Received deliveries) ≡ map told deliveries
 told_events [] = refl
 told_events (delivered ∷ deliveries) = ap (λ (rest : List SubnetEvent). told delivered ∷ rest) (told_events deliveries)
 
@@ -67,7 +67,7 @@ module _ (ports : List SubnetPort) (fabric : FabricState) (command : SendCommand
     by_case None is false for_sa =
         let got = comes.carried (packet_of sender command) (gives None is) for_sa in
         ap (map event_of) got.told ∙ told_events got.deliveries
-        ∙ deliveries_are_what_is_told ports fabric command sender got.deliveries of sends is got.are
+        ∙ are_told ports fabric command sender of sends is got.deliveries got.are
         ∙ rw (is, for_sa) refl
 
     is_told : map event_of events ≡ sent_from (Some sender) ports command

@@ -1,1 +1,3 @@
+pub mod OfFabric
+pub mod Laws
 pub mod Sends

@@ -5,7 +5,7 @@ use Rattle.data_packet.specs.declared.packet.Packet.{Packet}
 use Rattle.data_packet.specs.declared.refusal.Refusal.{Refusal}
 use Rattle.data_packet.specs.declared.refusal.Refusal.TheVariants.{KeyNotHeld, PortNotActive, QpZero, ReservedDlid}
 use Rattle.fabric_parts.specs.declared.cable.PortRef.{PortRef}
-use Rattle.packet_ways.specs.Deliveries.{AreDeliveries, Delivered, HasPort, adapter_at}
+use Rattle.packet_ways.specs.Deliveries.{AreDeliveries, DeliveryState, HasPort, adapter_at}
 use Rattle.pkey_rules.specs.PKey.{default_base, key_of}
 use Rattle.port_model.specs.AdapterState.{AdapterState}
 use Rattle.port_model.specs.Packets.{stamped}
@@ -17,8 +17,8 @@ use Rattle.subnet_model.specs.declared.command.SendCommand.{SendCommand}
 use Rattle.subnet_model.specs.declared.event.Event.{Event as SubnetEvent}
 use Rattle.subnet_model.specs.declared.event.Outcome.TheVariants.{Refused as RefusedToSend}
 use Rattle.subnet_model.specs.declared.subnet_port.SubnetPort.{SubnetPort}
-use Rattle.subnet_ways.specs.Laws.{IsSender, told}
-use Rattle.subnet_ways.specs.OfFabric.{IsFabricOf}
+use Rattle.subnet_sends.specs.Laws.{IsSender, told}
+use Rattle.subnet_sends.specs.OfFabric.{IsFabricOf}
 use Rattle.subnet_sends.specs.declared.event.Event.{Event}
 use Rattle.subnet_sends.specs.declared.event.Event.TheVariants.{Received, Refused}
 
@@ -37,7 +37,7 @@ pub record Stamps (fabric : FabricState) (command : SendCommand) (given : Result
 
 -- the packet is received at each port that it reaches from the one of that GUID, and nothing else happens
 pub record AreReceived (fabric : FabricState) (sender : ℕ) (packet : Packet) (events : List Event) : Type 0 where
-  pub deliveries : List Delivered
+  pub deliveries : List DeliveryState
   pub are : AreDeliveries fabric sender packet deliveries
   pub told : events ≡ map Received deliveries
 

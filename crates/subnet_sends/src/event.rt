@@ -1,3 +1,5 @@
+//! What comes of a command at a port of a fabric.
+
 ghost use Rattle.std.specs.Prelude.{◌≡◌};
 ghost use Rattle.subnet_sends.specs.Sends.{event_of};
 

@@ -1,13 +1,19 @@
 //! A command, carried out over the simulated fabric.
 //!
 //! [`send`] is the one call: the port that the command names stamps the packet, the fabric's switches forward it
-//! (InfiniBand Architecture Specification, volume 1, chapter 14), and each port that gets it is an [`Event`]. What comes
+//! (IBA volume 1, chapter 14), and each port that gets it is an [`Event`]. What comes
 //! of a command is said by what the ports and switches of the fabric hold (`specs/Sends.antt`); in the fabric of a
 //! subnet's list of ports it is what that list tells.
+//!
+//! Such a list (`subnet_model`) knows no cable, table or hop. `specs/OfFabric.antt` says when a fabric is the one that it
+//! stands for; then its ports send and refuse as the list says ([`ports_stamp_as_told`]), and deliver what the list says
+//! ([`deliveries_are_what_is_told`]).
 #![tactic(auto)]
 
 mod event;
+mod laws;
 mod sending;
 
 pub use crate::event::Event;
+pub use crate::laws::{deliveries_are_what_is_told, ports_stamp_as_told};
 pub use crate::sending::{ask, send};

@@ -4,12 +4,14 @@ ghost use Rattle.std.specs.Prelude.{◌≡◌, [], ◌∷◌, IfOk, map, Some};
 ghost use Rattle.packet_ways.specs.Deliveries.{HasPort, adapter_at};
 ghost use Rattle.port_model.specs.Packets.{stamped};
 ghost use Rattle.port_model.specs.AdapterState.{AdapterState};
+ghost use Rattle.data_packet.specs.QueuePair.{general_services_qp};
+ghost use Rattle.fabric_parts.specs.Lid.{manager_lid};
 ghost use Rattle.fabric_parts.specs.declared.cable.PortRef.{PortRef};
-ghost use Rattle.subnet_model.specs.Delivery.{is_for_sa};
 ghost use Rattle.subnet_sends.specs.Sends.{AreAsListed, AreReceived, AskIsAsListed, ComesOf, ComesOfAsk, given_to_ask};
 
 use crate::event::Event;
 use data_packet::{Packet, QueuePair, Refusal};
+use fabric_parts::MANAGER_LID;
 use fabric_wire::{Delivery, Fabric};
 use pkey_rules::{DEFAULT_BASE, key_of};
 use std::alloc::{AllocError, Global};
@@ -31,7 +33,7 @@ pub fn send(alloc: Global, fabric: &Fabric, command: &SendCommand) -> Result<Vec
         command.payload.as_slice(),
     );
     match stamped {
-        Ok(_) if is_for_sa(command) => Ok(Vec::new(alloc)),
+        Ok(_) if command.is_for_sa() => Ok(Vec::new(alloc)),
         Ok(packet) => received(alloc, fabric, command.port_guid, &packet),
         Err(refusal) => refused(alloc, command.port_guid, refusal),
     }
@@ -68,16 +70,13 @@ fn asked(fabric: &Fabric, command: &AskCommand) -> Result<Packet, Refusal>
 fn asked_under(fabric: &Fabric, command: &AskCommand, p_key: u16) -> Result<Packet, Refusal>
     requires { HasPort fabric.now.nodes command.now.port_guid }
     ensures { (at : PortRef) (own : AdapterState) → adapter_at fabric.now.nodes at ≡ Some own → own.port_guid ≡ command.now.port_guid
-        → result ≡ stamped own 1 p_key 1 command.now.mad }
+        → result ≡ stamped own manager_lid p_key general_services_qp command.now.mad }
 {
-    let Some(administration) = QueuePair::new(1) else {
-        unreachable!()
-    };
     fabric.stamp(
         command.port_guid,
-        1,
+        MANAGER_LID,
         p_key,
-        administration,
+        QueuePair::general_services(),
         command.mad.as_slice(),
     )
 }
@@ -109,11 +108,4 @@ fn events_of(alloc: Global, deliveries: Vec<Delivery>) -> Result<Vec<Event>, All
     ensures { IfOk result (λ events. events.items ≡ map Event.Received deliveries.items) }
 {
     deliveries.into_iter().map(Event::Received).collect(alloc)
-}
-
-/// Whether the packet is for the subnet administration.
-fn is_for_sa(command: &SendCommand) -> bool
-    ensures { result ≡ is_for_sa command.now }
-{
-    command.dlid == 1 && command.destination_qp.number() == 1
 }

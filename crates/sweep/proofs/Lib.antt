@@ -4,7 +4,6 @@ pub mod ShownLemmas
 pub mod LinkLemmas
 pub mod StartLemmas
 pub mod EndLemmas
-pub mod RangeLemmas
 pub mod FoundLemmas
 pub mod ProgressLemmas
 pub mod SurveyLemmas

@@ -9,7 +9,7 @@ use Rattle.result_words.proofs.ListLemmas.{all_have}
 use Rattle.fabric_parts.specs.Cable.{far_end, is_same_port, port}
 use Rattle.fabric_parts.specs.declared.cable.PortRef.{PortRef}
 use Rattle.smp_wire.proofs.CableLemmas.{both_ways, far_is_port, same_port}
-use Rattle.smp_wire.proofs.DistinctLemmas.{differ}
+use Rattle.result_words.proofs.DistinctLemmas.{differ}
 use Rattle.smp_wire.specs.FabricState.{FabricState, is_switch_at}
 use Rattle.smp_wire.specs.Good.{IsGood}
 use Rattle.sweep.specs.OfFabric.{Found, node_at, nodes_of, port_seen, ports_at}

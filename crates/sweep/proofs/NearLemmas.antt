@@ -11,7 +11,7 @@ use Rattle.fabric_parts.specs.Cable.{far_end, is_same_port, port}
 use Rattle.fabric_parts.specs.declared.cable.Cable.{Cable}
 use Rattle.fabric_parts.specs.declared.cable.PortRef.{PortRef}
 use Rattle.smp_wire.proofs.CableLemmas.{cabled_is_port, far_end_before, itself}
-use Rattle.smp_wire.proofs.DistinctLemmas.{all_differ, differ}
+use Rattle.result_words.proofs.DistinctLemmas.{all_differ, differ}
 use Rattle.smp_wire.specs.FabricState.{FabricState, is_port, is_switch_at}
 use Rattle.smp_wire.specs.Good.{ends_of, is_right}
 use Rattle.smp_wire.specs.Walk.{end_of}

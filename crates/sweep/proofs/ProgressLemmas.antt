@@ -17,10 +17,10 @@ use Rattle.sweep.specs.Survey.{SurveyState}
 use Rattle.sweep.specs.declared.graph.GraphPort.{GraphPort}
 use Rattle.sweep.specs.declared.graph.GraphSwitch.{GraphSwitch}
 use Rattle.sweep.specs.declared.graph.Link.{Link}
-use Rattle.sweep.specs.declared.graph.TheConstants.{MAX_ADAPTER_PORTS, MAX_SWITCHES}
+use Rattle.fabric_parts.specs.declared.limits.TheConstants.{ADAPTER_PORTS, SWITCHES}
 use Rattle.sweep.specs.declared.path.TheConstants.{PATH_HOPS}
 use Rattle.sweep.proofs.FoundLemmas.{distinct_push, found_among, found_kept, place_kept}
-use Rattle.sweep.proofs.RangeLemmas.{flat_more, flat_same, get_kept, get_pushed, map_more, map_same}
+use Rattle.result_words.proofs.RangeLemmas.{flat_more, flat_same, get_kept, get_pushed, map_more, map_same}
 
 below_or_next : (n m : ℕ) → n ≤ suc m → (n ≤ m) ⊎ (n ≡ suc m)
 below_or_next n m h = by (nat_le n m) refl
@@ -79,7 +79,7 @@ pub record NotesAt (fabric : FabricState) (found : List Found) (i number : ℕ) 
   pub rows : new.rows ≡ old.rows
   pub ports : new.ports ≡ old.ports ++ ports_here fabric found i number
   pub links : next ≡ row ++ links_here fabric found i number
-  pub few : length new.ports ≤ MAX_ADAPTER_PORTS
+  pub few : length new.ports ≤ ADAPTER_PORTS
   pub met : AreMet fabric found i number new.ports
 
 noted_more : (fabric : FabricState) (found : List Found) (i count : ℕ) (old new : SurveyState) (row next : List Link)
@@ -114,7 +114,7 @@ port_more fabric found i count one old new row next there so_far known here = re
 pub record IsNew (fabric : FabricState) (found : List Found) (one new : Found) : Type 0 where
   pub switch : is_switch_at fabric.nodes new.node ≡ true
   pub not_there : is_among (nodes_of found) new.node ≡ false
-  pub room : length found < MAX_SWITCHES
+  pub room : length found < SWITCHES
   pub leads : Leads fabric new
   pub deep : length new.path ≡ length one.path + 1
   pub neighbour : HasNeighbour fabric (nodes_of found) new.node

@@ -16,7 +16,7 @@ use Rattle.smp_wire.specs.declared.node.Node.TheVariants.{Switch, Adapter}
 use Rattle.smp_wire.specs.FabricState.{FabricState, adapter_port, is_port, is_switch, is_switch_at}
 use Rattle.smp_wire.specs.Good.{IsGood, is_right, node_guid}
 use Rattle.smp_wire.specs.Walk.{end_of, last_of, walk}
-use Rattle.smp_wire.proofs.ListLemmas.{find_all}
+use Rattle.result_words.proofs.ElementLemmas.{find_all}
 use Rattle.smp_wire.proofs.PathLemmas.{paths_begin}
 use Rattle.sweep.specs.OfFabric.{switch_of}
 use Rattle.sweep.specs.Seen.{name_at, name_in, seen_at, seen_in}

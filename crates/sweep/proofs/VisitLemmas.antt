@@ -33,7 +33,7 @@ use Rattle.sweep.proofs.MetLemmas.{good_once, met_more, met_on}
 use Rattle.sweep.proofs.CabledLemmas.{cabled_of, end_more, far_none}
 use Rattle.sweep.proofs.PlaceLemmas.{count_found, found_place, has_guid, not_found, switch_seen}
 use Rattle.sweep.proofs.ProgressLemmas.{IsKnownNext, IsNew, NotesAt, links_here, next_switch, node_of, port_more, ports_here, switch_more}
-use Rattle.sweep.proofs.RangeLemmas.{get_kept, get_last}
+use Rattle.result_words.proofs.RangeLemmas.{get_kept, get_last}
 
 -- ---- each switch that was found is one
 pub stands_switch : (fabric : FabricState) (found : List Found) (k : ℕ) (one : Found) → list_all (is_switch_at fabric.nodes) (nodes_of found) ≡ true

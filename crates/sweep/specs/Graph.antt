@@ -10,7 +10,7 @@ use Rattle.fabric_parts.specs.declared.node_type.NodeType.TheVariants as node_ty
 use Rattle.sweep.specs.declared.graph.GraphPort.{GraphPort}
 use Rattle.sweep.specs.declared.graph.GraphSwitch.{GraphSwitch}
 use Rattle.sweep.specs.declared.graph.Link.{Link}
-use Rattle.sweep.specs.declared.graph.TheConstants.{MAX_ADAPTER_PORTS, MAX_SWITCHES}
+use Rattle.fabric_parts.specs.declared.limits.TheConstants.{ADAPTER_PORTS, SWITCHES}
 use Rattle.sweep.specs.declared.path.TheConstants.{PATH_HOPS}
 
 pub record GraphState : Type 0 where
@@ -102,8 +102,8 @@ end_guids switches ports = map (λ switch. switch.guid) switches ++ map (λ port
 
 -- ---- the graph
 pub record IsGraph (graph : GraphState) : Type 0 where
-  pub few_switches : length graph.switches ≤ MAX_SWITCHES
-  pub few_ports : length graph.ports ≤ MAX_ADAPTER_PORTS
+  pub few_switches : length graph.switches ≤ SWITCHES
+  pub few_ports : length graph.ports ≤ ADAPTER_PORTS
   pub switches : list_all is_right_switch graph.switches ≡ true
   pub a_row_each : length graph.rows ≡ length graph.switches
   pub rows : list_all (is_right_row graph.switches graph.rows) (range_with_len 0 (length graph.rows)) ≡ true

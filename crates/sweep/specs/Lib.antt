@@ -11,3 +11,4 @@ pub mod Start
 pub mod Survey
 pub mod Progress
 pub mod Sweeps
+pub mod Steps

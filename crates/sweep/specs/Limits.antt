@@ -4,7 +4,7 @@ use Rattle.std.specs.List.{IsDistinct, list_all}
 use Rattle.fabric_parts.specs.Cable.{is_cabled, is_same_port}
 use Rattle.fabric_parts.specs.declared.cable.PortRef.{PortRef}
 use Rattle.smp_wire.specs.FabricState.{FabricState, is_switch_at}
-use Rattle.sweep.specs.declared.graph.TheConstants.{MAX_ADAPTER_PORTS, MAX_SWITCHES}
+use Rattle.fabric_parts.specs.declared.limits.TheConstants.{ADAPTER_PORTS, SWITCHES}
 
 -- more than so many are of a kind
 pub record AreOver {X : Type 0} (limit : ℕ) (same : X → X → Bool) (kind : X → Bool) : Type 0 where
@@ -20,5 +20,5 @@ is_adapter_port fabric at = not (is_switch_at fabric.nodes at.node) && is_cabled
 -- more switches than a graph holds, or more ports of adapters with a cable
 abbrev pub IsTooBig : FabricState → Type 0
 IsTooBig fabric =
-    AreOver MAX_SWITCHES (λ a b. a == b) (is_switch_at fabric.nodes)
-    ⊎ AreOver MAX_ADAPTER_PORTS is_same_port (is_adapter_port fabric)
+    AreOver SWITCHES (λ a b. a == b) (is_switch_at fabric.nodes)
+    ⊎ AreOver ADAPTER_PORTS is_same_port (is_adapter_port fabric)

@@ -12,7 +12,7 @@ use Rattle.sweep.specs.declared.graph.GraphPort.{GraphPort}
 use Rattle.sweep.specs.declared.graph.Link.{Link}
 use Rattle.sweep.specs.declared.seen.Seen.{Seen}
 use Rattle.sweep.specs.declared.path.TheConstants.{PATH_HOPS}
-use Rattle.sweep.specs.declared.graph.TheConstants.{MAX_ADAPTER_PORTS, MAX_SWITCHES}
+use Rattle.fabric_parts.specs.declared.limits.TheConstants.{ADAPTER_PORTS, SWITCHES}
 
 -- a switch was found, by a path of so many hops or less
 abbrev pub is_found : List Found → ℕ → ℕ → Bool
@@ -43,7 +43,7 @@ pub record HasNeighbour (fabric : FabricState) (earlier : List ℕ) (node : ℕ)
 pub record IsDiscovery (fabric : FabricState) (found : List Found) : Type 0 where
   pub once : IsDistinct (λ a b. a == b) (nodes_of found)
   pub are : list_all (is_switch_at fabric.nodes) (nodes_of found) ≡ true
-  pub few : length found ≤ MAX_SWITCHES
+  pub few : length found ≤ SWITCHES
   pub lead : All (Leads fabric) found
   -- the first switch is the one that the subnet manager's port hangs on
   pub first : PortRef
@@ -105,7 +105,7 @@ pub record IsNoted (fabric : FabricState) (found : List Found) (i count : ℕ) (
   pub rows : survey.rows ≡ map (λ one. row_of fabric (nodes_of found) one.node) (take i found)
   pub links : row ≡ links_up_to fabric (nodes_of found) (node_at found i) count
   pub ports : survey.ports ≡ ports_before fabric found i ++ ports_up_to fabric i (node_at found i) count
-  pub few_ports : length survey.ports ≤ MAX_ADAPTER_PORTS
+  pub few_ports : length survey.ports ≤ ADAPTER_PORTS
   pub met : AreMet fabric found i count survey.ports
 
 pub record IsProgress (fabric : FabricState) (found : List Found) (i count : ℕ) (survey : SurveyState) (row : List Link) : Type 0 where

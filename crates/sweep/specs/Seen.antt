@@ -1,4 +1,4 @@
--- What is seen of a node by NodeInfo (InfiniBand volume 1, 14.2.5.3) and NodeDescription, asked at one of its ports.
+-- What is seen of a node by NodeInfo (IBA volume 1, 14.2.5.3) and NodeDescription, asked at one of its ports.
 use Rattle.std.specs.Prelude.{ℕ, ◌==◌, ◌&&◌, nat_le, Bool, if◌then◌else◌, List, length, slice_get, Option, Some, None, option_map, Result, Ok, Err}
 use Rattle.std.specs.Option.{option_and_then, option_map_or}
 use Rattle.fabric_parts.specs.NodeType.{most_ports, node_type_code}

@@ -4,13 +4,13 @@ ghost use Rattle.std.specs.Prelude.{◌≡◌, ◌==◌, ◌&&◌, nat_le, [], l
 ghost use Rattle.std.specs.Bool.{Decides};
 ghost use Rattle.std.specs.List.{IsDistinct, list_all, list_any, range_with_len};
 ghost use Rattle.sweep.specs.Graph.{IsGraph, count_at, end_guids, graph_with, hops_to, is_joined, is_linked, is_near, is_right_link, is_right_port, is_right_row, is_right_switch, is_switch_port, rise_above};
-ghost use Rattle.sweep.specs.declared.graph.TheConstants.{MAX_ADAPTER_PORTS, MAX_SWITCHES};
+ghost use Rattle.fabric_parts.specs.declared.limits.TheConstants.{ADAPTER_PORTS, SWITCHES};
 
 use crate::adapters::all_agree;
-use crate::graph::{GraphPort, GraphSwitch, Link, MAX_ADAPTER_PORTS, MAX_SWITCHES, Row};
+use crate::graph::{GraphPort, GraphSwitch, Link, Row};
 use crate::path::PATH_HOPS;
 use crate::switch_list::SwitchList;
-use fabric_parts::{NodeType, PortRef};
+use fabric_parts::{ADAPTER_PORTS, NodeType, PortRef, SWITCHES};
 use std::alloc::{AllocError, Global};
 use std::collections::HashSet;
 
@@ -35,16 +35,17 @@ pub(crate) fn are_a_graph(
 
 /// Whether there are as many rows as switches, and no more switches and ports than a graph holds.
 fn are_few(switches: &[GraphSwitch], rows: &[Row], ports: &[GraphPort]) -> bool
-    ensures { result ≡ (nat_le (length switches.now) MAX_SWITCHES && (nat_le (length ports.now) MAX_ADAPTER_PORTS && (length rows.now == length switches.now))) }
+    ensures { result ≡ (nat_le (length switches.now) SWITCHES
+        && (nat_le (length ports.now) ADAPTER_PORTS && (length rows.now == length switches.now))) }
 {
-    switches.len() <= MAX_SWITCHES
-        && ports.len() <= MAX_ADAPTER_PORTS
-        && rows.len() == switches.len()
+    switches.len() <= SWITCHES && ports.len() <= ADAPTER_PORTS && rows.len() == switches.len()
 }
 
 /// Whether each switch, link and port is one that a fabric of ours may have.
 fn are_right(switches: &SwitchList, rows: &[Row], ports: &[GraphPort]) -> bool
-    ensures { result ≡ (list_all is_right_switch switches.now && (list_all (is_right_row switches.now rows.now) (range_with_len 0 (length rows.now)) && list_all (is_right_port switches.now) ports.now)) }
+    ensures { result ≡ (list_all is_right_switch switches.now
+        && (list_all (is_right_row switches.now rows.now) (range_with_len 0 (length rows.now))
+        && list_all (is_right_port switches.now) ports.now)) }
 {
     are_right_switches(switches.as_slice())
         && are_right_rows(switches.as_slice(), rows)

@@ -27,7 +27,8 @@ fn get<W: SmpWire>(
     modifier: u32,
     path: &Path,
 ) -> Result<[u8; 64], SweepFault>
-    ensures told { ForSome (W.fabric wire.old) (λ fabric. IsGood fabric → result ≡ heard (told_for (gives_along fabric path.now attribute modifier))) }
+    ensures told { ForSome (W.fabric wire.old) (λ fabric. IsGood fabric
+        → result ≡ heard (told_for (gives_along fabric path.now attribute modifier))) }
     ensures left { ForSome (W.fabric wire.old) (λ fabric. IsGood fabric → W.fabric wire.new ≡ Some fabric) }
     ensures counted { transaction_id.new ≡ (transaction_id.old + 1) % 2 ^ 64 }
 {
@@ -46,7 +47,8 @@ pub(crate) fn look<W: SmpWire>(
     transaction_id: &mut u64,
     path: &Path,
 ) -> Result<Seen, SweepFault>
-    ensures told { ForSome (W.fabric wire.old) (λ fabric. IsGood fabric → result ≡ ok_or (option_and_then (seen_at fabric) (end_of fabric path.now)) NoReply) }
+    ensures told { ForSome (W.fabric wire.old) (λ fabric. IsGood fabric
+        → result ≡ ok_or (option_and_then (seen_at fabric) (end_of fabric path.now)) NoReply) }
     ensures left { ForSome (W.fabric wire.old) (λ fabric. IsGood fabric → W.fabric wire.new ≡ Some fabric) }
 {
     match get(wire, transaction_id, SmpAttribute::NodeInfo, 0, path) {
@@ -63,7 +65,8 @@ pub(crate) fn name_of<W: SmpWire>(
     transaction_id: &mut u64,
     path: &Path,
 ) -> Result<[u8; 64], SweepFault>
-    ensures told { ForSome (W.fabric wire.old) (λ fabric. IsGood fabric → result ≡ ok_or (option_and_then (name_at fabric) (end_of fabric path.now)) NoReply) }
+    ensures told { ForSome (W.fabric wire.old) (λ fabric. IsGood fabric
+        → result ≡ ok_or (option_and_then (name_at fabric) (end_of fabric path.now)) NoReply) }
     ensures left { ForSome (W.fabric wire.old) (λ fabric. IsGood fabric → W.fabric wire.new ≡ Some fabric) }
 {
     match get(wire, transaction_id, SmpAttribute::NodeDescription, 0, path) {
@@ -81,7 +84,9 @@ pub(crate) fn has_link<W: SmpWire>(
     path: &Path,
     number: u8,
 ) -> Result<bool, SweepFault>
-    ensures told { ForSome (W.fabric wire.old) (λ fabric. (at : PortRef) → IsGood fabric → ShowsLinks fabric → end_of fabric path.now ≡ Some at → is_switch_at fabric.nodes at.node ≡ true → is_port fabric.nodes (port at.node number) ≡ true → result ≡ Ok (is_cabled fabric.cables (port at.node number))) }
+    ensures told { ForSome (W.fabric wire.old) (λ fabric. (at : PortRef) → IsGood fabric → ShowsLinks fabric
+        → end_of fabric path.now ≡ Some at → is_switch_at fabric.nodes at.node ≡ true
+        → is_port fabric.nodes (port at.node number) ≡ true → result ≡ Ok (is_cabled fabric.cables (port at.node number))) }
     ensures left { ForSome (W.fabric wire.old) (λ fabric. IsGood fabric → W.fabric wire.new ≡ Some fabric) }
 {
     match get(

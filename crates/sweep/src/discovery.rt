@@ -1,30 +1,27 @@
 //! How a fabric is found, node by node.
 
-ghost use Rattle.std.specs.Prelude.{ℕ, suc, ◌≡◌, ◌≤◌, ◌<◌, ◌==◌, List, ◌∷◌, ◌++◌, true, false, [], length, position, Some, None, IfErr, IfOk, OnOk};
+ghost use Rattle.std.specs.Prelude.{◌≡◌, ◌<◌, ◌==◌, true, false, position, Some, None, IfOk};
 ghost use Rattle.std.specs.Option.{ForSome};
-ghost use Rattle.fabric_parts.specs.Cable.{far_end, port};
+ghost use Rattle.fabric_parts.specs.Cable.{port};
 ghost use Rattle.fabric_parts.specs.declared.cable.PortRef.{PortRef};
-ghost use Rattle.smp_wire.specs.FabricState.{FabricState, is_switch_at};
+ghost use Rattle.smp_wire.specs.FabricState.{FabricState};
 ghost use Rattle.smp_wire.specs.Good.{IsGood};
-ghost use Rattle.smp_wire.specs.Walk.{end_of};
 ghost use Rattle.sweep.specs.Graph.{is_joined};
-ghost use Rattle.sweep.specs.OfFabric.{Found, port_to, ports_at, switch_of};
-ghost use Rattle.sweep.specs.Progress.{IsProgress, StandsAt};
-ghost use Rattle.sweep.specs.Seen.{seen_at};
-ghost use Rattle.sweep.specs.Sweeps.{Adds, Comes, Finds, GoesOn, IsAllAsked, IsAtPort, IsBehind, IsPlacedAt, IsSweepable, Noted};
+ghost use Rattle.sweep.specs.Sweeps.{Adds, Finds, IsSweepable, Noted};
 ghost use Rattle.sweep.specs.declared.graph.Link.{Link};
-ghost use Rattle.sweep.specs.declared.graph.TheConstants.{MAX_ADAPTER_PORTS, MAX_SWITCHES};
+ghost use Rattle.fabric_parts.specs.declared.limits.TheConstants.{SWITCHES};
 ghost use Rattle.sweep.specs.declared.path.TheConstants.{PATH_HOPS};
+ghost use Rattle.sweep.specs.Steps.{AllAreAsked, LinkIsTurned, PortIsAdded, PortIsAsked, SwitchIsAdded, SwitchIsAsked, SwitchIsMet, SwitchIsPlaced};
 ghost use Rattle.sweep.specs.Start.{Starts};
 ghost use Rattle.sweep.specs.declared.fault.SweepFault.TheVariants.{NoMemory};
 
 use crate::asking::{has_link, look, name_of};
 use crate::fault::SweepFault;
-use crate::graph::{Graph, GraphPort, GraphSwitch, Link, MAX_SWITCHES, Row};
+use crate::graph::{Graph, GraphPort, GraphSwitch, Link, Row};
 use crate::path::{PATH_HOPS, Path};
 use crate::seen::Seen;
 use crate::survey::Survey;
-use fabric_parts::{NodeType, PortRef};
+use fabric_parts::{NodeType, PortRef, SWITCHES};
 use smp_wire::SmpWire;
 use std::alloc::Global;
 
@@ -118,10 +115,10 @@ fn visit_all<W: SmpWire>(
     transaction_id: &mut u64,
     survey: &mut Survey,
 ) -> Result<(), SweepFault>
-    ensures went { ForSome (W.fabric wire.old) (λ fabric. IsSweepable fabric → (found : List Found) → IsProgress fabric found 0 0 survey.old [] → Comes fabric (λ _. IsAllAsked fabric found survey.new) result) }
+    ensures went { ForSome (W.fabric wire.old) (λ fabric. AllAreAsked fabric survey.old survey.new result) }
     ensures left { ForSome (W.fabric wire.old) (λ fabric. IsGood fabric → W.fabric wire.new ≡ Some fabric) }
 {
-    for place in 0..MAX_SWITCHES {
+    for place in 0..SWITCHES {
         let Some((num_ports, path)) = survey.way_to(place) else {
             return Ok(());
         };
@@ -143,7 +140,7 @@ fn visit_switch<W: SmpWire>(
     num_ports: u8,
     path: &Path,
 ) -> Result<(), SweepFault>
-    ensures went { ForSome (W.fabric wire.old) (λ fabric. IsSweepable fabric → (found : List Found) (one : Found) → path.now ≡ one.path → num_ports ≡ ports_at fabric one.node → StandsAt found place one → IsProgress fabric found place 0 survey.old [] → Comes fabric (λ _. GoesOn fabric found (suc place) 0 survey.new []) result) }
+    ensures went { ForSome (W.fabric wire.old) (λ fabric. SwitchIsAsked fabric place num_ports path.now survey.old survey.new result) }
     ensures left { ForSome (W.fabric wire.old) (λ fabric. IsGood fabric → W.fabric wire.new ≡ Some fabric) }
 {
     let mut row = Row::new(alloc);
@@ -172,7 +169,7 @@ fn visit_port<W: SmpWire>(
     here: PortRef,
     path: &Path,
 ) -> Result<(), SweepFault>
-    ensures went { ForSome (W.fabric wire.old) (λ fabric. IsSweepable fabric → (found : List Found) (one : Found) (count : ℕ) → path.now ≡ one.path → IsAtPort fabric found one count survey.old row.old here → Comes fabric (λ _. GoesOn fabric found here.node here.port survey.new row.new) result) }
+    ensures went { ForSome (W.fabric wire.old) (λ fabric. PortIsAsked fabric here path.now survey.old survey.new row.old row.new result) }
     ensures left { ForSome (W.fabric wire.old) (λ fabric. IsGood fabric → W.fabric wire.new ≡ Some fabric) }
 {
     match has_link(wire, transaction_id, path, here.port) {
@@ -196,7 +193,7 @@ fn visit_port<W: SmpWire>(
 
 /// Notes a link that no SMP can follow, if it was seen from its other end.
 fn turn_round(survey: &Survey, row: &mut Row, here: PortRef) -> Result<(), SweepFault>
-    ensures went { (fabric : FabricState) → IsSweepable fabric → (found : List Found) (one : Found) (count : ℕ) (there : PortRef) → IsAtPort fabric found one count survey.now row.old here → far_end fabric.cables (port one.node here.port) ≡ Some there → length one.path ≡ PATH_HOPS → Comes fabric (λ _. GoesOn fabric found here.node here.port survey.now row.new) result }
+    ensures went { (fabric : FabricState) → LinkIsTurned fabric here survey.now row.old row.new result }
 {
     match survey.seen_from(here) {
         Some(to) => note(row, here, to),
@@ -227,7 +224,7 @@ fn meet_switch<W: SmpWire>(
     seen: &Seen,
     path: Path,
 ) -> Result<(), SweepFault>
-    ensures went { ForSome (W.fabric wire.old) (λ fabric. IsSweepable fabric → (found : List Found) (one : Found) (count : ℕ) (there : PortRef) → IsAtPort fabric found one count survey.old row.old here → IsBehind fabric one here there path seen.now → is_switch_at fabric.nodes there.node ≡ true → Comes fabric (λ _. GoesOn fabric found here.node here.port survey.new row.new) result) }
+    ensures went { ForSome (W.fabric wire.old) (λ fabric. SwitchIsMet fabric here path seen.now survey.old survey.new row.old row.new result) }
     ensures left { ForSome (W.fabric wire.old) (λ fabric. IsGood fabric → W.fabric wire.new ≡ Some fabric) }
 {
     let node = match place_behind(wire, transaction_id, survey, seen, path) {
@@ -252,7 +249,7 @@ fn place_behind<W: SmpWire>(
     seen: &Seen,
     path: Path,
 ) -> Result<usize, SweepFault>
-    ensures went { ForSome (W.fabric wire.old) (λ fabric. IsSweepable fabric → (found : List Found) (one : Found) (count : ℕ) (row : List Link) (here there : PortRef) → IsAtPort fabric found one count survey.old row here → IsBehind fabric one here there path seen.now → is_switch_at fabric.nodes there.node ≡ true → Comes fabric (IsPlacedAt fabric found one here.node count survey.new row there.node) result) }
+    ensures went { ForSome (W.fabric wire.old) (λ fabric. SwitchIsPlaced fabric path seen.now survey.old survey.new result) }
     ensures left { ForSome (W.fabric wire.old) (λ fabric. IsGood fabric → W.fabric wire.new ≡ Some fabric) }
 {
     match survey.place_of(seen.node_guid) {
@@ -270,7 +267,7 @@ fn find_switch<W: SmpWire>(
     path: Path,
 ) -> Result<usize, SweepFault>
     requires new { position (λ switch. switch.guid == seen.now.node_guid) survey.old.switches ≡ None }
-    ensures added { ForSome (W.fabric wire.old) (λ fabric. IsGood fabric → (there : PortRef) → end_of fabric path ≡ Some there → is_switch_at fabric.nodes there.node ≡ true → seen_at fabric there ≡ Some seen.now → Adds (MAX_SWITCHES ≤ length survey.old.switches) (λ place. (place ≡ length survey.old.switches) × (length survey.old.switches < MAX_SWITCHES) × (survey.new ≡ record survey.old { switches = survey.old.switches ++ switch_of fabric (record { node = there.node; path = path }) ∷ [] })) result) }
+    ensures added { ForSome (W.fabric wire.old) (λ fabric. SwitchIsAdded fabric path seen.now survey.old survey.new result) }
     ensures left { ForSome (W.fabric wire.old) (λ fabric. IsGood fabric → W.fabric wire.new ≡ Some fabric) }
 {
     let name = match name_of(wire, transaction_id, &path) {
@@ -294,7 +291,7 @@ fn meet_port<W: SmpWire>(
     seen: &Seen,
     path: &Path,
 ) -> Result<(), SweepFault>
-    ensures added { ForSome (W.fabric wire.old) (λ fabric. IsGood fabric → (there : PortRef) → end_of fabric path.now ≡ Some there → is_switch_at fabric.nodes there.node ≡ false → seen_at fabric there ≡ Some seen.now → Adds (MAX_ADAPTER_PORTS ≤ length survey.old.ports) (λ _. (length survey.old.ports < MAX_ADAPTER_PORTS) × (survey.new ≡ record survey.old { ports = survey.old.ports ++ port_to fabric here there })) result) }
+    ensures added { ForSome (W.fabric wire.old) (λ fabric. PortIsAdded fabric here path.now seen.now survey.old survey.new result) }
     ensures left { ForSome (W.fabric wire.old) (λ fabric. IsGood fabric → W.fabric wire.new ≡ Some fabric) }
 {
     let name = match name_of(wire, transaction_id, path) {

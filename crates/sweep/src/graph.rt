@@ -9,12 +9,6 @@ use fabric_parts::PortRef;
 use std::alloc::{AllocError, Global};
 use std::marker::Model;
 
-/// How many switches a graph holds at most.
-pub const MAX_SWITCHES: usize = 64;
-
-/// How many ports of channel adapters a graph holds at most.
-pub const MAX_ADAPTER_PORTS: usize = 256;
-
 /// A switch of a graph.
 #[derive(Debug, Drop)]
 pub struct GraphSwitch {
@@ -162,7 +156,7 @@ impl Graph {
     }
 
     /// What holds of every graph, whatever wire it came over.
-    pub fn is_whole(&self)
+    pub fn known_graph(&self)
         ensures { IsGraph self.now }
     {
         let _ = &self.manager;

@@ -2,14 +2,10 @@
 
 ghost use Rattle.std.specs.Prelude.{◌≡◌};
 ghost use Rattle.sweep.specs.Laws.{GraphsHaveTheEndPorts};
-ghost use Rattle.sweep.specs.declared.graph.TheConstants.{MAX_ADAPTER_PORTS, MAX_SWITCHES};
 ghost use Rattle.sweep.specs.declared.path.TheConstants.{PATH_HOPS};
 
-/// How many switches and ports of channel adapters a graph holds at most, and how many hops a path has at most
-/// (IBA volume 1, 14.2.1.2), written out: the first two numbers are ours.
+/// How many hops a path has at most (IBA volume 1, 14.2.1.2), written out.
 pub fn the_numbers()
-    ensures switches { MAX_SWITCHES ≡ 64 }
-    ensures adapter_ports { MAX_ADAPTER_PORTS ≡ 256 }
     ensures hops { PATH_HOPS ≡ 63 }
 {}
 

@@ -2,7 +2,7 @@
 //!
 //! [`sweep`] is the one call: it learns the subnet manager's port, leaves by that port, and goes from switch to
 //! switch in the order of their discovery. PortInfo tells whether a port has a cable, NodeInfo and
-//! NodeDescription what is behind it (InfiniBand Architecture Specification, volume 1, 14.2.5.3 and chapter 14).
+//! NodeDescription what is behind it (IBA volume 1, 14.2.5.3 and chapter 14).
 //! Over a wire that stands for a good fabric the [`Graph`] is that fabric's, as `specs/OfFabric.antt` says;
 //! over any wire it is one that agrees with itself (`specs/Graph.antt`). [`SweepFault`] says why a sweep stops.
 #![tactic(auto)]
@@ -21,7 +21,7 @@ mod switch_list;
 
 pub use crate::discovery::sweep;
 pub use crate::fault::SweepFault;
-pub use crate::graph::{Graph, GraphPort, GraphSwitch, Link, MAX_ADAPTER_PORTS, MAX_SWITCHES, Row};
+pub use crate::graph::{Graph, GraphPort, GraphSwitch, Link, Row};
 pub use crate::laws::{graphs_have_the_end_ports, the_numbers};
 pub use crate::path::{PATH_HOPS, Path};
 pub use crate::seen::{Seen, seen_of};

@@ -4,13 +4,14 @@ ghost use Rattle.std.specs.Prelude.{◌≡◌, ◌≤◌, ◌<◌, length, [], �
 ghost use Rattle.sweep.specs.declared.path.TheConstants.{PATH_HOPS};
 
 use arrayvec::ArrayVec;
+use smp_route::MAX_HOPS;
 use std::alloc::AllocError;
 use std::marker::Model;
 
 /// How many hops a directed route has at most.
 ///
 /// Source: IBA volume 1, 14.2.1.2.
-pub const PATH_HOPS: usize = 63;
+pub const PATH_HOPS: usize = MAX_HOPS as usize;
 
 /// A path from the subnet manager's port: the ports by which its hops leave.
 #[derive(Debug, Drop)]

@@ -7,14 +7,14 @@ ghost use Rattle.fabric_parts.specs.declared.cable.PortRef.{PortRef};
 ghost use Rattle.sweep.specs.Graph.{IsGraph, count_at, graph_with, is_linked};
 ghost use Rattle.sweep.specs.Survey.{SurveyState};
 ghost use Rattle.sweep.specs.declared.fault.SweepFault.TheVariants.{NoMemory, TooManyNodes, WrongReply};
-ghost use Rattle.sweep.specs.declared.graph.TheConstants.{MAX_ADAPTER_PORTS, MAX_SWITCHES};
+ghost use Rattle.fabric_parts.specs.declared.limits.TheConstants.{ADAPTER_PORTS, SWITCHES};
 
 use crate::agreement::{are_a_graph, count_at, links_at};
 use crate::fault::SweepFault;
-use crate::graph::{Graph, GraphPort, GraphSwitch, Link, MAX_ADAPTER_PORTS, MAX_SWITCHES, Row};
+use crate::graph::{Graph, GraphPort, GraphSwitch, Link, Row};
 use crate::path::Path;
 use crate::switch_list::SwitchList;
-use fabric_parts::PortRef;
+use fabric_parts::{ADAPTER_PORTS, PortRef, SWITCHES};
 use std::alloc::{AllocError, Global};
 use std::marker::Model;
 
@@ -73,12 +73,12 @@ impl Survey {
         requires new { position (λ known. known.guid == switch.guid) self.old.switches ≡ None }
         ensures place { IfOk result (λ place. place ≡ length self.old.switches) }
         ensures ok { OnOk result (self.new ≡ record self.old { switches = self.old.switches ++ switch ∷ [] }) }
-        ensures room { OnOk result (length self.old.switches < MAX_SWITCHES) }
-        ensures full { IsErrOf result TooManyNodes → MAX_SWITCHES ≤ length self.old.switches }
+        ensures room { OnOk result (length self.old.switches < SWITCHES) }
+        ensures full { IsErrOf result TooManyNodes → SWITCHES ≤ length self.old.switches }
         ensures err { IfErr result (λ fault. (fault ≡ NoMemory) ⊎ (fault ≡ TooManyNodes)) }
     {
         let place = self.switches.as_slice().len();
-        if place >= MAX_SWITCHES {
+        if place >= SWITCHES {
             return Err(SweepFault::TooManyNodes);
         }
         self.switches.push(switch)?;
@@ -88,11 +88,11 @@ impl Survey {
     /// Adds a port. `TooManyNodes` where there is no room.
     pub(crate) fn add_port(&mut self, port: GraphPort) -> Result<(), SweepFault>
         ensures ok { OnOk result (self.new ≡ record self.old { ports = self.old.ports ++ port ∷ [] }) }
-        ensures room { OnOk result (length self.old.ports < MAX_ADAPTER_PORTS) }
-        ensures full { IsErrOf result TooManyNodes → MAX_ADAPTER_PORTS ≤ length self.old.ports }
+        ensures room { OnOk result (length self.old.ports < ADAPTER_PORTS) }
+        ensures full { IsErrOf result TooManyNodes → ADAPTER_PORTS ≤ length self.old.ports }
         ensures err { IfErr result (λ fault. (fault ≡ NoMemory) ⊎ (fault ≡ TooManyNodes)) }
     {
-        if self.ports.len() >= MAX_ADAPTER_PORTS {
+        if self.ports.len() >= ADAPTER_PORTS {
             return Err(SweepFault::TooManyNodes);
         }
         self.ports.push(port)?;

@@ -1,5 +1,6 @@
 -- Where a packet leaves, part by part.
 use Rattle.std.proofs.Common.{◌≡◌, ◌≢◌, ℕ, ◌==◌, ◌&&◌, refl, subst, Bool, true, false, not, if◌then◌else◌, List, Option, Some, None, slice_get}
+use Rattle.std.specs.Prelude.{◌↔◌}
 use Rattle.std.specs.Option.{option_and_then, option_map_or}
 use Rattle.std.proofs.lemmas.Bool.{and_parts, eq-eqb, eqb-true, le-leb, leb-true, not-true, false_from_ne_true}
 use Rattle.data_packet.specs.declared.packet.Packet.{Packet}
@@ -55,5 +56,9 @@ sent held in_port packet out is =
     rw (is.inbound, le-leb packet.dlid held.info.linear_fdb_top is.within, is.entry, other_than_0 out is.outside, is.outbound)
     (eq-eqb out out refl)
 
+-- as long as masks are not looked at, that is so of all packets
+pub goes_by_entry : (held : SwitchState) (in_port : ℕ) (packet : Packet) (out : ℕ) → (sends_out held in_port packet out ≡ true) ↔ IsSentOut held in_port packet out
+goes_by_entry held in_port packet out = (is_sent held in_port packet out, sent held in_port packet out)
+
 pub goes_by_entries : UnicastGoesByEntries
-goes_by_entries held in_port packet out = (is_sent held in_port packet out, sent held in_port packet out)
+goes_by_entries held in_port packet out unicast = goes_by_entry held in_port packet out

@@ -1,4 +1,4 @@
--- How a switch answers SMPs (InfiniBand volume 1, chapter 14): it has every attribute, and all can be set
+-- How a switch answers SMPs (IBA volume 1, chapter 14): it has every attribute, and all can be set
 -- but NodeInfo and NodeDescription. The rest is what all agents share.
 use Rattle.std.specs.Prelude.{ℕ, ◌/◌, ◌%◌, ◌^◌, ◌==◌, Bool, ◌&&◌, nat_lt, if◌then◌else◌, List, slice_get, slice_set, length, Option, Result, Ok, Err}
 use Rattle.std.specs.Option.{ok_or}

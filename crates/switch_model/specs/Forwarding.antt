@@ -1,4 +1,4 @@
--- Where a switch sends a data packet (InfiniBand volume 1, chapter 14), by what SMPs wrote: LinearFDBTop, the linear
+-- Where a switch sends a data packet (IBA volume 1, chapter 14), by what SMPs wrote: LinearFDBTop, the linear
 -- forwarding table, and each port's enforcement bits and key table. No port's state is looked at, and a packet may
 -- leave by the port at which it came in.
 use Rattle.std.specs.Prelude.{ℕ, ◌≡◌, ◌≢◌, ◌≤◌, Bool, true, false, not, ◌==◌, ◌&&◌, ◌||◌, nat_le, if◌then◌else◌, List, slice_get, Option, Some, None}

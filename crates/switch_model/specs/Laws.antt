@@ -1,5 +1,5 @@
 -- What holds of the agent of a switch, and of its ports at power-up.
-use Rattle.std.specs.Prelude.{ℕ, ◌≡◌, ◌↔◌, ◌<◌, true, List, ◌∷◌, length, slice_get, option_map, Ok, IfOk}
+use Rattle.std.specs.Prelude.{ℕ, ◌≡◌, ◌↔◌, ◌<◌, true, false, List, ◌∷◌, length, slice_get, option_map, Ok, IfOk}
 use Rattle.mad_layout.specs.Bits.{put_field}
 use Rattle.attr_tables.specs.Attribute.{IsAttribute}
 use Rattle.attr_tables.specs.declared.smp_attribute.SmpAttribute.{SmpAttribute}
@@ -8,6 +8,7 @@ use Rattle.agent_rules.specs.declared.link.Link.TheVariants.{Internal}
 use Rattle.agent_rules.specs.Agent.{answer}
 use Rattle.agent_rules.specs.Laws.{IsSettled, IsUnseenPut, ReadsAlike}
 use Rattle.data_packet.specs.declared.packet.Packet.{Packet}
+use Rattle.fabric_parts.specs.Lid.{is_multicast}
 use Rattle.switch_model.specs.Agent.{agent_after, agent_reply, get, set}
 use Rattle.switch_model.specs.Changes.{ChangesAtMost}
 use Rattle.switch_model.specs.Fate.{fate, way_out}
@@ -64,7 +65,7 @@ PortsHaveTheirLinks =
 -- enforcement of one of the two ports is against it
 abbrev pub UnicastGoesByEntries : Type 0
 UnicastGoesByEntries =
-    (held : SwitchState) (in_port : ℕ) (packet : Packet) (out : ℕ)
+    (held : SwitchState) (in_port : ℕ) (packet : Packet) (out : ℕ) → is_multicast packet.dlid ≡ false
     → (sends_out held in_port packet out ≡ true) ↔ IsSentOut held in_port packet out
 
 -- a packet leaves by the port that its fate tells, and else not

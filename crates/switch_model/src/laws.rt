@@ -1,5 +1,6 @@
+//! The laws of switches. Each function's contract is its law; it does nothing.
+
 ghost use Rattle.std.specs.Prelude.{◌≡◌};
-ghost use Rattle.switch_model.specs.declared.switch.TheConstants.{PORTS};
 ghost use Rattle.switch_model.specs.declared.multicast_table.TheConstants.{POSITIONS};
 ghost use Rattle.switch_model.specs.Laws.{FatesTellWaysOut, GoodSwitchesGiveAttributes, NewSwitchesAreGood, PortsHaveTheirLinks, SmpsAreReadAlike, SmpsChangeWhatTheyName, SmpsKeepGood, SmpsSettle, UnicastGoesByEntries, UnseenComesBack};
 
@@ -53,9 +54,8 @@ pub fn fates_tell_ways_out()
     ensures { FatesTellWaysOut }
 {}
 
-/// How many ports a switch has at most, and how many positions its masks, written out. Both are ours: three
-/// positions of 16 ports have room for 36 ports and port 0.
+/// How many positions the masks of a switch have, written out. The number is ours: three positions of 16 ports have
+/// room for 36 ports and port 0.
 pub fn the_numbers()
-    ensures ports { PORTS ≡ 36 }
     ensures positions { POSITIONS ≡ 3 }
 {}

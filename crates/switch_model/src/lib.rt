@@ -5,14 +5,15 @@
 //! there is a reply, each bit of it, and what the switch holds from then on. A wire needs to know nothing
 //! else. [`Switch::unicast_out`] says by which port a packet leaves, by the tables that SMPs wrote
 //! (`specs/Forwarding.antt`), and [`Switch::fate`] what becomes of one that does not (`specs/Fate.antt`). What all agents share stands in `agent_rules`. The attributes are those of
-//! the InfiniBand Architecture Specification, volume 1, chapter 14; what a switch holds at power-up is ours.
+//! the IBA volume 1, chapter 14; what a switch holds at power-up is ours.
 #![tactic(auto)]
 
+mod enforcement;
 mod fate;
 mod laws;
 mod linear_table;
 mod multicast_table;
-mod port_list;
+mod ports;
 mod switch;
 mod switch_port;
 
@@ -22,5 +23,5 @@ pub use crate::laws::{
     smps_are_read_alike, smps_change_what_they_name, smps_settle, switches_stay_good, the_numbers,
     unicast_goes_by_entries, unseen_comes_back,
 };
-pub use crate::switch::{PORTS, Switch};
+pub use crate::switch::Switch;
 pub use crate::switch_port::SwitchPort;

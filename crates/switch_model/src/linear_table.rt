@@ -1,3 +1,5 @@
+//! The linear forwarding table, read and set by blocks.
+
 ghost use Rattle.std.specs.Prelude.{◌≡◌};
 ghost use Rattle.agent_rules.specs.Agent.{Leaves};
 ghost use Rattle.switch_model.specs.Agent.{get_linear, set_linear, set_linear_top};

@@ -1,3 +1,5 @@
+//! The multicast forwarding table, read and set by blocks and positions.
+
 ghost use Rattle.std.specs.Prelude.{◌≡◌};
 ghost use Rattle.agent_rules.specs.Agent.{Leaves};
 ghost use Rattle.switch_model.specs.Agent.{is_mask_modifier, mask_block, mask_position, get_masks, set_masks};

@@ -1,3 +1,5 @@
+//! A switch: what SMPs read and set of it, and where it forwards a packet.
+
 ghost use Rattle.std.specs.Prelude.{◌≡◌, ◌≢◌, ◌≤◌, true, ◌<◌, ◌-◌, ◌+◌, ◌*◌, ◌++◌, length, replicate, is_some, unwrap_or, IfOk, IfSome};
 ghost use Rattle.mad_layout.specs.Bits.{field};
 ghost use Rattle.agent_rules.specs.Agent.{Leaves, answer, held_after};
@@ -7,15 +9,13 @@ ghost use Rattle.switch_model.specs.Agent.{agent_after, agent_reply, get, set};
 ghost use Rattle.switch_model.specs.Fate.{fate, fate_by};
 ghost use Rattle.switch_model.specs.Forwarding.{linear_entry_of, out_port};
 ghost use Rattle.switch_model.specs.SwitchState.{at_power_up, num_ports};
-ghost use Rattle.switch_model.specs.declared.switch.TheConstants.{PORTS};
+ghost use Rattle.fabric_parts.specs.declared.limits.TheConstants.{SWITCH_PORTS};
 
+use crate::enforcement::{leaves_by, passes_inbound, passes_outbound};
 use crate::fate::Fate;
 use crate::linear_table::{get_linear, set_linear, set_linear_top};
 use crate::multicast_table::{POSITIONS, get_masks, set_masks};
-use crate::port_list::{
-    get_keys, get_port_info, leaves_by, passes_inbound, passes_outbound, ports_at_power_up,
-    set_keys, set_port_info,
-};
+use crate::ports::{get_keys, get_port_info, ports_at_power_up, set_keys, set_port_info};
 use crate::switch_port::SwitchPort;
 use agent_rules::{
     Link, attribute_asked, data_of, is_request, is_set, modifier_of, node_info_of, put_reply,
@@ -24,16 +24,13 @@ use agent_rules::{
 use arrayvec::ArrayVec;
 use attr_tables::{NodeDescription, SmpAttribute, SwitchInfo};
 use data_packet::Packet;
-use fabric_parts::NodeType;
+use fabric_parts::{NodeType, SWITCH_PORTS};
 use mad_layout::{Mad, MadStatus};
 use pkey_rules::PKey;
 use std::marker::Model;
 
-/// How many ports a switch has at most, its port 0 not counted.
-pub const PORTS: usize = 36;
-
-/// The same with port 0.
-pub(crate) const PORTS_WITH_0: usize = PORTS + 1;
+/// How many ports a switch has at most, with port 0.
+pub(crate) const PORTS_WITH_0: usize = SWITCH_PORTS + 1;
 
 /// A switch whose linear forwarding table has `LFT` entries and whose multicast forwarding table has
 /// `MFT`: what it is, and what a subnet manager reads and sets of it.
@@ -71,7 +68,7 @@ impl<const LFT: usize, const MFT: usize> Switch<LFT, MFT> {
         requires lids { LFT < 65536 }
         requires multicast_lids { MFT < 65536 }
         requires name { length name.now ≤ 64 }
-        requires ports { length links.now ≤ PORTS }
+        requires ports { length links.now ≤ SWITCH_PORTS }
         ensures { result ≡ at_power_up node_guid (name.now ++ replicate (64 - length name.now) 0) links.now LFT MFT }
     {
         Switch {
@@ -91,7 +88,7 @@ impl<const LFT: usize, const MFT: usize> Switch<LFT, MFT> {
     /// How many ports it has, port 0 not counted.
     pub fn port_count(&self) -> usize
         ensures count { result ≡ num_ports self.now }
-        ensures few { result ≤ PORTS }
+        ensures few { result ≤ SWITCH_PORTS }
     {
         self.ports.len() - 1
     }
@@ -183,7 +180,7 @@ impl<const LFT: usize, const MFT: usize> Switch<LFT, MFT> {
     }
 
     /// The port that the linear forwarding table has for a LID that counts.
-    fn linear_entry_of(&self, lid: u16) -> Option<u8>
+    pub fn linear_entry_of(&self, lid: u16) -> Option<u8>
         ensures { result ≡ linear_entry_of self.now lid }
     {
         if lid > self.info.linear_fdb_top {

@@ -1,3 +1,5 @@
+//! A port of a switch.
+
 ghost use Rattle.std.specs.Prelude.{◌≡◌};
 ghost use Rattle.mad_layout.specs.Layout.{Fits};
 ghost use Rattle.attr_tables.specs.PortInfo.{port_info};

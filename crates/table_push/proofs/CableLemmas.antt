@@ -21,12 +21,12 @@ use Rattle.table_push.specs.Keys.{at_cable, at_cables, at_switches, guid_of, key
 use Rattle.table_push.specs.Nodes.{with_keys}
 use Rattle.table_push.specs.Pushes.{Leaves, Stands}
 use Rattle.table_push.specs.declared.fault.PushFault.{PushFault}
-use Rattle.smp_wire.proofs.DistinctLemmas.{left_part}
+use Rattle.result_words.proofs.DistinctLemmas.{left_part}
 use Rattle.table_push.proofs.GuidLemmas.{no_place, place_is}
 use Rattle.table_push.proofs.HangLemmas.{adapter_leads, switch_leads}
 use Rattle.table_push.proofs.LeadLemmas.{begins_as, ends_as}
 use Rattle.table_push.proofs.WantedLemmas.{PutsAt, hanging_is, port_is, put_all, put_more, put_none, put_same, wanted_adapter, wanted_own, wanted_there, with_this}
-use Rattle.updn_routes.specs.Subnet.{SubnetRoutes}
+use Rattle.updn_routes.specs.Subnet.{RoutesState}
 
 -- ---- the switch that a port hangs on
 pub record Seat (graph : GraphState) (one : GraphPort) : Type 0 where
@@ -109,7 +109,7 @@ pub own_guids : (graph : GraphState) → IsGraph graph → IsDistinct (λ a b. a
 own_guids graph is = left_part (λ a b. a == b) (map (λ (one : GraphSwitch). one.guid) graph.switches) (map (λ (one : GraphPort). one.port_guid) graph.ports) is.guids
 
 -- ---- the two tables of a cable
-pub at_switch : (stood left : Option FabricState) (result : Result (Unit {0}) PushFault) (fabric : FabricState) (routes : SubnetRoutes) (keys : List (List ℕ))
+pub at_switch : (stood left : Option FabricState) (result : Result (Unit {0}) PushFault) (fabric : FabricState) (routes : RoutesState) (keys : List (List ℕ))
     (there : ℕ → ℕ → Bool) (k : ℕ) (one : GraphPort) (table : Option (List ℕ)) → IsGraph routes.graph → IsGraphOf routes.graph fabric
     → slice_get routes.graph.ports k ≡ Some one → (seat : Seat routes.graph one) → table ≡ option_map (key_table true) (keys_of routes keys one.port_guid)
     → Stands stood fabric (with_keys (keys_where there routes keys) fabric) → PutsAt stood left result seat.switch.path one.at.port table
@@ -123,7 +123,7 @@ at_switch stood left result fabric routes keys there k one table is of at seat t
     (put_more stood left result fabric routes keys there seat.switch.path one.at.port seat.switch.guid one.at.port table (wanted ∙ sym tells)
     (switch_leads fabric routes.graph one.at.node one.at.port seat.switch of seat.there seat.within) stands puts)
 
-pub at_adapter : (stood left : Option FabricState) (result : Result (Unit {0}) PushFault) (fabric : FabricState) (routes : SubnetRoutes) (keys : List (List ℕ))
+pub at_adapter : (stood left : Option FabricState) (result : Result (Unit {0}) PushFault) (fabric : FabricState) (routes : RoutesState) (keys : List (List ℕ))
     (there : ℕ → ℕ → Bool) (k : ℕ) (one : GraphPort) (table : Option (List ℕ)) → IsGood fabric → IsGraph routes.graph → IsGraphOf routes.graph fabric
     → slice_get routes.graph.ports k ≡ Some one → (seat : Seat routes.graph one) → table ≡ option_map (key_table false) (keys_of routes keys one.port_guid)
     → Stands stood fabric (with_keys (keys_where there routes keys) fabric) → PutsAt stood left result (seat.switch.path ++ one.at.port ∷ []) 0 table
@@ -138,7 +138,7 @@ or_first : (a b c : Bool) → ((a || b) || c) ≡ (a || (b || c))
 or_first true b c = refl
 or_first false b c = refl
 
-pub cable_ends : (result : Result (Unit {0}) PushFault) (left : Option FabricState) (fabric : FabricState) (routes : SubnetRoutes) (keys : List (List ℕ))
+pub cable_ends : (result : Result (Unit {0}) PushFault) (left : Option FabricState) (fabric : FabricState) (routes : RoutesState) (keys : List (List ℕ))
     (there : ℕ → ℕ → Bool) (one named : GraphPort) → one ≡ named
     → Leaves result left fabric (with_keys (keys_where (with_this (with_this there (guid_of routes.graph.switches one.at.node) one.at.port) one.node_guid one.number) routes keys) fabric)
     → Leaves result left fabric (with_keys (keys_where (λ guid number. there guid number || at_cable routes.graph.switches guid number named) routes keys) fabric)
@@ -149,11 +149,11 @@ cable_ends result left fabric routes keys there one named same leaves =
     ((one.node_guid == guid) && (one.number == number)))) leaves)
 
 -- ---- all cables
-abbrev pub at_first : SubnetRoutes → ℕ → ℕ → ℕ → Bool
+abbrev pub at_first : RoutesState → ℕ → ℕ → ℕ → Bool
 at_first routes count guid number =
     at_switches routes.graph.switches guid number || at_cables routes.graph.switches (take count routes.graph.ports) guid number
 
-pub cables_begin : (stood : Option FabricState) (fabric : FabricState) (routes : SubnetRoutes) (keys : List (List ℕ))
+pub cables_begin : (stood : Option FabricState) (fabric : FabricState) (routes : RoutesState) (keys : List (List ℕ))
     → Stands stood fabric (with_keys (keys_where (at_switches routes.graph.switches) routes keys) fabric)
     → Stands stood fabric (with_keys (keys_where (at_first routes 0) routes keys) fabric)
 cables_begin stood fabric routes keys stands =
@@ -163,7 +163,7 @@ cables_begin stood fabric routes keys stands =
     by true = refl
     by false = refl
 
-pub cables_more : (result : Result (Unit {0}) PushFault) (left : Option FabricState) (fabric : FabricState) (routes : SubnetRoutes) (keys : List (List ℕ))
+pub cables_more : (result : Result (Unit {0}) PushFault) (left : Option FabricState) (fabric : FabricState) (routes : RoutesState) (keys : List (List ℕ))
     (place : ℕ) (one : GraphPort) → place < length routes.graph.ports → slice_get routes.graph.ports place ≡ Some one
     → Leaves result left fabric (with_keys (keys_where (λ guid number. at_first routes place guid number || at_cable routes.graph.switches guid number one) routes keys) fabric)
     → Leaves result left fabric (with_keys (keys_where (at_first routes (place + 1)) routes keys) fabric)
@@ -178,7 +178,7 @@ cables_more result left fabric routes keys place one within there leaves =
         (sym (get_or_from_slice_get routes.graph.ports place one one there))
         ∙ sym (list_any_more (at_cable routes.graph.switches guid number) routes.graph.ports place one within))
 
-pub cables_end : (stood : Option FabricState) (fabric : FabricState) (routes : SubnetRoutes) (keys : List (List ℕ)) (count : ℕ) → length routes.graph.ports ≤ count
+pub cables_end : (stood : Option FabricState) (fabric : FabricState) (routes : RoutesState) (keys : List (List ℕ)) (count : ℕ) → length routes.graph.ports ≤ count
     → Stands stood fabric (with_keys (keys_where (at_first routes count) routes keys) fabric)
     → Leaves {X = Unit {0}} (Ok tt) stood fabric (keys_pushed routes keys fabric)
 cables_end stood fabric routes keys count all stands =
@@ -187,7 +187,7 @@ cables_end stood fabric routes keys count all stands =
     (take_all count routes.graph.ports all) ∙ put_all routes keys fabric)
 
 -- ---- port 0 of each switch
-pub switches_more : (stood left : Option FabricState) (result : Result (Unit {0}) PushFault) (fabric : FabricState) (routes : SubnetRoutes) (keys : List (List ℕ))
+pub switches_more : (stood left : Option FabricState) (result : Result (Unit {0}) PushFault) (fabric : FabricState) (routes : RoutesState) (keys : List (List ℕ))
     (place : ℕ) (switch : GraphSwitch) (table : Option (List ℕ)) → IsGraph routes.graph → IsGraphOf routes.graph fabric → place < length routes.graph.switches
     → slice_get routes.graph.switches place ≡ Some switch → table ≡ option_map (key_table false) (keys_of routes keys switch.guid)
     → Stands stood fabric (with_keys (keys_where (at_switches (take place routes.graph.switches)) routes keys) fabric)
@@ -216,11 +216,11 @@ pub place_within : (graph given : GraphState) (switches : List GraphSwitch) (pla
     → place < length graph.switches
 place_within graph given switches place same are within = omega (arith, within, ap length are, ap (λ (g : GraphState). length g.switches) same)
 
-pub switches_begin : (stood : Option FabricState) (fabric : FabricState) (routes : SubnetRoutes) (keys : List (List ℕ)) → stood ≡ Some fabric → IsGood fabric
+pub switches_begin : (stood : Option FabricState) (fabric : FabricState) (routes : RoutesState) (keys : List (List ℕ)) → stood ≡ Some fabric → IsGood fabric
     → Stands stood fabric (with_keys (keys_where (at_switches []) routes keys) fabric)
 switches_begin stood fabric routes keys stands good = begins_as stood fabric _ stands good (put_none routes keys fabric)
 
-pub switches_end : (stood : Option FabricState) (fabric : FabricState) (routes : SubnetRoutes) (keys : List (List ℕ)) (count : ℕ) → length routes.graph.switches ≤ count
+pub switches_end : (stood : Option FabricState) (fabric : FabricState) (routes : RoutesState) (keys : List (List ℕ)) (count : ℕ) → length routes.graph.switches ≤ count
     → Stands stood fabric (with_keys (keys_where (at_switches (take count routes.graph.switches)) routes keys) fabric)
     → Leaves {X = Unit {0}} (Ok tt) stood fabric (with_keys (keys_where (at_switches routes.graph.switches) routes keys) fabric)
 switches_end stood fabric routes keys count all stands =

@@ -20,7 +20,7 @@ use Rattle.mad_layout.specs.Bits.{field}
 use Rattle.mad_layout.specs.Layout.{Fits}
 use Rattle.smp_wire.specs.FabricState.{FabricState, is_switch}
 use Rattle.smp_wire.specs.Get.{gives_along}
-use Rattle.smp_wire.proofs.ListLemmas.{or_same}
+use Rattle.result_words.proofs.ElementLemmas.{or_same}
 use Rattle.smp_wire.specs.Good.{IsGood, info_at, is_up}
 use Rattle.fabric_parts.specs.Cable.{port}
 use Rattle.sweep.specs.OfFabric.{guid_at}

@@ -26,7 +26,7 @@ use Rattle.smp_wire.specs.Walk.{end_of}
 use Rattle.smp_wire.specs.declared.node.Node.{Node}
 use Rattle.smp_wire.specs.declared.node.Node.TheVariants.{Switch, Adapter}
 use Rattle.smp_wire.proofs.ArrivalLemmas.{port_small}
-use Rattle.smp_wire.proofs.ListLemmas.{get_written}
+use Rattle.result_words.proofs.ElementLemmas.{get_written}
 use Rattle.switch_model.specs.Agent.{get as switch_gives, set as switch_set}
 use Rattle.switch_model.specs.Good.{IsGoodPort as IsGoodSwitchPort}
 use Rattle.switch_model.specs.SwitchState.{SwitchState}

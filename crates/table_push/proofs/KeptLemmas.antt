@@ -20,7 +20,7 @@ use Rattle.table_push.specs.Linear.{with_linear}
 use Rattle.table_push.specs.Nodes.{infos_by, keys_by, switch_by, with_infos, with_nodes}
 use Rattle.table_push.specs.Ports.{change_wanted, changed, ports_pushed, set_top}
 use Rattle.table_push.proofs.LeadLemmas.{ends_on}
-use Rattle.updn_routes.specs.Subnet.{SubnetRoutes}
+use Rattle.updn_routes.specs.Subnet.{RoutesState}
 use Rattle.table_push.proofs.SightLemmas.{IsUnseen, both_unseen, infos_unseen, keys_unseen, switches_unseen}
 
 module _ (change : Node → Node) (unseen : IsUnseen change) (fabric : FabricState) where
@@ -99,7 +99,7 @@ module _ (change : Node → Node) (unseen : IsUnseen change) (fabric : FabricSta
   }
 
 -- the PortInfo of all ports is set up
-pub infos_keep_the_graph : (routes : SubnetRoutes) (fabric : FabricState) (graph : GraphState)
+pub infos_keep_the_graph : (routes : RoutesState) (fabric : FabricState) (graph : GraphState)
     → IsSameShape fabric (with_infos (λ guid number. changed (change_wanted routes guid number)) fabric) → IsGraphOf graph fabric
     → IsGraphOf graph (with_infos (λ guid number. changed (change_wanted routes guid number)) fabric)
 infos_keep_the_graph routes fabric graph same of =

@@ -15,22 +15,22 @@ use Rattle.sweep.proofs.FoundLemmas.{among_place}
 use Rattle.table_push.specs.Laws.{EverySwitchHasItsTable}
 use Rattle.table_push.specs.Linear.{linear_table, with_linear}
 use Rattle.table_push.specs.Nodes.{switch_by}
-use Rattle.smp_wire.proofs.DistinctLemmas.{left_part}
+use Rattle.result_words.proofs.DistinctLemmas.{left_part}
 use Rattle.table_push.proofs.GuidLemmas.{place_is}
-use Rattle.updn_routes.specs.Subnet.{SubnetRoutes, place_of}
+use Rattle.updn_routes.specs.Subnet.{RoutesState, place_of}
 
 -- what stood where a switch stands then
-record WasSwitch (routes : SubnetRoutes) (nodes : List Node) (node : ℕ) (held : SwitchState) : Type 0 where
+record WasSwitch (routes : RoutesState) (nodes : List Node) (node : ℕ) (held : SwitchState) : Type 0 where
   was : SwitchState
   there : slice_get nodes node ≡ Some (Switch was)
   is : held ≡ with_linear routes was.node_guid was
 
-one_switch : (routes : SubnetRoutes) (one : Node) (held : SwitchState) → switch_by (with_linear routes) one ≡ Switch held
+one_switch : (routes : RoutesState) (one : Node) (held : SwitchState) → switch_by (with_linear routes) one ≡ Switch held
     → (was : SwitchState) × (one ≡ Switch was) × (held ≡ with_linear routes was.node_guid was)
 one_switch routes (Switch was) held is = (was, refl, sym (cc))
 one_switch routes (Adapter ports) held is = absurd (cc)
 
-was_switch : (routes : SubnetRoutes) (nodes : List Node) (node : ℕ) (held : SwitchState)
+was_switch : (routes : RoutesState) (nodes : List Node) (node : ℕ) (held : SwitchState)
     → slice_get (map (switch_by (with_linear routes)) nodes) node ≡ Some (Switch held) → WasSwitch routes nodes node held
 was_switch routes [] node held there = absurd (cc)
 was_switch routes (one ∷ nodes) zero held there =

@@ -22,4 +22,16 @@ pub mod SiteLemmas
 pub mod WantedChangeLemmas
 pub mod PortCableLemmas
 pub mod TopLemmas
-pub mod BringUpLemmas
+pub mod SetUpLemmas
+pub mod BroughtUpKeyLemmas
+pub mod SeatLemmas
+pub mod HomeLemmas
+pub mod RowLemmas
+pub mod EntryLemmas
+pub mod OwnLemmas
+pub mod BroughtUpLeadLemmas
+pub mod ForwardsLemmas
+pub mod BroughtUpNodeLemmas
+pub mod BroughtUpPortLemmas
+pub mod BroughtUpLemmas
+pub mod EndLemmas

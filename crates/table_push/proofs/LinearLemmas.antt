@@ -22,7 +22,7 @@ use Rattle.smp_wire.specs.declared.node.Node.TheVariants.{Switch, Adapter}
 use Rattle.switch_model.specs.Agent.{get as switch_gives, set as switch_set}
 use Rattle.switch_model.specs.SwitchState.{SwitchState}
 use Rattle.sweep.specs.declared.graph.GraphSwitch.{GraphSwitch}
-use Rattle.updn_routes.specs.Subnet.{SubnetRoutes, place_of}
+use Rattle.updn_routes.specs.Subnet.{RoutesState, place_of}
 use Rattle.table_push.specs.Fault.{compared}
 use Rattle.table_push.specs.Linear.{linear_before, linear_entry, linear_pushed, linear_table, linear_to, set_linear, with_linear}
 use Rattle.table_push.specs.Nodes.{on_switch, switch_by, with_switches}
@@ -152,24 +152,24 @@ table_ends stood fabric guid count table all long good stands =
     (λ node is. whole_node guid table node long is)))
 
 -- ---- all tables
-pub push_begins : (stood : Option FabricState) (fabric : FabricState) (routes : SubnetRoutes) → stood ≡ Some fabric → IsGood fabric
+pub push_begins : (stood : Option FabricState) (fabric : FabricState) (routes : RoutesState) → stood ≡ Some fabric → IsGood fabric
     → Stands stood fabric (with_switches (linear_before routes 0) fabric)
 push_begins stood fabric routes stands good =
     begins_as stood fabric (with_switches (linear_before routes 0) fabric) stands good
     (none_written (linear_before routes 0) fabric (λ guid held. refl))
 
-keeps_before : (routes : SubnetRoutes) (count guid : ℕ) (held : SwitchState) → (linear_before routes count guid held).node_guid ≡ held.node_guid
+keeps_before : (routes : RoutesState) (count guid : ℕ) (held : SwitchState) → (linear_before routes count guid held).node_guid ≡ held.node_guid
 keeps_before routes count guid held = by (list_any (λ switch. switch.guid == guid) (take count routes.graph.switches))
   where
     by : (b : Bool) → (if b then with_linear routes guid held else held).node_guid ≡ held.node_guid
     by true = refl
     by false = refl
 
-its_table : (routes : SubnetRoutes) (place guid : ℕ) (held : SwitchState) → place_of routes.graph.switches guid ≡ Some place
+its_table : (routes : RoutesState) (place guid : ℕ) (held : SwitchState) → place_of routes.graph.switches guid ≡ Some place
     → with_linear routes guid held ≡ set_linear (linear_table routes place) held
 its_table routes place guid held is = rw is refl
 
-one_more : (routes : SubnetRoutes) (place guid : ℕ) (switch : GraphSwitch) (held : SwitchState) (a b : Bool)
+one_more : (routes : RoutesState) (place guid : ℕ) (switch : GraphSwitch) (held : SwitchState) (a b : Bool)
     → ((switch.guid == guid) ≡ true → place_of routes.graph.switches guid ≡ Some place) → (switch.guid == guid) ≡ b
     → (if b then set_linear (linear_table routes place) (if a then with_linear routes guid held else held) else (if a then with_linear routes guid held else held))
     ≡ (if (a || b) then with_linear routes guid held else held)
@@ -179,7 +179,7 @@ one_more routes place guid switch held false true own is = sym (its_table routes
 one_more routes place guid switch held true false own is = refl
 one_more routes place guid switch held false false own is = refl
 
-before_more : (routes : SubnetRoutes) (place : ℕ) (switch : GraphSwitch) → place < length routes.graph.switches
+before_more : (routes : RoutesState) (place : ℕ) (switch : GraphSwitch) → place < length routes.graph.switches
     → slice_get routes.graph.switches place ≡ Some switch → IsDistinct (λ a b. a == b) (map (λ one. one.guid) routes.graph.switches)
     → (guid : ℕ) (held : SwitchState)
     → on_switch switch.guid (set_linear (linear_table routes place)) guid (linear_before routes place guid held) ≡ linear_before routes (place + 1) guid held
@@ -192,7 +192,7 @@ before_more routes place switch within there own guid held =
     rw grown (one_more routes place guid switch held (list_any (λ one. one.guid == guid) (take place switches)) (switch.guid == guid)
     (λ same. ap (place_of switches) (sym (eqb-true switch.guid guid same)) ∙ place_is switches place switch own there) refl)
 
-pub push_more : (stood left : Option FabricState) (result : Result (Unit {0}) PushFault) (fabric : FabricState) (routes : SubnetRoutes) (place : ℕ) (switch : GraphSwitch)
+pub push_more : (stood left : Option FabricState) (result : Result (Unit {0}) PushFault) (fabric : FabricState) (routes : RoutesState) (place : ℕ) (switch : GraphSwitch)
     (table : List ℕ) → place < length routes.graph.switches → slice_get routes.graph.switches place ≡ Some switch
     → IsDistinct (λ a b. a == b) (map (λ one. one.guid) routes.graph.switches) → table ≡ linear_table routes place
     → LeadsToSwitch fabric switch.path switch.guid → Stands stood fabric (with_switches (linear_before routes place) fabric)
@@ -207,12 +207,12 @@ push_more stood left result fabric routes place switch table within there own is
     ∙ both_written (on_switch switch.guid (set_linear (linear_table routes place))) (linear_before routes place) (linear_before routes (place + 1)) fabric
     (keeps_before routes place) (before_more routes place switch within there own))
 
-all_before : (routes : SubnetRoutes) (guid : ℕ) (held : SwitchState) (b : Bool) → list_any (λ switch. switch.guid == guid) routes.graph.switches ≡ b
+all_before : (routes : RoutesState) (guid : ℕ) (held : SwitchState) (b : Bool) → list_any (λ switch. switch.guid == guid) routes.graph.switches ≡ b
     → (if b then with_linear routes guid held else held) ≡ with_linear routes guid held
 all_before routes guid held true is = refl
 all_before routes guid held false is = rw (no_place routes.graph.switches guid is) refl
 
-pub push_ends : (stood : Option FabricState) (fabric : FabricState) (routes : SubnetRoutes) (count : ℕ) → length routes.graph.switches ≤ count
+pub push_ends : (stood : Option FabricState) (fabric : FabricState) (routes : RoutesState) (count : ℕ) → length routes.graph.switches ≤ count
     → Stands stood fabric (with_switches (linear_before routes count) fabric)
     → Leaves {X = Unit {0}} (Ok tt) stood fabric (linear_pushed routes fabric)
 push_ends stood fabric routes count all stands =
@@ -221,7 +221,7 @@ push_ends stood fabric routes count all stands =
     (λ guid held. rw (take_all count routes.graph.switches all) (all_before routes guid held (list_any (λ switch. switch.guid == guid) routes.graph.switches) refl)))
 
 -- ---- one table, entry by entry
-pub entry_more : (routes : SubnetRoutes) (place lid entry : ℕ) (ports : List ℕ) → lid < length ports → entry ≡ linear_entry routes place lid
+pub entry_more : (routes : RoutesState) (place lid entry : ℕ) (ports : List ℕ) → lid < length ports → entry ≡ linear_entry routes place lid
     → take lid ports ≡ map (linear_entry routes place) (range_with_len 0 lid)
     → take (lid + 1) (slice_set ports lid entry) ≡ map (linear_entry routes place) (range_with_len 0 (lid + 1))
 entry_more routes place lid entry ports within is before =
@@ -230,7 +230,7 @@ entry_more routes place lid entry ports within is before =
     ∙ ap (λ (one : ℕ). map (linear_entry routes place) (range_with_len 0 lid) ++ one ∷ []) is
     ∙ sym (map-range_with_len_more (linear_entry routes place) 0 lid lid (zero-add lid))
 
-pub entries_end : (routes : SubnetRoutes) (place count : ℕ) (ports : List ℕ) → length ports ≡ 512 → count ≡ 512
+pub entries_end : (routes : RoutesState) (place count : ℕ) (ports : List ℕ) → length ports ≡ 512 → count ≡ 512
     → take count ports ≡ map (linear_entry routes place) (range_with_len 0 count) → ports ≡ linear_table routes place
 entries_end routes place count ports long all are =
     sym (take_all count ports (omega (arith, long, all))) ∙ are ∙ ap (λ (n : ℕ). map (linear_entry routes place) (range_with_len 0 n)) all

@@ -15,7 +15,7 @@ use Rattle.sweep.specs.OfFabric.{IsGraphOf}
 use Rattle.sweep.specs.declared.graph.GraphPort.{GraphPort}
 use Rattle.sweep.specs.declared.graph.GraphSwitch.{GraphSwitch}
 use Rattle.sweep.specs.declared.graph.Link.{Link}
-use Rattle.sweep.proofs.RangeLemmas.{range_more}
+use Rattle.result_words.proofs.RangeLemmas.{range_more}
 use Rattle.table_push.specs.Keys.{at_cable, at_cables, guid_of}
 use Rattle.table_push.specs.Nodes.{with_infos}
 use Rattle.table_push.specs.Ports.{at_switch, at_switches_before, change_wanted, changed, changed_where, has_link, stays}
@@ -28,7 +28,7 @@ use Rattle.table_push.proofs.LeadLemmas.{begins_as, ends_as}
 use Rattle.table_push.proofs.SiteLemmas.{link_number, takes_adapter, takes_before, takes_link, takes_own}
 use Rattle.table_push.proofs.WantedChangeLemmas.{ChangesAt, change_more, told_all, told_none, told_same, wanted_adapter, wanted_before, wanted_link, wanted_own}
 use Rattle.table_push.proofs.WantedLemmas.{guid_there, hanging_is, port_is, with_this}
-use Rattle.updn_routes.specs.Subnet.{SubnetRoutes}
+use Rattle.updn_routes.specs.Subnet.{RoutesState}
 
 -- ---- the ports of a switch with links
 abbrev pub with_links : (ℕ → ℕ → Bool) → ℕ → List Link → ℕ → ℕ → Bool
@@ -44,13 +44,13 @@ or_both true b c d = refl
 or_both false true c d = refl
 or_both false false c d = refl
 
-pub links_begin : (stood : Option FabricState) (fabric : FabricState) (routes : SubnetRoutes) (there : ℕ → ℕ → Bool) (guid : ℕ)
+pub links_begin : (stood : Option FabricState) (fabric : FabricState) (routes : RoutesState) (there : ℕ → ℕ → Bool) (guid : ℕ)
     → Stands stood fabric (with_infos (changed_where there routes) fabric)
     → Stands stood fabric (with_infos (changed_where (with_links there guid []) routes) fabric)
 links_begin stood fabric routes there guid stands =
     subst (Stands stood fabric) (told_same routes fabric _ _ (λ of_guid of_number. sym (or_none (there of_guid of_number) (guid == of_guid)))) stands
 
-pub links_more : (stood left : Option FabricState) (result : Result (Unit {0}) PushFault) (fabric : FabricState) (routes : SubnetRoutes) (there : ℕ → ℕ → Bool)
+pub links_more : (stood left : Option FabricState) (result : Result (Unit {0}) PushFault) (fabric : FabricState) (routes : RoutesState) (there : ℕ → ℕ → Bool)
     (place k : ℕ) (switch : GraphSwitch) (row : List Link) (link : Link) → IsGood fabric → ShowsLinks fabric → IsGraph routes.graph → IsGraphOf routes.graph fabric
     → slice_get routes.graph.switches place ≡ Some switch → slice_get routes.graph.rows place ≡ Some row → slice_get row k ≡ Some link → k < length row
     → Stands stood fabric (with_infos (changed_where (with_links there (guid_of routes.graph.switches place) (take k row)) routes) fabric)
@@ -73,7 +73,7 @@ links_more stood left result fabric routes there place k switch row link good sh
     ∙ sym (list_any_more (λ one. one.port == of_number) row k link within)) in
     subst (Leaves result left fabric) (told_same routes fabric _ _ grown) leaves
 
-pub links_end : (stood : Option FabricState) (fabric : FabricState) (routes : SubnetRoutes) (there : ℕ → ℕ → Bool) (place count : ℕ) (row : List Link)
+pub links_end : (stood : Option FabricState) (fabric : FabricState) (routes : RoutesState) (there : ℕ → ℕ → Bool) (place count : ℕ) (row : List Link)
     → slice_get routes.graph.rows place ≡ Some row → length row ≤ count
     → Stands stood fabric (with_infos (changed_where (with_links there (guid_of routes.graph.switches place) (take count row)) routes) fabric)
     → Leaves {X = Unit {0}} (Ok tt) stood fabric
@@ -92,7 +92,7 @@ and_both : (a b c : Bool) → ((a && b) || (a && c)) ≡ (a && (b || c))
 and_both true b c = refl
 and_both false b c = refl
 
-pub own_told : (stood left : Option FabricState) (result : Result (Unit {0}) PushFault) (fabric : FabricState) (routes : SubnetRoutes) (there : ℕ → ℕ → Bool)
+pub own_told : (stood left : Option FabricState) (result : Result (Unit {0}) PushFault) (fabric : FabricState) (routes : RoutesState) (there : ℕ → ℕ → Bool)
     (place : ℕ) (switch : GraphSwitch) (change : PortChange) → IsGood fabric → ShowsLinks fabric → IsGraph routes.graph → IsGraphOf routes.graph fabric
     → slice_get routes.graph.switches place ≡ Some switch → length routes.lids ≤ 320 → change ≡ record stays { lid = lid_in routes.lids switch.guid }
     → Stands stood fabric (with_infos (changed_where there routes) fabric) → ChangesAt stood left result switch.path 0 change
@@ -105,7 +105,7 @@ own_told stood left result fabric routes there place switch change good shows is
     (wanted_own routes switch.guid place own) (takes_own fabric good shows routes.graph place switch routes.lids of home few) stands
     (subst (ChangesAt stood left result switch.path 0) same changes))
 
-pub switch_told : (result : Result (Unit {0}) PushFault) (left : Option FabricState) (fabric : FabricState) (routes : SubnetRoutes) (there : ℕ → ℕ → Bool) (place : ℕ)
+pub switch_told : (result : Result (Unit {0}) PushFault) (left : Option FabricState) (fabric : FabricState) (routes : RoutesState) (there : ℕ → ℕ → Bool) (place : ℕ)
     → Leaves result left fabric (with_infos (changed_where (λ guid number. with_this there (guid_of routes.graph.switches place) 0 guid number
     || ((guid_of routes.graph.switches place == guid) && has_link routes.graph place number)) routes) fabric)
     → Leaves result left fabric (with_infos (changed_where (λ guid number. there guid number || at_switch routes.graph guid number place) routes) fabric)
@@ -123,17 +123,17 @@ any_below p count =
     ∙ ap (λ (n : ℕ). list_any p (range_with_len 0 count) || (p n || false)) (zero-add count)
     ∙ ap (λ (b : Bool). list_any p (range_with_len 0 count) || b) (or-false (p count))
 
-pub switches_begin : (stood : Option FabricState) (fabric : FabricState) (routes : SubnetRoutes) → stood ≡ Some fabric → IsGood fabric
+pub switches_begin : (stood : Option FabricState) (fabric : FabricState) (routes : RoutesState) → stood ≡ Some fabric → IsGood fabric
     → Stands stood fabric (with_infos (changed_where (at_switches_before routes.graph 0) routes) fabric)
 switches_begin stood fabric routes stands good = begins_as stood fabric _ stands good (told_none routes fabric)
 
-pub switches_more : (result : Result (Unit {0}) PushFault) (left : Option FabricState) (fabric : FabricState) (routes : SubnetRoutes) (place : ℕ)
+pub switches_more : (result : Result (Unit {0}) PushFault) (left : Option FabricState) (fabric : FabricState) (routes : RoutesState) (place : ℕ)
     → Leaves result left fabric (with_infos (changed_where (λ guid number. at_switches_before routes.graph place guid number || at_switch routes.graph guid number place) routes) fabric)
     → Leaves result left fabric (with_infos (changed_where (at_switches_before routes.graph (place + 1)) routes) fabric)
 switches_more result left fabric routes place leaves =
     subst (Leaves result left fabric) (told_same routes fabric _ _ (λ guid number. sym (any_below (at_switch routes.graph guid number) place))) leaves
 
-pub switches_end : (stood : Option FabricState) (fabric : FabricState) (routes : SubnetRoutes) (place count : ℕ) → place ≡ count
+pub switches_end : (stood : Option FabricState) (fabric : FabricState) (routes : RoutesState) (place count : ℕ) → place ≡ count
     → Stands stood fabric (with_infos (changed_where (at_switches_before routes.graph place) routes) fabric)
     → Leaves {X = Unit {0}} (Ok tt) stood fabric (with_infos (changed_where (at_switches_before routes.graph count) routes) fabric)
 switches_end stood fabric routes place count all stands =
@@ -161,7 +161,7 @@ row_within graph given rows place is same are within =
     omega (arith, within, ap length are, is.a_row_each, ap (λ (g : GraphState). length g.switches) same)
 
 -- ---- both ends of a cable
-pub before_told : (stood left : Option FabricState) (result : Result (Unit {0}) PushFault) (fabric : FabricState) (routes : SubnetRoutes) (there : ℕ → ℕ → Bool)
+pub before_told : (stood left : Option FabricState) (result : Result (Unit {0}) PushFault) (fabric : FabricState) (routes : RoutesState) (there : ℕ → ℕ → Bool)
     (k : ℕ) (one : GraphPort) → IsGood fabric → ShowsLinks fabric → IsGraph routes.graph → IsGraphOf routes.graph fabric
     → slice_get routes.graph.ports k ≡ Some one → (seat : Seat routes.graph one)
     → Stands stood fabric (with_infos (changed_where there routes) fabric)
@@ -176,7 +176,7 @@ before_told stood left result fabric routes there k one good shows is of at seat
     (wanted_before routes seat.switch.guid one.at.node one.at.port one place some (hanging_is fabric routes.graph k one of at))
     (takes_before fabric good shows routes.graph k one seat.switch of at seat.there) stands changes)
 
-pub adapter_told : (stood left : Option FabricState) (result : Result (Unit {0}) PushFault) (fabric : FabricState) (routes : SubnetRoutes) (there : ℕ → ℕ → Bool)
+pub adapter_told : (stood left : Option FabricState) (result : Result (Unit {0}) PushFault) (fabric : FabricState) (routes : RoutesState) (there : ℕ → ℕ → Bool)
     (k : ℕ) (one : GraphPort) (change : PortChange) → IsGood fabric → ShowsLinks fabric → IsGraph routes.graph → IsGraphOf routes.graph fabric
     → slice_get routes.graph.ports k ≡ Some one → (seat : Seat routes.graph one) → length routes.lids ≤ 320
     → change ≡ record stays { lid = lid_in routes.lids one.port_guid; active = true }
@@ -189,7 +189,7 @@ adapter_told stood left result fabric routes there k one change good shows is of
     (takes_adapter fabric good shows routes.graph k one seat.switch routes.lids of at seat.there few) stands
     (subst (ChangesAt stood left result (seat.switch.path ++ one.at.port ∷ []) 0) same changes)
 
-pub cable_told : (result : Result (Unit {0}) PushFault) (left : Option FabricState) (fabric : FabricState) (routes : SubnetRoutes)
+pub cable_told : (result : Result (Unit {0}) PushFault) (left : Option FabricState) (fabric : FabricState) (routes : RoutesState)
     (there : ℕ → ℕ → Bool) (one named : GraphPort) → one ≡ named
     → Leaves result left fabric (with_infos (changed_where (with_this (with_this there (guid_of routes.graph.switches one.at.node) one.at.port) one.node_guid one.number) routes) fabric)
     → Leaves result left fabric (with_infos (changed_where (λ guid number. there guid number || at_cable routes.graph.switches guid number named) routes) fabric)
@@ -200,17 +200,17 @@ cable_told result left fabric routes there one named same leaves =
     ((one.node_guid == guid) && (one.number == number)))) leaves)
 
 -- ---- all cables
-abbrev pub at_first : SubnetRoutes → ℕ → ℕ → ℕ → Bool
+abbrev pub at_first : RoutesState → ℕ → ℕ → ℕ → Bool
 at_first routes count guid number =
     at_switches_before routes.graph (length routes.graph.switches) guid number || at_cables routes.graph.switches (take count routes.graph.ports) guid number
 
-pub cables_begin : (stood : Option FabricState) (fabric : FabricState) (routes : SubnetRoutes)
+pub cables_begin : (stood : Option FabricState) (fabric : FabricState) (routes : RoutesState)
     → Stands stood fabric (with_infos (changed_where (at_switches_before routes.graph (length routes.graph.switches)) routes) fabric)
     → Stands stood fabric (with_infos (changed_where (at_first routes 0) routes) fabric)
 cables_begin stood fabric routes stands =
     subst (Stands stood fabric) (told_same routes fabric _ _ (λ guid number. sym (or-false (at_switches_before routes.graph (length routes.graph.switches) guid number)))) stands
 
-pub cables_more : (result : Result (Unit {0}) PushFault) (left : Option FabricState) (fabric : FabricState) (routes : SubnetRoutes)
+pub cables_more : (result : Result (Unit {0}) PushFault) (left : Option FabricState) (fabric : FabricState) (routes : RoutesState)
     (place : ℕ) (one : GraphPort) → place < length routes.graph.ports → slice_get routes.graph.ports place ≡ Some one
     → Leaves result left fabric (with_infos (changed_where (λ guid number. at_first routes place guid number || at_cable routes.graph.switches guid number one) routes) fabric)
     → Leaves result left fabric (with_infos (changed_where (at_first routes (place + 1)) routes) fabric)
@@ -226,7 +226,7 @@ cables_more result left fabric routes place one within there leaves =
         (sym (get_or_from_slice_get routes.graph.ports place one one there))
         ∙ sym (list_any_more (at_cable routes.graph.switches guid number) routes.graph.ports place one within))
 
-pub cables_end : (stood : Option FabricState) (fabric : FabricState) (routes : SubnetRoutes) (count : ℕ) → length routes.graph.ports ≤ count
+pub cables_end : (stood : Option FabricState) (fabric : FabricState) (routes : RoutesState) (count : ℕ) → length routes.graph.ports ≤ count
     → Stands stood fabric (with_infos (changed_where (at_first routes count) routes) fabric)
     → Leaves {X = Unit {0}} (Ok tt) stood fabric (with_infos (λ guid number. changed (change_wanted routes guid number)) fabric)
 cables_end stood fabric routes count all stands =

@@ -20,7 +20,7 @@ use Rattle.smp_wire.specs.Shape.{IsSameShape}
 use Rattle.smp_wire.specs.Walk.{end_of}
 use Rattle.smp_wire.specs.declared.node.Node.{Node}
 use Rattle.smp_wire.specs.declared.node.Node.TheVariants.{Switch, Adapter}
-use Rattle.smp_wire.proofs.ListLemmas.{get_written, or_same}
+use Rattle.result_words.proofs.ElementLemmas.{get_written, or_same}
 use Rattle.switch_model.specs.Agent.{get as switch_gives, set as switch_set}
 use Rattle.switch_model.specs.Good.{IsGoodPort as IsGoodSwitchPort}
 use Rattle.switch_model.specs.SwitchState.{SwitchState}

@@ -15,7 +15,7 @@ use Rattle.smp_wire.specs.Good.{IsGood, ShowsLinks, info_at, is_up}
 use Rattle.smp_wire.specs.Shape.{IsSameShape}
 use Rattle.smp_wire.specs.Walk.{end_of}
 use Rattle.smp_wire.proofs.CableLemmas.{cabled_is_port, far_is_port}
-use Rattle.smp_wire.proofs.ListLemmas.{or_same}
+use Rattle.result_words.proofs.ElementLemmas.{or_same}
 use Rattle.smp_wire.proofs.PortLemmas.{cabled_ports_are_up}
 use Rattle.sweep.specs.Graph.{GraphState}
 use Rattle.sweep.specs.OfFabric.{Found, IsGraphOf, Leads, guid_at, link_to, node_at, nodes_of, placed, ports_at, row_of}
@@ -37,7 +37,7 @@ use Rattle.table_push.proofs.HangLemmas.{adapter_leads, is_hung, switch_leads}
 use Rattle.table_push.proofs.InfoPortLemmas.{info_after}
 use Rattle.table_push.proofs.LeadLemmas.{found_at_place}
 use Rattle.table_push.proofs.PortLemmas.{port_on}
-use Rattle.updn_routes.specs.Subnet.{SubnetRoutes}
+use Rattle.updn_routes.specs.Subnet.{RoutesState}
 
 -- ---- a switch of the graph
 pub record Seated (fabric : FabricState) (found : List Found) (place : ℕ) (switch : GraphSwitch) : Type 0 where
@@ -220,7 +220,7 @@ changed_up change info up = by change.active change.lid change.enforcement
     by false (Some lid) None = up
     by false (Some lid) (Some on) = up
 
-pub takes_on : (fabric : FabricState) (path : List ℕ) (asked guid number : ℕ) (change : PortChange) (routes : SubnetRoutes) (there : ℕ → ℕ → Bool)
+pub takes_on : (fabric : FabricState) (path : List ℕ) (asked guid number : ℕ) (change : PortChange) (routes : RoutesState) (there : ℕ → ℕ → Bool)
     → IsSameShape fabric (with_infos (changed_where there routes) fabric) → TakesChange fabric path asked guid number change
     → TakesChange (with_infos (changed_where there routes) fabric) path asked guid number change
 takes_on fabric path asked guid number change routes there same takes = record {

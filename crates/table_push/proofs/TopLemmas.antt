@@ -36,7 +36,7 @@ use Rattle.table_push.specs.declared.fault.PushFault.{PushFault}
 use Rattle.table_push.proofs.LawLemmas.{found_there, switch_at}
 use Rattle.table_push.proofs.LeadLemmas.{SetsAt, SwitchThere, begins_as, ends_as, goes_on, good_switch, leads_on, switch_gives_then, switch_takes, switch_there}
 use Rattle.table_push.proofs.NodeLemmas.{both_written, map_alike, none_written}
-use Rattle.updn_routes.specs.Subnet.{SubnetRoutes}
+use Rattle.updn_routes.specs.Subnet.{RoutesState}
 
 -- ---- what bytes hold is one SwitchInfo
 info_is : (bytes : List ℕ) (a b : SwitchInfo) → Holds bytes (switch_info a) → Holds bytes (switch_info b) → a ≡ b
@@ -212,7 +212,7 @@ tops_end stood fabric graph lid count of all stands =
     one (Switch held) is = ap (λ (b : Bool). Switch (if b then set_top lid held else held)) (is.known held refl)
 
 -- ---- all of it
-pub whole : (routes : SubnetRoutes) (fabric : FabricState) (lid : ℕ) → lid ≡ length routes.lids
+pub whole : (routes : RoutesState) (fabric : FabricState) (lid : ℕ) → lid ≡ length routes.lids
     → with_switches (λ guid. set_top lid) (with_infos (λ guid number. changed (change_wanted routes guid number)) fabric) ≡ ports_pushed routes fabric
 whole routes fabric lid is =
     ap (λ (n : ℕ). with_switches (λ guid. set_top n) (with_infos (λ guid number. changed (change_wanted routes guid number)) fabric)) is

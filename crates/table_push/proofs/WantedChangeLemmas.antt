@@ -32,38 +32,38 @@ use Rattle.table_push.proofs.LeadLemmas.{goes_on}
 use Rattle.table_push.proofs.NodeLemmas.{none_there}
 use Rattle.table_push.proofs.SiteLemmas.{linked, takes_on}
 use Rattle.table_push.proofs.WantedLemmas.{guid_there, with_this}
-use Rattle.updn_routes.specs.Subnet.{SubnetRoutes, place_of}
+use Rattle.updn_routes.specs.Subnet.{RoutesState, place_of}
 
 -- ---- what is wanted
-wanted_by : (routes : SubnetRoutes) (guid number : ℕ) (place : Option ℕ) → place_of routes.graph.switches guid ≡ place
+wanted_by : (routes : RoutesState) (guid number : ℕ) (place : Option ℕ) → place_of routes.graph.switches guid ≡ place
     → change_wanted routes guid number ≡ option_map_or (λ place. switch_change routes guid place number) place (adapter_change routes guid number)
 unfolding change_wanted
 wanted_by routes guid number place is = rw is refl
 
 -- at port 0 of a switch
-pub wanted_own : (routes : SubnetRoutes) (guid place : ℕ) → place_of routes.graph.switches guid ≡ Some place
+pub wanted_own : (routes : RoutesState) (guid place : ℕ) → place_of routes.graph.switches guid ≡ Some place
     → change_wanted routes guid 0 ≡ record stays { lid = lid_in routes.lids guid }
 wanted_own routes guid place is = wanted_by routes guid 0 (Some place) is
 
 -- at a port of a switch, before a port of an adapter
-pub wanted_before : (routes : SubnetRoutes) (guid place number : ℕ) (one : GraphPort) → place_of routes.graph.switches guid ≡ Some place
+pub wanted_before : (routes : RoutesState) (guid place number : ℕ) (one : GraphPort) → place_of routes.graph.switches guid ≡ Some place
     → (number == 0) ≡ false → hanging_at routes.graph.ports place number ≡ Some one
     → change_wanted routes guid number ≡ record stays { enforcement = Some true; active = true }
 wanted_before routes guid place number one is some hangs = wanted_by routes guid number (Some place) is ∙ rw (some, hangs) refl
 
 -- at one with a cable to another switch, or with none
-wanted_else : (routes : SubnetRoutes) (guid place number : ℕ) (b : Bool) → place_of routes.graph.switches guid ≡ Some place
+wanted_else : (routes : RoutesState) (guid place number : ℕ) (b : Bool) → place_of routes.graph.switches guid ≡ Some place
     → (number == 0) ≡ false → hanging_at routes.graph.ports place number ≡ None → has_link routes.graph place number ≡ b
     → change_wanted routes guid number ≡ (if b then record stays { enforcement = Some false; active = true } else stays)
 wanted_else routes guid place number b is some hangs link = wanted_by routes guid number (Some place) is ∙ rw (some, hangs, link) refl
 
 -- at a port of an adapter
-pub wanted_adapter : (routes : SubnetRoutes) (guid number : ℕ) (one : GraphPort) → place_of routes.graph.switches guid ≡ None
+pub wanted_adapter : (routes : RoutesState) (guid number : ℕ) (one : GraphPort) → place_of routes.graph.switches guid ≡ None
     → port_of routes.graph.ports guid number ≡ Some one
     → change_wanted routes guid number ≡ record stays { lid = lid_in routes.lids one.port_guid; active = true }
 wanted_adapter routes guid number one is there = wanted_by routes guid number None is ∙ rw there refl
 
-no_adapter : (routes : SubnetRoutes) (guid number : ℕ) → place_of routes.graph.switches guid ≡ None → port_of routes.graph.ports guid number ≡ None
+no_adapter : (routes : RoutesState) (guid number : ℕ) → place_of routes.graph.switches guid ≡ None → port_of routes.graph.ports guid number ≡ None
     → change_wanted routes guid number ≡ stays
 no_adapter routes guid number is there = wanted_by routes guid number None is ∙ rw there refl
 
@@ -87,7 +87,7 @@ none_hangs fabric graph place k row link of there at (Some one) hangs =
     same_Some _ _ (sym is.cable ∙ ap (λ (p : PortRef). far_end fabric.cables (port (node_at of.found p.node) p.port)) (sym same) ∙ hung.cable) in
     absurd (false≢true (sym hung.adapter ∙ ap (λ (p : PortRef). is_switch_at fabric.nodes p.node) (sym far) ∙ is.switch))
 
-pub wanted_link : (fabric : FabricState) (routes : SubnetRoutes) (guid place k : ℕ) (row : List Link) (link : Link) → IsGraphOf routes.graph fabric
+pub wanted_link : (fabric : FabricState) (routes : RoutesState) (guid place k : ℕ) (row : List Link) (link : Link) → IsGraphOf routes.graph fabric
     → place_of routes.graph.switches guid ≡ Some place → (link.port == 0) ≡ false → slice_get routes.graph.rows place ≡ Some row → slice_get row k ≡ Some link
     → change_wanted routes guid link.port ≡ record stays { enforcement = Some false; active = true }
 wanted_link fabric routes guid place k row link of is some there at =
@@ -127,7 +127,7 @@ ChangesAt stood left result path asked change =
     (fabric : FabricState) → stood ≡ Some fabric → (guid number : ℕ) → IsGood fabric → TakesChange fabric path asked guid number change
     → Leaves result left fabric (with_infos (on_port guid number (changed change)) fabric)
 
-pub change_more : (stood left : Option FabricState) (result : Result (Unit {0}) PushFault) (fabric : FabricState) (routes : SubnetRoutes)
+pub change_more : (stood left : Option FabricState) (result : Result (Unit {0}) PushFault) (fabric : FabricState) (routes : RoutesState)
     (there : ℕ → ℕ → Bool) (path : List ℕ) (asked guid number : ℕ) (change : PortChange) → change_wanted routes guid number ≡ change
     → TakesChange fabric path asked guid number change → Stands stood fabric (with_infos (changed_where there routes) fabric)
     → ChangesAt stood left result path asked change
@@ -147,19 +147,19 @@ change_more stood left result fabric routes there path asked guid number change 
         ∙ ap (λ (n : ℕ). change_wanted routes guid n) (sym (eqb-true number of_number parts.1)) ∙ wanted
 
 -- the same ports told in other words
-pub told_same : (routes : SubnetRoutes) (fabric : FabricState) (one other : ℕ → ℕ → Bool) → ((guid number : ℕ) → one guid number ≡ other guid number)
+pub told_same : (routes : RoutesState) (fabric : FabricState) (one other : ℕ → ℕ → Bool) → ((guid number : ℕ) → one guid number ≡ other guid number)
     → with_infos (changed_where one routes) fabric ≡ with_infos (changed_where other routes) fabric
 told_same routes fabric one other each = λ i. with_infos (changed_where (λ guid number. each guid number i) routes) fabric
 
-pub told_none : (routes : SubnetRoutes) (fabric : FabricState) → with_infos (changed_where (λ guid number. false) routes) fabric ≡ fabric
+pub told_none : (routes : RoutesState) (fabric : FabricState) → with_infos (changed_where (λ guid number. false) routes) fabric ≡ fabric
 told_none routes fabric = parts_stay info_part (changed_where (λ guid number. false) routes) fabric (λ guid number info. refl)
 
 -- ---- all are made
-abbrev pub at_all : SubnetRoutes → ℕ → ℕ → Bool
+abbrev pub at_all : RoutesState → ℕ → ℕ → Bool
 at_all routes guid number =
     at_switches_before routes.graph (length routes.graph.switches) guid number || at_cables routes.graph.switches routes.graph.ports guid number
 
-none_wanted : (routes : SubnetRoutes) (guid number : ℕ) → at_switches_before routes.graph (length routes.graph.switches) guid number ≡ false
+none_wanted : (routes : RoutesState) (guid number : ℕ) → at_switches_before routes.graph (length routes.graph.switches) guid number ≡ false
     → at_cables routes.graph.switches routes.graph.ports guid number ≡ false → change_wanted routes guid number ≡ stays
 none_wanted routes guid number no_switch no_cable = by_place (place_of routes.graph.switches guid) refl
   where
@@ -211,7 +211,7 @@ none_wanted routes guid number no_switch no_cable = by_place (place_of routes.gr
     by_place None is = by_port is (port_of routes.graph.ports guid number) refl
     by_place (Some place) is = by_number place is (number == 0) refl
 
-pub told_all : (routes : SubnetRoutes) (fabric : FabricState)
+pub told_all : (routes : RoutesState) (fabric : FabricState)
     → with_infos (changed_where (at_all routes) routes) fabric ≡ with_infos (λ guid number. changed (change_wanted routes guid number)) fabric
 told_all routes fabric = λ i. with_infos (λ guid number info. each guid number info i) fabric
   where

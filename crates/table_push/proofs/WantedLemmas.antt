@@ -20,29 +20,29 @@ use Rattle.table_push.proofs.PartLemmas.{keys_part, parts_stay, parts_twice}
 use Rattle.table_push.proofs.LeadLemmas.{begins_as, ends_as, goes_on}
 use Rattle.table_push.proofs.NodeLemmas.{none_there}
 use Rattle.table_push.proofs.PortLemmas.{port_on}
-use Rattle.updn_routes.specs.Subnet.{SubnetRoutes, place_of}
+use Rattle.updn_routes.specs.Subnet.{RoutesState, place_of}
 
 -- ---- what is wanted
-wanted_by : (routes : SubnetRoutes) (keys : List (List ℕ)) (guid number : ℕ) (place : Option ℕ) → place_of routes.graph.switches guid ≡ place
+wanted_by : (routes : RoutesState) (keys : List (List ℕ)) (guid number : ℕ) (place : Option ℕ) → place_of routes.graph.switches guid ≡ place
     → keys_wanted routes keys guid number
     ≡ option_map_or (λ place. switch_keys routes keys guid place number) place (adapter_keys routes keys guid number)
 unfolding keys_wanted
 wanted_by routes keys guid number place is = rw is refl
 
 -- at port 0 of a switch
-pub wanted_own : (routes : SubnetRoutes) (keys : List (List ℕ)) (guid place : ℕ) → place_of routes.graph.switches guid ≡ Some place
+pub wanted_own : (routes : RoutesState) (keys : List (List ℕ)) (guid place : ℕ) → place_of routes.graph.switches guid ≡ Some place
     → keys_wanted routes keys guid 0 ≡ option_map (key_table false) (keys_of routes keys guid)
 wanted_own routes keys guid place is = wanted_by routes keys guid 0 (Some place) is
 
 -- at a port of a switch, which another hangs on
-pub wanted_there : (routes : SubnetRoutes) (keys : List (List ℕ)) (guid place number : ℕ) (one : Option GraphPort) → place_of routes.graph.switches guid ≡ Some place
+pub wanted_there : (routes : RoutesState) (keys : List (List ℕ)) (guid place number : ℕ) (one : Option GraphPort) → place_of routes.graph.switches guid ≡ Some place
     → (number == 0) ≡ false → hanging_at routes.graph.ports place number ≡ one
     → keys_wanted routes keys guid number ≡ option_and_then (λ one. option_map (key_table true) (keys_of routes keys one.port_guid)) one
 wanted_there routes keys guid place number one is some hangs =
     wanted_by routes keys guid number (Some place) is ∙ rw (some, hangs) refl
 
 -- at a port of an adapter
-pub wanted_adapter : (routes : SubnetRoutes) (keys : List (List ℕ)) (guid number : ℕ) (one : Option GraphPort) → place_of routes.graph.switches guid ≡ None
+pub wanted_adapter : (routes : RoutesState) (keys : List (List ℕ)) (guid number : ℕ) (one : Option GraphPort) → place_of routes.graph.switches guid ≡ None
     → port_of routes.graph.ports guid number ≡ one
     → keys_wanted routes keys guid number ≡ option_and_then (λ one. option_map (key_table false) (keys_of routes keys one.port_guid)) one
 wanted_adapter routes keys guid number one is there = wanted_by routes keys guid number None is ∙ rw there refl
@@ -96,7 +96,7 @@ PutsAt stood left result path asked table =
     (fabric : FabricState) → stood ≡ Some fabric → (guid number : ℕ) → IsGood fabric → LeadsToPort fabric path asked guid number
     → Leaves result left fabric (with_keys (on_port guid number (λ held. unwrap_or table held)) fabric)
 
-pub put_more : (stood left : Option FabricState) (result : Result (Unit {0}) PushFault) (fabric : FabricState) (routes : SubnetRoutes) (keys : List (List ℕ))
+pub put_more : (stood left : Option FabricState) (result : Result (Unit {0}) PushFault) (fabric : FabricState) (routes : RoutesState) (keys : List (List ℕ))
     (there : ℕ → ℕ → Bool) (path : List ℕ) (asked guid number : ℕ) (table : Option (List ℕ)) → keys_wanted routes keys guid number ≡ table
     → LeadsToPort fabric path asked guid number → Stands stood fabric (with_keys (keys_where there routes keys) fabric)
     → PutsAt stood left result path asked table
@@ -116,12 +116,12 @@ put_more stood left result fabric routes keys there path asked guid number table
         ∙ ap (λ (n : ℕ). keys_wanted routes keys guid n) (sym (eqb-true number of_number parts.1)) ∙ wanted
 
 -- the same ports told in other words
-pub put_same : (routes : SubnetRoutes) (keys : List (List ℕ)) (fabric : FabricState) (one other : ℕ → ℕ → Bool)
+pub put_same : (routes : RoutesState) (keys : List (List ℕ)) (fabric : FabricState) (one other : ℕ → ℕ → Bool)
     → ((guid number : ℕ) → one guid number ≡ other guid number)
     → with_keys (keys_where one routes keys) fabric ≡ with_keys (keys_where other routes keys) fabric
 put_same routes keys fabric one other each = λ i. with_keys (keys_where (λ guid number. each guid number i) routes keys) fabric
 
-pub put_none : (routes : SubnetRoutes) (keys : List (List ℕ)) (fabric : FabricState) → with_keys (keys_where (λ guid number. false) routes keys) fabric ≡ fabric
+pub put_none : (routes : RoutesState) (keys : List (List ℕ)) (fabric : FabricState) → with_keys (keys_where (λ guid number. false) routes keys) fabric ≡ fabric
 put_none routes keys fabric = parts_stay keys_part (keys_where (λ guid number. false) routes keys) fabric (λ guid number held. refl)
 
 pub some_put : (left : Option FabricState) (result : Result (Unit {0}) PushFault) (fabric : FabricState) (guid number : ℕ) (keys : List ℕ)
@@ -149,7 +149,7 @@ none_put stood fabric guid number table is stands good =
 pub guid_there : (switches : List GraphSwitch) (place : ℕ) (switch : GraphSwitch) → slice_get switches place ≡ Some switch → guid_of switches place ≡ switch.guid
 guid_there switches place switch there = ap (λ (o : Option GraphSwitch). option_map_or (λ (s : GraphSwitch). s.guid) o 0) there
 
-pub none_wanted : (routes : SubnetRoutes) (keys : List (List ℕ)) (guid number : ℕ) → at_switches routes.graph.switches guid number ≡ false
+pub none_wanted : (routes : RoutesState) (keys : List (List ℕ)) (guid number : ℕ) → at_switches routes.graph.switches guid number ≡ false
     → at_cables routes.graph.switches routes.graph.ports guid number ≡ false → keys_wanted routes keys guid number ≡ None
 none_wanted routes keys guid number no_switch no_cable = by_place (place_of routes.graph.switches guid) refl
   where
@@ -192,10 +192,10 @@ none_wanted routes keys guid number no_switch no_cable = by_place (place_of rout
     by_place None is = by_port is (port_of routes.graph.ports guid number) refl
     by_place (Some place) is = by_number place is (number == 0) refl
 
-abbrev pub at_all : SubnetRoutes → ℕ → ℕ → Bool
+abbrev pub at_all : RoutesState → ℕ → ℕ → Bool
 at_all routes guid number = at_switches routes.graph.switches guid number || at_cables routes.graph.switches routes.graph.ports guid number
 
-pub put_all : (routes : SubnetRoutes) (keys : List (List ℕ)) (fabric : FabricState) → with_keys (keys_where (at_all routes) routes keys) fabric ≡ keys_pushed routes keys fabric
+pub put_all : (routes : RoutesState) (keys : List (List ℕ)) (fabric : FabricState) → with_keys (keys_where (at_all routes) routes keys) fabric ≡ keys_pushed routes keys fabric
 put_all routes keys fabric = λ i. with_keys (λ guid number held. each guid number held i) fabric
   where
     by : (guid number : ℕ) (held : List ℕ) (a b : Bool) → at_switches routes.graph.switches guid number ≡ a → at_cables routes.graph.switches routes.graph.ports guid number ≡ b

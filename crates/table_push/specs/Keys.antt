@@ -1,4 +1,4 @@
--- What is pushed into key tables (InfiniBand volume 1, 14.2.5.7): the keys of each end port at that port, and their full
+-- What is pushed into key tables (IBA volume 1, 14.2.5.7): the keys of each end port at that port, and their full
 -- form at the port of a switch that it hangs on, which lets in and out what the end port may send and take.
 use Rattle.std.specs.Prelude.{ℕ, ◌-◌, ◌==◌, ◌&&◌, ◌||◌, Bool, true, false, if◌then◌else◌, List, ◌++◌, find, length, map, replicate, slice_get, unwrap_or, Option, option_map}
 use Rattle.std.specs.List.{list_any}
@@ -11,7 +11,7 @@ use Rattle.smp_wire.specs.FabricState.{FabricState}
 use Rattle.sweep.specs.declared.graph.GraphPort.{GraphPort}
 use Rattle.sweep.specs.declared.graph.GraphSwitch.{GraphSwitch}
 use Rattle.table_push.specs.Nodes.{with_keys}
-use Rattle.updn_routes.specs.Subnet.{SubnetRoutes, place_of}
+use Rattle.updn_routes.specs.Subnet.{RoutesState, place_of}
 
 -- ---- one table
 -- a key as it is, or as a full member of its partition holds it
@@ -24,7 +24,7 @@ key_table full keys = map (held_as full) keys ++ replicate (PARTITIONS - length 
 
 -- ---- which keys
 -- those of the end port with that GUID, from the list by LIDs
-abbrev pub keys_of : SubnetRoutes → List (List ℕ) → ℕ → Option (List ℕ)
+abbrev pub keys_of : RoutesState → List (List ℕ) → ℕ → Option (List ℕ)
 keys_of routes keys guid = option_and_then (λ lid. slice_get keys (lid - 1)) (lid_in routes.lids guid)
 
 -- the port of an adapter that hangs on that port of a switch
@@ -35,28 +35,28 @@ hanging_at ports place number = find (λ one. is_same_port one.at (port place nu
 abbrev pub port_of : List GraphPort → ℕ → ℕ → Option GraphPort
 port_of ports guid number = find (λ one. (one.node_guid == guid) && (one.number == number)) ports
 
-abbrev pub switch_keys : SubnetRoutes → List (List ℕ) → (guid place number : ℕ) → Option (List ℕ)
+abbrev pub switch_keys : RoutesState → List (List ℕ) → (guid place number : ℕ) → Option (List ℕ)
 switch_keys routes keys guid place number =
     if number == 0 then option_map (key_table false) (keys_of routes keys guid)
     else option_and_then (λ one. option_map (key_table true) (keys_of routes keys one.port_guid)) (hanging_at routes.graph.ports place number)
 
-abbrev pub adapter_keys : SubnetRoutes → List (List ℕ) → (guid number : ℕ) → Option (List ℕ)
+abbrev pub adapter_keys : RoutesState → List (List ℕ) → (guid number : ℕ) → Option (List ℕ)
 adapter_keys routes keys guid number =
     option_and_then (λ one. option_map (key_table false) (keys_of routes keys one.port_guid)) (port_of routes.graph.ports guid number)
 
 -- the table of that port of the node with that GUID; none at a port that has no cable, or one to another switch
-unfoldable pub keys_wanted : SubnetRoutes → List (List ℕ) → (guid number : ℕ) → Option (List ℕ)
+unfoldable pub keys_wanted : RoutesState → List (List ℕ) → (guid number : ℕ) → Option (List ℕ)
 keys_wanted routes keys guid number =
     option_map_or (λ place. switch_keys routes keys guid place number) (place_of routes.graph.switches guid)
     (adapter_keys routes keys guid number)
 
 -- where none is wanted the table stays
-abbrev pub keys_pushed : SubnetRoutes → List (List ℕ) → FabricState → FabricState
+abbrev pub keys_pushed : RoutesState → List (List ℕ) → FabricState → FabricState
 keys_pushed routes keys fabric = with_keys (λ guid number held. unwrap_or (keys_wanted routes keys guid number) held) fabric
 
 -- ---- while they are written
 -- where it is told
-abbrev pub keys_where : (ℕ → ℕ → Bool) → SubnetRoutes → List (List ℕ) → (guid number : ℕ) → List ℕ → List ℕ
+abbrev pub keys_where : (ℕ → ℕ → Bool) → RoutesState → List (List ℕ) → (guid number : ℕ) → List ℕ → List ℕ
 keys_where there routes keys guid number held = if there guid number then unwrap_or (keys_wanted routes keys guid number) held else held
 
 -- port 0 of one of these switches

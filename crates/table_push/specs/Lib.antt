@@ -5,4 +5,8 @@ pub mod Keys
 pub mod Pushes
 pub mod Ports
 pub mod Laws
-pub mod BringUp
+pub mod Steps
+pub mod SetUp
+pub mod BroughtUp
+pub mod Pushed
+pub mod BroughtUpLaws

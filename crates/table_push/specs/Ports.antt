@@ -1,4 +1,4 @@
--- What is pushed into PortInfo (InfiniBand volume 1, 14.2.5.6) and SwitchInfo (chapter 14): what each end port is told of
+-- What is pushed into PortInfo (IBA volume 1, 14.2.5.6) and SwitchInfo (chapter 14): what each end port is told of
 -- itself, that each port with a cable carries packets, where partitions are enforced, and how far linear tables reach.
 use Rattle.std.specs.Prelude.{ℕ, ◌*◌, ◌^◌, ◌≡◌, ◌==◌, ◌&&◌, ◌||◌, nat_le, nat_lt, Bool, true, false, if◌then◌else◌, List, [], get_or, length, Option, Some, None}
 use Rattle.std.specs.List.{list_any, range_with_len}
@@ -19,7 +19,7 @@ use Rattle.table_push.specs.Nodes.{with_infos, with_switches}
 use Rattle.table_push.specs.Pushes.{LeadsToPort}
 use Rattle.table_push.specs.declared.ports.PortChange.{PortChange}
 use Rattle.switch_model.specs.SwitchState.{SwitchState}
-use Rattle.updn_routes.specs.Subnet.{SubnetRoutes, place_of}
+use Rattle.updn_routes.specs.Subnet.{RoutesState, place_of}
 
 -- ---- what a port is told
 -- an end port has the link-local prefix and its LID, and knows the subnet manager's LID, which is always 1
@@ -52,19 +52,19 @@ abbrev pub has_link : GraphState → ℕ → ℕ → Bool
 has_link graph place number = list_any (λ link. link.port == number) (get_or graph.rows place [])
 
 -- port 0 is the end port; an adapter's port hangs on the port, or it has a link to a switch, or no cable
-abbrev pub switch_change : SubnetRoutes → (guid place number : ℕ) → PortChange
+abbrev pub switch_change : RoutesState → (guid place number : ℕ) → PortChange
 switch_change routes guid place number =
     if number == 0 then record stays { lid = lid_in routes.lids guid }
     else option_map_or (λ one. record stays { enforcement = Some true; active = true }) (hanging_at routes.graph.ports place number)
     (if has_link routes.graph place number then record stays { enforcement = Some false; active = true } else stays)
 
 -- a port of an adapter is an end port if it has a cable
-abbrev pub adapter_change : SubnetRoutes → (guid number : ℕ) → PortChange
+abbrev pub adapter_change : RoutesState → (guid number : ℕ) → PortChange
 adapter_change routes guid number =
     option_map_or (λ one. record stays { lid = lid_in routes.lids one.port_guid; active = true }) (port_of routes.graph.ports guid number) stays
 
 -- of that port of the node with that GUID
-unfoldable pub change_wanted : SubnetRoutes → (guid number : ℕ) → PortChange
+unfoldable pub change_wanted : RoutesState → (guid number : ℕ) → PortChange
 change_wanted routes guid number =
     option_map_or (λ place. switch_change routes guid place number) (place_of routes.graph.switches guid)
     (adapter_change routes guid number)
@@ -78,7 +78,7 @@ abbrev pub set_top : ℕ → SwitchState → SwitchState
 set_top lid held = record held { info = with_top lid held.info }
 
 -- LIDs count from 1, so the greatest is their number
-abbrev pub ports_pushed : SubnetRoutes → FabricState → FabricState
+abbrev pub ports_pushed : RoutesState → FabricState → FabricState
 ports_pushed routes fabric =
     with_switches (λ guid. set_top (length routes.lids)) (with_infos (λ guid number. changed (change_wanted routes guid number)) fabric)
 
@@ -101,7 +101,7 @@ pub record TakesChange (fabric : FabricState) (path : List ℕ) (asked guid numb
   pub up : change.active ≡ true → (info : PortInfo) → info_at fabric (port leads.at.node number) ≡ Some info → is_up info ≡ true
 
 -- where it is told
-abbrev pub changed_where : (ℕ → ℕ → Bool) → SubnetRoutes → (guid number : ℕ) → PortInfo → PortInfo
+abbrev pub changed_where : (ℕ → ℕ → Bool) → RoutesState → (guid number : ℕ) → PortInfo → PortInfo
 changed_where there routes guid number info = if there guid number then changed (change_wanted routes guid number) info else info
 
 -- port 0 of the switch at that place, and its ports with links

@@ -1,15 +1,14 @@
 //! Key tables.
 
-ghost use Rattle.std.specs.Prelude.{ℕ, ◌≡◌, ◌≤◌, ◌<◌, ◌||◌, Bool, length, option_map, slice_get, Some, true, unwrap_or};
+ghost use Rattle.std.specs.Prelude.{ℕ, ◌≡◌, ◌≤◌, ◌<◌, length, option_map, Some, true, unwrap_or};
 ghost use Rattle.std.specs.Option.{ForSome};
 ghost use Rattle.attr_tables.specs.Blocks.{block_of, has_block, word_bytes};
-ghost use Rattle.smp_wire.specs.FabricState.{FabricState};
 ghost use Rattle.smp_wire.specs.Good.{IsGood};
 ghost use Rattle.sweep.specs.OfFabric.{IsGraphOf};
-ghost use Rattle.sweep.specs.declared.graph.GraphPort.{GraphPort};
-ghost use Rattle.table_push.specs.Keys.{at_cable, at_switches, held_as, key_table, keys_of, keys_pushed, keys_where};
+ghost use Rattle.table_push.specs.Keys.{at_switches, held_as, key_table, keys_of, keys_pushed, keys_where};
 ghost use Rattle.table_push.specs.Nodes.{on_port, with_keys};
-ghost use Rattle.table_push.specs.Pushes.{LeadsToPort, Leaves, Stands};
+ghost use Rattle.table_push.specs.Pushes.{LeadsToPort, Leaves};
+ghost use Rattle.table_push.specs.Steps.{PutsKeysAtCable, PutsKeysAtCables};
 
 use crate::fault::PushFault;
 use crate::setting::set;
@@ -50,7 +49,7 @@ fn to_switches<W: SmpWire>(
         → Leaves result (W.fabric wire.new) fabric (with_keys (keys_where (at_switches routes.now.graph.switches) routes.now keys.now) fabric)) }
 {
     let graph = routes.graph();
-    graph.is_whole();
+    graph.known_graph();
     let switches = graph.switches();
     for place in 0..switches.len() {
         let switch = &switches[place];
@@ -70,12 +69,10 @@ fn to_cables<W: SmpWire>(
     routes: &Routes,
     keys: &[KeyTable<PARTITIONS>],
 ) -> Result<(), PushFault>
-    ensures { (fabric : FabricState) → IsGraphOf routes.now.graph fabric → IsGood fabric
-        → Stands (W.fabric wire.old) fabric (with_keys (keys_where (at_switches routes.now.graph.switches) routes.now keys.now) fabric)
-        → Leaves result (W.fabric wire.new) fabric (keys_pushed routes.now keys.now fabric) }
+    ensures { PutsKeysAtCables routes.now keys.now (W.fabric wire.old) (W.fabric wire.new) result }
 {
     let graph = routes.graph();
-    graph.is_whole();
+    graph.known_graph();
     for place in 0..graph.ports().len() {
         match to_cable(wire, transaction_id, routes, keys, place) {
             Ok(()) => {}
@@ -94,14 +91,10 @@ fn to_cable<W: SmpWire>(
     place: usize,
 ) -> Result<(), PushFault>
     requires { place < length routes.now.graph.ports }
-    ensures { (fabric : FabricState) (there : ℕ → ℕ → Bool) (port : GraphPort) → IsGraphOf routes.now.graph fabric → IsGood fabric
-        → slice_get routes.now.graph.ports place ≡ Some port
-        → Stands (W.fabric wire.old) fabric (with_keys (keys_where there routes.now keys.now) fabric)
-        → Leaves result (W.fabric wire.new) fabric
-        (with_keys (keys_where (λ guid number. there guid number || at_cable routes.now.graph.switches guid number port) routes.now keys.now) fabric) }
+    ensures { PutsKeysAtCable routes.now keys.now (W.fabric wire.old) (W.fabric wire.new) place result }
 {
     let graph = routes.graph();
-    graph.is_whole();
+    graph.known_graph();
     let port = &graph.ports()[place];
     let switch = &graph.switches()[port.at.node];
     let full = table_of(routes, keys, port.port_guid, true);

@@ -1,6 +1,7 @@
 //! What holds after every push. The functions do nothing; their clauses are the theorems.
 
-ghost use Rattle.table_push.specs.BringUp.{EachPortIsServed, EachSwitchIsSetUp};
+ghost use Rattle.table_push.specs.BroughtUpLaws.{BroughtUpForwardsByLid, PushesBringUp, PushesKeepTheEndPorts};
+ghost use Rattle.table_push.specs.SetUp.{EachPortIsServed, EachSwitchIsSetUp};
 ghost use Rattle.table_push.specs.Laws.{EverySwitchHasItsTable, PushesKeepTheGraph};
 
 /// After a push over the fabric of its graph every switch has the table of its own routes, and none is left out.
@@ -19,4 +20,18 @@ pub fn pushes_keep_the_graph()
 pub fn brought_up_is_as_routed()
     ensures ports { EachPortIsServed }
     ensures switches { EachSwitchIsSetUp }
+{}
+
+/// A fabric that is brought up, with keys for each LID, forwards by LID: entries lead to the port of their LID and to no
+/// other, from each switch that carries a channel adapter, and no switch holds back what that port accepts.
+pub fn brought_up_forwards_by_lid()
+    ensures { BroughtUpForwardsByLid }
+{}
+
+/// Over the good fabric of the routes' graph, the three pushes, one after another, bring it up: each switch has its own
+/// linear table, each port of a channel adapter its LID and the keys that are given to that, and each port of a switch
+/// before one the full form of these keys. And they keep the end ports that the agents show.
+pub fn pushes_bring_up()
+    ensures up { PushesBringUp }
+    ensures ends { PushesKeepTheEndPorts }
 {}

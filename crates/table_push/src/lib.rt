@@ -3,8 +3,10 @@
 //! [`push_ports`] sets up all ports and LinearFDBTop, [`push_keys`] writes the key tables of all end ports and of the
 //! ports of switches that they hang on, [`push_linear`] the linear forwarding tables of all switches. Nodes are reached by
 //! the paths that the sweep found, blocks are set whole, and each reply is compared with what was set: [`PushFault`] says
-//! why a push stops.
-//! The attributes are those of the InfiniBand Architecture Specification, volume 1, chapter 14.
+//! why a push stops. [`push_all`] does all three: `specs/BroughtUp.antt` says what a fabric holds then, that it does is
+//! [`pushes_bring_up`], and that every packet goes by its LID then is [`brought_up_forwards_by_lid`], for routes that lead
+//! to each port ([`known_to_lead_home`]).
+//! The attributes are those of the IBA volume 1, chapter 14.
 #![tactic(auto)]
 
 mod fault;
@@ -12,11 +14,16 @@ mod keys;
 mod laws;
 mod linear;
 mod ports;
+mod pushing;
 mod setting;
 mod tops;
 
 pub use crate::fault::PushFault;
 pub use crate::keys::push_keys;
-pub use crate::laws::{brought_up_is_as_routed, every_switch_has_its_table, pushes_keep_the_graph};
+pub use crate::laws::{
+    brought_up_forwards_by_lid, brought_up_is_as_routed, every_switch_has_its_table,
+    pushes_bring_up, pushes_keep_the_graph,
+};
 pub use crate::linear::push_linear;
 pub use crate::ports::push_ports;
+pub use crate::pushing::{known_to_lead_home, push_all};

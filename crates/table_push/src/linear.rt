@@ -29,7 +29,7 @@ pub fn push_linear<W: SmpWire>(wire: &mut W, routes: &Routes) -> Result<(), Push
         → Leaves result (W.fabric wire.new) fabric (linear_pushed routes.now fabric)) }
 {
     let graph = routes.graph();
-    graph.is_whole();
+    graph.known_graph();
     let switches = graph.switches();
     let mut transaction_id = 0;
     for place in 0..switches.len() {

@@ -1,36 +1,29 @@
 //! PortInfo of all ports.
 
-ghost use Rattle.std.specs.Prelude.{ℕ, ◌≡◌, ◌≤◌, ◌<◌, ◌==◌, ◌&&◌, ◌||◌, ◌+◌, ◌%◌, ◌^◌, Bool, IfOk, length, slice_get, Some, Ok};
+ghost use Rattle.std.specs.Prelude.{ℕ, ◌≡◌, ◌≤◌, ◌<◌, ◌==◌, ◌+◌, ◌%◌, ◌^◌, IfOk, length, Some, Ok};
 ghost use Rattle.std.specs.Option.{ForSome};
 ghost use Rattle.attr_tables.specs.PortInfo.{port_info, port_info_bytes};
 ghost use Rattle.attr_tables.specs.declared.port_info.PortInfo.{PortInfo};
 ghost use Rattle.attr_tables.specs.declared.smp_attribute.SmpAttribute.TheVariants as attribute;
 ghost use Rattle.mad_layout.specs.Layout.{Fits};
-ghost use Rattle.smp_wire.specs.FabricState.{FabricState};
 ghost use Rattle.smp_wire.specs.Get.{gives_along};
 ghost use Rattle.smp_wire.specs.Good.{IsGood, ShowsLinks};
-ghost use Rattle.smp_wire.specs.Set.{takes_along};
-ghost use Rattle.smp_wire.specs.Shape.{IsSameShape};
-ghost use Rattle.sweep.specs.Graph.{GraphState};
 ghost use Rattle.sweep.specs.OfFabric.{IsGraphOf};
-ghost use Rattle.sweep.specs.declared.graph.GraphPort.{GraphPort};
-ghost use Rattle.table_push.specs.Keys.{at_cable, guid_of};
 ghost use Rattle.table_push.specs.Nodes.{on_port, with_infos};
-ghost use Rattle.table_push.specs.Ports.{TakesChange, at_switch, at_switches_before, change_wanted, changed, changed_where, end_told, enforces, has_link, ports_pushed, state_asked, told, with_state};
-ghost use Rattle.table_push.specs.Pushes.{Gives, Leaves, Stands};
+ghost use Rattle.table_push.specs.Ports.{TakesChange, at_switch, at_switches_before, changed, changed_where, end_told, enforces, ports_pushed, state_asked, told, with_state};
+ghost use Rattle.table_push.specs.Pushes.{Leaves};
+ghost use Rattle.table_push.specs.Steps.{SetsUpCable, SetsUpMore, SetsUpRest, TakesAndGives, at_links};
 
 use crate::fault::{PushFault, fault_of};
 use crate::setting::set;
 use crate::tops::set_tops;
 use attr_tables::{PortInfo, PortState, SmpAttribute};
+use fabric_parts::MANAGER_LID;
 use smp_wire::{SmpWire, get_attribute};
 use updn_routes::Routes;
 
 /// The first half of the GIDs of all ports: the link-local prefix.
 const GID_PREFIX: u64 = 0xfe80_0000_0000_0000;
-
-/// The subnet manager's LID.
-const MANAGER_LID: u16 = 1;
 
 /// What is changed of a port; what is none stays.
 #[derive(Clone, Copy, Debug)]
@@ -75,7 +68,7 @@ fn to_switches<W: SmpWire>(
         (with_infos (changed_where (at_switches_before routes.now.graph (length routes.now.graph.switches)) routes.now) fabric)) }
 {
     let graph = routes.graph();
-    graph.is_whole();
+    graph.known_graph();
     for place in 0..graph.switches().len() {
         match to_switch(wire, transaction_id, routes, place) {
             Ok(()) => {}
@@ -93,15 +86,12 @@ fn to_switch<W: SmpWire>(
     place: usize,
 ) -> Result<(), PushFault>
     requires { place < length routes.now.graph.switches }
-    ensures { (fabric : FabricState) (there : ℕ → ℕ → Bool) → IsGraphOf routes.now.graph fabric → IsGood fabric → ShowsLinks fabric
-        → Stands (W.fabric wire.old) fabric (with_infos (changed_where there routes.now) fabric)
-        → Leaves result (W.fabric wire.new) fabric
-        (with_infos (changed_where (λ guid number. there guid number || at_switch routes.now.graph guid number place) routes.now) fabric) }
+    ensures { SetsUpMore routes.now (W.fabric wire.old) (W.fabric wire.new) (λ guid number. at_switch routes.now.graph guid number place) result }
 {
     let graph = routes.graph();
-    graph.is_whole();
+    graph.known_graph();
     let lids = routes.lids();
-    lids.are_own();
+    lids.known_distinct();
     let switch = &graph.switches()[place];
     let change = PortChange {
         lid: lids.lid_of(switch.guid),
@@ -123,14 +113,10 @@ fn to_links<W: SmpWire>(
     place: usize,
 ) -> Result<(), PushFault>
     requires { place < length routes.now.graph.switches }
-    ensures { (fabric : FabricState) (there : ℕ → ℕ → Bool) → IsGraphOf routes.now.graph fabric → IsGood fabric → ShowsLinks fabric
-        → Stands (W.fabric wire.old) fabric (with_infos (changed_where there routes.now) fabric)
-        → Leaves result (W.fabric wire.new) fabric
-        (with_infos (changed_where (λ guid number. there guid number
-        || ((guid_of routes.now.graph.switches place == guid) && has_link routes.now.graph place number)) routes.now) fabric) }
+    ensures { SetsUpMore routes.now (W.fabric wire.old) (W.fabric wire.new) (at_links routes.now place) result }
 {
     let graph = routes.graph();
-    graph.is_whole();
+    graph.known_graph();
     let path = graph.switches()[place].path.as_slice();
     let links = graph.rows()[place].as_slice();
     let change = PortChange {
@@ -153,13 +139,10 @@ fn to_cables<W: SmpWire>(
     transaction_id: &mut u64,
     routes: &Routes,
 ) -> Result<(), PushFault>
-    ensures { (fabric : FabricState) → IsGraphOf routes.now.graph fabric → IsGood fabric → ShowsLinks fabric
-        → Stands (W.fabric wire.old) fabric
-        (with_infos (changed_where (at_switches_before routes.now.graph (length routes.now.graph.switches)) routes.now) fabric)
-        → Leaves result (W.fabric wire.new) fabric (with_infos (λ guid number. changed (change_wanted routes.now guid number)) fabric) }
+    ensures { SetsUpRest routes.now (W.fabric wire.old) (W.fabric wire.new) result }
 {
     let graph = routes.graph();
-    graph.is_whole();
+    graph.known_graph();
     for place in 0..graph.ports().len() {
         match to_cable(wire, transaction_id, routes, place) {
             Ok(()) => {}
@@ -177,16 +160,12 @@ fn to_cable<W: SmpWire>(
     place: usize,
 ) -> Result<(), PushFault>
     requires { place < length routes.now.graph.ports }
-    ensures { (fabric : FabricState) (there : ℕ → ℕ → Bool) (port : GraphPort) → IsGraphOf routes.now.graph fabric → IsGood fabric → ShowsLinks fabric
-        → slice_get routes.now.graph.ports place ≡ Some port
-        → Stands (W.fabric wire.old) fabric (with_infos (changed_where there routes.now) fabric)
-        → Leaves result (W.fabric wire.new) fabric
-        (with_infos (changed_where (λ guid number. there guid number || at_cable routes.now.graph.switches guid number port) routes.now) fabric) }
+    ensures { SetsUpCable routes.now (W.fabric wire.old) (W.fabric wire.new) place result }
 {
     let graph = routes.graph();
-    graph.is_whole();
+    graph.known_graph();
     let lids = routes.lids();
-    lids.are_own();
+    lids.known_distinct();
     let port = &graph.ports()[place];
     let switch = &graph.switches()[port.at.node];
     let before = PortChange {
@@ -223,7 +202,8 @@ fn set_port<W: SmpWire>(
     change: &PortChange,
 ) -> Result<(), PushFault>
     requires { length path.now ≤ 63 }
-    ensures { ForSome (W.fabric wire.old) (λ fabric. (guid number : ℕ) → IsGood fabric → TakesChange fabric path.now asked guid number change.now
+    ensures { ForSome (W.fabric wire.old) (λ fabric. (guid number : ℕ) → IsGood fabric
+        → TakesChange fabric path.now asked guid number change.now
         → Leaves result (W.fabric wire.new) fabric (with_infos (on_port guid number (changed change.now)) fabric)) }
 {
     let held = match held_info(wire, transaction_id, path, asked) {
@@ -280,10 +260,8 @@ fn set_info<W: SmpWire>(
 ) -> Result<(), PushFault>
     requires path { length path.now ≤ 63 }
     requires fits { Fits (port_info info.now) }
-    ensures { ForSome (W.fabric wire.old) (λ fabric. (next : FabricState) → IsGood fabric
-        → takes_along fabric path.now attribute.PortInfo asked (port_info_bytes (with_state state info.now)) ≡ Some (Ok next)
-        → (IsSameShape fabric next → Gives next path.now attribute.PortInfo asked (port_info_bytes (with_state state info.now)))
-        → Leaves result (W.fabric wire.new) fabric next) }
+    ensures { ForSome (W.fabric wire.old) (λ fabric. TakesAndGives fabric (W.fabric wire.new) path.now attribute.PortInfo asked
+        (port_info_bytes (with_state state info.now)) result) }
 {
     let wanted = PortInfo {
         port_state: state.code(),

@@ -1,12 +1,8 @@
 //! One Set, and what its reply means.
 
-ghost use Rattle.std.specs.Prelude.{◌≡◌, ◌≤◌, ◌+◌, ◌%◌, ◌^◌, length, Some, Ok};
+ghost use Rattle.std.specs.Prelude.{◌≡◌, ◌≤◌, ◌+◌, ◌%◌, ◌^◌, length};
 ghost use Rattle.std.specs.Option.{ForSome};
-ghost use Rattle.smp_wire.specs.FabricState.{FabricState};
-ghost use Rattle.smp_wire.specs.Good.{IsGood};
-ghost use Rattle.smp_wire.specs.Set.{takes_along};
-ghost use Rattle.smp_wire.specs.Shape.{IsSameShape};
-ghost use Rattle.table_push.specs.Pushes.{Gives, Leaves};
+ghost use Rattle.table_push.specs.Steps.{TakesAndGives};
 
 use crate::fault::{PushFault, meaning};
 use attr_tables::SmpAttribute;
@@ -25,10 +21,7 @@ pub(crate) fn set<W: SmpWire>(
     wanted: &[u8; 64],
 ) -> Result<(), PushFault>
     requires { length path.now ≤ 63 }
-    ensures left { ForSome (W.fabric wire.old) (λ fabric. (next : FabricState) → IsGood fabric
-        → takes_along fabric path.now attribute modifier wanted.now ≡ Some (Ok next)
-        → (IsSameShape fabric next → Gives next path.now attribute modifier wanted.now)
-        → Leaves result (W.fabric wire.new) fabric next) }
+    ensures left { ForSome (W.fabric wire.old) (λ fabric. TakesAndGives fabric (W.fabric wire.new) path.now attribute modifier wanted.now result) }
     ensures counted { transaction_id.new ≡ (transaction_id.old + 1) % 2 ^ 64 }
 {
     *transaction_id = transaction_id.wrapping_add(1);

@@ -23,9 +23,9 @@ pub(crate) fn set_tops<W: SmpWire>(
     ensures { ForSome (W.fabric wire.old) (λ fabric. IsGraphOf routes.now.graph fabric → IsGood fabric
         → Leaves result (W.fabric wire.new) fabric (with_switches (λ guid. set_top (length routes.now.lids)) fabric)) }
 {
-    routes.are_of_graph();
+    routes.known_of_graph();
     let graph = routes.graph();
-    graph.is_whole();
+    graph.known_graph();
     let switches = graph.switches();
     let greatest = (switches.len() + graph.ports().len()) as u16;
     for place in 0..switches.len() {

@@ -2,12 +2,12 @@
 
 use agent_rules::{LINEAR_TABLE, Link, MULTICAST_TABLE};
 use example_texts::TWO_SWITCHES;
-use fabric_parts::PortRef;
+use fabric_parts::{PortRef, SWITCH_PORTS};
 use fabric_wire::{AdapterPorts, Node, PlainWire};
 use port_model::AdapterPort;
 use std::alloc::Global;
 use std::test::Fail;
-use switch_model::{PORTS, Switch};
+use switch_model::Switch;
 use topo_file::{Node as PlannedNode, Topology, read};
 
 /// The two-switch fabric over the plain wire.
@@ -25,11 +25,11 @@ fn link_of(topology: &Topology, node: usize, port: u8) -> Link {
 }
 
 fn switch_of(topology: &Topology, place: usize, node: &PlannedNode) -> Node {
-    let mut links = [Link::Uncabled; PORTS];
-    for port in 1..PORTS as u8 + 1 {
+    let mut links = [Link::Uncabled; SWITCH_PORTS];
+    for port in 1..SWITCH_PORTS as u8 + 1 {
         links[port as usize - 1] = link_of(topology, place, port);
     }
-    let count = usize::from(node.ports).min(PORTS);
+    let count = usize::from(node.ports).min(SWITCH_PORTS);
     let switch: Switch<LINEAR_TABLE, MULTICAST_TABLE> = Switch::new(
         node.guid,
         node.name.as_bytes(),

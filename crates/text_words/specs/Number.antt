@@ -13,6 +13,14 @@ digits_in radix digits =
 abbrev pub number_in : List ℕ → Option ℕ
 number_in word = if starts_with nat_eq word (codes "0x") then digits_in 16 (drop 2 word) else digits_in 10 word
 
+abbrev pub if_under : ℕ → Option ℕ → Option ℕ
+if_under top (Some n) = if nat_lt n top then Some n else None
+if_under top None = None
+
+-- one of 16 bits
+abbrev pub u16_in : List ℕ → Option ℕ
+u16_in word = if_under (2 ^ 16) (number_in word)
+
 -- ---- a step of the code, on which no definition stands: the number that one more digit makes
 abbrev pub digit_step : ℕ → ℕ → ℕ → Option ℕ
 digit_step radix value byte =

@@ -1,3 +1,5 @@
+//! Which bytes may stand in a line.
+
 ghost use Rattle.std.specs.Prelude.{◌≡◌, not, length, take};
 ghost use Rattle.std.specs.Option.{option_copied};
 ghost use Rattle.std.specs.List.{list_any};

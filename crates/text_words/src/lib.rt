@@ -8,15 +8,13 @@
 
 mod content;
 mod cut;
-mod laws;
 mod line;
 mod line_words;
 mod number;
 mod word;
 
 pub use crate::cut::cut_at;
-pub use crate::laws::the_numbers;
 pub use crate::line::Lines;
 pub use crate::line_words::Words;
-pub use crate::number::number_in;
-pub use crate::word::{NAME_LENGTH, PortWord, is_name, port_in};
+pub use crate::number::{number_in, u16_in};
+pub use crate::word::{PortWord, is_name, port_in};

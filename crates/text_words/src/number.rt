@@ -1,5 +1,7 @@
+//! Numbers, as texts spell them.
+
 ghost use Rattle.std.specs.Prelude.{◌≡◌, ◌≤◌};
-ghost use Rattle.text_words.specs.Number.{digits_in, digit_step, number_in};
+ghost use Rattle.text_words.specs.Number.{digits_in, digit_step, number_in, u16_in};
 
 /// The number that a word spells, in decimal digits or as `0x` and hexadecimal digits of either
 /// case; none where it is spelt otherwise or past 128 bits.
@@ -9,6 +11,16 @@ pub fn number_in(word: &[u8]) -> Option<u128>
     match word.strip_prefix(b"0x") {
         Some(digits) => digits_in(16, digits),
         None => digits_in(10, word),
+    }
+}
+
+/// The number of 16 bits that a word spells.
+pub fn u16_in(word: &[u8]) -> Option<u16>
+    ensures { result ≡ u16_in word.now }
+{
+    match number_in(word) {
+        Some(number) if number < 1 << 16 => Some(number as u16),
+        _ => None,
     }
 }
 

@@ -1,3 +1,5 @@
+//! Names and ports, as texts write them.
+
 ghost use Rattle.std.specs.Prelude.{◌≡◌, ◌≤◌, true, length};
 ghost use Rattle.std.specs.List.{list_all};
 ghost use Rattle.std.specs.Option.{option_map};
@@ -5,9 +7,7 @@ ghost use Rattle.text_words.specs.Words.{is_name, is_name_byte, port_in, seen};
 
 use crate::cut::place_or_end;
 use crate::number::number_in;
-
-/// The longest name, in bytes.
-pub const NAME_LENGTH: usize = 32;
+use fabric_parts::NAME_BYTES;
 
 /// A port as a text writes it, before it is known whether there is such a node or port.
 #[derive(Clone, Copy, Debug)]
@@ -21,9 +21,9 @@ pub struct PortWord<'a> {
 /// Whether a word is a name: 1 to 32 letters, digits, `_`, `-` and `.`.
 pub fn is_name(word: &[u8]) -> bool
     ensures value { result ≡ is_name word.now }
-    ensures short { result ≡ true → length word.now ≤ NAME_LENGTH }
+    ensures short { result ≡ true → length word.now ≤ NAME_BYTES }
 {
-    !word.is_empty() && word.len() <= NAME_LENGTH && all_in_names(word)
+    !word.is_empty() && word.len() <= NAME_BYTES && all_in_names(word)
 }
 
 fn all_in_names(word: &[u8]) -> bool

@@ -17,7 +17,7 @@ use Rattle.topo_file.specs.declared.draft.Manager.{Manager}
 use Rattle.topo_file.specs.Node.{HasGuids, is_one_too_many, is_switch_at, last_guid, ports_at, shares_guid}
 use Rattle.fabric_parts.specs.Cable.{ends_at, is_cabled, is_same_port}
 use Rattle.topo_file.specs.Sound.{is_named, is_port, is_sized, ends_at_ports, is_manager_port, joins_right, on_adapter, shares_name, shares_port, AreRoots, AreSound, IsSoundSoFar}
-use Rattle.topo_file.specs.Topology.{Declarations, is_root, nothing}
+use Rattle.topo_file.specs.Topology.{DraftState, is_root, nothing}
 use Rattle.topo_file.proofs.AcceptedLemmas.{IsNewNode, IsNewCable}
 use Rattle.topo_file.proofs.LimitLemmas.{within_limits_more}
 
@@ -153,7 +153,7 @@ roots_still : (nodes : List Node) (node : Node) (roots : List ℕ) → AreRoots 
 roots_still nodes node roots sound = record { switches = switches_still nodes node roots sound.switches; own = sound.own }
 
 -- a switch that is no root yet leaves all sound
-pub sound_rooted : (so_far : Declarations) (root : ℕ) → IsSoundSoFar so_far → is_switch_at so_far.nodes root ≡ true
+pub sound_rooted : (so_far : DraftState) (root : ℕ) → IsSoundSoFar so_far → is_switch_at so_far.nodes root ≡ true
     → is_root so_far.roots root ≡ false → IsSoundSoFar (record so_far { roots = so_far.roots ++ root ∷ [] })
 sound_rooted so_far root sound switch own = record {
   lines = sound.lines;
@@ -165,7 +165,7 @@ sound_rooted so_far root sound switch own = record {
 }
 
 -- a node with GUIDs of its own and room for it leaves all sound
-pub sound_still : (so_far : Declarations) (node : Node) → IsSoundSoFar so_far → HasGuids node
+pub sound_still : (so_far : DraftState) (node : Node) → IsSoundSoFar so_far → HasGuids node
     → is_one_too_many so_far.nodes node.node_type node.ports ≡ false → IsNewNode so_far.nodes node
     → IsSoundSoFar (record so_far { nodes = so_far.nodes ++ node ∷ [] })
 sound_still so_far node sound guids room new = record {
@@ -200,7 +200,7 @@ no_port_shared (other ∷ cables) cable first second =
     or_from (shares_port cable other) _ (or_from (ends_at cable.first other) _ one.0 two.0) (no_port_shared cables cable one.1 two.1)
 
 -- a cable between ports that are there and have none leaves all sound
-pub sound_with : (so_far : Declarations) (cable : Cable) → IsSoundSoFar so_far → ends_at_ports so_far.nodes cable ≡ true → IsNewCable so_far.nodes so_far.cables cable
+pub sound_with : (so_far : DraftState) (cable : Cable) → IsSoundSoFar so_far → ends_at_ports so_far.nodes cable ≡ true → IsNewCable so_far.nodes so_far.cables cable
     → IsSoundSoFar (record so_far { cables = so_far.cables ++ cable ∷ [] })
 sound_with so_far cable sound ends new = record {
   lines = record {

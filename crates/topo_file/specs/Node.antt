@@ -8,7 +8,7 @@ use Rattle.fabric_parts.specs.declared.node_type.NodeType.{NodeType}
 use Rattle.fabric_parts.specs.declared.node_type.NodeType.TheVariants.{Switch, ChannelAdapter}
 use Rattle.fabric_parts.specs.NodeType.{is_switch_type}
 use Rattle.topo_file.specs.declared.node.Node.{Node}
-use Rattle.topo_file.specs.declared.node.TheConstants.{SWITCHES, ADAPTER_PORTS}
+use Rattle.fabric_parts.specs.declared.limits.TheConstants.{SWITCHES, ADAPTER_PORTS}
 
 abbrev pub is_switch : Node → Bool
 is_switch node = is_switch_type node.node_type

@@ -12,7 +12,7 @@ use Rattle.topo_file.specs.declared.draft.Manager.{Manager}
 use Rattle.topo_file.specs.Node.{HasGuids, IsWithinLimits, is_switch_at, ports_at, shares_guid}
 use Rattle.topo_file.specs.Cable.{may_join}
 use Rattle.topo_file.specs.Connectivity.{AllJoined}
-use Rattle.topo_file.specs.Topology.{Plan, Declarations}
+use Rattle.topo_file.specs.Topology.{TopologyState, DraftState}
 
 -- the node there has this port
 abbrev pub is_port : List Node → PortRef → Bool
@@ -70,13 +70,13 @@ pub record AreRoots (nodes : List Node) (roots : List ℕ) : Type 0 where
   pub own : IsDistinct nat_eq roots
 
 -- what stands after each line
-pub record IsSoundSoFar (so_far : Declarations) : Type 0 where
+pub record IsSoundSoFar (so_far : DraftState) : Type 0 where
   pub lines : AreSound so_far.nodes so_far.cables
   pub roots : AreRoots so_far.nodes so_far.roots
   pub manager : on_adapter so_far.nodes so_far.manager ≡ true
 
 -- what stands of the whole
-pub record IsSound (plan : Plan) : Type 0 where
+pub record IsSound (plan : TopologyState) : Type 0 where
   pub lines : AreSound plan.nodes plan.cables
   pub connected : AllJoined plan.nodes plan.cables
   pub roots : AreRoots plan.nodes plan.roots

@@ -26,14 +26,14 @@ use Rattle.topo_file.specs.Connectivity.{is_connected}
 
 -- a topology: its nodes, cables and roots in the order of their lines, and the subnet manager's port. A root is the
 -- place of its switch among the nodes.
-pub record Plan : Type 0 where
+pub record TopologyState : Type 0 where
   pub nodes : List Node
   pub cables : List Cable
   pub roots : List ℕ
   pub sm : PortRef
 
 -- what the lines so far declare
-pub record Declarations : Type 0 where
+pub record DraftState : Type 0 where
   pub nodes : List Node
   pub cables : List Cable
   pub roots : List ℕ
@@ -132,20 +132,20 @@ manager_of nodes manager number (word ∷ []) = manager_spelt nodes manager numb
 manager_of nodes manager number _ = Err Malformed
 
 -- ---- a line after those before it: what is declared with what the line tells
-abbrev pub with_node : Declarations → Result Node TopologyCause → Result Declarations TopologyCause
+abbrev pub with_node : DraftState → Result Node TopologyCause → Result DraftState TopologyCause
 with_node so_far told = told >>= λ node. Ok (record so_far { nodes = so_far.nodes ++ node ∷ [] })
 
-abbrev pub with_cable : Declarations → Result Cable TopologyCause → Result Declarations TopologyCause
+abbrev pub with_cable : DraftState → Result Cable TopologyCause → Result DraftState TopologyCause
 with_cable so_far told = told >>= λ cable. Ok (record so_far { cables = so_far.cables ++ cable ∷ [] })
 
-abbrev pub with_root : Declarations → Result ℕ TopologyCause → Result Declarations TopologyCause
+abbrev pub with_root : DraftState → Result ℕ TopologyCause → Result DraftState TopologyCause
 with_root so_far told = told >>= λ root. Ok (record so_far { roots = so_far.roots ++ root ∷ [] })
 
-abbrev pub with_manager : Declarations → Result Manager TopologyCause → Result Declarations TopologyCause
+abbrev pub with_manager : DraftState → Result Manager TopologyCause → Result DraftState TopologyCause
 with_manager so_far told = told >>= λ manager. Ok (record so_far { manager = Some manager })
 
 -- the first word says what the line declares; a line without words declares nothing
-unfoldable pub after_words : ℕ → Declarations → List (List ℕ) → Result Declarations TopologyCause
+unfoldable pub after_words : ℕ → DraftState → List (List ℕ) → Result DraftState TopologyCause
 after_words number so_far [] = Ok so_far
 after_words number so_far (first ∷ rest) =
     if bytes_eq first (codes "switch") then with_node so_far (node_of Switch so_far.nodes rest)
@@ -155,32 +155,32 @@ after_words number so_far (first ∷ rest) =
     else (if bytes_eq first (codes "sm") then with_manager so_far (manager_of so_far.nodes so_far.manager number rest)
     else Err Malformed))))
 
-unfoldable pub after_line : ℕ → Declarations → List ℕ → Result Declarations TopologyCause
+unfoldable pub after_line : ℕ → DraftState → List ℕ → Result DraftState TopologyCause
 after_line number so_far line = do
   words ← ok_or (words_of line) Malformed
   after_words number so_far words
 
 -- ---- the whole text: after the last line there must be a manager, its port must have a cable, and cables must join
 -- all switches
-abbrev pub plan_of : Declarations → Manager → Result Plan (AtLine TopologyCause)
+abbrev pub plan_of : DraftState → Manager → Result TopologyState (AtLine TopologyCause)
 plan_of all manager =
     if not (is_cabled all.cables manager.port) then Err (record { line = manager.line; cause = ManagerUncabled })
     else (if not (is_connected all.nodes all.cables) then Err (record { line = 0; cause = Disconnected })
     else Ok (record { nodes = all.nodes; cables = all.cables; roots = all.roots; sm = manager.port }))
 
-unfoldable pub whole : Declarations → Result Plan (AtLine TopologyCause)
+unfoldable pub whole : DraftState → Result TopologyState (AtLine TopologyCause)
 whole all = do
   manager ← on_line 0 (ok_or all.manager WrongManager)
   plan_of all manager
 
 -- before the first line nothing is declared
-abbrev pub nothing : Declarations
+abbrev pub nothing : DraftState
 nothing = record { nodes = []; cables = []; roots = []; manager = None }
 
 -- what all lines declare
-abbrev pub declarations_of : List ℕ → Result Declarations (AtLine TopologyCause)
+abbrev pub declarations_of : List ℕ → Result DraftState (AtLine TopologyCause)
 declarations_of text = after_lines after_line 1 nothing (lines text)
 
 -- what the text describes, or its first fault
-unfoldable pub topology_of : List ℕ → Result Plan (AtLine TopologyCause)
+unfoldable pub topology_of : List ℕ → Result TopologyState (AtLine TopologyCause)
 topology_of text = declarations_of text >>= whole

@@ -1,3 +1,5 @@
+//! The cables of a topology.
+
 ghost use Rattle.std.specs.Prelude.{◌≡◌, ◌++◌, [], ◌∷◌, true, IfSome, OnErr, OnOk};
 ghost use Rattle.fabric_parts.specs.Cable.{is_cabled};
 ghost use Rattle.topo_file.specs.Sound.{is_port};

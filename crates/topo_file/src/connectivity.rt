@@ -1,3 +1,5 @@
+//! Whether cables join all switches.
+
 ghost use Rattle.std.specs.Prelude.{◌≡◌, ◌↔◌, ◌==◌, ◌||◌, true, IfOk, map, position};
 ghost use Rattle.std.specs.List.{enumerate_from, list_any};
 ghost use Rattle.topo_file.specs.Node.{is_switch, switch_count};

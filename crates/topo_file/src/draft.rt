@@ -1,3 +1,5 @@
+//! A topology of which lines are still to come.
+
 ghost use Rattle.std.specs.Prelude.{◌≡◌, true, false, None, IfOk, OnOk};
 ghost use Rattle.std.specs.Option.{ok_or};
 ghost use Rattle.topo_file.specs.declared.fault.TopologyCause.TheVariants.{UnknownNode, NoSuchPort};
@@ -33,10 +35,10 @@ pub(crate) struct Draft {
 }
 
 impl Model for Draft {
-    ghost use Rattle.topo_file.specs.Topology.{Declarations};
+    ghost use Rattle.topo_file.specs.Topology.{DraftState};
     ghost use Rattle.topo_file.specs.Sound.{IsSoundSoFar};
 
-    ghost Value = { Declarations };
+    ghost Value = { DraftState };
 
     ghost view = { λ draft. record { nodes = draft.nodes; cables = draft.cables; roots = draft.roots.items; manager = draft.manager } };
 

@@ -17,7 +17,7 @@ mod topology;
 
 pub use crate::connectivity::is_connected;
 pub use crate::fault::{TopoFault, TopologyCause};
-pub use crate::laws::{connected_means_joined, the_numbers};
-pub use crate::node::{ADAPTER_PORTS, Name, Node, SWITCHES, name_at};
+pub use crate::laws::connected_means_joined;
+pub use crate::node::{Name, Node, name_at, ports_at};
 pub use crate::reader::read;
 pub use crate::topology::Topology;

@@ -1,19 +1,15 @@
+//! The nodes of a topology.
+
 ghost use Rattle.std.specs.Prelude.{◌≡◌, ◌≤◌, ◌<◌, ◌^◌, ◌+◌, length, [], ◌∷◌, ◌++◌, None, IfOk, OnOk, OnErr};
 ghost use Rattle.topo_file.specs.Node.{adapter_ports, is_one_too_many, is_switch, is_switch_at, lacks_guids, last_guid, name_at, place_of, port_guid, port_guids, ports_at, shares_guid, switch_count};
 ghost use Rattle.std.specs.List.{list_any};
 ghost use Rattle.topo_file.specs.NewNode.{seen};
-ghost use Rattle.text_words.specs.declared.word.TheConstants.{NAME_LENGTH};
+ghost use Rattle.fabric_parts.specs.declared.limits.TheConstants.{NAME_BYTES};
 
-use fabric_parts::NodeType;
+use fabric_parts::{ADAPTER_PORTS, NodeType, SWITCHES};
 use indexmap::IndexSet;
 use std::alloc::{AllocError, Global};
 use std::marker::Model;
-
-/// How many switches a fabric has at most.
-pub const SWITCHES: usize = 64;
-
-/// How many ports the adapters of a fabric have at most, all together.
-pub const ADAPTER_PORTS: usize = 256;
 
 /// The name of a node: 1 to 32 letters, digits, `_`, `-` and `.`.
 #[derive(Debug, Drop)]
@@ -27,16 +23,16 @@ impl Model for Name {
     ghost Value = { List ℕ };
 
     ghost use Rattle.std.specs.Prelude.{◌≤◌, length};
-    ghost use Rattle.text_words.specs.declared.word.TheConstants.{NAME_LENGTH};
+    ghost use Rattle.fabric_parts.specs.declared.limits.TheConstants.{NAME_BYTES};
 
     ghost view = { λ name. name.bytes.items };
 
-    ghost invariant = { λ name. length name.bytes.items ≤ NAME_LENGTH };
+    ghost invariant = { λ name. length name.bytes.items ≤ NAME_BYTES };
 }
 
 impl Name {
     fn new(alloc: Global, word: &[u8]) -> Result<Name, AllocError>
-        requires { length word.now ≤ NAME_LENGTH }
+        requires { length word.now ≤ NAME_BYTES }
         ensures { IfOk result (λ name. name ≡ word.now) }
     {
         let bytes = Vec::from_slice(alloc, word)?;
@@ -46,7 +42,7 @@ impl Name {
     /// The name as it is written.
     pub fn as_bytes(&self) -> &[u8]
         ensures value { result.now ≡ self.now }
-        ensures short { length result.now ≤ NAME_LENGTH }
+        ensures short { length result.now ≤ NAME_BYTES }
     {
         self.bytes.as_slice()
     }
@@ -93,7 +89,7 @@ impl Node {
 /// The name of the node there, or no name where there is none.
 pub fn name_at(nodes: &[Node], place: usize) -> &[u8]
     ensures value { result.now ≡ name_at nodes.now place }
-    ensures short { length result.now ≤ NAME_LENGTH }
+    ensures short { length result.now ≤ NAME_BYTES }
 {
     match nodes.get(place) {
         Some(node) => node.name.as_bytes(),
@@ -173,7 +169,7 @@ impl NodeList {
     /// Adds a node at the end. Memory alone can be refused, and then the list stays as it was.
     pub(crate) fn push(&mut self, alloc: Global, node: &NewNode) -> Result<(), AllocError>
         requires new { place_of node.now.name.now self.old ≡ None }
-        requires short { length node.now.name.now ≤ NAME_LENGTH }
+        requires short { length node.now.name.now ≤ NAME_BYTES }
         ensures ok { OnOk result (self.new ≡ self.old ++ seen node.now ∷ []) }
         ensures err { OnErr result (self.new ≡ self.old) }
     {
@@ -202,7 +198,7 @@ pub(crate) fn is_switch_at(nodes: &[Node], place: usize) -> bool
 }
 
 /// How many ports the node there has.
-pub(crate) fn ports_at(nodes: &[Node], place: usize) -> u8
+pub fn ports_at(nodes: &[Node], place: usize) -> u8
     ensures { result ≡ ports_at nodes.now place }
 {
     match nodes.get(place) {

@@ -1,6 +1,8 @@
+//! The reader of a whole topology.
+
 ghost use Rattle.std.specs.Prelude.{◌≡◌, ◌≤◌, true, false, None, length, map, IfOk};
 ghost use Rattle.text_words.specs.Lines.{lines};
-ghost use Rattle.text_words.specs.declared.word.TheConstants.{NAME_LENGTH};
+ghost use Rattle.fabric_parts.specs.declared.limits.TheConstants.{NAME_BYTES};
 ghost use Rattle.text_words.specs.Words.{seen as port_seen};
 ghost use Rattle.topo_file.specs.Node.{HasGuids, is_one_too_many, is_switch_at, place_of};
 ghost use Rattle.topo_file.specs.NewNode.{seen};
@@ -30,7 +32,7 @@ impl Draft {
     ) -> Result<NewNode<'a>, TopologyCause>
         ensures value { seen_by seen result ≡ node_of node_type self.now.nodes words.entry }
         ensures new { IfOk result (λ node. place_of node.name.now self.now.nodes ≡ None) }
-        ensures short { IfOk result (λ node. length node.name.now ≤ NAME_LENGTH) }
+        ensures short { IfOk result (λ node. length node.name.now ≤ NAME_BYTES) }
         ensures guids { IfOk result (λ node. HasGuids (seen node)) }
         ensures room { IfOk result (λ node. is_one_too_many self.now.nodes node.node_type node.ports ≡ false) }
     {
@@ -56,7 +58,7 @@ impl Draft {
     ) -> Result<NewNode<'a>, TopologyCause>
         ensures value { seen_by seen result ≡ node_spelt node_type self.now.nodes name.now guid.now ports.now }
         ensures new { IfOk result (λ node. place_of node.name.now self.now.nodes ≡ None) }
-        ensures short { IfOk result (λ node. length node.name.now ≤ NAME_LENGTH) }
+        ensures short { IfOk result (λ node. length node.name.now ≤ NAME_BYTES) }
         ensures guids { IfOk result (λ node. HasGuids (seen node)) }
         ensures room { IfOk result (λ node. is_one_too_many self.now.nodes node.node_type node.ports ≡ false) }
     {
@@ -282,7 +284,7 @@ impl Draft {
 
 fn name_of(word: &[u8]) -> Result<&[u8], TopologyCause>
     ensures value { seen_by (λ name. name.now) result ≡ name_of word.now }
-    ensures short { IfOk result (λ name. length name.now ≤ NAME_LENGTH) }
+    ensures short { IfOk result (λ name. length name.now ≤ NAME_BYTES) }
 {
     if !is_name(word) {
         return Err(TopologyCause::Malformed);

@@ -1,3 +1,5 @@
+//! A topology that was read.
+
 ghost use Rattle.std.specs.Prelude.{◌≡◌, ◌+◌, ◌≤◌, true, false, All, IfSome, nat_eq};
 ghost use Rattle.std.specs.List.{list_all, IsDistinct};
 ghost use Rattle.fabric_parts.specs.Cable.{is_cabled};
@@ -22,10 +24,10 @@ pub struct Topology {
 }
 
 impl Model for Topology {
-    ghost use Rattle.topo_file.specs.Topology.{Plan};
+    ghost use Rattle.topo_file.specs.Topology.{TopologyState};
     ghost use Rattle.topo_file.specs.Sound.{IsSound};
 
-    ghost Value = { Plan };
+    ghost Value = { TopologyState };
 
     ghost view = { λ topology. record { nodes = topology.nodes; cables = topology.cables; roots = topology.roots.items; sm = topology.sm } };
 

@@ -16,7 +16,7 @@ use Rattle.updn_routes.specs.Fabric.{IsFabric}
 use Rattle.updn_routes.specs.Laws.{KeepsTheOrder}
 use Rattle.updn_routes.specs.Order.{AreDistances, AreRanks, IsDistance, IsOrder, is_first_root, is_root, place_of, precedes}
 use Rattle.updn_routes.specs.Rounds.{is_marked}
-use Rattle.updn_routes.specs.Routes.{AllReached, AllRouted, AreRoutes, AreRoutesOf, IsFirstUnreached, IsPair, IsRouted, LeadsToLid, LegalPath, NoLegalPath, RoutesState, all_hang, carries, has_gap, home_of, hop_to, is_gap, next_hop, number_of, order_of, port_towards, routes_with}
+use Rattle.updn_routes.specs.Routes.{AllReached, AllRouted, AreRoutes, AreRoutesOf, IsFirstUnreached, IsPair, IsRouted, LeadsToLid, LegalPath, NoLegalPath, SwitchRoutesState, all_hang, carries, has_gap, home_of, hop_to, is_gap, next_hop, number_of, order_of, port_towards, routes_with}
 use Rattle.updn_routes.specs.Tables.{AreTables, all_downs, all_ups, downs_at, place_at, places_of}
 use Rattle.updn_routes.specs.Tree.{AreDepths}
 use Rattle.updn_routes.specs.UpDown.{channel_number, channel_numbers, is_legal}
@@ -138,7 +138,7 @@ same_route rows next other d agree s (t ∷ steps) route =
     let f = first_step rows next s t steps d route in
     step_first rows other s t steps d (record { away = f.away; port = f.port; picked = sym (agree s f.away) ∙ f.picked; out = f.out; rest = same_route rows next other d agree t steps f.rest })
 
-module _ (routes : RoutesState) (are : AreRoutes routes) where
+module _ (routes : SwitchRoutesState) (are : AreRoutes routes) where
   abbrev before : ℕ → ℕ → Bool
   before = precedes routes.ranks routes.guids
 
@@ -300,7 +300,7 @@ hung homes i d less =
     ∙ (ap (slice_get homes) same ∙ slice_get-get_or homes i d less)
 
 -- ---- what has no route
-module _ (routes : RoutesState) (are : AreRoutes routes) where
+module _ (routes : SwitchRoutesState) (are : AreRoutes routes) where
   abbrev order : ℕ → ℕ → Bool
   order = precedes routes.ranks routes.guids
 
@@ -419,7 +419,7 @@ module _ (routes : RoutesState) (are : AreRoutes routes) where
           (subst (λ (one : PortRef). is_gap routes (at_place i).node one ≡ false) (sym (same_default there.0 (record { node = d; port = port }) there.1.1.0) ∙ there.1.1.1) (to.2 there.0 low))))
 
 -- ---- channel numbers
-module _ (routes : RoutesState) (are : AreRoutes routes) where
+module _ (routes : SwitchRoutesState) (are : AreRoutes routes) where
   abbrev comes_before : ℕ → ℕ → Bool
   comes_before = precedes routes.ranks routes.guids
 

@@ -11,7 +11,7 @@ use Rattle.fabric_parts.specs.Cable.{is_same_port, port}
 use Rattle.fabric_parts.specs.declared.cable.PortRef.{PortRef}
 use Rattle.lid_assign.specs.Lids.{AreLids, adapter_end, end_ports, switch_end}
 use Rattle.result_words.proofs.ListLemmas.{list_all_weaker, list_any_weaker}
-use Rattle.smp_wire.proofs.DistinctLemmas.{left_part}
+use Rattle.result_words.proofs.DistinctLemmas.{left_part}
 use Rattle.sweep.specs.Graph.{GraphState, IsGraph, count_at, is_joined, is_linked, is_near, is_right_link, is_right_port, is_right_row, is_switch_port, rise_above}
 use Rattle.sweep.specs.declared.graph.GraphPort.{GraphPort}
 use Rattle.sweep.specs.declared.graph.GraphSwitch.{GraphSwitch}

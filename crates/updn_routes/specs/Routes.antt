@@ -13,7 +13,7 @@ use Rattle.updn_routes.specs.UpDown.{channel_number, channel_numbers, is_legal}
 
 -- the switches' links, GUIDs, ranks and depths, each by the number of the switch; the place of each in the order, and
 -- for the target at each place its table by places; and where each LID hangs, from LID 1 on
-pub record RoutesState : Type 0 where
+pub record SwitchRoutesState : Type 0 where
   pub rows : List (List Link)
   pub guids : List ℕ
   pub ranks : List ℕ
@@ -24,7 +24,7 @@ pub record RoutesState : Type 0 where
 
 -- the routes of these parts
 abbrev pub routes_with : List (List Link) → List ℕ → List ℕ → List ℕ → List ℕ → List (List (Option Hop)) → List PortRef
-    → RoutesState
+    → SwitchRoutesState
 routes_with rows guids ranks depths places tables homes =
     record { rows = rows; guids = guids; ranks = ranks; depths = depths; places = places; tables = tables; homes = homes }
 
@@ -34,24 +34,24 @@ abbrev pub home_of : List PortRef → ℕ → Option PortRef
 home_of homes lid = if lid == 0 then None else slice_get homes (lid - 1)
 
 -- ---- what routes answer
-abbrev pub order_of : RoutesState → ℕ → ℕ → Bool
+abbrev pub order_of : SwitchRoutesState → ℕ → ℕ → Bool
 order_of routes = precedes routes.ranks routes.guids
 
 -- the port chosen at s towards the switch d, and 0 where it is s
-abbrev pub port_towards : RoutesState → ℕ → ℕ → Option ℕ
+abbrev pub port_towards : SwitchRoutesState → ℕ → ℕ → Option ℕ
 port_towards routes d s =
     option_map (λ hop. hop.port) (entry_at (get_or routes.tables (place_at routes.places d) []) (place_at routes.places s))
 
 -- the port by which s sends what is for something that hangs there
-abbrev pub hop_to : RoutesState → ℕ → Option PortRef → Option ℕ
+abbrev pub hop_to : SwitchRoutesState → ℕ → Option PortRef → Option ℕ
 hop_to routes s None = None
 hop_to routes s (Some home) = if home.node == s then Some home.port else port_towards routes home.node s
 
-abbrev pub next_hop : RoutesState → ℕ → ℕ → Option ℕ
+abbrev pub next_hop : SwitchRoutesState → ℕ → ℕ → Option ℕ
 next_hop routes s lid = hop_to routes s (home_of routes.homes lid)
 
 -- the number of the channel between two switches that are side by side
-abbrev pub number_of : RoutesState → ℕ → ℕ → Option ℕ
+abbrev pub number_of : SwitchRoutesState → ℕ → ℕ → Option ℕ
 number_of routes s t =
     if is_next_to routes.rows s t then Some (channel_number (order_of routes) (length routes.rows) s t) else None
 
@@ -59,7 +59,7 @@ number_of routes s t =
 abbrev pub all_hang : List PortRef → ℕ → Bool
 all_hang homes count = list_all (λ home. nat_lt home.node count) homes
 
-pub record AreRoutes (routes : RoutesState) : Type 0 where
+pub record AreRoutes (routes : SwitchRoutesState) : Type 0 where
   pub cabling : is_cabling routes.rows ≡ true
   pub count : length routes.guids ≡ length routes.rows
   pub order : IsOrder (length routes.rows) (order_of routes)
@@ -71,7 +71,7 @@ pub record AreRoutes (routes : RoutesState) : Type 0 where
   pub at_home : (d : ℕ) → d < length routes.rows → port_towards routes d d ≡ Some 0
 
 -- the routes of this cabling, with these roots named
-pub record AreRoutesOf (rows : List (List Link)) (guids roots : List ℕ) (homes : List PortRef) (routes : RoutesState) : Type 0 where
+pub record AreRoutesOf (rows : List (List Link)) (guids roots : List ℕ) (homes : List PortRef) (routes : SwitchRoutesState) : Type 0 where
   pub rows_are : routes.rows ≡ rows
   pub guids_are : routes.guids ≡ guids
   pub homes_are : routes.homes ≡ homes
@@ -80,7 +80,7 @@ pub record AreRoutesOf (rows : List (List Link)) (guids roots : List ℕ) (homes
 
 -- ---- following them
 -- these steps from s are where a LID's next hops lead: to the switch d at which it hangs, and there out of its port
-pub record LeadsToLid (routes : RoutesState) (lid s d port : ℕ) (steps : List ℕ) : Type 0 where
+pub record LeadsToLid (routes : SwitchRoutesState) (lid s d port : ℕ) (steps : List ℕ) : Type 0 where
   pub route : is_route routes.rows (λ t. next_hop routes t lid) s steps d ≡ true
   pub legal : is_legal (order_of routes) s steps ≡ true
   pub rising : rises (channel_numbers (order_of routes) (length routes.rows) s steps) ≡ true
@@ -88,14 +88,15 @@ pub record LeadsToLid (routes : RoutesState) (lid s d port : ℕ) (steps : List 
   pub out : next_hop routes d lid ≡ Some port
 
 -- a LID that hangs at port of d, seen from s: with a next hop, following these leads there; with none, no legal path does
-pub record IsRouted (routes : RoutesState) (lid s d port : ℕ) : Type 0 where
+pub record IsRouted (routes : SwitchRoutesState) (lid s d port : ℕ) : Type 0 where
   pub arrives : (first : ℕ) → next_hop routes s lid ≡ Some first → (steps : List ℕ) × LeadsToLid routes lid s d port steps
   pub none : next_hop routes s lid ≡ None
       → (steps : List ℕ) → (is_walk routes.rows s steps d && is_legal (order_of routes) s steps) ≡ false
 
-abbrev pub AllRouted : RoutesState → ℕ → ℕ → Type 0
+abbrev pub AllRouted : SwitchRoutesState → ℕ → ℕ → Type 0
 AllRouted routes s lid =
-    (d port : ℕ) → s < length routes.rows → home_of routes.homes lid ≡ Some (record { node = d; port = port }) → IsRouted routes lid s d port
+    (d port : ℕ) → s < length routes.rows → home_of routes.homes lid ≡ Some (record { node = d; port = port })
+    → IsRouted routes lid s d port
 
 -- ---- what has no route
 -- some LID hangs on a port of the switch: an adapter's port does
@@ -130,9 +131,9 @@ pub record IsFirstUnreached (rows : List (List Link)) (before : ℕ → ℕ → 
 
 -- ---- as they are found
 -- no port is chosen there towards where that port hangs
-abbrev pub is_gap : RoutesState → ℕ → PortRef → Bool
+abbrev pub is_gap : SwitchRoutesState → ℕ → PortRef → Bool
 is_gap routes s to = not (to.port == 0) && is_none (port_towards routes to.node s)
 
-abbrev pub has_gap : RoutesState → PortRef → Bool
+abbrev pub has_gap : SwitchRoutesState → PortRef → Bool
 has_gap routes from =
     (from.port == 0) && (carries routes.homes from.node && list_any (is_gap routes from.node) routes.homes)

@@ -7,7 +7,7 @@ use Rattle.sweep.specs.Graph.{GraphState, is_joined}
 use Rattle.sweep.specs.declared.graph.GraphPort.{GraphPort}
 use Rattle.sweep.specs.declared.graph.GraphSwitch.{GraphSwitch}
 use Rattle.sweep.specs.declared.graph.Link.{Link as GraphLink}
-use Rattle.updn_routes.specs.Routes.{RoutesState}
+use Rattle.updn_routes.specs.Routes.{SwitchRoutesState}
 use Rattle.updn_routes.specs.declared.link.Link.{Link}
 
 -- ---- switches, numbered by their places in the graph
@@ -46,14 +46,14 @@ abbrev pub homes_of : GraphState → List ℕ → List PortRef
 homes_of graph lids = map (home_in graph) lids
 
 -- ---- the routes of a subnet
-pub record SubnetRoutes : Type 0 where
+pub record RoutesState : Type 0 where
   pub graph : GraphState
   pub lids : List ℕ
   -- between its switches, by their places in the graph
-  pub between : RoutesState
+  pub between : SwitchRoutesState
 
 -- they are of that graph, whose switches are joined, and of its LIDs
-pub record AreOfGraph (routes : SubnetRoutes) : Type 0 where
+pub record AreOfGraph (routes : RoutesState) : Type 0 where
   pub joined : is_joined routes.graph.rows ≡ true
   pub lids_are : AreLids (end_ports routes.graph) routes.lids
   pub rows_are : routes.between.rows ≡ rows_of routes.graph

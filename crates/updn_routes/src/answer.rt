@@ -28,9 +28,9 @@ pub struct SwitchRoutes {
 }
 
 impl Model for SwitchRoutes {
-    ghost use Rattle.updn_routes.specs.Routes.{AreRoutes, RoutesState, routes_with};
+    ghost use Rattle.updn_routes.specs.Routes.{AreRoutes, SwitchRoutesState, routes_with};
 
-    ghost Value = { RoutesState };
+    ghost Value = { SwitchRoutesState };
 
     ghost view = { λ r. routes_with r.rows.items r.guids.items r.ranks.items r.depths.items r.places.items r.tables.items r.homes.items };
 
@@ -87,7 +87,7 @@ impl SwitchRoutes {
     }
 
     /// What holds of all routes: towards each switch they are what the definition chooses.
-    pub fn are_whole(&self)
+    pub fn known_routes(&self)
         ensures { AreRoutes self.now }
     {
         let _ = &self.rows;

@@ -57,8 +57,8 @@ pub(crate) fn homes_of(
     requires { AreLids (end_ports graph.now) lids.now }
     ensures { IfOk result (λ homes. homes.items ≡ homes_of graph.now lids.now) }
 {
-    graph.is_whole();
-    lids.are_own();
+    graph.known_graph();
+    lids.known_distinct();
     let switches = graph.switches();
     let ports = graph.ports();
     let count = switches.len() + ports.len();

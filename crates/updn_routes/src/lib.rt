@@ -3,7 +3,7 @@
 //!
 //! [`routes`] is the one call: over a graph and its LIDs it gives the [`Routes`], which keep both and tell the port by
 //! which a switch sends what is for a LID, the numbers of channels, and the spanning tree of multicast. The standard leaves
-//! the choice of ways to a subnet manager (InfiniBand Architecture Specification, volume 1, chapter 14).
+//! the choice of ways to a subnet manager (IBA volume 1, chapter 14).
 //!
 //! The cables between switches are rows of [`Link`]s, one row for each switch. `specs/Order.antt` says how far
 //! switches are from roots, and which of two comes before the other: a step is up where it goes to the one that

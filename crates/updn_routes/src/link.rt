@@ -1,3 +1,5 @@
+//! A link of a switch to another.
+
 /// A cable between two switches, as one of them sees it.
 #[derive(Clone, Copy, Debug, PartialEq, Eq)]
 pub struct Link {

@@ -61,8 +61,8 @@ fn routes_between(
     ensures reached { IfOk result (λ routes. AllReached (rows_of graph.now) (order_of routes) (homes_of graph.now lids.now)) }
     ensures fault { IfErr result (λ fault. IsFaultOf (rows_of graph.now) (guids_of graph.now) roots.now (homes_of graph.now lids.now) fault) }
 {
-    graph.is_whole();
-    lids.are_own();
+    graph.known_graph();
+    lids.known_distinct();
     let rows = rows_of(alloc, graph)?;
     let guids = guids_of(alloc, graph)?;
     let homes = homes_of(alloc, graph, lids)?;

@@ -19,9 +19,9 @@ pub struct Routes {
 }
 
 impl Model for Routes {
-    ghost use Rattle.updn_routes.specs.Subnet.{AreOfGraph, SubnetRoutes};
+    ghost use Rattle.updn_routes.specs.Subnet.{AreOfGraph, RoutesState};
 
-    ghost Value = { SubnetRoutes };
+    ghost Value = { RoutesState };
 
     ghost view = { λ r. record { graph = r.graph; lids = r.lids; between = r.between } };
 
@@ -51,7 +51,7 @@ impl Routes {
     }
 
     /// What holds of all routes: they are of their graph and its LIDs.
-    pub fn are_of_graph(&self)
+    pub fn known_of_graph(&self)
         ensures { AreOfGraph self.now }
     {
         let _ = &self.graph;

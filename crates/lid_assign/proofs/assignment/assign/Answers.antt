@@ -12,7 +12,7 @@ invariant_of-result c =
     c.in_ok-others.ensures ∙ ap (filter (is_other c.manager-manager.result)) (c.deref.ensures.value ∙ c.in_ok-guids.ensures)
     ∙ ap (λ m. filter (is_other m) (end_guids graph.switches graph.ports)) c.manager-manager.ensures in
     rw c.manager-manager.ensures
-    (assigned graph others c.is_whole.ensures
+    (assigned graph others c.known_graph.ensures
     (subst (λ xs. IsPermutation xs others) kept c.sort_unstable.ensures.permutation)
     c.sort_unstable.ensures.sorted).order
 
@@ -24,7 +24,7 @@ returns c =
     c.in_ok-others.ensures ∙ ap (filter (is_other c.manager-manager.result)) (c.deref.ensures.value ∙ c.in_ok-guids.ensures)
     ∙ ap (λ m. filter (is_other m) (end_guids graph.switches graph.ports)) c.manager-manager.ensures in
     let is =
-    assigned graph others c.is_whole.ensures
+    assigned graph others c.known_graph.ensures
     (subst (λ xs. IsPermutation xs others) kept c.sort_unstable.ensures.permutation)
     c.sort_unstable.ensures.sorted in
     rw c.manager-manager.ensures

@@ -1,7 +1,7 @@
 use Rattle.std.proofs.Common.{◌≡◌, map, refl, sym, subst, ap, ◌∙◌}
 use Rattle.partition_file.specs.Members.{heading_of}
 use Rattle.subnet_ports.specs.Ports.{end_ports, in_order, ports_of, seats}
-use Rattle.subnet_model.specs.Configuration.{Configured}
+use Rattle.subnet_model.specs.Configuration.{ConfigurationState}
 use Rattle.subnet_ports.specs.EndPorts.{AreEndPorts}
 use Rattle.subnet_ports.proofs.EndPortLemmas.{end_ports_stand_in_order}
 use Rattle.subnet_ports.proofs.PortLemmas.{zip_is_keyed}
@@ -19,5 +19,5 @@ returns-clause-value c =
 
 pub returns-clause-end_ports : goal.returns-clause-end_ports
 returns-clause-end_ports c =
-    subst (λ (k : Configured). AreEndPorts c.args.partitions.now c.args.topology.now k.ports) (sym (returns-clause-value c))
+    subst (λ (k : ConfigurationState). AreEndPorts c.args.partitions.now c.args.topology.now k.ports) (sym (returns-clause-value c))
     (end_ports_stand_in_order c.args.partitions.now c.args.topology.now c.known_sound.ensures)

@@ -8,24 +8,24 @@ use Rattle.table_push.proofs.keys.to_cable.Goals as goal
 
 pub offset_bounds-switches-port : goal.offset_bounds-switches-port
 offset_bounds-switches-port g c =
-    let h = home c.args.routes.now.graph c.graph-graph.result.now c.ports.result.now c.switches.result.now c.args.place c.is_whole.ensures c.graph-graph.ensures
+    let h = home c.args.routes.now.graph c.graph-graph.result.now c.ports.result.now c.switches.result.now c.args.place c.known_graph.ensures c.graph-graph.ensures
     c.ports.ensures c.switches.ensures c.requires in
     fits _ _ h.within h.few
 
 pub bounds-switches-port : goal.bounds-switches-port
 bounds-switches-port g c =
-    (home c.args.routes.now.graph c.graph-graph.result.now c.ports.result.now c.switches.result.now c.args.place c.is_whole.ensures c.graph-graph.ensures
+    (home c.args.routes.now.graph c.graph-graph.result.now c.ports.result.now c.switches.result.now c.args.place c.known_graph.ensures c.graph-graph.ensures
     c.ports.ensures c.switches.ensures c.requires).within
 
 pub then-path-requires : goal.then-path-requires
 then-path-requires g c =
-    let h = home c.args.routes.now.graph c.graph-graph.result.now c.ports.result.now c.switches.result.now c.args.place c.is_whole.ensures c.graph-graph.ensures
+    let h = home c.args.routes.now.graph c.graph-graph.result.now c.ports.result.now c.switches.result.now c.args.place c.known_graph.ensures c.graph-graph.ensures
     c.ports.ensures c.switches.ensures c.requires in
     rw (c.index-switches-port.is, h.same _) h.seat.near
 
 pub returns-in-Err : goal.returns-in-Err
 returns-in-Err g c fabric there port of good at stands =
-    let h = home c.args.routes.now.graph c.graph-graph.result.now c.ports.result.now c.switches.result.now c.args.place c.is_whole.ensures c.graph-graph.ensures
+    let h = home c.args.routes.now.graph c.graph-graph.result.now c.ports.result.now c.switches.result.now c.args.place c.known_graph.ensures c.graph-graph.ensures
     c.ports.ensures c.switches.ensures c.requires in
     let path = c.as_slice.ensures.value ∙ ap (λ (one : GraphSwitch). one.path) (c.index-switches-port.is ∙ h.same _) in
     absurd (no_fault c.in-Err.fault _ fabric _
@@ -34,7 +34,7 @@ returns-in-Err g c fabric there port of good at stands =
 
 pub returns : goal.returns
 returns g c fabric there port of good at stands =
-    let h = home c.args.routes.now.graph c.graph-graph.result.now c.ports.result.now c.switches.result.now c.args.place c.is_whole.ensures c.graph-graph.ensures
+    let h = home c.args.routes.now.graph c.graph-graph.result.now c.ports.result.now c.switches.result.now c.args.place c.known_graph.ensures c.graph-graph.ensures
     c.ports.ensures c.switches.ensures c.requires in
     let one = get_or c.ports.result.now c.args.place no_port in
     let switch = c.index-switches-port.is ∙ h.same _ in

@@ -17,7 +17,7 @@ returns-in-Err g c x stands of good =
     c.switches-switches.ensures c.loop-place-test.true in
     let path = c.as_slice.ensures.value in
     absurd (no_fault c.in-Err.fault _ x _
-    (switches_more _ _ _ x c.args.routes.now c.args.keys.now c.loop-place.place switch c.table_of-table.result (subst IsGraph c.graph-graph.ensures c.is_whole.ensures) of within there
+    (switches_more _ _ _ x c.args.routes.now c.args.keys.now c.loop-place.place switch c.table_of-table.result (subst IsGraph c.graph-graph.ensures c.known_graph.ensures) of within there
     c.table_of-table.ensures (c.loop-place.invariant x stands of good) (puts_along _ _ _ _ _ 0 c.table_of-table.result path c.in-Err.ensures)))
 
 pub loop-place-preserved : goal.loop-place-preserved
@@ -28,7 +28,7 @@ loop-place-preserved g c x stands of good =
     let within = place_within c.args.routes.now.graph c.graph-graph.result.now c.switches-switches.result.now c.loop-place.place c.graph-graph.ensures
     c.switches-switches.ensures c.loop-place-test.true in
     let path = c.as_slice.ensures.value in
-    (switches_more _ _ _ x c.args.routes.now c.args.keys.now c.loop-place.place switch c.table_of-table.result (subst IsGraph c.graph-graph.ensures c.is_whole.ensures) of within there
+    (switches_more _ _ _ x c.args.routes.now c.args.keys.now c.loop-place.place switch c.table_of-table.result (subst IsGraph c.graph-graph.ensures c.known_graph.ensures) of within there
     c.table_of-table.ensures (c.loop-place.invariant x stands of good) (puts_along _ _ _ _ _ 0 c.table_of-table.result path c.in-Ok.ensures)).stands
 
 pub returns : goal.returns

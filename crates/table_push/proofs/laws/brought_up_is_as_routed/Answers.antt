@@ -1,4 +1,4 @@
-use Rattle.table_push.proofs.BringUpLemmas.{ports_are_served, switches_are_set_up}
+use Rattle.table_push.proofs.SetUpLemmas.{ports_are_served, switches_are_set_up}
 use Rattle.table_push.proofs.laws.brought_up_is_as_routed.Goals as goal
 
 pub returns-clause-ports : goal.returns-clause-ports

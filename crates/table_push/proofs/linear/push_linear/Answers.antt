@@ -1,4 +1,4 @@
-use Rattle.smp_wire.proofs.DistinctLemmas.{left_part}
+use Rattle.result_words.proofs.DistinctLemmas.{left_part}
 use Rattle.std.proofs.Common.{ℕ, ◌≡◌, ◌==◌, ◌+◌, ◌∙◌, ap, sym, subst, arith, List, map, length, slice_get, Some, Result}
 use Rattle.std.specs.List.{IsDistinct}
 use Rattle.std.proofs.lemmas.Option.{slice_get-get_or}
@@ -26,7 +26,7 @@ returns-in-Err g c x stands of good =
     (slice_get-get_or c.switches-switches.result.now c.loop-place.place switch c.loop-place-test.true ∙ ap (λ (one : GraphSwitch). Some one) (sym c.index-switches-place.is)) in
     let path : c.as_slice.result.now ≡ switch.path = c.as_slice.ensures.value ∙ ap (λ (one : GraphSwitch). one.path) (sym c.index-switches-place.is) in
     let own : IsDistinct (λ a b. a == b) (map (λ one. one.guid) c.args.routes.now.graph.switches) =
-    left_part (λ a b. a == b) _ _ (subst (λ (graph : GraphState). IsDistinct (λ a b. a == b) (end_guids graph.switches graph.ports)) c.graph-graph.ensures c.is_whole.ensures.guids) in
+    left_part (λ a b. a == b) _ _ (subst (λ (graph : GraphState). IsDistinct (λ a b. a == b) (end_guids graph.switches graph.ports)) c.graph-graph.ensures c.known_graph.ensures.guids) in
     absurd (no_fault c.in-Err.fault _ x _ (subst (λ (result : Result (Unit {0}) PushFault). Leaves result (g.W.SmpWire.fabric c.set_table.new.wire) x (with_switches (linear_before c.args.routes.now (c.loop-place.place + 1)) x)) c.in-Err.is
     (push_more _ _ _ x c.args.routes.now c.loop-place.place switch c.linear_table-table.result
     (omega (arith, c.loop-place-test.true, long)) there own c.linear_table-table.ensures
@@ -44,7 +44,7 @@ loop-place-preserved g c x stands of good =
     (slice_get-get_or c.switches-switches.result.now c.loop-place.place switch c.loop-place-test.true ∙ ap (λ (one : GraphSwitch). Some one) (sym c.index-switches-place.is)) in
     let path : c.as_slice.result.now ≡ switch.path = c.as_slice.ensures.value ∙ ap (λ (one : GraphSwitch). one.path) (sym c.index-switches-place.is) in
     let own : IsDistinct (λ a b. a == b) (map (λ one. one.guid) c.args.routes.now.graph.switches) =
-    left_part (λ a b. a == b) _ _ (subst (λ (graph : GraphState). IsDistinct (λ a b. a == b) (end_guids graph.switches graph.ports)) c.graph-graph.ensures c.is_whole.ensures.guids) in
+    left_part (λ a b. a == b) _ _ (subst (λ (graph : GraphState). IsDistinct (λ a b. a == b) (end_guids graph.switches graph.ports)) c.graph-graph.ensures c.known_graph.ensures.guids) in
     (push_more _ _ _ x c.args.routes.now c.loop-place.place switch c.linear_table-table.result
     (omega (arith, c.loop-place-test.true, long)) there own c.linear_table-table.ensures
     (graph_leads x c.args.routes.now.graph c.loop-place.place switch of there) (c.loop-place.invariant x stands of good)

@@ -9,24 +9,24 @@ use Rattle.table_push.proofs.ports.to_cable.Goals as goal
 
 pub offset_bounds-switches-port : goal.offset_bounds-switches-port
 offset_bounds-switches-port g c =
-    let h = home c.args.routes.now.graph c.graph-graph.result.now c.ports.result.now c.switches.result.now c.args.place c.is_whole.ensures c.graph-graph.ensures
+    let h = home c.args.routes.now.graph c.graph-graph.result.now c.ports.result.now c.switches.result.now c.args.place c.known_graph.ensures c.graph-graph.ensures
     c.ports.ensures c.switches.ensures c.requires in
     fits _ _ h.within h.few
 
 pub bounds-switches-port : goal.bounds-switches-port
 bounds-switches-port g c =
-    (home c.args.routes.now.graph c.graph-graph.result.now c.ports.result.now c.switches.result.now c.args.place c.is_whole.ensures c.graph-graph.ensures
+    (home c.args.routes.now.graph c.graph-graph.result.now c.ports.result.now c.switches.result.now c.args.place c.known_graph.ensures c.graph-graph.ensures
     c.ports.ensures c.switches.ensures c.requires).within
 
 pub then-path-requires : goal.then-path-requires
 then-path-requires g c =
-    let h = home c.args.routes.now.graph c.graph-graph.result.now c.ports.result.now c.switches.result.now c.args.place c.is_whole.ensures c.graph-graph.ensures
+    let h = home c.args.routes.now.graph c.graph-graph.result.now c.ports.result.now c.switches.result.now c.args.place c.known_graph.ensures c.graph-graph.ensures
     c.ports.ensures c.switches.ensures c.requires in
     rw (c.index-switches-port.is, h.same _) h.seat.near
 
 pub returns-in-Err : goal.returns-in-Err
-returns-in-Err g c fabric there port of good shows at stands =
-    let h = home c.args.routes.now.graph c.graph-graph.result.now c.ports.result.now c.switches.result.now c.args.place c.is_whole.ensures c.graph-graph.ensures
+returns-in-Err g c port at fabric there of good shows stands =
+    let h = home c.args.routes.now.graph c.graph-graph.result.now c.ports.result.now c.switches.result.now c.args.place c.known_graph.ensures c.graph-graph.ensures
     c.ports.ensures c.switches.ensures c.requires in
     let path = c.as_slice.ensures.value ∙ ap (λ (one : GraphSwitch). one.path) (c.index-switches-port.is ∙ h.same _) in
     absurd (no_fault c.in-Err.fault _ fabric _
@@ -34,8 +34,8 @@ returns-in-Err g c fabric there port of good shows at stands =
     (changes_along _ _ _ _ _ _ _ path c.in-Err.ensures)))
 
 pub returns : goal.returns
-returns g c fabric there port of good shows at stands =
-    let h = home c.args.routes.now.graph c.graph-graph.result.now c.ports.result.now c.switches.result.now c.args.place c.is_whole.ensures c.graph-graph.ensures
+returns g c port at fabric there of good shows stands =
+    let h = home c.args.routes.now.graph c.graph-graph.result.now c.ports.result.now c.switches.result.now c.args.place c.known_graph.ensures c.graph-graph.ensures
     c.ports.ensures c.switches.ensures c.requires in
     let one = get_or c.ports.result.now c.args.place no_port in
     let switch = c.index-switches-port.is ∙ h.same _ in
@@ -43,7 +43,7 @@ returns g c fabric there port of good shows at stands =
     let first = before_told _ _ _ fabric c.args.routes.now there c.args.place one good shows h.is of h.at h.seat stands
     (changes_along _ _ _ _ _ one.at.port _ path c.in-Ok.ensures) in
     let longer = c.as_slice-2.ensures.value ∙ c.then-path.ensures ∙ ap (λ (s : GraphSwitch). s.path ++ one.at.port ∷ []) switch in
-    let second = adapter_told _ _ _ fabric c.args.routes.now _ c.args.place one _ good shows h.is of h.at h.seat (omega (arith, c.are_own.ensures.few, ap length c.lids-lids.ensures))
+    let second = adapter_told _ _ _ fabric c.args.routes.now _ c.args.place one _ good shows h.is of h.at h.seat (omega (arith, c.known_distinct.ensures.few, ap length c.lids-lids.ensures))
     (adapter_own one.port_guid _ _ _ c.lid_of.ensures c.lids-lids.ensures) first.stands
     (changes_along _ _ _ _ _ 0 _ longer c.set_port-2.ensures) in
     cable_told _ _ fabric c.args.routes.now there one port (same_Some one port (sym h.at ∙ at)) second

@@ -16,7 +16,7 @@ returns-in-Err g c fabric of good shows stands =
     let within : place < length ports =
     omega (arith, c.loop-place-test.true, ap length c.ports-place-end.ensures, ap (λ (graph : GraphState). length graph.ports) c.graph-graph.ensures) in
     absurd (no_fault c.in-Err.fault _ fabric _
-    (c.in-Err.ensures fabric (at_first c.args.routes.now place) (get_or ports place no_port) of good shows (slice_get-get_or ports place no_port within)
+    (c.in-Err.ensures (get_or ports place no_port) (slice_get-get_or ports place no_port within) fabric (at_first c.args.routes.now place) of good shows
     (c.loop-place.invariant fabric of good shows stands)))
 
 pub loop-place-preserved : goal.loop-place-preserved
@@ -27,7 +27,7 @@ loop-place-preserved g c fabric of good shows stands =
     omega (arith, c.loop-place-test.true, ap length c.ports-place-end.ensures, ap (λ (graph : GraphState). length graph.ports) c.graph-graph.ensures) in
     let there = slice_get-get_or ports place no_port within in
     (cables_more _ _ fabric c.args.routes.now place (get_or ports place no_port) within there
-    (c.in-Ok.ensures fabric (at_first c.args.routes.now place) (get_or ports place no_port) of good shows there (c.loop-place.invariant fabric of good shows stands))).stands
+    (c.in-Ok.ensures (get_or ports place no_port) there fabric (at_first c.args.routes.now place) of good shows (c.loop-place.invariant fabric of good shows stands))).stands
 
 pub returns : goal.returns
 returns g c fabric of good shows stands =

@@ -15,14 +15,14 @@ pub returns-in-Err : goal.returns-in-Err
 returns-in-Err g c fabric there of good shows stands =
     let graph = c.args.routes.now.graph in
     let given = c.graph-graph.result.now in
-    let within = row_within graph given c.rows.result.now c.args.place c.is_whole.ensures c.graph-graph.ensures c.rows.ensures c.requires in
+    let within = row_within graph given c.rows.result.now c.args.place c.known_graph.ensures c.graph-graph.ensures c.rows.ensures c.requires in
     let home = switch_at graph given c.switches.result.now c.args.place _ c.index-switches-place.result c.graph-graph.ensures c.switches.ensures
     (omega (arith, c.requires, ap length c.switches.ensures, ap (λ (g : GraphState). length g.switches) c.graph-graph.ensures)) c.index-switches-place.is in
     let has = row_at graph given c.rows.result.now c.args.place _ c.index-rows-place.result c.as_slice-links.result.now c.graph-graph.ensures c.rows.ensures within
     c.index-rows-place.is c.as_slice-links.ensures in
     absurd (no_fault c.in-Err.fault _ fabric _
     (links_more _ _ _ fabric c.args.routes.now there c.args.place c.loop-index.index c.index-switches-place.result c.as_slice-links.result.now
-    (get_or c.as_slice-links.result.now c.loop-index.index no_link) good shows (subst IsGraph c.graph-graph.ensures c.is_whole.ensures) of home has
+    (get_or c.as_slice-links.result.now c.loop-index.index no_link) good shows (subst IsGraph c.graph-graph.ensures c.known_graph.ensures) of home has
     (slice_get-get_or c.as_slice-links.result.now c.loop-index.index no_link c.loop-index-test.true) c.loop-index-test.true
     (c.loop-index.invariant fabric there of good shows stands)
     (changes_along _ _ _ _ _ _ _ (c.as_slice-path.ensures.value ∙ ap (λ (one : GraphSwitch). one.path) (sym c.index-switches-place.is)) c.in-Err.ensures)))
@@ -31,13 +31,13 @@ pub loop-index-preserved : goal.loop-index-preserved
 loop-index-preserved g c fabric there of good shows stands =
     let graph = c.args.routes.now.graph in
     let given = c.graph-graph.result.now in
-    let within = row_within graph given c.rows.result.now c.args.place c.is_whole.ensures c.graph-graph.ensures c.rows.ensures c.requires in
+    let within = row_within graph given c.rows.result.now c.args.place c.known_graph.ensures c.graph-graph.ensures c.rows.ensures c.requires in
     let home = switch_at graph given c.switches.result.now c.args.place _ c.index-switches-place.result c.graph-graph.ensures c.switches.ensures
     (omega (arith, c.requires, ap length c.switches.ensures, ap (λ (g : GraphState). length g.switches) c.graph-graph.ensures)) c.index-switches-place.is in
     let has = row_at graph given c.rows.result.now c.args.place _ c.index-rows-place.result c.as_slice-links.result.now c.graph-graph.ensures c.rows.ensures within
     c.index-rows-place.is c.as_slice-links.ensures in
     (links_more _ _ _ fabric c.args.routes.now there c.args.place c.loop-index.index c.index-switches-place.result c.as_slice-links.result.now
-    (get_or c.as_slice-links.result.now c.loop-index.index no_link) good shows (subst IsGraph c.graph-graph.ensures c.is_whole.ensures) of home has
+    (get_or c.as_slice-links.result.now c.loop-index.index no_link) good shows (subst IsGraph c.graph-graph.ensures c.known_graph.ensures) of home has
     (slice_get-get_or c.as_slice-links.result.now c.loop-index.index no_link c.loop-index-test.true) c.loop-index-test.true
     (c.loop-index.invariant fabric there of good shows stands)
     (changes_along _ _ _ _ _ _ _ (c.as_slice-path.ensures.value ∙ ap (λ (one : GraphSwitch). one.path) (sym c.index-switches-place.is)) c.in-Ok.ensures)).stands
@@ -46,7 +46,7 @@ pub returns : goal.returns
 returns g c fabric there of good shows stands =
     let graph = c.args.routes.now.graph in
     let given = c.graph-graph.result.now in
-    let within = row_within graph given c.rows.result.now c.args.place c.is_whole.ensures c.graph-graph.ensures c.rows.ensures c.requires in
+    let within = row_within graph given c.rows.result.now c.args.place c.known_graph.ensures c.graph-graph.ensures c.rows.ensures c.requires in
     let has = row_at graph given c.rows.result.now c.args.place _ c.index-rows-place.result c.as_slice-links.result.now c.graph-graph.ensures c.rows.ensures within
     c.index-rows-place.is c.as_slice-links.ensures in
     links_end _ fabric c.args.routes.now there c.args.place c.loop-index.index c.as_slice-links.result.now has

@@ -17,7 +17,7 @@ returns-in-Err g c x stands of good =
     let home = switch_at graph c.graph-graph.result.now c.switches-switches.result.now c.loop-place.place _ switch c.graph-graph.ensures c.switches-switches.ensures
     c.loop-place-test.true c.index-switches-place.is in
     let path = c.as_slice-path.ensures.value ∙ ap (λ (one : GraphSwitch). one.path) (sym c.index-switches-place.is) in
-    let lid = greatest graph c.graph-graph.result.now c.switches-switches.result.now c.ports.result.now c.args.routes.now.lids c.are_of_graph.ensures.lids_are
+    let lid = greatest graph c.graph-graph.result.now c.switches-switches.result.now c.ports.result.now c.args.routes.now.lids c.known_of_graph.ensures.lids_are
     c.graph-graph.ensures c.switches-switches.ensures c.ports.ensures in
     absurd (no_fault c.in-Err.fault _ x _
     (tops_more _ _ _ x (length c.args.routes.now.lids) c.loop-place.place graph.switches switch within home (graph_leads x graph c.loop-place.place switch of home)
@@ -31,7 +31,7 @@ loop-place-preserved g c x stands of good =
     let home = switch_at graph c.graph-graph.result.now c.switches-switches.result.now c.loop-place.place _ switch c.graph-graph.ensures c.switches-switches.ensures
     c.loop-place-test.true c.index-switches-place.is in
     let path = c.as_slice-path.ensures.value ∙ ap (λ (one : GraphSwitch). one.path) (sym c.index-switches-place.is) in
-    let lid = greatest graph c.graph-graph.result.now c.switches-switches.result.now c.ports.result.now c.args.routes.now.lids c.are_of_graph.ensures.lids_are
+    let lid = greatest graph c.graph-graph.result.now c.switches-switches.result.now c.ports.result.now c.args.routes.now.lids c.known_of_graph.ensures.lids_are
     c.graph-graph.ensures c.switches-switches.ensures c.ports.ensures in
     (tops_more _ _ _ x (length c.args.routes.now.lids) c.loop-place.place graph.switches switch within home (graph_leads x graph c.loop-place.place switch of home)
     (c.loop-place.invariant x stands of good) (top_along _ _ _ _ _ _ _ path lid c.in-Ok.ensures.left)).stands

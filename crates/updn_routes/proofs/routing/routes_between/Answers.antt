@@ -2,20 +2,20 @@ use Rattle.std.proofs.Common.{◌≡◌, ◌≤◌, ℕ, List, length, true, sym
 use Rattle.std.proofs.lemmas.Result.{IfOk-weaker}
 use Rattle.fabric_parts.specs.declared.cable.PortRef.{PortRef}
 use Rattle.updn_routes.specs.declared.link.Link.{Link}
-use Rattle.updn_routes.specs.Routes.{AllReached, RoutesState, order_of}
+use Rattle.updn_routes.specs.Routes.{AllReached, SwitchRoutesState, order_of}
 use Rattle.updn_routes.proofs.GraphLemmas.{all_hang_there, graph_is_fabric, graph_is_small, homes_count}
 use Rattle.updn_routes.proofs.routing.routes_between.Goals as goal
 
 pub routes_over-requires-clause-fabric : goal.routes_over-requires-clause-fabric
 routes_over-requires-clause-fabric c =
-    rw (c.in_ok-rows.ensures, c.in_ok-guids.ensures) (graph_is_fabric c.args.graph.now c.is_whole.ensures c.args.roots.now c.requires.joined c.requires.named)
+    rw (c.in_ok-rows.ensures, c.in_ok-guids.ensures) (graph_is_fabric c.args.graph.now c.known_graph.ensures c.args.roots.now c.requires.joined c.requires.named)
 
 pub routes_over-requires-clause-few : goal.routes_over-requires-clause-few
-routes_over-requires-clause-few c = rw c.in_ok-rows.ensures (graph_is_small c.args.graph.now c.is_whole.ensures)
+routes_over-requires-clause-few c = rw c.in_ok-rows.ensures (graph_is_small c.args.graph.now c.known_graph.ensures)
 
 pub routes_over-requires-clause-hang : goal.routes_over-requires-clause-hang
 routes_over-requires-clause-hang c =
-    rw (c.in_ok-homes.ensures, c.in_ok-rows.ensures) (all_hang_there c.args.graph.now c.is_whole.ensures c.args.lids.now)
+    rw (c.in_ok-homes.ensures, c.in_ok-rows.ensures) (all_hang_there c.args.graph.now c.known_graph.ensures c.args.lids.now)
 
 pub returns-clause-reached : goal.returns-clause-reached
 returns-clause-reached c = rw (← c.in_ok-homes.ensures, ← c.in_ok-rows.ensures) c.routes_over.ensures.reached

@@ -16,5 +16,5 @@ invariant_of-self c =
     record {
       good = rw (same, stands, c.exchange.ensures.change) (good fabric c.args.smp.now (rw c.deref_mut.ensures.value c.self.invariant.good));
       found = rw (same, stands, ap (λ (state : FabricState). state.nodes) c.exchange.ensures.change)
-          (still_finds fabric c.args.smp.now (get nat_eq c.self.inside.end_ports) (rw c.deref_mut.ensures.value c.self.invariant.found));
+          (still_finds fabric c.args.smp.now (get nat_eq c.self.inside.adapter_ports) (rw c.deref_mut.ensures.value c.self.invariant.found));
     }

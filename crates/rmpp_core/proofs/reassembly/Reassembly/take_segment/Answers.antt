@@ -1,7 +1,7 @@
 use Rattle.std.proofs.Common.{◌==◌, ℕ, List, take, drop, ◌++◌, Err, bit_and, sym, ap, ◌∙◌}
 use Rattle.std.proofs.lemmas.Result.{err_from_is_err_and}
 use Rattle.rmpp_core.specs.declared.receiver.ReceiveFault.{ReceiveFault}
-use Rattle.rmpp_core.specs.Receiving.{Received}
+use Rattle.rmpp_core.specs.Receiving.{ReassemblyState}
 use Rattle.rmpp_core.proofs.ReceivingLemmas.{refused, taken}
 use Rattle.rmpp_core.proofs.reassembly.Reassembly.take_segment.Goals as goal
 
@@ -14,7 +14,7 @@ returns-in_err-count c =
 pub returns : goal.returns
 returns c =
     let count = c.in_ok-count.count in
-    let old = ap (λ (so_far : Received). so_far.bytes) c.self.view_is in
+    let old = ap (λ (so_far : ReassemblyState). so_far.bytes) c.self.view_is in
     let bytes = c.in_ok-extend_from_slice.ensures.items
     ∙ ap (λ (bytes : List ℕ). c.self.inside.bytes.items ++ take count bytes) c.read.ensures.data
     ∙ ap (λ (bytes : List ℕ). bytes ++ take count (take 200 (drop 56 c.args.mad.now))) old in

@@ -1,7 +1,0 @@
-use Rattle.std.proofs.Common.{◌≡◌, ◌++◌, take}
-use Rattle.std.specs.List.{flat_map}
-use Rattle.fabric_keys.specs.Keys.{key_text}
-use Rattle.fabric_keys.proofs.keys.push_keys.Given as goal
-
-abbrev pub invariant-loop-word : goal.invariant-loop-word
-invariant-loop-word l = l.text.items ≡ l.fn.text.items ++ flat_map key_text (take l.word-index l.fn.words)

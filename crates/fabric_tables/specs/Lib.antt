@@ -1,0 +1,4 @@
+pub mod Nodes
+pub mod Keys
+pub mod Digits
+pub mod Tables

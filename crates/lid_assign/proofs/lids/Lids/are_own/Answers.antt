@@ -1,5 +1,0 @@
-use Rattle.lid_assign.proofs.LidLemmas.{own_all}
-use Rattle.lid_assign.proofs.lids.Lids.are_own.Goals as goal
-
-pub returns-clause-own : goal.returns-clause-own
-returns-clause-own c = rw (← c.self.view_is) (own_all c.self.inside.manager c.self.inside.others.items c.self.invariant)

@@ -1,3 +1,0 @@
-pub mod BroughtUp
-pub mod Pushed
-pub mod Laws

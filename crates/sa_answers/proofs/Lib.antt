@@ -1,9 +1,0 @@
-pub mod AnswerLemmas
-pub mod SightLemmas
-pub mod AlikeLemmas
-pub mod OtherLemmas
-pub mod SourceLemmas
-pub mod JoinedLemmas
-pub mod ReplySourceLemmas
-pub mod WrongLemmas
-pub mod ExampleLemmas

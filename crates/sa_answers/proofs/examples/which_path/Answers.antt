@@ -1,5 +1,0 @@
-use Rattle.sa_answers.proofs.ExampleLemmas.{which_path}
-use Rattle.sa_answers.proofs.examples.which_path.Goals as goal
-
-pub returns : goal.returns
-returns c = which_path

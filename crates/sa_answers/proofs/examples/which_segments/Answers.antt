@@ -1,5 +1,0 @@
-use Rattle.sa_answers.proofs.ExampleLemmas.{which_segments}
-use Rattle.sa_answers.proofs.examples.which_segments.Goals as goal
-
-pub returns : goal.returns
-returns c = which_segments

@@ -1,5 +1,0 @@
-use Rattle.sa_answers.proofs.ExampleLemmas.{who_is_refused}
-use Rattle.sa_answers.proofs.examples.who_is_refused.Goals as goal
-
-pub returns : goal.returns
-returns c = who_is_refused

@@ -1,5 +1,0 @@
-use Rattle.sa_answers.proofs.OtherLemmas.{answers_seen}
-use Rattle.sa_answers.proofs.laws.answers_are_seen_alike.Goals as goal
-
-pub returns : goal.returns
-returns c = answers_seen

@@ -1,0 +1,10 @@
+pub mod ListLemmas
+pub mod SoundLemmas
+pub mod JoinSoundLemmas
+pub mod LeaveSoundLemmas
+pub mod SightLemmas
+pub mod JoinSightLemmas
+pub mod ChangeLemmas
+pub mod DeliveryLemmas
+pub mod WrongLemmas
+pub mod ExampleLemmas

@@ -1,0 +1,41 @@
+-- Two states that are alike to a port, and that a wrong rule tells apart.
+use Rattle.std.proofs.Common.{◌==◌, true, false, List, [], ◌∷◌, ◌≡◌, ap, refl}
+use Rattle.std.specs.List.{list_any}
+use Rattle.subnet_model.specs.declared.subnet_port.SubnetPort.{SubnetPort}
+use Rattle.sa_groups.specs.Groups.{PartitionGroups}
+use Rattle.sa_groups.specs.Joining.{joined}
+use Rattle.sa_groups.specs.Sight.{Alike}
+use Rattle.sa_groups.specs.Examples.{adapter, full_member, parameters, ports, nobody, both, mgid, join_of, leave_of, mlids}
+use Rattle.sa_groups.specs.WrongRules.{OnePoolIsSeen, MgidsAloneAreSeen, LimitedKeepersAreSeen}
+
+-- two ports, each alone in its partition
+abbrev apart : List SubnetPort
+apart = adapter 1 0x101 (0x8002 ∷ []) ∷ adapter 2 0x111 (0x8001 ∷ []) ∷ []
+
+abbrev no_groups : List PartitionGroups
+no_groups = record { number = 0; base = 2; groups = [] } ∷ record { number = 1; base = 1; groups = [] } ∷ []
+
+abbrev of_the_other : List PartitionGroups
+of_the_other = joined apart (record { port = 0x101; base = 2; mgid = mgid; join_state = full_member; parameters = parameters }) no_groups
+
+alike : Alike apart 0x111 no_groups of_the_other
+alike = record { left_sound = refl; right_sound = refl; same = refl }
+
+pub one_pool_is_seen : OnePoolIsSeen
+one_pool_is_seen law =
+    let same : true ≡ false = ap (λ state. list_any (λ mlid. mlid == 0xc000) (mlids state)) (law apart 0x111 (join_of 0x111 mgid) no_groups of_the_other refl alike) in
+    absurd (cc)
+
+pub mgids_alone_are_seen : MgidsAloneAreSeen
+mgids_alone_are_seen law =
+    let same : true ≡ false = ap (λ state. list_any (λ mlid. mlid == 0xc020) (mlids state)) (law apart 0x111 (join_of 0x111 mgid) no_groups of_the_other refl alike) in
+    absurd (cc)
+
+-- a limited member is far from another limited member
+abbrev one : List PartitionGroups
+one = joined ports (join_of 0x111 mgid) nobody
+
+pub limited_keepers_are_seen : LimitedKeepersAreSeen
+limited_keepers_are_seen law =
+    let same : false ≡ true = ap (λ state. list_any (λ mlid. mlid == 0xc020) (mlids state)) (law ports 0x131 (leave_of 0x111 mgid) one both refl (record { left_sound = refl; right_sound = refl; same = refl })) in
+    absurd (cc)

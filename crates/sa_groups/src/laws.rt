@@ -1,0 +1,64 @@
+//! The laws of multicast groups, over the definitions alone. Each function does nothing: its contract
+//! is the law.
+
+ghost use Rattle.sa_groups.specs.Laws.{FarJoinsAreNotSeen, FarLeavesAreNotSeen, GroupsDependOnNear, JoinsKeepSound, LeavesAreSeenAlike, LeavesKeepSound, MlidsTellPartitions, NearJoinsAreSeenAlike, PacketsReachAlike, PacketsReachThoseNear, PartitionsStay, StartsAreSound};
+
+/// At the start the groups of every partition are sound.
+pub fn starts_are_sound()
+    ensures { StartsAreSound }
+{}
+
+/// A join keeps sound groups sound.
+pub fn joins_keep_sound()
+    ensures { JoinsKeepSound }
+{}
+
+/// A leave keeps sound groups sound.
+pub fn leaves_keep_sound()
+    ensures { LeavesKeepSound }
+{}
+
+/// No MLID is that of groups of two partitions.
+pub fn mlids_tell_partitions()
+    ensures { MlidsTellPartitions }
+{}
+
+/// Joins and leaves change neither the numbers nor the bases of partitions.
+pub fn partitions_stay()
+    ensures { PartitionsStay }
+{}
+
+/// A join of a port that is far from another leaves what that one sees of groups as it was.
+pub fn far_joins_are_not_seen()
+    ensures { FarJoinsAreNotSeen }
+{}
+
+/// A join of a port near another leaves two states alike to that one that were alike to it.
+pub fn near_joins_are_seen_alike()
+    ensures { NearJoinsAreSeenAlike }
+{}
+
+/// A leave of a port that is far from another leaves what that one sees of groups as it was.
+pub fn far_leaves_are_not_seen()
+    ensures { FarLeavesAreNotSeen }
+{}
+
+/// A leave leaves two states alike to a port that were alike to it.
+pub fn leaves_are_seen_alike()
+    ensures { LeavesAreSeenAlike }
+{}
+
+/// Whatever ports join and leave, what a port sees of groups depends only on the ports near it.
+pub fn groups_depend_on_near()
+    ensures { GroupsDependOnNear }
+{}
+
+/// By LID or by groups, a packet reaches only ports near its sender.
+pub fn packets_reach_those_near()
+    ensures { PacketsReachThoseNear }
+{}
+
+/// In states that are alike to a port, the same packets reach it.
+pub fn packets_reach_alike()
+    ensures { PacketsReachAlike }
+{}

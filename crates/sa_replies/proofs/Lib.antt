@@ -1,0 +1,12 @@
+pub mod AnswerLemmas
+pub mod SightLemmas
+pub mod StatusLemmas
+pub mod RefusalLemmas
+pub mod AlikeLemmas
+pub mod OtherLemmas
+pub mod SourceLemmas
+pub mod JoinedLemmas
+pub mod ReplySourceLemmas
+pub mod ServiceSetLemmas
+pub mod WrongLemmas
+pub mod ExampleLemmas

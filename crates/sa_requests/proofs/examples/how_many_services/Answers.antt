@@ -1,5 +1,0 @@
-use Rattle.sa_requests.proofs.ExampleLemmas.{how_many_services}
-use Rattle.sa_requests.proofs.examples.how_many_services.Goals as goal
-
-pub returns : goal.returns
-returns c = how_many_services

@@ -1,5 +1,0 @@
-use Rattle.sa_requests.proofs.ServiceLemmas.{services_depend}
-use Rattle.sa_requests.proofs.laws.services_depend_on_near.Goals as goal
-
-pub returns : goal.returns
-returns c = services_depend

@@ -1,0 +1,89 @@
+-- What holds of the services of every subnet.
+use Rattle.std.specs.Prelude.{ℕ, ◌≡◌, Bool, true, false, ◌==◌, ◌&&◌, List, [], ◌∷◌, filter, map}
+use Rattle.std.specs.List.{flat_map}
+use Rattle.subnet_model.specs.declared.subnet_port.SubnetPort.{SubnetPort}
+use Rattle.subnet_model.specs.Near.{is_near}
+use Rattle.sa_services.specs.Services.{Service, PortServices, no_services}
+use Rattle.sa_services.specs.ServiceChange.{Deed, ServiceChange, has_id, has_room, place_of, services_changed, services_after, service_changes_near}
+use Rattle.sa_services.specs.ServiceSight.{services_seen}
+use Rattle.sa_services.specs.ServiceSound.{are_sound_services}
+
+-- at the start they are sound, and what ports set or delete keeps them so
+abbrev pub NoServicesAreSound : Type 0
+NoServicesAreSound = (ports : List SubnetPort) → are_sound_services ports (no_services ports) ≡ true
+
+abbrev pub ServicesStaySound : Type 0
+ServicesStaySound =
+    (ports : List SubnetPort) (services : List PortServices) (change : ServiceChange)
+    → are_sound_services ports services ≡ true → are_sound_services ports (services_changed services change) ≡ true
+
+-- whose services there are, and in which partitions, does not change
+abbrev pub PlacesStay : Type 0
+PlacesStay =
+    (services : List PortServices) (change : ServiceChange)
+    → map place_of (services_changed services change) ≡ map place_of services
+
+-- ---- what a Set and a Delete do: the place of a port and a base, and the services of an ID that stand there
+abbrev pub is_of : ℕ → ℕ → PortServices → Bool
+is_of port base place = (place.port == port) && (place.base == base)
+
+abbrev pub offered : ℕ → ℕ → ℕ → List PortServices → List Service
+offered port base id services = flat_map (λ place. filter (has_id id) place.services) (filter (is_of port base) services)
+
+-- all is as it was but for this ID of this port and base
+abbrev pub is_same : ℕ → ℕ → ℕ → ℕ → ℕ → ℕ → Bool
+is_same port base id p b i = (p == port) && ((b == base) && (i == id))
+
+abbrev pub AreAsBeforeBut : ℕ → ℕ → ℕ → List PortServices → List PortServices → Type 0
+AreAsBeforeBut port base id before after =
+    (p b i : ℕ) → is_same port base id p b i ≡ false → offered p b i after ≡ offered p b i before
+
+-- this service is there, once and in place of any of its ID, and all others are as before
+pub record IsSet (port base : ℕ) (new : Service) (before after : List PortServices) : Type 0 where
+  pub there : offered port base new.service_id after ≡ new ∷ []
+  pub others : AreAsBeforeBut port base new.service_id before after
+
+-- none of this ID is there, and all others are as before
+pub record IsDeleted (port base id : ℕ) (before after : List PortServices) : Type 0 where
+  pub gone : offered port base id after ≡ []
+  pub others : AreAsBeforeBut port base id before after
+
+-- so it is after a Set, where the port has one place in this base and room there
+abbrev pub SetServicesAreThere : Type 0
+SetServicesAreThere =
+    (services : List PortServices) (port base : ℕ) (place : PortServices) (new : Service)
+    → filter (is_of port base) services ≡ place ∷ [] → has_room new.service_id place.services ≡ true
+    → IsSet port base new services (services_changed services (record { port = port; base = base; deed = Deed.sets new }))
+
+-- and after a Delete, wherever it is
+abbrev pub DeletedServicesAreGone : Type 0
+DeletedServicesAreGone =
+    (services : List PortServices) (port base id : ℕ)
+    → IsDeleted port base id services (services_changed services (record { port = port; base = base; deed = Deed.deletes id }))
+
+-- ---- what a rule for what is shown has to keep: what a port that is far from p does to services is not shown to p
+abbrev pub ServiceSight : Type 0
+ServiceSight = List SubnetPort → ℕ → List PortServices → List PortServices
+
+abbrev pub HidesFarServices : ServiceSight → Type 0
+HidesFarServices sight =
+    (ports : List SubnetPort) (p : ℕ) (services : List PortServices) (change : ServiceChange)
+    → is_near ports p change.port ≡ false → sight ports p (services_changed services change) ≡ sight ports p services
+
+-- ours keeps it
+abbrev pub FarServicesAreNotSeen : Type 0
+FarServicesAreNotSeen = HidesFarServices services_seen
+
+-- where p sees the same before what any port does to services, it sees the same after
+abbrev pub ServicesAreSeenAlike : Type 0
+ServicesAreSeenAlike =
+    (ports : List SubnetPort) (p : ℕ) (s t : List PortServices) (change : ServiceChange)
+    → services_seen ports p s ≡ services_seen ports p t
+    → services_seen ports p (services_changed s change) ≡ services_seen ports p (services_changed t change)
+
+-- so whatever ports set and delete, p sees what it would see after what the ports near it alone set and delete
+abbrev pub ServicesDependOnNear : Type 0
+ServicesDependOnNear =
+    (ports : List SubnetPort) (p : ℕ) (services : List PortServices) (changes : List ServiceChange)
+    → services_seen ports p (services_after services changes)
+    ≡ services_seen ports p (services_after services (service_changes_near ports p changes))

@@ -1,0 +1,63 @@
+//! Listed ports, found by their GUIDs in constant time: what the plain search of `subnet_model` answers.
+
+ghost use Rattle.std.specs.Prelude.{◌≡◌, IfOk, nat_eq, drop};
+ghost use Rattle.std.specs.Option.{option_copied};
+ghost use Rattle.indexmap.specs.IndexMap.{get};
+ghost use Rattle.subnet_core.specs.Lookup.{Finds, found_in};
+ghost use Rattle.subnet_model.specs.Delivery.{port_with_guid};
+
+use indexmap::IndexMap;
+use std::alloc::{AllocError, Global};
+use std::marker::Model;
+use subnet_model::SubnetPort;
+
+/// Listed ports, each found by its GUID; of several with one GUID the first counts.
+#[derive(Drop)]
+pub(crate) struct PortIndex<'a> {
+    ports: &'a [SubnetPort],
+    places: IndexMap<u64, usize>,
+}
+
+impl<'a> Model for PortIndex<'a> {
+    ghost use Rattle.std.specs.Prelude.{List, nat_eq};
+    ghost use Rattle.indexmap.specs.IndexMap.{get};
+    ghost use Rattle.subnet_core.specs.Lookup.{Finds};
+    ghost use Rattle.subnet_model.specs.declared.subnet_port.SubnetPort.{SubnetPort};
+
+    ghost Value = { List SubnetPort };
+
+    ghost view = { λ index. index.ports.now };
+
+    ghost invariant = { λ index. Finds index.ports.now (get nat_eq index.places) };
+}
+
+impl<'a> PortIndex<'a> {
+    /// These ports. Memory alone can be refused.
+    pub(crate) fn new(alloc: Global, ports: &'a [SubnetPort]) -> Result<PortIndex<'a>, AllocError>
+        ensures { IfOk result (λ index. index ≡ ports.entry.now) }
+    {
+        Ok(PortIndex {
+            ports,
+            places: places_by_guid(alloc, ports)?,
+        })
+    }
+
+    /// The port of that GUID, if one is listed: the first, where there are several.
+    pub(crate) fn port_with_guid(&self, guid: u64) -> Option<&SubnetPort>
+        ensures { option_copied result ≡ port_with_guid self.now guid }
+    {
+        let place = *self.places.get(&guid)?;
+        self.ports.get(place)
+    }
+}
+
+/// The place of the port of each GUID. Later ports come first, so that the first of a GUID stays.
+fn places_by_guid(alloc: Global, ports: &[SubnetPort]) -> Result<IndexMap<u64, usize>, AllocError>
+    ensures { IfOk result (λ places. Finds ports.now (get nat_eq places)) }
+{
+    let mut places = IndexMap::new(alloc);
+    for place in (0..ports.len()).rev() {
+        places.insert(ports[place].guid, place)?;
+    }
+    Ok(places)
+}

@@ -1,0 +1,41 @@
+-- What a subnet tells of a packet is what its fabric does with it: the statements of the laws of `src/laws.rt`.
+use Rattle.std.specs.Prelude.{◌≡◌, false, List, map, Some, None}
+use Rattle.fabric_parts.specs.Lid.{is_multicast}
+use Rattle.fabric_parts.specs.NodeType.{is_switch_type}
+use Rattle.fabric_parts.specs.declared.cable.PortRef.{PortRef}
+use Rattle.packet_ways.specs.Deliveries.{AreDeliveries, DeliveryState, adapter_at}
+use Rattle.port_model.specs.AdapterState.{AdapterState}
+use Rattle.port_model.specs.Packets.{packet_from, refusal_of as port_refusal}
+use Rattle.smp_wire.specs.FabricState.{FabricState}
+use Rattle.subnet_model.specs.Delivery.{port_with_guid, refusal_of}
+use Rattle.subnet_model.specs.Report.{packet_of}
+use Rattle.subnet_model.specs.Silent.{received}
+use Rattle.subnet_model.specs.declared.command.SendCommand.{SendCommand}
+use Rattle.subnet_model.specs.declared.event.Event.{Event}
+use Rattle.subnet_model.specs.declared.event.Outcome.TheVariants.{Received}
+use Rattle.subnet_model.specs.declared.subnet_port.SubnetPort.{SubnetPort}
+use Rattle.subnet_sends.specs.OfFabric.{IsFabricOf}
+
+-- the port of a channel adapter that a command names
+pub record IsSender (ports : List SubnetPort) (command : SendCommand) (sender : SubnetPort) : Type 0 where
+  pub named : port_with_guid ports command.port_guid ≡ Some sender
+  pub adapter : is_switch_type sender.node_type ≡ false
+
+-- the port of that GUID refuses what the subnet refuses, for the same cause, and stamps the same packet
+abbrev pub PortsStampAsTold : Type 0
+PortsStampAsTold =
+    (ports : List SubnetPort) (fabric : FabricState) (command : SendCommand) (sender : SubnetPort) (at : PortRef) (one : AdapterState)
+    → IsFabricOf ports fabric → IsSender ports command sender → adapter_at fabric.nodes at ≡ Some one → one.port_guid ≡ command.port_guid
+    → (port_refusal one command.dlid command.p_key command.destination_qp ≡ refusal_of sender command)
+    × (packet_from one command.dlid command.p_key command.destination_qp command.payload ≡ packet_of sender command)
+
+-- a delivery, as it is told
+abbrev pub told : DeliveryState → Event
+told delivered = record { port_guid = delivered.port; what = Received delivered.packet }
+
+-- what the fabric delivers of a unicast packet is what the subnet tells
+abbrev pub DeliveriesAreWhatIsTold : Type 0
+DeliveriesAreWhatIsTold =
+    (ports : List SubnetPort) (fabric : FabricState) (command : SendCommand) (sender : SubnetPort) (deliveries : List DeliveryState)
+    → is_multicast command.dlid ≡ false → IsFabricOf ports fabric → IsSender ports command sender → refusal_of sender command ≡ None
+    → AreDeliveries fabric command.port_guid (packet_of sender command) deliveries → map told deliveries ≡ received ports sender command

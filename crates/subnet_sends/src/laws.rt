@@ -1,0 +1,14 @@
+//! The laws of subnets and their fabrics. Each function's contract is its law; it does nothing.
+
+ghost use Rattle.subnet_sends.specs.Laws.{DeliveriesAreWhatIsTold, PortsStampAsTold};
+
+/// In the fabric of a list of ports, the port of a command's GUID refuses what the list refuses, for the same cause, and
+/// else stamps the packet that the list tells.
+pub fn ports_stamp_as_told()
+    ensures { PortsStampAsTold }
+{}
+
+/// In the fabric of a list of ports, what it delivers of a packet is what the list tells, in the same order.
+pub fn deliveries_are_what_is_told()
+    ensures { DeliveriesAreWhatIsTold }
+{}

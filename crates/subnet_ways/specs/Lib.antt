@@ -1,2 +1,0 @@
-pub mod OfFabric
-pub mod Laws

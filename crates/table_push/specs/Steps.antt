@@ -1,0 +1,68 @@
+-- What each step of a push comes to: the clauses of `src/ports.rt`, `keys.rt` and `setting.rt`. A wire stood for a fabric
+-- before the step, and is left standing for one.
+use Rattle.std.specs.Prelude.{ℕ, ◌≡◌, ◌==◌, ◌&&◌, ◌||◌, Bool, List, length, slice_get, Option, Some, Result, Ok}
+use Rattle.attr_tables.specs.declared.smp_attribute.SmpAttribute.{SmpAttribute}
+use Rattle.smp_wire.specs.FabricState.{FabricState}
+use Rattle.smp_wire.specs.Good.{IsGood, ShowsLinks}
+use Rattle.smp_wire.specs.Set.{takes_along}
+use Rattle.smp_wire.specs.Shape.{IsSameShape}
+use Rattle.sweep.specs.OfFabric.{IsGraphOf}
+use Rattle.sweep.specs.declared.graph.GraphPort.{GraphPort}
+use Rattle.table_push.specs.Keys.{at_cable, at_switches, guid_of, keys_pushed, keys_where}
+use Rattle.table_push.specs.Nodes.{with_infos, with_keys}
+use Rattle.table_push.specs.Ports.{at_switches_before, change_wanted, changed, changed_where, has_link}
+use Rattle.table_push.specs.Pushes.{Gives, Leaves, Stands}
+use Rattle.table_push.specs.declared.fault.PushFault.{PushFault}
+use Rattle.updn_routes.specs.Subnet.{RoutesState}
+
+-- ---- one Set
+-- where the agent at the end of the path takes these bytes, and then gives what was wanted, that is done
+abbrev pub TakesAndGives : FabricState → (left : Option FabricState) → (path : List ℕ) → SmpAttribute → (modifier : ℕ) → (wanted : List ℕ)
+    → Result (Unit {0}) PushFault → Type 0
+TakesAndGives fabric left path attribute modifier wanted result =
+    (next : FabricState) → IsGood fabric → takes_along fabric path attribute modifier wanted ≡ Some (Ok next)
+    → (IsSameShape fabric next → Gives next path attribute modifier wanted) → Leaves result left fabric next
+
+-- ---- ports
+-- where the ports that pass a test are set up, those that pass one more are set up too
+abbrev pub SetsUpMore : RoutesState → (stood left : Option FabricState) → (more : ℕ → ℕ → Bool) → Result (Unit {0}) PushFault → Type 0
+SetsUpMore routes stood left more result =
+    (fabric : FabricState) (there : ℕ → ℕ → Bool) → IsGraphOf routes.graph fabric → IsGood fabric → ShowsLinks fabric
+    → Stands stood fabric (with_infos (changed_where there routes) fabric)
+    → Leaves result left fabric (with_infos (changed_where (λ guid number. there guid number || more guid number) routes) fabric)
+
+-- that port of the switch at that place has a cable to another switch
+abbrev pub at_links : RoutesState → (place guid number : ℕ) → Bool
+at_links routes place guid number = (guid_of routes.graph.switches place == guid) && has_link routes.graph place number
+
+-- those at both ends of the cable of the port of a channel adapter at that place
+abbrev pub SetsUpCable : RoutesState → (stood left : Option FabricState) → (place : ℕ) → Result (Unit {0}) PushFault → Type 0
+SetsUpCable routes stood left place result =
+    (port : GraphPort) → slice_get routes.graph.ports place ≡ Some port
+    → SetsUpMore routes stood left (λ guid number. at_cable routes.graph.switches guid number port) result
+
+-- where those of the switches are, all are
+abbrev pub SetsUpRest : RoutesState → (stood left : Option FabricState) → Result (Unit {0}) PushFault → Type 0
+SetsUpRest routes stood left result =
+    (fabric : FabricState) → IsGraphOf routes.graph fabric → IsGood fabric → ShowsLinks fabric
+    → Stands stood fabric (with_infos (changed_where (at_switches_before routes.graph (length routes.graph.switches)) routes) fabric)
+    → Leaves result left fabric (with_infos (λ guid number. changed (change_wanted routes guid number)) fabric)
+
+-- ---- key tables
+-- where the ports that pass a test have their tables, those at both ends of the cable of the port of a channel adapter at
+-- that place get theirs too
+abbrev pub PutsKeysAtCable : RoutesState → (keys : List (List ℕ)) → (stood left : Option FabricState) → (place : ℕ)
+    → Result (Unit {0}) PushFault → Type 0
+PutsKeysAtCable routes keys stood left place result =
+    (fabric : FabricState) (there : ℕ → ℕ → Bool) (port : GraphPort) → IsGraphOf routes.graph fabric → IsGood fabric
+    → slice_get routes.graph.ports place ≡ Some port → Stands stood fabric (with_keys (keys_where there routes keys) fabric)
+    → Leaves result left fabric
+    (with_keys (keys_where (λ guid number. there guid number || at_cable routes.graph.switches guid number port) routes keys) fabric)
+
+-- where the ports 0 of switches have theirs, all get them
+abbrev pub PutsKeysAtCables : RoutesState → (keys : List (List ℕ)) → (stood left : Option FabricState)
+    → Result (Unit {0}) PushFault → Type 0
+PutsKeysAtCables routes keys stood left result =
+    (fabric : FabricState) → IsGraphOf routes.graph fabric → IsGood fabric
+    → Stands stood fabric (with_keys (keys_where (at_switches routes.graph.switches) routes keys) fabric)
+    → Leaves result left fabric (keys_pushed routes keys fabric)
