@@ -10,7 +10,7 @@ const MGID: u128 = 0xff12_0000_0000_0000_0000_0000_0000_000a;
 
 /// What a request for groups asks that asks by nothing.
 fn no_group() -> McMemberRecord {
-    McMemberRecord::read(&[0; 56])
+    McMemberRecord::blank()
 }
 
 #[test]
@@ -66,7 +66,7 @@ fn a_join_that_creates_a_group_asks_by_eight_fields(rt: HostRuntime) {
 
 #[test]
 fn a_path_is_asked_for_by_its_gids_and_its_rate(rt: HostRuntime) {
-    let mut asked = PathRecord::read(&[0; 64]);
+    let mut asked = PathRecord::blank();
     let mut mask = 0;
     for (word, value) in [
         (b"dgid".as_slice(), FIRST_GID),
@@ -88,7 +88,7 @@ fn a_path_is_asked_for_by_its_gids_and_its_rate(rt: HostRuntime) {
 
 #[test]
 fn a_service_is_set_by_its_numbers_and_its_name(rt: HostRuntime) {
-    let mut asked = ServiceRecord::read(&[0; 176]);
+    let mut asked = ServiceRecord::blank();
     let mut name = [0u8; 64];
     for (to, from) in name.iter_mut().zip(b"dbs") {
         *to = *from;
@@ -119,7 +119,7 @@ const SERVICE_DATA: [u8; 64] = [
 
 #[test]
 fn numbers_of_service_data_stand_highest_byte_first(rt: HostRuntime) {
-    let mut asked = ServiceRecord::read(&[0; 176]);
+    let mut asked = ServiceRecord::blank();
     for (word, value, bits) in [
         (b"data8_1".as_slice(), 0x11, 1u64 << 7),
         (b"data8_16".as_slice(), 0x12, 1u64 << 22),
@@ -134,7 +134,7 @@ fn numbers_of_service_data_stand_highest_byte_first(rt: HostRuntime) {
 
 #[test]
 fn a_value_is_as_wide_as_its_field_at_most(rt: HostRuntime) {
-    let blank = PathRecord::read(&[0; 64]);
+    let blank = PathRecord::blank();
     for (word, widest) in [
         (b"sid".as_slice(), 0xffff_ffff_ffff_ffffu128),
         (b"raw".as_slice(), 1),
@@ -157,7 +157,7 @@ fn a_value_is_as_wide_as_its_field_at_most(rt: HostRuntime) {
 
 #[test]
 fn a_word_that_is_no_field_asks_for_nothing(rt: HostRuntime) {
-    let mut node = NodeRecord::read(&[0; 112]);
+    let mut node = NodeRecord::blank();
     assert_eq!(rt; node.ask_by(b"lid", 5), Some(1));
     assert_eq!(rt; node.lid, 5);
     for word in [b"".as_slice(), b"li", b"lids", b"LID", b"mgid"] {

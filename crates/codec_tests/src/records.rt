@@ -1,7 +1,7 @@
 use crate::fixtures::filled;
 use bitflags::Flags;
 use mad_layout::JoinState;
-use sa_records::{McMemberRecord, NodeRecord, PathRecord, ServiceRecord};
+use sa_records::{McMemberRecord, NodeRecord, PathRecord, SaRecord, ServiceRecord};
 
 /// The ports with GUID 0x111 and 0x121.
 const FIRST_GID: u128 = 0xfe80_0000_0000_0000_0000_0000_0000_0111;
@@ -69,21 +69,16 @@ fn switch_port() -> NodeRecord {
     }
 }
 
-/// The bytes of the record that is read there.
-fn written_again(bytes: &[u8; 112]) -> [u8; 112] {
-    let mut written = [0xff; 112];
-    NodeRecord::read(bytes).write(&mut written);
-    written
-}
-
 #[test]
 fn nodes_read_and_write(rt: HostRuntime) {
     let adapter = filled(&ADAPTER_PORT);
-    assert_eq!(rt; NodeRecord::read(&adapter), adapter_port());
-    assert_eq!(rt; written_again(&adapter), adapter);
+    let read = NodeRecord::read(&adapter);
+    assert_eq!(rt; read, adapter_port());
+    assert_eq!(rt; SaRecord::Node(read).data(), adapter);
     let switch = filled(&SWITCH_PORT);
-    assert_eq!(rt; NodeRecord::read(&switch), switch_port());
-    assert_eq!(rt; written_again(&switch), switch);
+    let read = NodeRecord::read(&switch);
+    assert_eq!(rt; read, switch_port());
+    assert_eq!(rt; SaRecord::Node(read).data(), switch);
 }
 
 #[test]
@@ -209,16 +204,16 @@ fn odd_path() -> PathRecord {
 #[test]
 fn paths_read_and_write(rt: HostRuntime) {
     let bytes = filled(&PATH);
-    assert_eq!(rt; PathRecord::read(&bytes), path());
-    let mut written = [0xff; 64];
-    PathRecord::read(&bytes).write(&mut written);
-    assert_eq!(rt; written, bytes);
-    assert_eq!(rt; PathRecord::read(&ODD_PATH), odd_path());
+    let read = PathRecord::read(&bytes);
+    assert_eq!(rt; read, path());
+    assert_eq!(rt; SaRecord::Path(read).data(), bytes);
+    assert_eq!(rt; PathRecord::read(&filled(&ODD_PATH)), odd_path());
 }
 
 /// RateSelector, the code that is asked, and whether a path of 10 Gb/s, code 3, is selected: 5 Gb/s has code 5, 2.5
-/// has code 2, and 30 has code 4; 11 is no rate's.
-const RATES: [(u8, u8, bool); 17] = [
+/// has code 2, 30 has code 4, and 20, 40, 60, 80 and 120 have codes 6 to 10; 11 is no rate's. The last selector asks for
+/// any.
+const RATES: [(u8, u8, bool); 22] = [
     (0, 5, true),
     (0, 2, true),
     (0, 3, false),
@@ -235,7 +230,12 @@ const RATES: [(u8, u8, bool); 17] = [
     (0, 11, false),
     (1, 11, false),
     (2, 11, false),
-    (3, 11, false),
+    (3, 11, true),
+    (1, 6, true),
+    (1, 7, true),
+    (1, 8, true),
+    (1, 9, true),
+    (1, 10, true),
 ];
 
 #[test]
@@ -251,7 +251,7 @@ fn rates_are_compared_by_their_speed(rt: HostRuntime) {
         assert!(rt; path().selected_by(1 << 18, &asked));
         assert!(rt; path().selected_by(1 << 19, &asked));
     }
-    // a path whose own code is no rate's agrees with none
+    // a path whose own code is no rate's agrees with none, not even the same
     let unknown = PathRecord { rate: 11, ..path() };
     assert!(rt; !unknown.selected_by(0b11 << 18, &unknown));
 }
@@ -417,10 +417,9 @@ fn groups_read_and_write(rt: HostRuntime) {
         (ODD_GROUP.as_slice(), odd_group()),
     ] {
         let bytes = filled(bytes);
-        assert_eq!(rt; McMemberRecord::read(&bytes), record);
-        let mut written = [0xff; 56];
-        McMemberRecord::read(&bytes).write(&mut written);
-        assert_eq!(rt; written, bytes);
+        let read = McMemberRecord::read(&bytes);
+        assert_eq!(rt; read, record);
+        assert_eq!(rt; SaRecord::Group(read).data(), bytes);
     }
 }
 
@@ -536,10 +535,9 @@ fn services_read_and_write(rt: HostRuntime) {
         (ODD_SERVICE.as_slice(), odd_service()),
     ] {
         let bytes = filled(bytes);
-        assert_eq!(rt; ServiceRecord::read(&bytes), record);
-        let mut written = [0xff; 176];
-        ServiceRecord::read(&bytes).write(&mut written);
-        assert_eq!(rt; written, bytes);
+        let read = ServiceRecord::read(&bytes);
+        assert_eq!(rt; read, record);
+        assert_eq!(rt; SaRecord::Service(read).data(), bytes);
     }
 }
 

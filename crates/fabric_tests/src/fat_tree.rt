@@ -1,6 +1,7 @@
 //! Fat trees that are read, swept and routed. `bench/measure` counts the instructions of these tests.
 
 ghost use Rattle.std.specs.Prelude.{◌≤◌, ◌<◌, length};
+ghost use Rattle.sweep.specs.Joined.{AllJoined};
 
 use crate::fixtures::graph_of;
 use crate::up_down::routes_of;
@@ -127,7 +128,9 @@ fn is_routed(rt: &impl Abort, alloc: Global, leaves: u16) -> Result<(), Fail>
 }
 
 /// The routes, with the spines as roots.
-fn routes_below_spines(alloc: Global, graph: Graph) -> Result<Routes, Fail> {
+fn routes_below_spines(alloc: Global, graph: Graph) -> Result<Routes, Fail>
+    requires joined { AllJoined graph.rows }
+{
     let guids = graph.switches().iter().map(|switch| switch.guid);
     let spines = guids.filter(|guid| *guid >= 2000).collect(alloc);
     let roots: Vec<u64> = spines.or(Err("memory"))?;

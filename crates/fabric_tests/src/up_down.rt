@@ -2,6 +2,8 @@
 
 mod searches;
 
+ghost use Rattle.sweep.specs.Joined.{AllJoined};
+
 use crate::fixtures::{graph_of_text, two_switch_graph};
 use example_texts::TWO_SWITCHES;
 use lid_assign::assign;
@@ -12,12 +14,14 @@ use sweep::Graph;
 use updn_routes::{RouteFault, Routes, are_switches, routes};
 
 /// The routes of a graph, with these roots named.
-pub fn routes_of(alloc: Global, graph: Graph, roots: &[u64]) -> Result<Routes, RouteFault> {
+pub fn routes_of(alloc: Global, graph: Graph, roots: &[u64]) -> Result<Routes, RouteFault>
+    requires joined { AllJoined graph.rows }
+{
     let lids = match assign(alloc, &graph) {
         Ok(lids) => lids,
         Err(_) => return Err(RouteFault::NoMemory),
     };
-    if !graph.is_joined() || !are_switches(&graph, roots) {
+    if !are_switches(&graph, roots) {
         return Err(RouteFault::NoMemory);
     }
     routes(alloc, graph, lids, roots)

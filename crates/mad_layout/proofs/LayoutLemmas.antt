@@ -102,12 +102,12 @@ apart_parts off len p h =
     ]
 
 -- what `is_layout` says of a first place
-record First (size : ℕ) (p : Field) (ps : List Field) : Type 0 where
-  within : p.off + p.len ≤ size
-  free : is_free p.off p.len ps ≡ true
-  rest : is_layout size ps ≡ true
+pub record First (size : ℕ) (p : Field) (ps : List Field) : Type 0 where
+  pub within : p.off + p.len ≤ size
+  pub free : is_free p.off p.len ps ≡ true
+  pub rest : is_layout size ps ≡ true
 
-first_of_layout : (size : ℕ) (p : Field) (ps : List Field) → is_layout size (p ∷ ps) ≡ true → First size p ps
+pub first_of_layout : (size : ℕ) (p : Field) (ps : List Field) → is_layout size (p ∷ ps) ≡ true → First size p ps
 first_of_layout size p ps h =
     let a = and_parts (nat_le (p.off + p.len) size) (is_free p.off p.len ps && is_layout size ps) h in
     let b = and_parts (is_free p.off p.len ps) (is_layout size ps) a.1 in

@@ -3,3 +3,4 @@ pub mod WindowLemmas
 pub mod AlignedLemmas
 pub mod LayoutLemmas
 pub mod PutLemmas
+pub mod ReadLemmas

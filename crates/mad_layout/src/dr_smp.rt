@@ -2,7 +2,7 @@
 
 ghost use Rattle.std.specs.Prelude.{◌≡◌, ◌<◌, slice_range};
 ghost use Rattle.mad_layout.specs.Layout.{Holds, Fits, put_all, Sets};
-ghost use Rattle.mad_layout.specs.DrSmp.{dr_smp};
+ghost use Rattle.mad_layout.specs.DrSmp.{dr_smp, dr_smp_in};
 
 use crate::bits::known_bytes;
 use crate::mad_header::Mad;
@@ -58,6 +58,7 @@ impl DrSmp {
     /// The directed-route fields of a MAD.
     pub fn read(mad: &Mad) -> DrSmp
         ensures fields { Holds mad.now (dr_smp result) }
+        ensures value { result ≡ dr_smp_in mad.now }
         ensures status { result.status < 32768 }
         ensures data { result.data ≡ slice_range mad.now 64 128 }
         ensures initial_path { result.initial_path ≡ slice_range mad.now 128 192 }

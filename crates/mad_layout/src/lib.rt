@@ -38,5 +38,5 @@ pub use crate::method::Method;
 pub use crate::rmpp_flags::RmppFlags;
 pub use crate::rmpp_header::RmppHeader;
 pub use crate::rmpp_kind::RmppKind;
-pub use crate::sa_mad::SaMad;
+pub use crate::sa_mad::{SA_DATA_BYTES, SaMad};
 pub use crate::status::MadStatus;

@@ -2,7 +2,7 @@
 
 ghost use Rattle.std.specs.Prelude.{◌≡◌, Some, IfSome, nat_le};
 ghost use Rattle.mad_layout.specs.Layout.{Holds, Fits, put_all, Sets};
-ghost use Rattle.mad_layout.specs.MadHeader.{mad_header};
+ghost use Rattle.mad_layout.specs.MadHeader.{header_in, mad_header};
 ghost use Rattle.mad_layout.specs.MadStatus.{mad_status_code};
 ghost use Rattle.mad_layout.specs.Method.{method_code};
 
@@ -58,7 +58,8 @@ macro_rules! mad_header_layout {
 impl Header {
     /// The header that a MAD begins with.
     pub fn read(mad: &Mad) -> Header
-        ensures { Holds mad.now (mad_header result) }
+        ensures fields { Holds mad.now (mad_header result) }
+        ensures value { result ≡ header_in mad.now }
     {
         mad_header_layout!(read_fields!(Header mad))
     }

@@ -2,7 +2,7 @@
 
 ghost use Rattle.std.specs.Prelude.{◌≡◌, ◌<◌, Some, IfSome};
 ghost use Rattle.mad_layout.specs.Layout.{Holds, Fits, put_all, Sets};
-ghost use Rattle.mad_layout.specs.RmppHeader.{rmpp_header};
+ghost use Rattle.mad_layout.specs.RmppHeader.{rmpp_header, rmpp_in};
 ghost use Rattle.mad_layout.specs.RmppKind.{rmpp_kind_code};
 
 use crate::mad_header::Mad;
@@ -52,6 +52,7 @@ impl RmppHeader {
     /// The RMPP header of a MAD.
     pub fn read(mad: &Mad) -> RmppHeader
         ensures fields { Holds mad.now (rmpp_header result) }
+        ensures value { result ≡ rmpp_in mad.now }
         ensures response_time { result.response_time < 32 }
         ensures flags { result.flags < 8 }
     {

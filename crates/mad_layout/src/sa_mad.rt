@@ -2,11 +2,14 @@
 
 ghost use Rattle.std.specs.Prelude.{◌≡◌, slice_range};
 ghost use Rattle.mad_layout.specs.Layout.{Holds, Fits, put_all, Sets};
-ghost use Rattle.mad_layout.specs.SaMad.{sa_mad};
+ghost use Rattle.mad_layout.specs.SaMad.{sa_mad, sa_mad_in};
 
 use crate::bits::known_bytes;
 use crate::mad_header::Mad;
 use crate::{read_fields, write_fields};
+
+/// How many bytes of data a MAD of subnet administration has.
+pub const SA_DATA_BYTES: usize = 200;
 
 /// What a MAD of subnet administration (SA) has after its RMPP header, each field as its raw bits.
 ///
@@ -20,7 +23,7 @@ pub struct SaMad {
     /// Which components of the record a request asks by, a bit for each.
     pub component_mask: u64,
     /// The record, or this segment's part of a table of records.
-    pub data: [u8; 200],
+    pub data: [u8; SA_DATA_BYTES],
 }
 
 /// A MAD of subnet administration (IBA volume 1, 15.2.1.1): field, type, first bit, bits.
@@ -39,6 +42,7 @@ impl SaMad {
     /// The subnet administration fields of a MAD.
     pub fn read(mad: &Mad) -> SaMad
         ensures fields { Holds mad.now (sa_mad result) }
+        ensures value { result ≡ sa_mad_in mad.now }
         ensures data { result.data ≡ slice_range mad.now 56 256 }
     {
         sa_mad_layout!(read_fields!(SaMad mad))

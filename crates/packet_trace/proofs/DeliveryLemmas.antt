@@ -1,5 +1,5 @@
 -- A packet is accepted in its trace exactly where it is delivered.
-use Rattle.std.proofs.Common.{ℕ, zero, suc, ◌+◌, ◌*◌, ◌≡◌, ◌-◌, ◌==◌, ◌||◌, ◌<◌, ◌⊎◌, ◌∙◌, inl, inr, ap, refl, sym, subst, arith, Bool, true, false, if◌then◌else◌, List, [], ◌∷◌, ◌++◌, length, slice_get, Option, Some, None}
+use Rattle.std.proofs.Common.{ℕ, zero, suc, ◌+◌, ◌*◌, ◌≡◌, ◌-◌, ◌==◌, ◌||◌, ◌<◌, ◌⊎◌, ◌∙◌, inl, inr, ap, refl, sym, subst, arith, Bool, true, false, if◌then◌else◌, List, [], ◌∷◌, ◌++◌, length, is_some, slice_get, Option, Some, None}
 use Rattle.std.specs.List.{Contains, list_any, slice_index_or}
 use Rattle.std.specs.Option.{option_and_then, option_map_or}
 use Rattle.std.proofs.lemmas.List.Elements.{Contains-append_cases, Contains-append_right}
@@ -8,10 +8,10 @@ use Rattle.data_packet.specs.declared.packet.Packet.{Packet}
 use Rattle.fabric_parts.specs.Cable.{far_end, is_same_port}
 use Rattle.fabric_parts.specs.declared.cable.Cable.{Cable}
 use Rattle.fabric_parts.specs.declared.cable.PortRef.{PortRef}
-use Rattle.packet_trace.specs.Laws.{TracesTellDeliveries}
+use Rattle.packet_trace.specs.Laws.{AdaptersAccept, TracesTellDeliveries}
 use Rattle.packet_trace.specs.Trace.{next_after, step, steps_from, steps_of, turn_after, turn_at, turn_by, turn_in, turn_of_fate}
 use Rattle.packet_trace.specs.declared.turn.Step.{Step}
-use Rattle.packet_trace.specs.declared.turn.Turn.TheVariants.{Accepts, DropsKey}
+use Rattle.packet_trace.specs.declared.turn.Turn.TheVariants.{Accepts, DropsKey, GoesOut, NoCable}
 use Rattle.packet_ways.proofs.WayLemmas.{adapter_stops, few_hops, from_next, in_none, no_longer, to_next}
 use Rattle.packet_ways.specs.Deliveries.{Goes, IsDelivered, Passes, adapter_at, adapter_ports}
 use Rattle.packet_ways.specs.Unicast.{next_port, node_out_port}
@@ -81,6 +81,35 @@ turn_there fabric packet at port there = by_port fabric.cables packet at port (s
 accepted_by : (b : Bool) → (if b then Accepts else DropsKey) ≡ Accepts → b ≡ true
 accepted_by true is = refl
 accepted_by false is = cc
+
+-- a switch never does
+by_way_out : (out : ℕ) (b : Bool) → (if b then GoesOut out else NoCable out) ≡ Accepts → ⊥
+by_way_out out true is = cc
+by_way_out out false is = cc
+
+no_switch : (cables : List Cable) (here : PortRef) (met : Fate) → turn_of_fate cables here met ≡ Accepts → ⊥
+no_switch cables here KeptOut is = cc
+no_switch cables here OverTop is = cc
+no_switch cables here (NoPort entry) is = cc
+no_switch cables here Taken is = cc
+no_switch cables here (KeptIn out) is = cc
+no_switch cables here (Leaves out) is = by_way_out out (is_some (far_end cables (record { node = here.node; port = out }))) is
+
+by_adapter : (packet : Packet) (port : Option AdapterState) → option_map_or (turn_by packet) port DropsKey ≡ Accepts
+    → (found : AdapterState) × (port ≡ Some found)
+by_adapter packet None is = absurd (cc)
+by_adapter packet (Some port) is = (port, refl)
+
+by_its_node : (cables : List Cable) (packet : Packet) (at : PortRef) (node : Option Node) → option_map_or (turn_in cables packet at) node DropsKey ≡ Accepts
+    → (port : AdapterState) × (option_and_then (λ node. adapter_port (adapter_ports node) at.port) node ≡ Some port)
+by_its_node cables packet at None is = absurd (cc)
+by_its_node cables packet at (Some (Switch held)) is = absurd (no_switch cables at (fate held at.port packet) is)
+by_its_node cables packet at (Some (Adapter ports)) is = by_adapter packet (adapter_port ports at.port) is
+
+adapter_there : (fabric : FabricState) (packet : Packet) (at : PortRef) → turn_at fabric packet at ≡ Accepts
+    → (port : AdapterState) × (adapter_at fabric.nodes at ≡ Some port)
+unfolding turn_at
+adapter_there fabric packet at is = by_its_node fabric.cables packet at (slice_get fabric.nodes at.node) is
 
 -- ---- in lists
 at_first : (first : Step) (later : List Step) → Contains (first ∷ later) first
@@ -230,3 +259,7 @@ traces_tell_deliveries fabric packet from first at port unicast cable there = (t
           there = there;
           accepts = accepted_by (accepts_packet port packet) (sym (turn_there fabric packet at port there) ∙ is.accepts);
         }
+
+pub adapters_accept : AdaptersAccept
+adapters_accept fabric packet first at told =
+    adapter_there fabric packet at (told_from fabric packet at (2 * length fabric.cables + 1) [] first told).accepts

@@ -20,6 +20,12 @@ TracesTellDeliveries =
     → is_multicast packet.dlid ≡ false → far_end fabric.cables from ≡ Some first → adapter_at fabric.nodes at ≡ Some port
     → IsDelivered fabric.nodes fabric.cables from packet at port ↔ Contains (steps_of fabric packet first) (step at Accepts)
 
+-- only a port of a channel adapter accepts a packet in a trace
+abbrev pub AdaptersAccept : Type 0
+AdaptersAccept =
+    (fabric : FabricState) (packet : Packet) (first at : PortRef) → Contains (steps_of fabric packet first) (step at Accepts)
+    → (port : AdapterState) × (adapter_at fabric.nodes at ≡ Some port)
+
 -- there is a last step, and at its port the packet does not go out: so that step tells why the way ends
 pub record HasEnd (trace : List Step) : Type 0 where
   pub before : List Step

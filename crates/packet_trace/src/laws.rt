@@ -2,13 +2,18 @@
 //! nothing.
 
 ghost use Rattle.std.specs.Prelude.{◌≡◌};
-ghost use Rattle.packet_trace.specs.Laws.{TracesHaveAnEnd, TracesTellDeliveries};
+ghost use Rattle.packet_trace.specs.Laws.{AdaptersAccept, TracesHaveAnEnd, TracesTellDeliveries};
 ghost use Rattle.packet_trace.specs.declared.lines.TheConstants.{DATA_QP};
 
 /// A port accepts a packet in its trace exactly where the packet is delivered there. So a trace tells the ports to which
 /// the fabric carries a packet, and no others.
 pub fn traces_tell_deliveries()
     ensures { TracesTellDeliveries }
+{}
+
+/// Where a trace says that a port accepts the packet, the port is one of a channel adapter.
+pub fn adapters_accept()
+    ensures { AdaptersAccept }
 {}
 
 /// A trace has an end: its last step tells why the packet goes no further. So no trace is cut while the packet goes on, where

@@ -17,10 +17,10 @@ use Rattle.partition_changes.proofs.BaseLemmas.{rising_rises, rising_there}
 use Rattle.partition_changes.proofs.ToldLemmas.{by_bases}
 
 -- ---- partitions
-abbrev Alike : ℕ × Heading → ℕ × Heading → Type 0
+abbrev pub Alike : ℕ × Heading → ℕ × Heading → Type 0
 Alike a b = (a.0 ≡ b.0) × ((a.1.base ≡ b.1.base) × (a.1.name ≡ b.1.name))
 
-alike : (a b : ℕ × Heading) → same_partition a b ≡ true → Alike a b
+pub alike : (a b : ℕ × Heading) → same_partition a b ≡ true → Alike a b
 alike a b e =
     let p = and_parts (a.0 == b.0) ((a.1.base == b.1.base) && bytes_eq a.1.name b.1.name) e in
     let q = and_parts (a.1.base == b.1.base) (bytes_eq a.1.name b.1.name) p.1 in
@@ -79,10 +79,10 @@ partitions_are_told before after =
     (λ x h. of_either before after x.1.base (or_right (list_any (λ heading. heading.base == x.1.base) before) (list_any (λ heading. heading.base == x.1.base) after) (found_at after x.1.base x h).0))
 
 -- ---- groups
-abbrev AlikeFields : BroadcastGroup → BroadcastGroup → Type 0
+abbrev pub AlikeFields : BroadcastGroup → BroadcastGroup → Type 0
 AlikeFields a b = (a.scope ≡ b.scope) × ((a.q_key ≡ b.q_key) × ((a.mtu ≡ b.mtu) × ((a.rate ≡ b.rate) × (a.service_level ≡ b.service_level))))
 
-fields_alike : (a b : BroadcastGroup) → same_fields a b ≡ true → AlikeFields a b
+pub fields_alike : (a b : BroadcastGroup) → same_fields a b ≡ true → AlikeFields a b
 fields_alike a b e =
     let p = and_parts (a.scope == b.scope) _ e in
     let q = and_parts (a.q_key == b.q_key) _ p.1 in

@@ -1,11 +1,12 @@
 -- What goes is what was said and is said no more; what comes is what was not said before.
-use Rattle.std.specs.Prelude.{ℕ, ◌≡◌, ◌↔◌, Bool, true, false, not, ◌==◌, ◌&&◌, List, [], Option, map}
+use Rattle.std.specs.Prelude.{ℕ, ◌≡◌, ◌↔◌, Bool, true, false, not, ◌==◌, ◌&&◌, List, [], ◌∷◌, ◌++◌, Option, Some, None, map}
 use Rattle.std.specs.List.{IsDistinct, list_any, zip}
 use Rattle.std.specs.Option.{option_map_or}
-use Rattle.partition_changes.specs.Changes.{Change, bases_named, group_changes, grouped, member_changes, member_of, partition_changes, partition_of, same_group, same_member, same_partition, same_share, share_changes, text_of_changes}
+use Rattle.partition_changes.specs.Changes.{Change, bases_named, change_of_member_line, changes_text, group_changes, group_line, grouped, member_changes, member_of, partition_changes, partition_line, partition_of, same_group, same_member, same_partition, same_share, share_changes, text_of_changes}
+use Rattle.partition_file.specs.declared.broadcast_group.BroadcastGroup.{BroadcastGroup}
 use Rattle.partition_file.specs.declared.heading.Heading.{Heading}
 use Rattle.pkey_rules.specs.PKey.{base_of}
-use Rattle.port_shares.specs.Shares.{Share, shares}
+use Rattle.port_shares.specs.Shares.{Share, share_line, shares}
 use Rattle.subnet_model.specs.Configuration.{ConfigurationState}
 use Rattle.subnet_model.specs.Near.{is_near}
 use Rattle.subnet_model.specs.declared.subnet_port.SubnetPort.{SubnetPort}
@@ -92,3 +93,28 @@ abbrev pub NearStaysWhereNoShareIsTold : Type 0
 NearStaysWhereNoShareIsTold =
     (before after : List SubnetPort) → AreSamePorts before after → share_changes (zip before after) ≡ []
     → (p q : ℕ) → is_near before p q ≡ is_near after p q
+
+-- ---- what counts as the same is what lines show, and all that they show
+abbrev pub IsShownAlike : Option BroadcastGroup → Option BroadcastGroup → Type 0
+IsShownAlike (Some a) (Some b) = a ≡ b
+IsShownAlike (Some a) None = ⊥
+IsShownAlike None b = ⊥
+
+pub record SameIsWhatIsShown : Type 0 where
+  pub partitions : (a b : ℕ × Heading) → same_partition a b ≡ true ↔ ((a.0 ≡ b.0) × ((a.1.base ≡ b.1.base) × (a.1.name ≡ b.1.name)))
+  pub groups : (a b : Heading) → same_group a b ≡ true ↔ ((a.base ≡ b.base) × IsShownAlike a.group b.group)
+  pub members : (a b : SubnetPort × ℕ) → same_member a b ≡ true ↔ ((a.0.guid ≡ b.0.guid) × (a.1 ≡ b.1))
+  pub shares : (a b : Share) → same_share a b ≡ true ↔ ((a.first.guid ≡ b.first.guid) × ((a.second.guid ≡ b.second.guid) × (a.base ≡ b.base)))
+
+-- the line of what comes begins with a plus sign, and the line of what goes with a minus sign, each with a space behind it
+abbrev pub AreSigned : (X : Type 0) → (X → List ℕ) → Type 0
+AreSigned X line =
+    (x : X) (changes : List (Change X))
+    → (changes_text line (record { comes = true; what = x } ∷ changes) ≡ 0x2b ∷ 0x20 ∷ line x ++ changes_text line changes)
+    × (changes_text line (record { comes = false; what = x } ∷ changes) ≡ 0x2d ∷ 0x20 ∷ line x ++ changes_text line changes)
+
+pub record LinesAreSigned : Type 0 where
+  pub partitions : AreSigned (ℕ × Heading) partition_line
+  pub groups : AreSigned Heading group_line
+  pub members : AreSigned (SubnetPort × ℕ) change_of_member_line
+  pub shares : AreSigned Share share_line

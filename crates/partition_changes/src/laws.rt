@@ -1,6 +1,6 @@
 //! What changes tell, over the definitions alone. The functions do nothing: their contracts are the laws.
 
-ghost use Rattle.partition_changes.specs.Laws.{GroupsAreTold, MembersAreTold, NearStaysWhereNoShareIsTold, NothingIsToldOfTheSame, PartitionsAreTold, SharesAreTold};
+ghost use Rattle.partition_changes.specs.Laws.{GroupsAreTold, LinesAreSigned, MembersAreTold, NearStaysWhereNoShareIsTold, NothingIsToldOfTheSame, PartitionsAreTold, SameIsWhatIsShown, SharesAreTold};
 
 /// A partition with its number and name goes exactly where it was there before and is not after, and comes the other way
 /// round.
@@ -32,4 +32,14 @@ pub fn nothing_is_told_of_the_same()
 /// Where no share is told, each port has those near it that it had before, and no others.
 pub fn near_stays_where_no_share_is_told()
     ensures { NearStaysWhereNoShareIsTold }
+{}
+
+/// Two partitions, groups, members or shares count as the same exactly where all that their lines show is equal.
+pub fn same_is_what_is_shown()
+    ensures { SameIsWhatIsShown }
+{}
+
+/// The line of what comes begins with `+`, and the line of what goes with `-`.
+pub fn lines_are_signed()
+    ensures { LinesAreSigned }
 {}

@@ -1,2 +1,3 @@
 pub mod AgentLemmas
 pub mod PacketLemmas
+pub mod OwnLemmas

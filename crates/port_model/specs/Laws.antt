@@ -1,10 +1,13 @@
 -- What holds of the agent of a port of a channel adapter.
-use Rattle.std.specs.Prelude.{◌≡◌, ◌<◌, List, ℕ, Ok, IfOk, option_map}
+use Rattle.std.specs.Prelude.{◌≡◌, ◌≢◌, ◌⊎◌, ◌<◌, List, ℕ, Ok, Err, IfOk, option_map}
 use Rattle.mad_layout.specs.Bits.{put_field}
+use Rattle.mad_layout.specs.declared.status.MadStatus.TheVariants.{InvalidField}
 use Rattle.attr_tables.specs.Attribute.{IsAttribute}
+use Rattle.attr_tables.specs.PortInfo.{port_info_bytes}
 use Rattle.attr_tables.specs.declared.smp_attribute.SmpAttribute.{SmpAttribute}
+use Rattle.attr_tables.specs.declared.smp_attribute.SmpAttribute.TheVariants.{PortInfo}
 use Rattle.agent_rules.specs.declared.link.Link.{Link}
-use Rattle.agent_rules.specs.Agent.{answer}
+use Rattle.agent_rules.specs.Agent.{answer, shown_at}
 use Rattle.agent_rules.specs.Laws.{IsSettled, IsUnseenPut, ReadsAlike}
 use Rattle.port_model.specs.AdapterState.{AdapterState, at_power_up}
 use Rattle.port_model.specs.Agent.{agent_after, agent_reply, get, set}
@@ -46,3 +49,13 @@ UnseenComesBack =
     (held : AdapterState) (smp : List ℕ) (off len value : ℕ) → IsUnseenPut smp off len value
     → IfOk (answer get set held smp) IsAttribute
     → agent_reply held (put_field smp off len value) ≡ option_map (λ reply. put_field reply off len value) (agent_reply held smp)
+
+-- of PortInfo it gives its own, asked for by 0 or by its own number (14.2.5.6); by any other number, and be it that of another
+-- port of its adapter, nothing is given and nothing set
+pub record AnswersForItself (held : AdapterState) (modifier : ℕ) : Type 0 where
+  pub own : (modifier ≡ 0) ⊎ (modifier ≡ held.number) → get held PortInfo modifier ≡ Ok (port_info_bytes (shown_at held.number held.info))
+  pub gives : modifier ≢ 0 → modifier ≢ held.number → get held PortInfo modifier ≡ Err InvalidField
+  pub sets : modifier ≢ 0 → modifier ≢ held.number → (wanted : List ℕ) → set held PortInfo modifier wanted ≡ Err InvalidField
+
+abbrev pub PortsAnswerForThemselves : Type 0
+PortsAnswerForThemselves = (held : AdapterState) (modifier : ℕ) → AnswersForItself held modifier

@@ -1,6 +1,6 @@
 //! The laws of ports of channel adapters. Each function's contract is its law; it does nothing.
 
-ghost use Rattle.port_model.specs.Laws.{GoodPortsGiveAttributes, NewPortsAreGood, SmpsAreReadAlike, SmpsChangeWhatTheyName, SmpsKeepGood, SmpsSettle, UnseenComesBack};
+ghost use Rattle.port_model.specs.Laws.{GoodPortsGiveAttributes, NewPortsAreGood, PortsAnswerForThemselves, SmpsAreReadAlike, SmpsChangeWhatTheyName, SmpsKeepGood, SmpsSettle, UnseenComesBack};
 
 /// An SMP changes at most what it names, and a port is Down afterwards exactly where it was Down. Like
 /// the laws below it does nothing: its contract is the law.
@@ -34,4 +34,10 @@ pub fn smps_are_read_alike()
 /// What an agent does not see of an SMP, as the path, comes back in its reply.
 pub fn unseen_comes_back()
     ensures { UnseenComesBack }
+{}
+
+/// A port answers for itself alone: PortInfo is its own, asked for as port 0 or by its number, and asked for by another number
+/// it is neither given nor set.
+pub fn ports_answer_for_themselves()
+    ensures { PortsAnswerForThemselves }
 {}

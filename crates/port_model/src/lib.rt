@@ -14,6 +14,6 @@ mod laws;
 
 pub use crate::adapter_port::AdapterPort;
 pub use crate::laws::{
-    good_ports_give_attributes, ports_stay_good, smps_are_read_alike, smps_change_what_they_name,
-    smps_settle, unseen_comes_back,
+    good_ports_give_attributes, ports_answer_for_themselves, ports_stay_good, smps_are_read_alike,
+    smps_change_what_they_name, smps_settle, unseen_comes_back,
 };

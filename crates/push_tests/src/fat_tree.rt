@@ -21,11 +21,15 @@ fn smps_of(push: Push, leaves: u16) -> u64
     let switches = 2 * u64::from(leaves);
     let adapters = 8 * u64::from(leaves);
     let links = 2 * u64::from(leaves * leaves.min(28));
+    let ports = 4 * switches + 3 * (links + 2 * adapters);
+    let keys = switches + 2 * adapters;
+    let linear = 8 * switches;
     match push {
         Push::Nothing => 0,
-        Push::Ports => 4 * switches + 3 * (links + 2 * adapters),
-        Push::Keys => switches + 2 * adapters,
-        Push::Linear => 8 * switches,
+        Push::Ports => ports,
+        Push::Keys => keys,
+        Push::Linear => linear,
+        Push::All => ports + keys + linear,
     }
 }
 

@@ -22,12 +22,17 @@ const PUSHES: [(Push, u64, u64); 3] = [
     (Push::Linear, 16, 16),
 ];
 
-/// Where the method stands in an SMP, the status in a reply, the TransactionID and the attribute.
+/// Where the class version stands in an SMP, the method, the status in a reply, the TransactionID, the modifier and the
+/// attribute.
+const CLASS_VERSION: usize = 2;
+
 const METHOD: usize = 3;
 
 const STATUS: usize = 5;
 
 const TRANSACTION_ID: usize = 15;
+
+const MODIFIER: usize = 23;
 
 const DATA: usize = 64;
 
@@ -152,6 +157,23 @@ fn a_refusal_stops_a_push(rt: HostRuntime) -> Result<(), Fail> {
             refusal,
             PushFault::Refused,
         )?;
+    }
+    Ok(())
+}
+
+/// What a wire does to one exchange, and how all three pushes, one after another, stop there: at each of their exchanges.
+const ALL_STOP: [(Spoils, PushFault); 5] = [
+    (Spoils::Exchange, PushFault::NoReply),
+    (Spoils::Reply(STATUS, 0x1c), PushFault::Refused),
+    (Spoils::Reply(TRANSACTION_ID, 1), PushFault::NotAsSet),
+    (Spoils::Reply(CLASS_VERSION, 3), PushFault::NotAsSet),
+    (Spoils::Reply(MODIFIER, 0x40), PushFault::NotAsSet),
+];
+
+#[test]
+fn all_pushes_stop_where_one_of_them_does(rt: HostRuntime) -> Result<(), Fail> {
+    for (spoils, fault) in ALL_STOP {
+        stops(&rt, rt.alloc(), Push::All, 38 + 10 + 16, spoils, fault)?;
     }
     Ok(())
 }

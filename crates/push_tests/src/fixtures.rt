@@ -1,6 +1,7 @@
 //! Fabrics with their routes, the three pushes, and what agents have.
 
 ghost use Rattle.std.specs.Prelude.{◌≤◌, length};
+ghost use Rattle.sweep.specs.Joined.{AllJoined};
 
 use attr_tables::SmpAttribute;
 use fabric_wire::{Fabric, SmpWire, get_attribute, set_attribute};
@@ -9,17 +10,18 @@ use pkey_rules::{KeyTable, PARTITIONS};
 use std::alloc::Global;
 use std::test::Fail;
 use sweep::{Graph, sweep};
-use table_push::{PushFault, push_keys, push_linear, push_ports};
+use table_push::{PushFault, push_all, push_keys, push_linear, push_ports};
 use test_fabrics::two_switch_fabric;
 use updn_routes::{Routes, are_switches, routes};
 
-/// One of the three pushes, or none.
+/// One of the three pushes, none, or all one after another.
 #[derive(Clone, Copy, Debug)]
 pub enum Push {
     Nothing,
     Ports,
     Keys,
     Linear,
+    All,
 }
 
 impl Push {
@@ -35,6 +37,7 @@ impl Push {
             Push::Ports => push_ports(wire, routes),
             Push::Keys => push_keys(wire, routes, keys),
             Push::Linear => push_linear(wire, routes),
+            Push::All => push_all(wire, routes, keys),
         }
     }
 }
@@ -48,14 +51,18 @@ pub fn found(alloc: Global) -> Result<(Fabric, Routes), Fail> {
 
 /// The routes of what a sweep finds, with these switches as roots.
 pub fn routes_over<W: SmpWire>(alloc: Global, wire: &mut W, roots: &[u64]) -> Result<Routes, Fail> {
-    let graph = sweep(alloc, wire).or(Err("a graph"))?;
-    routes_of(alloc, graph, roots)
+    match sweep(alloc, wire) {
+        Ok(graph) => routes_of(alloc, graph, roots),
+        Err(_) => Err("a graph")?,
+    }
 }
 
-fn routes_of(alloc: Global, graph: Graph, roots: &[u64]) -> Result<Routes, Fail> {
+fn routes_of(alloc: Global, graph: Graph, roots: &[u64]) -> Result<Routes, Fail>
+    requires joined { AllJoined graph.rows }
+{
     let lids = assign(alloc, &graph).or(Err("LIDs"))?;
-    if !graph.is_joined() || !are_switches(&graph, roots) {
-        return Err("a joined fabric, and roots that are switches")?;
+    if !are_switches(&graph, roots) {
+        return Err("roots that are switches")?;
     }
     Ok(routes(alloc, graph, lids, roots).or(Err("routes"))?)
 }

@@ -5,3 +5,4 @@ pub mod AckLemmas
 pub mod ReadBackLemmas
 pub mod WholeLemmas
 pub mod TableLemmas
+pub mod NumberLemmas

@@ -12,7 +12,8 @@ use Rattle.mad_layout.proofs.AlignedLemmas.{bytes_stand}
 use Rattle.mad_layout.proofs.LayoutLemmas.{length-put_all, spelled_below, zeros_below}
 use Rattle.mad_layout.proofs.NumberLemmas.{below_append, number_below}
 use Rattle.rmpp_core.specs.Laws.{IsTransfer}
-use Rattle.rmpp_core.specs.Receiving.{rmpp_in, data_in}
+use Rattle.mad_layout.specs.RmppHeader.{rmpp_in}
+use Rattle.mad_layout.specs.SaMad.{data_in}
 use Rattle.rmpp_core.specs.Reply.{reply_fields, reply_bytes}
 use Rattle.rmpp_core.specs.Segments.{Transfer, segment_count, segment_of, payload_size, payload_length, padded_segment, segment_rmpp, segment_sa, segment_fields, segment_mad}
 use Rattle.rmpp_core.proofs.CutLemmas.{segment_is, segment_length}

@@ -2,7 +2,9 @@
 use Rattle.std.proofs.Common.{◌≡◌, ℕ, ◌+◌, Bool, List, ◌++◌, take, Result, Ok, Err, sym, subst}
 use Rattle.mad_layout.specs.declared.rmpp_header.RmppHeader.{RmppHeader}
 use Rattle.rmpp_core.specs.declared.receiver.ReceiveFault.{ReceiveFault}
-use Rattle.rmpp_core.specs.Receiving.{ReassemblyState, rmpp_in, data_in, is_last, first_length_of, carried, grown, with_segment, Grows}
+use Rattle.rmpp_core.specs.Receiving.{ReassemblyState, is_last, first_length_of, carried, grown, with_segment, Grows}
+use Rattle.mad_layout.specs.RmppHeader.{rmpp_in}
+use Rattle.mad_layout.specs.SaMad.{data_in}
 
 segment_grows : (so_far : ReassemblyState) (mad : List ℕ) (rmpp : RmppHeader) (given : Result ℕ ReceiveFault) (result : Result (Unit {0}) ReceiveFault) (new : ReassemblyState)
     → rmpp ≡ rmpp_in mad → carried so_far rmpp ≡ given → Grows (grown so_far rmpp (data_in mad) given) result new → Grows (with_segment so_far mad) result new

@@ -10,8 +10,10 @@ use Rattle.std.proofs.lemmas.Grind.{flat_map-append}
 use Rattle.std.proofs.lemmas.List.{take_all, length-take}
 use Rattle.rmpp_core.specs.declared.receiver.ReceiveFault.{ReceiveFault}
 use Rattle.rmpp_core.specs.declared.receiver.ReceiveFault.TheVariants.{UnexpectedSegment, WrongLength}
-use Rattle.rmpp_core.specs.Laws.{told_in, IsSegmentAt, IsTable, WhatIsReceivedIsATable, after_all}
-use Rattle.rmpp_core.specs.Receiving.{ReassemblyState, nothing, rmpp_in, data_in, is_data, is_first, is_last, is_expected, first_length_of, has_right_length, grown, with_segment, whole_bytes}
+use Rattle.rmpp_core.specs.Laws.{payload_length_in, IsSegmentAt, IsTable, WhatIsReceivedIsATable, after_all}
+use Rattle.rmpp_core.specs.Receiving.{ReassemblyState, nothing, is_data, is_first, is_last, is_expected, first_length_of, has_right_length, grown, with_segment, whole_bytes}
+use Rattle.mad_layout.specs.RmppHeader.{rmpp_in}
+use Rattle.mad_layout.specs.SaMad.{data_in}
 
 -- ---- what comes of one segment
 abbrev choice : Bool → Bool → Bool → ℕ → Result ℕ ReceiveFault
@@ -38,19 +40,19 @@ record Taken (r : ReassemblyState) (mad : List ℕ) (count : ℕ) (ends : Bool) 
   is : with_segment r mad ≡ Ok (one_on r mad count)
 
 segment_gives : (r : ReassemblyState) (mad : List ℕ) (a b c : Bool) → is_expected r (rmpp_in mad) ≡ a → is_last (rmpp_in mad) ≡ b → has_right_length r (rmpp_in mad) ≡ c
-    → with_segment r mad ≡ grown r (rmpp_in mad) (data_in mad) (choice a b c (told_in mad))
+    → with_segment r mad ≡ grown r (rmpp_in mad) (data_in mad) (choice a b c (payload_length_in mad))
 unfolding with_segment
 segment_gives r mad a b c e f g =
     let rmpp = rmpp_in mad in
     ap (λ (given : Result ℕ ReceiveFault). grown r rmpp (data_in mad) given)
-    (ap (λ (x : Bool). choice x (is_last rmpp) (has_right_length r rmpp) (told_in mad)) e
-    ∙ ap (λ (x : Bool). choice a x (has_right_length r rmpp) (told_in mad)) f ∙ ap (λ (x : Bool). choice a b x (told_in mad)) g)
+    (ap (λ (x : Bool). choice x (is_last rmpp) (has_right_length r rmpp) (payload_length_in mad)) e
+    ∙ ap (λ (x : Bool). choice a x (has_right_length r rmpp) (payload_length_in mad)) f ∙ ap (λ (x : Bool). choice a b x (payload_length_in mad)) g)
 
-outcome : (r : ReassemblyState) (mad : List ℕ) → Refused r mad ⊎ (Taken r mad 200 false ⊎ Taken r mad (told_in mad - 20) true)
+outcome : (r : ReassemblyState) (mad : List ℕ) → Refused r mad ⊎ (Taken r mad 200 false ⊎ Taken r mad (payload_length_in mad - 20) true)
 outcome r mad = by (is_expected r (rmpp_in mad)) (is_last (rmpp_in mad)) (has_right_length r (rmpp_in mad)) refl refl refl
   where
     by : (a b c : Bool) → is_expected r (rmpp_in mad) ≡ a → is_last (rmpp_in mad) ≡ b → has_right_length r (rmpp_in mad) ≡ c
-        → Refused r mad ⊎ (Taken r mad 200 false ⊎ Taken r mad (told_in mad - 20) true)
+        → Refused r mad ⊎ (Taken r mad 200 false ⊎ Taken r mad (payload_length_in mad - 20) true)
     by false b c e f g = inl (record { fault = UnexpectedSegment; is = segment_gives r mad false b c e f g })
     by true false c e f g = inr (inl (record { expected = e; last = f; right = λ no. absurd cc; is = segment_gives r mad true false c e f g }))
     by true true false e f g = inl (record { fault = WrongLength; is = segment_gives r mad true true false e f g })
@@ -82,7 +84,7 @@ record Held (done : List (List ℕ)) (r : ReassemblyState) : Type 0 where
   open_still : r.is_whole ≡ false
   count : r.segments ≡ length done
   bytes : r.bytes ≡ flat_map data_in done
-  told : 0 < length done → r.first_length ≡ told_in (get_or done 0 [])
+  told : 0 < length done → r.first_length ≡ payload_length_in (get_or done 0 [])
   each : (place : ℕ) → place < length done → IsInner place (get_or done place [])
   none_last : (place : ℕ) → place < length done → is_last (rmpp_in (get_or done place [])) ≡ false
 
@@ -104,7 +106,7 @@ inner_is done r mad held e =
       first = turn_back (r.segments == 0) (is_first rmpp) c.1 ∙ ap (λ (n : ℕ). n == 0) held.count;
     }
 
-first_kept : (done : List (List ℕ)) (r : ReassemblyState) (mad : List ℕ) → Held done r → first_length_of r (rmpp_in mad) ≡ told_in (get_or (done ++ mad ∷ []) 0 [])
+first_kept : (done : List (List ℕ)) (r : ReassemblyState) (mad : List ℕ) → Held done r → first_length_of r (rmpp_in mad) ≡ payload_length_in (get_or (done ++ mad ∷ []) 0 [])
 first_kept [] r mad held = let none : (r.segments == 0) ≡ true = eq-eqb r.segments 0 held.count in rw none refl
 first_kept (d ∷ ds) r mad held =
     let some : (r.segments == 0) ≡ false = ap (λ (n : ℕ). n == 0) held.count ∙ grind (arith, nat_tests) in
@@ -162,11 +164,11 @@ some_is xs ys e = ap (λ (o : Option (List ℕ)). or_none o) e
 last_of : (count place : ℕ) (mad : List ℕ) → IsInner place mad → is_last (rmpp_in mad) ≡ (place + 1 == count) → IsSegmentAt count place mad
 last_of count place mad inner last = record { segment = inner.segment; number = inner.number; first = inner.first; last = last }
 
-table_is : (done : List (List ℕ)) (r : ReassemblyState) (mad : List ℕ) (bytes : List ℕ) → Held done r → length mad ≡ 256 → Taken r mad (told_in mad - 20) true
-    → r.bytes ++ take (told_in mad - 20) (data_in mad) ≡ bytes → IsTable (done ++ mad ∷ []) bytes
+table_is : (done : List (List ℕ)) (r : ReassemblyState) (mad : List ℕ) (bytes : List ℕ) → Held done r → length mad ≡ 256 → Taken r mad (payload_length_in mad - 20) true
+    → r.bytes ++ take (payload_length_in mad - 20) (data_in mad) ≡ bytes → IsTable (done ++ mad ∷ []) bytes
 table_is done r mad bytes held size taken joined =
     let rmpp = rmpp_in mad in
-    let own = told_in mad in
+    let own = payload_length_in mad in
     let whole = 20 * (r.segments + 1) + (length r.bytes + (own - 20)) in
     let a = and_parts (nat_le 20 own) (nat_le own 220 && (first_length_of r rmpp == whole)) (taken.right refl) in
     let b = and_parts (nat_le own 220) (first_length_of r rmpp == whole) a.1 in
@@ -209,8 +211,8 @@ go (mad ∷ mads) done r bytes sizes held h =
             subst (λ (all : List (List ℕ)). IsTable all bytes) (append_snoc done mad mads)
             (go mads (done ++ mad ∷ []) (one_on r mad 200) bytes sizes.1 (held_on done r mad held sizes.0 inner) (subst P inner.is h))
         | inr last ↦
-            let end = ended (one_on r mad (told_in mad - 20)) mads bytes last.last (subst P last.is h) in
-            let table = table_is done r mad bytes held sizes.0 last (some_is (r.bytes ++ take (told_in mad - 20) (data_in mad)) bytes end.1) in
+            let end = ended (one_on r mad (payload_length_in mad - 20)) mads bytes last.last (subst P last.is h) in
+            let table = table_is done r mad bytes held sizes.0 last (some_is (r.bytes ++ take (payload_length_in mad - 20) (data_in mad)) bytes end.1) in
             subst (λ (rest : List (List ℕ)). IsTable (done ++ mad ∷ rest) bytes) (sym end.0) table
       ]
     ]

@@ -12,7 +12,7 @@ use Rattle.rmpp_core.specs.declared.receiver.ReceiveFault.{ReceiveFault}
 use Rattle.rmpp_core.specs.declared.receiver.ReceiveFault.TheVariants.{UnexpectedSegment, WrongLength}
 use Rattle.rmpp_core.specs.Laws.{IsTransfer, segment_mads, after_all, SegmentsAreReceived}
 use Rattle.rmpp_core.specs.Receiving.{ReassemblyState, nothing, is_last, is_expected, first_length_of, has_right_length, carried, grown, with_segment, whole_bytes}
-use Rattle.rmpp_core.specs.Receiving.{data_in}
+use Rattle.mad_layout.specs.SaMad.{data_in}
 use Rattle.rmpp_core.specs.Segments.{Transfer, segment_count, segment_of, payload_size, payload_length, padded_segment, segment_rmpp, segment_mad}
 use Rattle.rmpp_core.proofs.CutLemmas.{segment_is, segment_length}
 use Rattle.rmpp_core.proofs.ReadBackLemmas.{reads_back}

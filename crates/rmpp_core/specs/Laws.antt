@@ -1,14 +1,17 @@
 -- What holds of all transfers: the statements of the laws of `src/laws.rt`.
-use Rattle.std.specs.Prelude.{ℕ, ◌≡◌, ◌+◌, ◌-◌, ◌*◌, ◌^◌, ◌<◌, ◌≤◌, ◌==◌, List, [], ◌∷◌, ◌++◌, map, length, get_or, take, max, Bool, true, false, Result, Ok, Err, Some}
+use Rattle.std.specs.Prelude.{ℕ, ◌≡◌, ◌+◌, ◌-◌, ◌*◌, ◌^◌, ◌<◌, ◌≤◌, ◌==◌, List, [], ◌∷◌, ◌++◌, map, length, get_or, take, max, Bool, true, false, ◌⊎◌, Result, Ok, Err, Some}
 use Rattle.std.specs.Int.Digits.{AllBelowBase}
 use Rattle.std.specs.List.{AllByRecursion, flat_map, range_with_len}
+use Rattle.mad_layout.specs.Bits.{field}
 use Rattle.mad_layout.specs.Layout.{Fits}
 use Rattle.mad_layout.specs.MadHeader.{mad_header}
 use Rattle.rmpp_core.specs.declared.abort.AbortCause.{AbortCause}
 use Rattle.rmpp_core.specs.declared.receiver.ReceiveFault.{ReceiveFault}
 use Rattle.rmpp_core.specs.declared.sender.Acknowledged.{Acknowledged}
 use Rattle.rmpp_core.specs.Acks.{after_ack}
-use Rattle.rmpp_core.specs.Receiving.{ReassemblyState, nothing, rmpp_in, data_in, told, is_data, is_first, is_last, after_data, whole_bytes}
+use Rattle.rmpp_core.specs.Receiving.{ReassemblyState, nothing, payload_length_of, is_data, is_first, is_last, after_data, whole_bytes}
+use Rattle.mad_layout.specs.RmppHeader.{rmpp_in}
+use Rattle.mad_layout.specs.SaMad.{data_in}
 use Rattle.rmpp_core.specs.Segments.{Transfer, segment_count, segments_of, segment_of, payload_size, segment_mad}
 
 -- ---- the cut: put together the segments are the bytes; each but the last has 200, and the last has some where there
@@ -68,11 +71,36 @@ SegmentsAreReceived =
     (transfer : Transfer) → IsTransfer transfer
     → whole_bytes (after_all (Ok nothing) (segment_mads transfer)) ≡ Some transfer.bytes
 
+-- ---- in numbers of their own: a segment has RMPP version 1, is DATA (1), and has the number that it was asked by
+pub record HasItsNumbers (mad : List ℕ) (number : ℕ) : Type 0 where
+  pub version : field mad 192 8 ≡ 1
+  pub kind : field mad 200 8 ≡ 1
+  pub number_is : field mad 224 32 ≡ number
+
+abbrev pub SegmentsHaveTheirNumbers : Type 0
+SegmentsHaveTheirNumbers =
+    (transfer : Transfer) (number : ℕ) → IsTransfer transfer → 1 ≤ number → number ≤ segment_count transfer.bytes
+    → HasItsNumbers (segment_mad transfer number) number
+
+-- the segment of this number has the last of so many bytes, or is the only one: 200 go before for each segment before it
+abbrev pub IsLastOf : ℕ → ℕ → Type 0
+IsLastOf long number = (1 ≤ number) × (long ≤ 200 * number) × ((number ≡ 1) ⊎ (200 * number < long + 200))
+
+-- a transfer is complete exactly where its last segment was acknowledged
+pub record CompletesAtLast (long number : ℕ) (acked : Acknowledged) : Type 0 where
+  pub then : acked.is_complete ≡ true → IsLastOf long number
+  pub only : IsLastOf long number → acked.is_complete ≡ true
+
+abbrev pub LastAcksComplete : Type 0
+LastAcksComplete =
+    (bytes : List ℕ) (window number new : ℕ) (acked : Acknowledged) → after_ack window (segment_count bytes) number new ≡ Ok acked
+    → CompletesAtLast (length bytes) number acked
+
 -- ---- what came to a receiver that has a table, each MAD of 256 bytes: segments in turn, First on the first and Last
 -- on the last; the bytes are the data of all, of the last as many as it tells; and the first tells the length of all,
 -- with 20 for each segment
-abbrev pub told_in : List ℕ → ℕ
-told_in mad = told (rmpp_in mad)
+abbrev pub payload_length_in : List ℕ → ℕ
+payload_length_in mad = payload_length_of (rmpp_in mad)
 
 pub record IsSegmentAt (count place : ℕ) (mad : List ℕ) : Type 0 where
   pub segment : is_data (rmpp_in mad) ≡ true
@@ -85,10 +113,10 @@ pub record IsTable (mads : List (List ℕ)) (bytes : List ℕ) : Type 0 where
   pub last : List ℕ
   pub split : mads ≡ front ++ last ∷ []
   pub each : (place : ℕ) → place < length mads → IsSegmentAt (length mads) place (get_or mads place [])
-  pub at_least : 20 ≤ told_in last
-  pub at_most : told_in last ≤ 220
-  pub joined : bytes ≡ flat_map data_in front ++ take (told_in last - 20) (data_in last)
-  pub whole_length : told_in (get_or mads 0 []) ≡ 20 * length mads + length bytes
+  pub at_least : 20 ≤ payload_length_in last
+  pub at_most : payload_length_in last ≤ 220
+  pub joined : bytes ≡ flat_map data_in front ++ take (payload_length_in last - 20) (data_in last)
+  pub whole_length : payload_length_in (get_or mads 0 []) ≡ 20 * length mads + length bytes
 
 abbrev pub WhatIsReceivedIsATable : Type 0
 WhatIsReceivedIsATable =

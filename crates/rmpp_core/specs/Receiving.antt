@@ -1,32 +1,18 @@
 -- Which segments a receiver takes (IBA volume 1, chapter 13).
 use Rattle.std.specs.Prelude.{ℕ, ◌≡◌, ◌+◌, ◌-◌, ◌*◌, ◌==◌, Bool, false, ◌&&◌, not, nat_le, if◌then◌else◌, bit_and}
-use Rattle.std.specs.Prelude.{List, [], ◌++◌, length, take, slice_range, Option, Some, None, Result, Ok, Err}
+use Rattle.std.specs.Prelude.{List, [], ◌++◌, length, take, Option, Some, None, Result, Ok, Err}
 use Rattle.mad_layout.specs.declared.rmpp_header.RmppHeader.{RmppHeader}
 use Rattle.mad_layout.specs.declared.rmpp_kind.RmppKind.TheVariants.{Data}
-use Rattle.mad_layout.specs.Bits.{field}
+use Rattle.mad_layout.specs.RmppHeader.{rmpp_in}
+use Rattle.mad_layout.specs.SaMad.{data_in}
 use Rattle.mad_layout.specs.RmppKind.{rmpp_kind_code}
 use Rattle.rmpp_core.specs.declared.receiver.ReceiveFault.{ReceiveFault}
 use Rattle.rmpp_core.specs.declared.receiver.ReceiveFault.TheVariants.{NoMemory, UnexpectedSegment, WrongLength}
 
 -- ---- what a MAD says as a segment
-abbrev pub rmpp_in : List ℕ → RmppHeader
-rmpp_in mad =
-    record {
-      version = field mad 192 8;
-      kind = field mad 200 8;
-      response_time = field mad 208 5;
-      flags = field mad 213 3;
-      status = field mad 216 8;
-      segment_number = field mad 224 32;
-      payload_length_or_new_window_last = field mad 256 32;
-    }
-
-abbrev pub data_in : List ℕ → List ℕ
-data_in mad = slice_range mad 56 256
-
--- the length that it tells
-abbrev pub told : RmppHeader → ℕ
-told rmpp = rmpp.payload_length_or_new_window_last
+-- its PayloadLength
+abbrev pub payload_length_of : RmppHeader → ℕ
+payload_length_of rmpp = rmpp.payload_length_or_new_window_last
 
 abbrev pub has_flag : ℕ → RmppHeader → Bool
 has_flag flag rmpp = bit_and rmpp.flags flag == flag
@@ -61,21 +47,21 @@ is_expected so_far rmpp =
 
 -- the length that the first segment told, which may be this one
 abbrev pub first_length_of : ReassemblyState → RmppHeader → ℕ
-first_length_of so_far rmpp = if so_far.segments == 0 then told rmpp else so_far.first_length
+first_length_of so_far rmpp = if so_far.segments == 0 then payload_length_of rmpp else so_far.first_length
 
 -- beside its data each segment counts for 20 bytes: the last tells its own length, the first that of all
 abbrev pub has_right_length : ReassemblyState → RmppHeader → Bool
 has_right_length so_far rmpp =
-    nat_le 20 (told rmpp)
-    && (nat_le (told rmpp) 220
-    && (first_length_of so_far rmpp == 20 * (so_far.segments + 1) + (length so_far.bytes + (told rmpp - 20))))
+    nat_le 20 (payload_length_of rmpp)
+    && (nat_le (payload_length_of rmpp) 220
+    && (first_length_of so_far rmpp == 20 * (so_far.segments + 1) + (length so_far.bytes + (payload_length_of rmpp - 20))))
 
 -- how many bytes of its data a segment has
 abbrev pub carried : ReassemblyState → RmppHeader → Result ℕ ReceiveFault
 carried so_far rmpp =
     if not (is_expected so_far rmpp) then Err UnexpectedSegment
     else if not (is_last rmpp) then Ok 200
-    else if has_right_length so_far rmpp then Ok (told rmpp - 20)
+    else if has_right_length so_far rmpp then Ok (payload_length_of rmpp - 20)
     else Err WrongLength
 
 abbrev pub grown : ReassemblyState → RmppHeader → List ℕ → Result ℕ ReceiveFault → Result ReassemblyState ReceiveFault

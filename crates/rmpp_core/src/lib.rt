@@ -19,8 +19,8 @@ mod sender;
 
 pub use crate::abort::AbortCause;
 pub use crate::laws::{
-    segments_are_received, segments_are_the_bytes, segments_go_out_in_order,
-    what_is_received_is_a_table,
+    last_acks_complete, segments_are_received, segments_are_the_bytes, segments_go_out_in_order,
+    segments_have_their_numbers, what_is_received_is_a_table,
 };
 pub use crate::receiver::{ReceiveFault, Receiver};
 pub use crate::reply::{ReplyHeader, reply_mad};

@@ -1,7 +1,8 @@
 //! What has come of a transfer.
 
 ghost use Rattle.std.specs.Prelude.{◌≡◌, ◌≤◌, ◌<◌, ◌+◌, ◌^◌, length, option_map, IfOk};
-ghost use Rattle.rmpp_core.specs.Receiving.{nothing, rmpp_in, is_data, is_expected, first_length_of, has_right_length, carried, with_segment, Grows, whole_of};
+ghost use Rattle.rmpp_core.specs.Receiving.{nothing, is_data, is_expected, first_length_of, has_right_length, carried, with_segment, Grows, whole_of};
+ghost use Rattle.mad_layout.specs.RmppHeader.{rmpp_in};
 
 use crate::receiver::ReceiveFault;
 use crate::sender::{FIELD_BYTES, RMPP_VERSION, SEGMENT_BYTES};

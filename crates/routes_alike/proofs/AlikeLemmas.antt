@@ -109,7 +109,7 @@ module _ (one other : Layout) (place : ℕ → ℕ) (is : IsLayout one) (to : Is
       by true at = absurd (none-some home at)
       by false at = slice_get-map (placed_home place) one.homes (lid - 1) ∙ ap (option_map (placed_home place)) at
 
-  home_low : (lid : ℕ) (home : PortRef) → home_of one.homes lid ≡ Some home → home.node < length one.rows
+  pub home_low : (lid : ℕ) (home : PortRef) → home_of one.homes lid ≡ Some home → home.node < length one.rows
   home_low lid home at = by (lid == 0) at
     where
       by : (b : Bool) → (if b then None else slice_get one.homes (lid - 1)) ≡ Some home → home.node < length one.rows
@@ -190,7 +190,7 @@ ranks_are_alike one other roots ranks other_ranks s alike mine theirs low =
     let same : get_or ranks (alike.back (alike.place s)) 0 ≡ get_or ranks s 0 = ap (λ (k : ℕ). get_or ranks k 0) (alike.there_and_back s low) in
     omega (arith, one_way, back_way, same)
 
-order_same : (one other : Layout) (roots ranks other_ranks : List ℕ) → (alike : AreAlike one other)
+pub order_same : (one other : Layout) (roots ranks other_ranks : List ℕ) → (alike : AreAlike one other)
     → AreRanks one.rows one.guids roots ranks → AreRanks other.rows other.guids roots other_ranks
     → (s t : ℕ) → s < length one.rows → t < length one.rows
     → precedes other_ranks other.guids (alike.place s) (alike.place t) ≡ precedes ranks one.guids s t

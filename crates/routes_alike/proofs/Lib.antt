@@ -1,2 +1,3 @@
 pub mod AlikeLemmas
 pub mod OfFabricLemmas
+pub mod ChoiceLemmas

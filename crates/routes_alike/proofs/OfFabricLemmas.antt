@@ -15,7 +15,7 @@ use Rattle.lid_assign.specs.Lids.{AreLids, adapter_end, end_ports, switch_end}
 use Rattle.smp_wire.specs.FabricState.{FabricState, is_switch_at}
 use Rattle.smp_wire.specs.Good.{IsGood}
 use Rattle.sweep.specs.Graph.{GraphState}
-use Rattle.sweep.specs.OfFabric.{Found, IsGraphOf, guid_at, link_to, node_at, nodes_of, place_of, port_seen, port_to, ports_at, all_ports, ports_up_to, row_of, switch_of}
+use Rattle.sweep.specs.OfFabric.{Found, IsLayoutOf, guid_at, link_to, node_at, nodes_of, place_of, port_seen, port_to, ports_at, all_ports, ports_up_to, row_of, switch_of}
 use Rattle.sweep.specs.Seen.{name_at, seen_at}
 use Rattle.sweep.specs.declared.graph.GraphPort.{GraphPort}
 use Rattle.sweep.specs.declared.graph.GraphSwitch.{GraphSwitch}
@@ -113,7 +113,7 @@ moved from to k = place_of to (get_or from k 0)
 moved_by : (from to : List ℕ) (k node : ℕ) → slice_get from k ≡ Some node → moved from to k ≡ place_of to node
 moved_by from to k node there = ap (place_of to) (get_or_from_slice_get from k node 0 there)
 
-module _ (fabric : FabricState) (graph : GraphState) (is : IsGraphOf graph fabric) where
+module _ (fabric : FabricState) (graph : GraphState) (is : IsLayoutOf graph fabric) where
   long : length (rows_of graph) ≡ length (nodes_of is.found)
   long =
       length-map graph.rows row_from ∙ ap (λ (rows : List (List GraphLink)). length rows) is.rows
@@ -164,7 +164,7 @@ module _ (fabric : FabricState) (graph : GraphState) (is : IsGraphOf graph fabri
       let at = among_place (nodes_of is.found) node (is.all node ∙ switch) in
       subst (λ (k : ℕ). slice_get (nodes_of is.found) k ≡ Some node) (sym (place_is (nodes_of is.found) at.0 node is.once at.1)) at.1
 
-  within_rows : (k node : ℕ) → slice_get (nodes_of is.found) k ≡ Some node → k < length (rows_of graph)
+  pub within_rows : (k node : ℕ) → slice_get (nodes_of is.found) k ≡ Some node → k < length (rows_of graph)
   within_rows k node there =
       let low = slice_get_within (nodes_of is.found) k node there in
       let even = long in
@@ -192,13 +192,13 @@ module _ (fabric : FabricState) (graph : GraphState) (is : IsGraphOf graph fabri
       by_far number (Some there) = by_kind number there (is_switch_at fabric.nodes there.node) refl
 
   -- ---- GUIDs of switches
-  record HasSwitch (guid place : ℕ) : Type 0 where
-    node : ℕ
-    there : slice_get (nodes_of is.found) place ≡ Some node
-    switch : is_switch_at fabric.nodes node ≡ true
-    guid_is : guid_at fabric node ≡ guid
+  pub record HasSwitch (guid place : ℕ) : Type 0 where
+    pub node : ℕ
+    pub there : slice_get (nodes_of is.found) place ≡ Some node
+    pub switch : is_switch_at fabric.nodes node ≡ true
+    pub guid_is : guid_at fabric node ≡ guid
 
-  has_switch : (guid place : ℕ) → place_in graph.switches guid ≡ Some place → HasSwitch guid place
+  pub has_switch : (guid place : ℕ) → place_in graph.switches guid ≡ Some place → HasSwitch guid place
   has_switch guid place at =
       let has = position_at (λ (switch : GraphSwitch). switch.guid == guid) graph.switches place at in
       by has.0 (eqb-true has.0.guid guid has.2) (slice_get is.found place) refl
@@ -218,7 +218,7 @@ module _ (fabric : FabricState) (graph : GraphState) (is : IsGraphOf graph fabri
           }
 
   -- a switch of the fabric has a place by its GUID
-  not_without : (guid node : ℕ) → is_switch_at fabric.nodes node ≡ true → guid_at fabric node ≡ guid
+  pub not_without : (guid node : ℕ) → is_switch_at fabric.nodes node ≡ true → guid_at fabric node ≡ guid
       → place_in graph.switches guid ≡ None → ⊥
   not_without guid node switch same none =
       let at = among_place (nodes_of is.found) node (is.all node ∙ switch) in
@@ -357,7 +357,7 @@ module _ (fabric : FabricState) (graph : GraphState) (is : IsGraphOf graph fabri
   is_layout guids are = record { count = as_many; within = leads_within; hang = hang_there guids are }
 
 -- ---- two graphs of one fabric
-module _ (fabric : FabricState) (one other : GraphState) (good : IsGood fabric) (is : IsGraphOf one fabric) (too : IsGraphOf other fabric) where
+module _ (fabric : FabricState) (one other : GraphState) (good : IsGood fabric) (is : IsLayoutOf one fabric) (too : IsLayoutOf other fabric) where
   abbrev to : ℕ → ℕ
   to = moved (nodes_of is.found) (nodes_of too.found)
 
@@ -490,3 +490,12 @@ graphs_of_one_fabric_are_alike fabric one other guids good is too are are_too =
       there_and_back = there_and_back fabric one other good is too;
       back_and_there = there_and_back fabric other one good too is;
     }
+
+-- where the switch of a GUID stands in the one, and in the other
+pub meets : (fabric : FabricState) (one other : GraphState) (guids : List ℕ) (guid k m : ℕ) → (good : IsGood fabric)
+    → (is : IsLayoutOf one fabric) → (too : IsLayoutOf other fabric) → (are : AreLids (end_ports one) guids)
+    → (are_too : AreLids (end_ports other) guids) → place_in one.switches guid ≡ Some k → place_in other.switches guid ≡ Some m
+    → m ≡ (graphs_of_one_fabric_are_alike fabric one other guids good is too are are_too).place k
+unfolding graphs_of_one_fabric_are_alike
+meets fabric one other guids guid k m good is too are are_too at at_too =
+    switches_meet fabric one other good is too guid k m (has_switch fabric one is guid k at) (has_switch fabric other too guid m at_too)

@@ -1,6 +1,6 @@
 //! What cablings that are alike share. Each function's contract is its law; it does nothing.
 
-ghost use Rattle.routes_alike.specs.Laws.{GraphsOfOneFabricAreAlike, LegalPathsAreAlike, NoneIsReachedAndRefused, OnePairIsRefused, RanksAreAlike};
+ghost use Rattle.routes_alike.specs.Laws.{ChoicesAreAlike, GraphsOfOneFabricAreAlike, LegalPathsAreAlike, NextHopsAreTheFabrics, NoneIsReachedAndRefused, OnePairIsRefused, RanksAreAlike};
 
 /// The ranks of switches do not depend on the order in which they stand.
 pub fn ranks_are_alike()
@@ -22,7 +22,18 @@ pub fn one_pair_is_refused()
     ensures { OnePairIsRefused }
 {}
 
-/// Two graphs of one good fabric, with the same LIDs, differ in the order of their switches alone.
+/// The port that a switch chooses towards another does not depend on the order in which they stand.
+pub fn choices_are_alike()
+    ensures { ChoicesAreAlike }
+{}
+
+/// Two layouts of one good fabric, with the same LIDs, differ in the order of their switches alone.
 pub fn graphs_of_one_fabric_are_alike()
     ensures { GraphsOfOneFabricAreAlike }
+{}
+
+/// By two layouts of one good fabric, with the same LIDs and roots, the switch of a GUID sends what is for a LID by the same
+/// port, in whatever order a sweep found the switches.
+pub fn next_hops_are_the_fabrics()
+    ensures { NextHopsAreTheFabrics }
 {}

@@ -15,7 +15,7 @@ use Rattle.sa_groups.specs.JoinState.{is_joined, is_receiver}
 use Rattle.sa_groups.specs.Members.{is_member}
 use Rattle.sa_groups.specs.Groups.{Membership, MulticastGroup, PartitionGroups}
 use Rattle.sa_groups.specs.Joining.{is_of}
-use Rattle.sa_groups.specs.Delivery.{receives, receives_in, is_receiver_of, reaches}
+use Rattle.sa_groups.specs.Delivery.{receives, receives_in, is_receiver_of, reaches_by_groups}
 use Rattle.sa_groups.specs.Sound.{is_sound_membership, is_sound_group, is_sound_partition, is_sound}
 use Rattle.sa_groups.specs.Sight.{group_seen, partition_seen, seen, Alike}
 use Rattle.sa_groups.proofs.SoundLemmas.{sound_parts, partition_parts}
@@ -24,7 +24,7 @@ use Rattle.result_words.proofs.FilterLemmas.{any_within, any_map_same}
 -- ---- only ports near the sender
 pub reached_is_near : (ports : List SubnetPort) (partitions : List PartitionGroups) (p : ℕ) (command : SendCommand) (sender : SubnetPort)
     → port_with_guid ports command.port_guid ≡ Some sender → refusal_of sender command ≡ None
-    → list_any (λ port. (port.guid == p) && reaches partitions command port) ports ≡ true → is_near ports p command.port_guid ≡ true
+    → list_any (λ port. (port.guid == p) && reaches_by_groups partitions command port) ports ≡ true → is_near ports p command.port_guid ≡ true
 reached_is_near ports partitions p command sender found sends reached =
     joined_is_near ports (is_receiver_of partitions command.dlid) p sender command found (held_unless_refused sender command sends) reached
 
@@ -75,7 +75,7 @@ receives_alike ports p mlid s t alike =
     sym (seen_receives ports p mlid s alike.left_sound) ∙ (ap (λ partitions. is_receiver_of partitions mlid p) alike.same ∙ seen_receives ports p mlid t alike.right_sound)
 
 pub reaches_alike : (ports : List SubnetPort) (s t : List PartitionGroups) (command : SendCommand) (port : SubnetPort) → Alike ports port.guid s t
-    → reaches s command port ≡ reaches t command port
+    → reaches_by_groups s command port ≡ reaches_by_groups t command port
 reaches_alike ports s t command port alike =
     ap (λ receiver. ((receiver && not (port.guid == command.port_guid)) || (port.lid == command.dlid)) && (not (is_switch_type port.node_type) && accepts command.p_key port.keys))
     (receives_alike ports port.guid command.dlid s t alike)

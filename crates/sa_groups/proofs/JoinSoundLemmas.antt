@@ -8,11 +8,12 @@ use Rattle.result_words.proofs.ListLemmas.{found_passes, list_all_weaker}
 use Rattle.subnet_model.specs.declared.subnet_port.SubnetPort.{SubnetPort}
 use Rattle.sa_groups.specs.JoinState.{JoinState, is_joined, with_bits}
 use Rattle.sa_groups.specs.Members.{is_member, is_full_member}
-use Rattle.sa_groups.specs.Groups.{Membership, MulticastGroup, PartitionGroups, first_mlid}
+use Rattle.sa_groups.specs.Groups.{Membership, MulticastGroup, PartitionGroups, first_mlid, lower_port}
 use Rattle.sa_groups.specs.Anchor.{anchors, is_kept, is_by_file, free_mlid, mlid_range}
-use Rattle.sa_groups.specs.Joining.{Join, may_join, may_create, has_mgid, is_of, more_joined, with_member, joined_group, new_group, with_group, with_created, joined_groups, joined_in, joined}
-use Rattle.sa_groups.specs.Sound.{pairwise, other_port, other_mgid, lower_mlid, is_sound_membership, is_in_range, is_sound_group, is_sound_partition, is_sound}
-use Rattle.sa_groups.proofs.ListLemmas.{all_map, all_fail, any_map, any_push, all_push, pairwise_map, pairwise_push}
+use Rattle.sa_groups.specs.Joining.{Join, may_join, may_create, has_mgid, is_of, new_membership, more_joined, with_member, joined_group, new_group, with_group, with_created, joined_groups, joined_in, joined}
+use Rattle.sa_groups.specs.Sound.{pairwise, other_mgid, lower_mlid, is_sound_membership, is_in_range, is_sound_group, is_sound_partition, is_sound}
+use Rattle.sa_groups.proofs.ListLemmas.{all_map, all_fail, any_map, pairwise_map}
+use Rattle.sa_groups.proofs.InPlaceLemmas.{all_in_place, some_in_place, in_place_in_order}
 use Rattle.sa_groups.proofs.SoundLemmas.{sound_parts, sound_group, PartitionParts, partition_parts, sound_partition}
 
 -- ---- one membership
@@ -56,30 +57,27 @@ more_anchors ports base join membership h = elim (cases_Bool (is_of join.port me
 ]
 
 -- ---- the memberships of a group
-abbrev new_membership : Join → Membership
-new_membership join = record { port = join.port; join_state = join.join_state }
-
 members_sound : (ports : List SubnetPort) (base : ℕ) (join : Join) (memberships : List Membership)
     → is_sound_membership ports base (new_membership join) ≡ true → list_all (is_sound_membership ports base) memberships ≡ true
     → list_all (is_sound_membership ports base) (with_member join memberships) ≡ true
 members_sound ports base join memberships one all = elim (cases_Bool (list_any (is_of join.port) memberships)) [
   | inl there ↦ rw there (all_map (is_sound_membership ports base) (is_sound_membership ports base) (more_joined join) (λ m e. more_sound ports base join m e) memberships all)
-  | inr new ↦ rw new (all_push (is_sound_membership ports base) memberships (new_membership join) all one)
+  | inr new ↦ rw new (all_in_place (is_sound_membership ports base) (new_membership join) memberships one all)
 ]
 
-members_apart : (join : Join) (memberships : List Membership) → pairwise other_port memberships ≡ true
-    → pairwise other_port (with_member join memberships) ≡ true
-members_apart join memberships apart = elim (cases_Bool (list_any (is_of join.port) memberships)) [
-  | inl there ↦ rw there (pairwise_map other_port (more_joined join)
-      (λ a b e. rw (more_port join a, more_port join b) e) memberships apart)
-  | inr new ↦ rw new (pairwise_push other_port memberships (new_membership join) apart (all_fail (is_of join.port) memberships new))
+members_in_order : (join : Join) (memberships : List Membership) → pairwise lower_port memberships ≡ true
+    → pairwise lower_port (with_member join memberships) ≡ true
+members_in_order join memberships order = elim (cases_Bool (list_any (is_of join.port) memberships)) [
+  | inl there ↦ rw there (pairwise_map lower_port (more_joined join)
+      (λ a b e. rw (more_port join a, more_port join b) e) memberships order)
+  | inr new ↦ rw new (in_place_in_order (new_membership join) memberships order)
 ]
 
 members_anchor : (ports : List SubnetPort) (base : ℕ) (join : Join) (memberships : List Membership)
     → list_any (anchors ports base) memberships ≡ true → list_any (anchors ports base) (with_member join memberships) ≡ true
 members_anchor ports base join memberships some = elim (cases_Bool (list_any (is_of join.port) memberships)) [
   | inl there ↦ rw there (any_map (anchors ports base) (anchors ports base) (more_joined join) (λ m e. more_anchors ports base join m e) memberships some)
-  | inr new ↦ rw new (any_push (anchors ports base) memberships (new_membership join) some)
+  | inr new ↦ rw new (some_in_place (anchors ports base) (new_membership join) memberships new some)
 ]
 
 -- ---- a group
@@ -102,7 +100,7 @@ joined_group_sound ports partition join group one sound = elim (cases_Bool (has_
         made = parts.made;
         ranged = parts.ranged;
         members = members_sound ports partition.base join group.memberships one parts.members;
-        apart = members_apart join group.memberships parts.apart;
+        by_port = members_in_order join group.memberships parts.by_port;
       }))
   | inr other ↦ rw other sound
 ]
@@ -161,7 +159,7 @@ new_sound ports partition join mlid same one create ranged =
       made = full;
       ranged = ranged;
       members = and_from (is_sound_membership ports partition.base (new_membership join)) true one refl;
-      apart = refl;
+      by_port = refl;
     })
 
 -- ---- a group takes its place

@@ -6,10 +6,10 @@ use Rattle.std.proofs.lemmas.Bool.{cases_Bool, and_from, and_parts}
 use Rattle.subnet_model.specs.declared.subnet_port.SubnetPort.{SubnetPort}
 use Rattle.sa_groups.specs.JoinState.{is_joined}
 use Rattle.sa_groups.specs.Members.{is_member}
-use Rattle.sa_groups.specs.Groups.{Membership, MulticastGroup, PartitionGroups}
+use Rattle.sa_groups.specs.Groups.{Membership, MulticastGroup, PartitionGroups, lower_port}
 use Rattle.sa_groups.specs.Anchor.{is_kept}
 use Rattle.sa_groups.specs.Leaving.{Leave, is_left, less_joined, without_member, left_group, left_in, left}
-use Rattle.sa_groups.specs.Sound.{pairwise, other_port, other_mgid, lower_mlid, may_have_made, is_sound_membership, is_in_range, is_sound_group, is_sound_partition, is_sound}
+use Rattle.sa_groups.specs.Sound.{pairwise, other_mgid, lower_mlid, may_have_made, is_sound_membership, is_in_range, is_sound_group, is_sound_partition, is_sound}
 use Rattle.sa_groups.proofs.ListLemmas.{all_map, all_filter, pairwise_map, pairwise_filter}
 use Rattle.sa_groups.proofs.SoundLemmas.{sound_parts, partition_parts, sound_partition}
 
@@ -30,11 +30,11 @@ left_members_sound ports base leave of_base group all =
     (all_map (is_sound_membership ports base) (λ m. is_member ports base m.port) (less_joined leave of_base group)
     (λ m e. ap (is_member ports base) (less_port leave of_base group m) ∙ (and_parts (is_member ports base m.port) (is_joined m.join_state) e).0) group.memberships all)
 
-left_members_apart : (leave : Leave) (base : ℕ) (group : MulticastGroup) → pairwise other_port group.memberships ≡ true
-    → pairwise other_port (without_member leave base group) ≡ true
-left_members_apart leave base group apart =
-    pairwise_filter other_port (λ m. is_joined m.join_state) (map (less_joined leave base group) group.memberships)
-    (pairwise_map other_port (less_joined leave base group) (λ a b e. rw (less_port leave base group a, less_port leave base group b) e) group.memberships apart)
+left_members_in_order : (leave : Leave) (base : ℕ) (group : MulticastGroup) → pairwise lower_port group.memberships ≡ true
+    → pairwise lower_port (without_member leave base group) ≡ true
+left_members_in_order leave base group apart =
+    pairwise_filter lower_port (λ m. is_joined m.join_state) (map (less_joined leave base group) group.memberships)
+    (pairwise_map lower_port (less_joined leave base group) (λ a b e. rw (less_port leave base group a, less_port leave base group b) e) group.memberships apart)
 
 -- all that makes a group sound but that something keeps it
 abbrev is_sound_unkept : List SubnetPort → PartitionGroups → MulticastGroup → Bool
@@ -42,7 +42,7 @@ is_sound_unkept ports partition group =
     may_have_made ports partition.base group.creator
     && (is_in_range partition.number group.mlid
     && (list_all (is_sound_membership ports partition.base) group.memberships
-    && pairwise other_port group.memberships))
+    && pairwise lower_port group.memberships))
 
 left_group_sound : (ports : List SubnetPort) (partition : PartitionGroups) (leave : Leave) (group : MulticastGroup)
     → is_sound_group ports partition group ≡ true → is_sound_unkept ports partition (left_group leave partition.base group) ≡ true
@@ -51,9 +51,9 @@ left_group_sound ports partition leave group sound =
     let after = without_member leave partition.base group in
     and_from (may_have_made ports partition.base group.creator) _ parts.made
     (and_from (is_in_range partition.number group.mlid) _ parts.ranged
-    (and_from (list_all (is_sound_membership ports partition.base) after) (pairwise other_port after)
+    (and_from (list_all (is_sound_membership ports partition.base) after) (pairwise lower_port after)
     (left_members_sound ports partition.base leave partition.base group parts.members)
-    (left_members_apart leave partition.base group parts.apart)))
+    (left_members_in_order leave partition.base group parts.by_port)))
 
 left_in_sound : (ports : List SubnetPort) (leave : Leave) (partition : PartitionGroups) → is_sound_partition ports partition ≡ true
     → is_sound_partition ports (left_in ports leave partition) ≡ true

@@ -1,10 +1,13 @@
 pub mod ListLemmas
 pub mod SoundLemmas
+pub mod InPlaceLemmas
 pub mod JoinSoundLemmas
 pub mod LeaveSoundLemmas
 pub mod SightLemmas
 pub mod JoinSightLemmas
 pub mod ChangeLemmas
 pub mod DeliveryLemmas
+pub mod ReceiverLemmas
 pub mod WrongLemmas
 pub mod ExampleLemmas
+pub mod FreeMlidLemmas

@@ -8,9 +8,9 @@ use Rattle.partition_file.specs.declared.broadcast_group.BroadcastGroup.{Broadca
 use Rattle.partition_file.specs.declared.heading.Heading.{Heading}
 use Rattle.subnet_model.specs.declared.subnet_port.SubnetPort.{SubnetPort}
 use Rattle.subnet_model.specs.Configuration.{ConfigurationState}
-use Rattle.sa_groups.specs.Groups.{MulticastGroup, PartitionGroups, file_groups, start_from, start_of}
+use Rattle.sa_groups.specs.Groups.{MulticastGroup, PartitionGroups, file_groups, start_from, start_of, lower_port}
 use Rattle.sa_groups.specs.Anchor.{is_kept}
-use Rattle.sa_groups.specs.Sound.{pairwise, other_port, other_mgid, lower_mlid, may_have_made, is_sound_membership, is_in_range, is_sound_group, is_sound_partition, is_sound}
+use Rattle.sa_groups.specs.Sound.{pairwise, other_mgid, lower_mlid, may_have_made, is_sound_membership, is_in_range, is_sound_group, is_sound_partition, is_sound}
 
 -- ---- a group
 pub record SoundParts (ports : List SubnetPort) (partition : PartitionGroups) (group : MulticastGroup) : Type 0 where
@@ -18,7 +18,7 @@ pub record SoundParts (ports : List SubnetPort) (partition : PartitionGroups) (g
   pub made : may_have_made ports partition.base group.creator ≡ true
   pub ranged : is_in_range partition.number group.mlid ≡ true
   pub members : list_all (is_sound_membership ports partition.base) group.memberships ≡ true
-  pub apart : pairwise other_port group.memberships ≡ true
+  pub by_port : pairwise lower_port group.memberships ≡ true
 
 pub sound_parts : (ports : List SubnetPort) (partition : PartitionGroups) (group : MulticastGroup) → is_sound_group ports partition group ≡ true
     → SoundParts ports partition group
@@ -26,8 +26,8 @@ sound_parts ports partition group sound =
     let one = and_parts (is_kept ports partition.base group) _ sound in
     let two = and_parts (may_have_made ports partition.base group.creator) _ one.1 in
     let three = and_parts (is_in_range partition.number group.mlid) _ two.1 in
-    let four = and_parts (list_all (is_sound_membership ports partition.base) group.memberships) (pairwise other_port group.memberships) three.1 in
-    record { kept = one.0; made = two.0; ranged = three.0; members = four.0; apart = four.1 }
+    let four = and_parts (list_all (is_sound_membership ports partition.base) group.memberships) (pairwise lower_port group.memberships) three.1 in
+    record { kept = one.0; made = two.0; ranged = three.0; members = four.0; by_port = four.1 }
 
 pub sound_group : (ports : List SubnetPort) (partition : PartitionGroups) (group : MulticastGroup) → SoundParts ports partition group
     → is_sound_group ports partition group ≡ true
@@ -35,7 +35,7 @@ sound_group ports partition group parts =
     and_from (is_kept ports partition.base group) _ parts.kept
     (and_from (may_have_made ports partition.base group.creator) _ parts.made
     (and_from (is_in_range partition.number group.mlid) _ parts.ranged
-    (and_from (list_all (is_sound_membership ports partition.base) group.memberships) (pairwise other_port group.memberships) parts.members parts.apart)))
+    (and_from (list_all (is_sound_membership ports partition.base) group.memberships) (pairwise lower_port group.memberships) parts.members parts.by_port)))
 
 -- ---- a partition
 pub record PartitionParts (ports : List SubnetPort) (partition : PartitionGroups) (groups : List MulticastGroup) : Type 0 where

@@ -2,11 +2,12 @@
 use Rattle.std.proofs.Common.{◌==◌, true, false, List, [], ◌∷◌, ◌≡◌, ap, refl}
 use Rattle.std.specs.List.{list_any}
 use Rattle.subnet_model.specs.declared.subnet_port.SubnetPort.{SubnetPort}
+use Rattle.sa_groups.specs.JoinState.{JoinState}
 use Rattle.sa_groups.specs.Groups.{PartitionGroups}
 use Rattle.sa_groups.specs.Joining.{joined}
 use Rattle.sa_groups.specs.Sight.{Alike}
 use Rattle.sa_groups.specs.Examples.{adapter, full_member, parameters, ports, nobody, both, mgid, join_of, leave_of, mlids}
-use Rattle.sa_groups.specs.WrongRules.{OnePoolIsSeen, MgidsAloneAreSeen, LimitedKeepersAreSeen}
+use Rattle.sa_groups.specs.WrongRules.{OnePoolIsSeen, MgidsAloneAreSeen, LimitedKeepersAreSeen, SendersAreReached, ComersAreTold}
 
 -- two ports, each alone in its partition
 abbrev apart : List SubnetPort
@@ -38,4 +39,30 @@ one = joined ports (join_of 0x111 mgid) nobody
 pub limited_keepers_are_seen : LimitedKeepersAreSeen
 limited_keepers_are_seen law =
     let same : false ≡ true = ap (λ state. list_any (λ mlid. mlid == 0xc020) (mlids state)) (law ports 0x131 (leave_of 0x111 mgid) one both refl (record { left_sound = refl; right_sound = refl; same = refl })) in
+    absurd (cc)
+
+-- one port makes a group, and the other joins it, only to send or to receive too
+abbrev together : List SubnetPort
+together = adapter 1 0x101 (0xffff ∷ []) ∷ adapter 2 0x111 (0x8001 ∷ []) ∷ adapter 3 0x121 (0x8001 ∷ []) ∷ []
+
+abbrev made : List PartitionGroups
+made = joined together (join_of 0x111 mgid) no_groups
+
+abbrev sender : JoinState
+sender = record { full_member = false; non_member = false; send_only_non_member = true }
+
+abbrev with_sender : List PartitionGroups
+with_sender = joined together (record (join_of 0x121 mgid) { join_state = sender }) made
+
+abbrev with_receiver : List PartitionGroups
+with_receiver = joined together (join_of 0x121 mgid) made
+
+pub senders_are_reached : SendersAreReached
+senders_are_reached law =
+    let same : true ≡ false = law together with_sender 0xc020 (adapter 3 0x121 (0x8001 ∷ [])) refl refl refl in
+    absurd (cc)
+
+pub comers_are_told : ComersAreTold
+comers_are_told law =
+    let same : false ≡ true = law together made with_receiver 1 (record { mlid = 0xc020; lid = 3 }) refl refl in
     absurd (cc)

@@ -21,5 +21,5 @@ abbrev pub is_receiver_of : List PartitionGroups → ℕ → ℕ → Bool
 is_receiver_of partitions mlid guid = list_any (receives_in mlid guid) partitions
 
 -- whom a packet reaches, where ports have joined these groups
-abbrev pub reaches : List PartitionGroups → SendCommand → SubnetPort → Bool
-reaches partitions command port = reaches_joined (is_receiver_of partitions command.dlid) command port
+abbrev pub reaches_by_groups : List PartitionGroups → SendCommand → SubnetPort → Bool
+reaches_by_groups partitions command port = reaches_joined (is_receiver_of partitions command.dlid) command port

@@ -10,7 +10,7 @@ use Rattle.sa_groups.specs.JoinState.{JoinState}
 use Rattle.sa_groups.specs.Groups.{GroupParameters, PartitionGroups, start_of}
 use Rattle.sa_groups.specs.Joining.{Join, joined}
 use Rattle.sa_groups.specs.Leaving.{Leave}
-use Rattle.sa_groups.specs.Delivery.{reaches}
+use Rattle.sa_groups.specs.Delivery.{reaches_by_groups}
 
 abbrev pub adapter : ℕ → ℕ → List ℕ → SubnetPort
 adapter lid guid keys = record {
@@ -90,7 +90,7 @@ abbrev pub to_the_group : SendCommand
 to_the_group = record { port_guid = 0x131; dlid = 0xc020; p_key = 0x0001; destination_qp = 7; payload = 1 ∷ [] }
 
 abbrev pub receivers : List PartitionGroups → List ℕ
-receivers partitions = map (λ port. port.guid) (filter (reaches partitions to_the_group) ports)
+receivers partitions = map (λ port. port.guid) (filter (reaches_by_groups partitions to_the_group) ports)
 
 -- the partition file may make a group
 abbrev pub with_broadcast_group : ConfigurationState

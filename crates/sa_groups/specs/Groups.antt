@@ -1,5 +1,5 @@
 -- What subnet administration remembers of multicast groups (IBA volume 1, 15.2.5).
-use Rattle.std.specs.Prelude.{ℕ, ◌+◌, ◌*◌, List, [], ◌∷◌, Option, Some, None}
+use Rattle.std.specs.Prelude.{ℕ, ◌+◌, ◌*◌, Bool, nat_lt, List, [], ◌∷◌, Option, Some, None}
 use Rattle.std.specs.Int.Digits.{number_from_digits}
 use Rattle.partition_file.specs.declared.broadcast_group.BroadcastGroup.{BroadcastGroup}
 use Rattle.partition_file.specs.declared.heading.Heading.{Heading}
@@ -29,7 +29,11 @@ pub record Membership : Type 0 where
   pub port : ℕ
   pub join_state : JoinState
 
--- a group: its MGID as one number, its MLID, and its memberships in the order in which ports came
+-- the memberships of a group stand by the GUIDs of their ports
+abbrev pub lower_port : Membership → Membership → Bool
+lower_port a b = nat_lt a.port b.port
+
+-- a group: its MGID as one number, its MLID, and its memberships by port
 pub record MulticastGroup : Type 0 where
   pub mgid : ℕ
   pub mlid : ℕ

@@ -1,10 +1,10 @@
 -- What a join does to the multicast groups of a subnet (IBA volume 1, 15.2.5).
-use Rattle.std.specs.Prelude.{ℕ, Bool, ◌==◌, ◌&&◌, nat_lt, if◌then◌else◌, List, [], ◌∷◌, ◌++◌, Option, Some, None, map}
+use Rattle.std.specs.Prelude.{ℕ, Bool, ◌==◌, ◌&&◌, nat_lt, if◌then◌else◌, List, [], ◌∷◌, ◌++◌, Option, Some, None, map, filter}
 use Rattle.std.specs.List.{list_any}
 use Rattle.subnet_model.specs.declared.subnet_port.SubnetPort.{SubnetPort}
 use Rattle.sa_groups.specs.JoinState.{JoinState, is_joined, with_bits}
 use Rattle.sa_groups.specs.Members.{is_member, is_full_member}
-use Rattle.sa_groups.specs.Groups.{Creator, GroupParameters, Membership, MulticastGroup, PartitionGroups}
+use Rattle.sa_groups.specs.Groups.{Creator, GroupParameters, Membership, MulticastGroup, PartitionGroups, lower_port}
 use Rattle.sa_groups.specs.Anchor.{free_mlid}
 
 -- a port joins the group of an MGID in the partition of a base; where there is none, it is made with these parameters
@@ -36,12 +36,20 @@ more_joined join membership =
     then record { port = membership.port; join_state = with_bits join.join_state membership.join_state }
     else membership
 
+abbrev pub new_membership : Join → Membership
+new_membership join = record { port = join.port; join_state = join.join_state }
+
+-- a membership takes its place by its port
+abbrev pub in_place : Membership → List Membership → List Membership
+in_place new memberships =
+    filter (λ membership. lower_port membership new) memberships ++ new ∷ filter (λ membership. lower_port new membership) memberships
+
 -- it gets the bits besides its own; where there is none, it is added
 abbrev pub with_member : Join → List Membership → List Membership
 with_member join memberships =
     if list_any (is_of join.port) memberships
     then map (more_joined join) memberships
-    else memberships ++ record { port = join.port; join_state = join.join_state } ∷ []
+    else in_place (new_membership join) memberships
 
 abbrev pub joined_group : Join → MulticastGroup → MulticastGroup
 joined_group join group =

@@ -10,7 +10,7 @@ use Rattle.sa_groups.specs.Groups.{PartitionGroups, start_of}
 use Rattle.sa_groups.specs.Joining.{Join, joined}
 use Rattle.sa_groups.specs.Leaving.{Leave, left}
 use Rattle.sa_groups.specs.Changes.{Change, partition_of, changed, after_changes, changes_near}
-use Rattle.sa_groups.specs.Delivery.{reaches}
+use Rattle.sa_groups.specs.Delivery.{reaches_by_groups}
 use Rattle.sa_groups.specs.Sound.{is_sound_partition, is_sound}
 use Rattle.sa_groups.specs.Sight.{Alike}
 
@@ -78,11 +78,11 @@ abbrev pub PacketsReachThoseNear : Type 0
 PacketsReachThoseNear =
     (ports : List SubnetPort) (partitions : List PartitionGroups) (p : ℕ) (command : SendCommand) (sender : SubnetPort)
     → port_with_guid ports command.port_guid ≡ Some sender → refusal_of sender command ≡ None
-    → list_any (λ port. (port.guid == p) && reaches partitions command port) ports ≡ true
+    → list_any (λ port. (port.guid == p) && reaches_by_groups partitions command port) ports ≡ true
     → is_near ports p command.port_guid ≡ true
 
 -- whether it reaches a port is the same in states that are alike to the port
 abbrev pub PacketsReachAlike : Type 0
 PacketsReachAlike =
     (ports : List SubnetPort) (s t : List PartitionGroups) (command : SendCommand) (port : SubnetPort)
-    → Alike ports port.guid s t → reaches s command port ≡ reaches t command port
+    → Alike ports port.guid s t → reaches_by_groups s command port ≡ reaches_by_groups t command port

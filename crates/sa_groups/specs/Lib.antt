@@ -6,9 +6,12 @@ pub mod Joining
 pub mod Leaving
 pub mod Changes
 pub mod Delivery
+pub mod Receivers
 pub mod Sound
 pub mod Sight
 pub mod Laws
+pub mod ReceiverLaws
+pub mod FreeMlid
 pub mod WrongRules
 pub mod Examples
 pub mod ExampleLaws

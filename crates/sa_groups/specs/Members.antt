@@ -5,9 +5,13 @@ use Rattle.pkey_rules.specs.PKey.{key_of}
 use Rattle.pkey_rules.specs.KeyTable.{accepts, holds}
 use Rattle.subnet_model.specs.declared.subnet_port.SubnetPort.{SubnetPort}
 
--- the port of this GUID is a member of the partition of this base: it accepts what a full member sends
+-- the port is a member of the partition of this base: it accepts what a full member sends
+abbrev pub is_in : SubnetPort → ℕ → Bool
+is_in port base = accepts (key_of base true) port.keys
+
+-- and so is the port of this GUID
 abbrev pub is_member : List SubnetPort → ℕ → ℕ → Bool
-is_member ports base guid = list_any (λ port. (port.guid == guid) && accepts (key_of base true) port.keys) ports
+is_member ports base guid = list_any (λ port. (port.guid == guid) && is_in port base) ports
 
 -- it is a full member of it
 abbrev pub is_full_member : List SubnetPort → ℕ → ℕ → Bool

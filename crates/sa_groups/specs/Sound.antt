@@ -4,16 +4,13 @@ use Rattle.std.specs.List.{list_all}
 use Rattle.subnet_model.specs.declared.subnet_port.SubnetPort.{SubnetPort}
 use Rattle.sa_groups.specs.JoinState.{is_joined}
 use Rattle.sa_groups.specs.Members.{is_member, is_full_member}
-use Rattle.sa_groups.specs.Groups.{Creator, Membership, MulticastGroup, PartitionGroups, first_mlid}
+use Rattle.sa_groups.specs.Groups.{Creator, Membership, MulticastGroup, PartitionGroups, first_mlid, lower_port}
 use Rattle.sa_groups.specs.Anchor.{is_kept}
 
 -- each element stands so to each that comes behind it
 abbrev pub pairwise : {X : Type 0} → (X → X → Bool) → List X → Bool
 pairwise stands [] = true
 pairwise stands (x ∷ xs) = list_all (stands x) xs && pairwise stands xs
-
-abbrev pub other_port : Membership → Membership → Bool
-other_port a b = not (a.port == b.port)
 
 abbrev pub other_mgid : MulticastGroup → MulticastGroup → Bool
 other_mgid a b = not (a.mgid == b.mgid)
@@ -34,14 +31,14 @@ is_sound_membership ports base membership = is_member ports base membership.port
 abbrev pub is_in_range : ℕ → ℕ → Bool
 is_in_range number mlid = nat_le (first_mlid number) mlid && nat_lt mlid (first_mlid number + 32)
 
--- a group is kept, was made by one who may, has an MLID of its partition, and each port takes part in it once
+-- a group is kept, was made by one who may, has an MLID of its partition, and its memberships stand by port, each port once
 abbrev pub is_sound_group : List SubnetPort → PartitionGroups → MulticastGroup → Bool
 is_sound_group ports partition group =
     is_kept ports partition.base group
     && (may_have_made ports partition.base group.creator
     && (is_in_range partition.number group.mlid
     && (list_all (is_sound_membership ports partition.base) group.memberships
-    && pairwise other_port group.memberships)))
+    && pairwise lower_port group.memberships)))
 
 -- each group is so; they stand by MLID, and no two have one MGID
 abbrev pub is_sound_partition : List SubnetPort → PartitionGroups → Bool

@@ -1,13 +1,17 @@
--- Rules for groups that do not keep partitions apart, and what each of them breaks.
+-- Wrong rules for groups, most of which do not keep partitions apart, and what each of them breaks.
 use Rattle.std.specs.Prelude.{ℕ, ◌≡◌, Bool, true, not, ◌==◌, ◌&&◌, ◌||◌, if◌then◌else◌, List, Option, find, filter, map}
-use Rattle.std.specs.List.{list_any, range_with_len}
+use Rattle.std.specs.List.{flat_map, list_all, list_any, range_with_len}
+use Rattle.fabric_parts.specs.NodeType.{is_switch_type}
+use Rattle.subnet_model.specs.declared.group_receiver.GroupReceiver.{GroupReceiver}
 use Rattle.subnet_model.specs.declared.subnet_port.SubnetPort.{SubnetPort}
 use Rattle.subnet_model.specs.Near.{is_near}
 use Rattle.sa_groups.specs.Groups.{MulticastGroup, PartitionGroups}
 use Rattle.sa_groups.specs.Anchor.{is_by_file}
-use Rattle.sa_groups.specs.Joining.{Join, may_create, has_mgid, with_created, joined_group, joined_in, joined}
+use Rattle.sa_groups.specs.Joining.{Join, may_create, has_mgid, is_of, with_created, joined_group, joined_in, joined}
 use Rattle.sa_groups.specs.Leaving.{Leave, left_group}
 use Rattle.sa_groups.specs.Sight.{Alike, seen}
+use Rattle.sa_groups.specs.Receivers.{is_among, receivers_of}
+use Rattle.sa_groups.specs.ReceiverLaws.{ReceiversAreReachedBy, ChangesAreToldBy}
 
 -- ---- what a rule for joins, or for leaves, has to keep for a port p
 abbrev pub JoinRule : Type 0
@@ -68,6 +72,22 @@ left_in_to_any leave partition =
 abbrev pub left_to_any : List SubnetPort → Leave → List PartitionGroups → List PartitionGroups
 left_to_any ports leave partitions = map (left_in_to_any leave) partitions
 
+-- ---- a membership that only sends, as one that receives
+abbrev pub takes_part : MulticastGroup → SubnetPort → Bool
+takes_part group port = not (is_switch_type port.node_type) && list_any (is_of port.guid) group.memberships
+
+abbrev pub group_members : List SubnetPort → MulticastGroup → List GroupReceiver
+group_members ports group = map (λ port. record { mlid = group.mlid; lid = port.lid }) (filter (takes_part group) ports)
+
+abbrev pub members_in : List SubnetPort → PartitionGroups → List GroupReceiver
+members_in ports partition = flat_map (group_members ports) partition.groups
+
+-- ---- a partition that is told only where a receiver goes
+abbrev pub numbers_of_goers : List SubnetPort → List PartitionGroups → List PartitionGroups → List ℕ
+numbers_of_goers ports before after =
+    filter (λ number. not (list_all (is_among (receivers_of ports number after)) (receivers_of ports number before)))
+    (map (λ partition. partition.number) before)
+
 -- ---- none of them keeps it
 abbrev pub OnePoolIsSeen : Type 0
 OnePoolIsSeen = JoinsAreSeenAlikeBy joined_from_pool → ⊥
@@ -77,3 +97,10 @@ MgidsAloneAreSeen = JoinsAreSeenAlikeBy joined_by_mgid → ⊥
 
 abbrev pub LimitedKeepersAreSeen : Type 0
 LimitedKeepersAreSeen = LeavesAreSeenAlikeBy left_to_any → ⊥
+
+-- nor what is said of receivers
+abbrev pub SendersAreReached : Type 0
+SendersAreReached = ReceiversAreReachedBy members_in → ⊥
+
+abbrev pub ComersAreTold : Type 0
+ComersAreTold = ChangesAreToldBy numbers_of_goers → ⊥

@@ -2,6 +2,8 @@
 //! is the law.
 
 ghost use Rattle.sa_groups.specs.Laws.{FarJoinsAreNotSeen, FarLeavesAreNotSeen, GroupsDependOnNear, JoinsKeepSound, LeavesAreSeenAlike, LeavesKeepSound, MlidsTellPartitions, NearJoinsAreSeenAlike, PacketsReachAlike, PacketsReachThoseNear, PartitionsStay, StartsAreSound};
+ghost use Rattle.sa_groups.specs.FreeMlid.{TheLeastFreeIsGiven};
+ghost use Rattle.sa_groups.specs.ReceiverLaws.{ChangesAreTold, JoinsChangeOne, NothingChangesAlone, ReceiversAreReached, ReceiversStandInOrder};
 
 /// At the start the groups of every partition are sound.
 pub fn starts_are_sound()
@@ -61,4 +63,36 @@ pub fn packets_reach_those_near()
 /// In states that are alike to a port, the same packets reach it.
 pub fn packets_reach_alike()
     ensures { PacketsReachAlike }
+{}
+
+/// A new group gets the least MLID of its partition that no group of any partition has; none, where groups of the
+/// partition have them all.
+pub fn the_least_free_is_given()
+    ensures { TheLeastFreeIsGiven }
+{}
+
+/// The receivers that are listed are those that packets to the groups reach.
+pub fn receivers_are_reached()
+    ensures { ReceiversAreReached }
+{}
+
+/// The receivers of a partition stand by MLID and then by LID, each once; each MLID is one of the partition's, and each
+/// LID one of a channel adapter's port.
+pub fn receivers_stand_in_order()
+    ensures { ReceiversStandInOrder }
+{}
+
+/// Where no group changes, the receivers of no partition do.
+pub fn nothing_changes_alone()
+    ensures { NothingChangesAlone }
+{}
+
+/// Where a receiver of a partition comes or goes, the partition's number is told.
+pub fn changes_are_told()
+    ensures { ChangesAreTold }
+{}
+
+/// A join changes the receivers of the partition of its base alone.
+pub fn joins_change_one()
+    ensures { JoinsChangeOne }
 {}

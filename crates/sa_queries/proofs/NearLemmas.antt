@@ -11,7 +11,7 @@ use Rattle.subnet_model.specs.declared.subnet_port.SubnetPort.{SubnetPort}
 use Rattle.subnet_model.specs.Delivery.{port_with_guid}
 use Rattle.subnet_model.specs.Near.{is_near, ports_share, shares_with}
 use Rattle.subnet_model.proofs.IsolationLemmas.{found_in}
-use Rattle.sa_groups.specs.Members.{is_member}
+use Rattle.sa_groups.specs.Members.{is_in, is_member}
 use Rattle.sa_groups.specs.Groups.{Creator, MulticastGroup, PartitionGroups}
 use Rattle.sa_groups.specs.Sound.{may_have_made, is_sound_group, is_sound_partition, is_sound}
 use Rattle.sa_groups.proofs.SoundLemmas.{sound_parts, partition_parts}
@@ -23,7 +23,7 @@ use Rattle.sa_services.specs.ServiceSight.{is_shown, services_seen}
 use Rattle.sa_services.proofs.KeyOrderLemmas.{stand_by_base}
 use Rattle.sa_services.proofs.ServiceLemmas.{shown_is_near}
 use Rattle.sa_queries.specs.Visible.{Path, GroupOfBase, ServiceOfPort, may_know, visible_nodes, paths_to, visible_paths}
-use Rattle.sa_queries.specs.Visible.{is_in, groups_of, visible_groups, services_of, visible_services}
+use Rattle.sa_queries.specs.Visible.{groups_of, visible_groups, services_of, visible_services}
 use Rattle.sa_queries.specs.Shown.{node_entry, path_entry, group_entry, service_entry}
 use Rattle.sa_queries.specs.Laws.{is_source_near, come_from_near, VisibleComesFromNear}
 use Rattle.sa_queries.specs.WrongRules.{PathsLeadToNear}

@@ -21,13 +21,14 @@ use Rattle.sa_groups.specs.Sound.{is_sound}
 use Rattle.sa_groups.specs.Sight.{seen}
 use Rattle.sa_groups.proofs.ChangeLemmas.{every_run_is_seen_alike}
 use Rattle.sa_services.specs.Services.{no_services}
-use Rattle.sa_services.proofs.ServiceLemmas.{services_depend}
+use Rattle.sa_services.specs.ServiceSight.{services_seen}
+use Rattle.sa_services.proofs.ServiceLemmas.{services_depend, shown_of_near}
 use Rattle.sa_queries.specs.Visible.{SaState, paths_to, visible_nodes, visible_groups, services_of, visible_services}
 use Rattle.sa_queries.specs.Shown.{node_record_of, group_record_of, service_record_of, path_record_of}
 use Rattle.sa_queries.specs.Shown.{node_entry, path_entry, group_entry, service_entry}
 use Rattle.sa_queries.specs.Selected.{Query, at_most, paths_selected, few_paths, groups_selected, services_selected, paths_wanted, selected}
 use Rattle.sa_queries.specs.Refusals.{refusal}
-use Rattle.sa_queries.specs.Outcome.{unless_refused, the_only_one}
+use Rattle.sa_queries.specs.Outcome.{unless_status, the_only_one}
 use Rattle.sa_queries.specs.Laws.{SelectedAlike, QueriesEndAlike, QueriesDependOnNear, state_after, state_near}
 use Rattle.sa_queries.specs.Laws.{is_source_near, come_from_near, AnswersComeFromNear}
 use Rattle.sa_queries.proofs.NearLemmas.{each_leads_near, all_flat, visible_from_near}
@@ -50,12 +51,13 @@ selected_alike most ports own s t (Query.for_groups mask asked) found same =
     ∙ (ap (λ partitions. map group_entry (groups_selected mask asked (visible_groups own partitions))) same.groups
     ∙ groups_of_seen ports own mask asked found t.partitions)
 selected_alike most ports own s t (Query.for_services mask asked) found same =
-    ap (λ places. map service_entry (services_selected mask asked (flat_map services_of places))) same.services
+    ap (λ places. map service_entry (services_selected mask asked (flat_map services_of places)))
+    (sym (shown_of_near ports own.guid s.services) ∙ (ap (services_seen ports own.guid) same.services ∙ shown_of_near ports own.guid t.services))
 
 pub queries_end_alike : QueriesEndAlike
 queries_end_alike ports own s t query found same = record {
-  got = ap (λ entries. unless_refused (refusal own query) (the_only_one entries)) (selected_alike (Some 1) ports own s t query found same);
-  table = ap (λ entries. unless_refused (refusal own query) (Ok entries)) (selected_alike (paths_wanted query) ports own s t query found same);
+  got = ap (λ entries. unless_status (refusal own query) (the_only_one entries)) (selected_alike (Some 1) ports own s t query found same);
+  table = ap (λ entries. unless_status (refusal own query) (Ok entries)) (selected_alike (paths_wanted query) ports own s t query found same);
 }
 
 pub queries_depend : QueriesDependOnNear
@@ -119,7 +121,7 @@ selected_from_near most ports own state (Query.for_services mask asked) found so
     all_selected (λ one. service_record_selected mask (service_record_of one) asked) service_entry (λ entry. is_source_near ports own.guid entry.source)
     (visible_services ports own state.services) (visible_from_near ports own state found sound).services
 
-if_not_refused : {X : Type 0} (P : X → Type 0) (refused : Option MadStatus) (outcome : Result X MadStatus) → IfOk outcome P → IfOk (unless_refused refused outcome) P
+if_not_refused : {X : Type 0} (P : X → Type 0) (refused : Option MadStatus) (outcome : Result X MadStatus) → IfOk outcome P → IfOk (unless_status refused outcome) P
 if_not_refused P None outcome holds = holds
 if_not_refused P (Some status) outcome holds = tt
 

@@ -5,11 +5,11 @@ use Rattle.std.proofs.lemmas.List.{map-append}
 use Rattle.std.proofs.lemmas.Bool.{cases_Bool}
 use Rattle.subnet_model.specs.declared.subnet_port.SubnetPort.{SubnetPort}
 use Rattle.subnet_model.specs.Delivery.{port_with_guid}
-use Rattle.sa_groups.specs.Members.{is_member}
+use Rattle.sa_groups.specs.Members.{is_in, is_member}
 use Rattle.sa_groups.specs.Groups.{MulticastGroup, PartitionGroups}
 use Rattle.sa_groups.specs.Sight.{group_seen, partition_seen, seen}
 use Rattle.sa_groups.proofs.ChangeLemmas.{same_by}
-use Rattle.sa_queries.specs.Visible.{GroupOfBase, is_in, groups_of, visible_groups}
+use Rattle.sa_queries.specs.Visible.{GroupOfBase, groups_of, visible_groups}
 use Rattle.sa_queries.specs.Shown.{group_entry}
 use Rattle.sa_queries.specs.Laws.{GroupsAreShownAlike}
 use Rattle.sa_queries.proofs.NearLemmas.{member_if_in}

@@ -1,9 +1,12 @@
--- What wrong rules tell: a limited member of another, and of groups in a partition that a port has no part in.
+-- What wrong rules tell: a limited member of another, and of groups in a partition that a port has no part in; and that a
+-- node comes from the partition file.
 use Rattle.std.proofs.Common.{Bool, true, false, List, [], ◌∷◌, ◌≡◌, ap, refl}
 use Rattle.sa_groups.specs.Examples.{ports, nobody, both}
+use Rattle.sa_groups.specs.Groups.{Creator}
+use Rattle.sa_records.specs.NodeRecord.{node_record_selected}
 use Rattle.sa_queries.specs.Shown.{Entry}
-use Rattle.sa_queries.specs.Examples.{manager, limited}
-use Rattle.sa_queries.specs.WrongRules.{PathsByBaseTell, GroupsOfAllTell}
+use Rattle.sa_queries.specs.Examples.{all_nodes, manager, limited, nothing}
+use Rattle.sa_queries.specs.WrongRules.{PathsByBaseTell, GroupsOfAllTell, AllOfFileIsWrong}
 
 pub paths_by_base_tell : PathsByBaseTell
 paths_by_base_tell law = let told : false ≡ true = law ports limited refl in absurd (cc)
@@ -15,3 +18,12 @@ is_some (entry ∷ entries) = true
 pub groups_of_all_tell : GroupsOfAllTell
 groups_of_all_tell law =
     let told : false ≡ true = ap is_some (law ports manager nobody both refl refl) in absurd (cc)
+
+abbrev is_file : Creator → Bool
+is_file (Creator.Port guid) = false
+is_file Creator.PartitionFile = true
+
+pub all_of_file_is_wrong : AllOfFileIsWrong
+unfolding node_record_selected
+all_of_file_is_wrong law =
+    let told : true ≡ false = ap is_file (law ports manager nothing all_nodes).0 in absurd (cc)

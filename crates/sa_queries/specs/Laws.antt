@@ -11,7 +11,7 @@ use Rattle.sa_groups.specs.Sound.{is_sound}
 use Rattle.sa_groups.specs.Sight.{seen}
 use Rattle.sa_services.specs.Services.{no_services}
 use Rattle.sa_services.specs.ServiceChange.{ServiceChange, services_after, service_changes_near}
-use Rattle.sa_services.specs.ServiceSight.{services_seen}
+use Rattle.sa_services.specs.ServiceSight.{services_near}
 use Rattle.sa_queries.specs.Visible.{SaState, GroupOfBase, visible_nodes, visible_paths, visible_groups, visible_services}
 use Rattle.sa_queries.specs.Shown.{Entry, node_entry, path_entry, group_entry, service_entry}
 use Rattle.sa_queries.specs.Selected.{Query, selected}
@@ -33,7 +33,7 @@ GroupsAreShownAlike = ShowsAlike visible_groups
 -- the port of this GUID sees the same in both states
 pub record SeesSame (ports : List SubnetPort) (p : ℕ) (s t : SaState) : Type 0 where
   pub groups : seen ports p s.partitions ≡ seen ports p t.partitions
-  pub services : services_seen ports p s.services ≡ services_seen ports p t.services
+  pub services : services_near ports p s.services ≡ services_near ports p t.services
 
 abbrev pub SelectedAlike : Type 0
 SelectedAlike =

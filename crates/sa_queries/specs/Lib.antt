@@ -6,6 +6,8 @@ pub mod Refusals
 pub mod Outcome
 pub mod Order
 pub mod Laws
+pub mod NamedSources
+pub mod Shares
 pub mod WrongRules
 pub mod Examples
 pub mod ExampleLaws

@@ -1,10 +1,17 @@
 -- In which order a port is shown what is visible to it.
-use Rattle.std.specs.Prelude.{◌≡◌, Bool, true, ◌==◌, ◌&&◌, ◌||◌, nat_lt, nat_le, List}
+use Rattle.std.specs.Prelude.{ℕ, ◌≡◌, Bool, true, ◌==◌, ◌&&◌, ◌||◌, nat_lt, nat_le, List, map, Option, Some, None}
 use Rattle.pkey_rules.specs.PKey.{base_of}
+use Rattle.subnet_model.specs.Configuration.{ConfigurationState}
+use Rattle.subnet_model.specs.Configured.{IsConfigured}
+use Rattle.subnet_model.specs.Delivery.{port_with_guid}
 use Rattle.subnet_model.specs.declared.subnet_port.SubnetPort.{SubnetPort}
-use Rattle.sa_groups.specs.Groups.{PartitionGroups}
+use Rattle.sa_groups.specs.Changes.{partition_of}
+use Rattle.sa_groups.specs.Groups.{start_of}
 use Rattle.sa_groups.specs.Sound.{pairwise, is_sound}
-use Rattle.sa_queries.specs.Visible.{SaState, Path, GroupOfBase, visible_nodes, visible_paths, visible_groups}
+use Rattle.sa_services.specs.ServiceChange.{port_and_base}
+use Rattle.sa_services.specs.ServiceSound.{are_sound_services}
+use Rattle.sa_services.specs.Services.{no_services}
+use Rattle.sa_queries.specs.Visible.{SaState, Path, GroupOfBase, ServiceOfPort, visible_nodes, visible_paths, visible_groups, visible_services}
 
 -- nodes by LID
 abbrev pub lower_lid : SubnetPort → SubnetPort → Bool
@@ -20,16 +27,35 @@ goes_before a b =
 abbrev pub of_lower_mlid : GroupOfBase → GroupOfBase → Bool
 of_lower_mlid a b = nat_lt a.group.mlid b.group.mlid
 
-abbrev pub lower_number : PartitionGroups → PartitionGroups → Bool
-lower_number a b = nat_lt a.number b.number
+-- services by the LID of their port, then by base, and then by ServiceID
+abbrev pub lid_of_port : Option SubnetPort → ℕ
+lid_of_port (Some port) = port.lid
+lid_of_port None = 0
 
--- so they stand where ports stand by LID and partitions by number
+abbrev pub lid_with_guid : List SubnetPort → ℕ → ℕ
+lid_with_guid ports guid = lid_of_port (port_with_guid ports guid)
+
+abbrev pub is_offered_before : List SubnetPort → ServiceOfPort → ServiceOfPort → Bool
+is_offered_before ports a b =
+    nat_lt (lid_with_guid ports a.port) (lid_with_guid ports b.port)
+    || ((lid_with_guid ports a.port == lid_with_guid ports b.port)
+    && (nat_lt a.base b.base || ((a.base == b.base) && nat_lt a.service.service_id b.service.service_id)))
+
+-- all that is visible stands so
 pub record InOrder (ports : List SubnetPort) (own : SubnetPort) (state : SaState) : Type 0 where
   pub nodes : pairwise lower_lid (visible_nodes ports own) ≡ true
   pub paths : pairwise goes_before (visible_paths ports own) ≡ true
   pub groups : pairwise of_lower_mlid (visible_groups own state.partitions) ≡ true
+  pub services : pairwise (is_offered_before ports) (visible_services ports own state.services) ≡ true
+
+-- where a subnet is configured, and a state has its partitions and its places for services, each with what is sound
+pub record IsOfConfiguration (configuration : ConfigurationState) (state : SaState) : Type 0 where
+  pub partitions : map partition_of state.partitions ≡ map partition_of (start_of configuration)
+  pub groups : is_sound configuration.ports state.partitions ≡ true
+  pub places : map port_and_base state.services ≡ map port_and_base (no_services configuration.ports)
+  pub services : are_sound_services configuration.ports state.services ≡ true
 
 abbrev pub VisibleStandsInOrder : Type 0
 VisibleStandsInOrder =
-    (ports : List SubnetPort) (own : SubnetPort) (state : SaState) → pairwise lower_lid ports ≡ true
-    → pairwise lower_number state.partitions ≡ true → is_sound ports state.partitions ≡ true → InOrder ports own state
+    (configuration : ConfigurationState) (own : SubnetPort) (state : SaState) → IsConfigured configuration
+    → IsOfConfiguration configuration state → InOrder configuration.ports own state

@@ -8,9 +8,9 @@ use Rattle.sa_queries.specs.Shown.{Entry}
 use Rattle.sa_queries.specs.Selected.{Query, paths_wanted, selected}
 use Rattle.sa_queries.specs.Refusals.{refusal}
 
-abbrev pub unless_refused : {X : Type 0} → Option MadStatus → Result X MadStatus → Result X MadStatus
-unless_refused None outcome = outcome
-unless_refused (Some status) outcome = Err status
+abbrev pub unless_status : {X : Type 0} → Option MadStatus → Result X MadStatus → Result X MadStatus
+unless_status None outcome = outcome
+unless_status (Some status) outcome = Err status
 
 abbrev pub the_only_one : {X : Type 0} → List X → Result X MadStatus
 the_only_one [] = Err NoRecords
@@ -19,8 +19,8 @@ the_only_one (x ∷ y ∷ rest) = Err TooManyRecords
 
 -- a Get is answered by one record; of several paths to one port the first is enough
 abbrev pub got : List SubnetPort → SubnetPort → SaState → Query → Result Entry MadStatus
-got ports own state query = unless_refused (refusal own query) (the_only_one (selected (Some 1) ports own state query))
+got ports own state query = unless_status (refusal own query) (the_only_one (selected (Some 1) ports own state query))
 
 -- a GetTable is answered by all that is selected, none too
 abbrev pub table : List SubnetPort → SubnetPort → SaState → Query → Result (List Entry) MadStatus
-table ports own state query = unless_refused (refusal own query) (Ok (selected (paths_wanted query) ports own state query))
+table ports own state query = unless_status (refusal own query) (Ok (selected (paths_wanted query) ports own state query))

@@ -11,6 +11,8 @@ use Rattle.sa_records.specs.declared.node_record.NodeRecord.{NodeRecord}
 use Rattle.sa_records.specs.declared.path_record.PathRecord.{PathRecord}
 use Rattle.sa_records.specs.declared.mc_member_record.McMemberRecord.{McMemberRecord}
 use Rattle.sa_records.specs.declared.service_record.ServiceRecord.{ServiceRecord}
+use Rattle.sa_records.specs.declared.sa_record.SaRecord.{SaRecord}
+use Rattle.sa_records.specs.declared.sa_record.SaRecord.TheVariants as sa_record
 use Rattle.subnet_model.specs.declared.subnet_port.SubnetPort.{SubnetPort}
 use Rattle.sa_groups.specs.Groups.{Creator}
 use Rattle.sa_queries.specs.Gid.{gid_of}
@@ -100,26 +102,20 @@ service_record_of one = record {
   service_data = one.service.numbers;
 }
 
--- ---- a record of any kind, as it is shown, and what it comes from: a port, or the partition file
-pub data SaRecord : Type 0 where
-  of_node : NodeRecord → SaRecord
-  of_path : PathRecord → SaRecord
-  of_group : McMemberRecord → SaRecord
-  of_service : ServiceRecord → SaRecord
-
+-- ---- a record as it is shown, and what it comes from: a port, or the partition file
 pub record Entry : Type 0 where
   pub shown : SaRecord
   pub source : Creator
 
 -- of a node and a service their port, of a path the port that it leads to, of a group who made it
 abbrev pub node_entry : SubnetPort → Entry
-node_entry port = record { shown = SaRecord.of_node (node_record_of port); source = Creator.Port port.guid }
+node_entry port = record { shown = sa_record.Node (node_record_of port); source = Creator.Port port.guid }
 
 abbrev pub path_entry : Path → Entry
-path_entry path = record { shown = SaRecord.of_path (path_record_of path); source = Creator.Port path.destination.guid }
+path_entry path = record { shown = sa_record.Path (path_record_of path); source = Creator.Port path.destination.guid }
 
 abbrev pub group_entry : GroupOfBase → Entry
-group_entry one = record { shown = SaRecord.of_group (group_record_of one); source = one.group.creator }
+group_entry one = record { shown = sa_record.Group (group_record_of one); source = one.group.creator }
 
 abbrev pub service_entry : ServiceOfPort → Entry
-service_entry one = record { shown = SaRecord.of_service (service_record_of one); source = Creator.Port one.port }
+service_entry one = record { shown = sa_record.Service (service_record_of one); source = Creator.Port one.port }

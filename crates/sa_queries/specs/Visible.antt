@@ -1,8 +1,8 @@
 -- What a port can be shown, in the order in which it is shown.
-use Rattle.std.specs.Prelude.{ℕ, Bool, true, ◌==◌, ◌||◌, List, filter, map}
+use Rattle.std.specs.Prelude.{ℕ, Bool, ◌==◌, ◌||◌, List, filter, map}
 use Rattle.std.specs.List.{flat_map}
-use Rattle.pkey_rules.specs.PKey.{key_of}
 use Rattle.pkey_rules.specs.KeyTable.{accepts, shares}
+use Rattle.sa_groups.specs.Members.{is_in}
 use Rattle.subnet_model.specs.declared.subnet_port.SubnetPort.{SubnetPort}
 use Rattle.sa_groups.specs.Groups.{MulticastGroup, PartitionGroups}
 use Rattle.sa_services.specs.KeyOrder.{by_base}
@@ -43,10 +43,6 @@ visible_paths ports own = flat_map (paths_to own) ports
 pub record GroupOfBase : Type 0 where
   pub base : ℕ
   pub group : MulticastGroup
-
--- the port is a member of the partition of this base, full or limited
-abbrev pub is_in : SubnetPort → ℕ → Bool
-is_in own base = accepts (key_of base true) own.keys
 
 abbrev pub groups_of : PartitionGroups → List GroupOfBase
 groups_of partition = map (λ group. record { base = partition.base; group = group }) partition.groups

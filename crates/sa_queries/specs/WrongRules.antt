@@ -1,20 +1,28 @@
 -- Rules for what a port is shown that tell it too much, and what each of them breaks.
-use Rattle.std.specs.Prelude.{ℕ, ◌≡◌, true, List, Some, filter}
+use Rattle.std.specs.Prelude.{◌≡◌, ◌==◌, true, not, List, ◌++◌, Some, None, filter, map}
 use Rattle.std.specs.List.{list_all, flat_map}
 use Rattle.pkey_rules.specs.PKey.{base_of}
 use Rattle.pkey_rules.specs.KeyTable.{has_base}
 use Rattle.subnet_model.specs.declared.subnet_port.SubnetPort.{SubnetPort}
+use Rattle.subnet_model.specs.Configuration.{ConfigurationState}
+use Rattle.subnet_model.specs.Configured.{IsConfigured}
 use Rattle.subnet_model.specs.Delivery.{port_with_guid}
 use Rattle.subnet_model.specs.Near.{is_near}
-use Rattle.sa_groups.specs.Groups.{PartitionGroups}
+use Rattle.sa_groups.specs.Groups.{Creator, PartitionGroups}
+use Rattle.sa_groups.specs.Sound.{pairwise}
 use Rattle.sa_services.specs.KeyOrder.{by_base}
-use Rattle.sa_queries.specs.Visible.{GroupOfBase, keys_to, paths_under, groups_of}
+use Rattle.sa_services.specs.ServiceChange.{port_and_base}
+use Rattle.sa_services.specs.ServiceSound.{are_sound_services}
+use Rattle.sa_services.specs.Services.{PortServices, no_services}
+use Rattle.sa_queries.specs.Order.{is_offered_before}
+use Rattle.sa_queries.specs.Visible.{GroupOfBase, ServiceOfPort, keys_to, paths_under, groups_of, visible_services}
+use Rattle.sa_queries.specs.Shown.{Entry}
+use Rattle.sa_queries.specs.Selected.{selected}
 use Rattle.sa_queries.specs.Laws.{ShowsAlike}
+use Rattle.sa_queries.specs.Shares.{PathRule, SharesBases}
+use Rattle.sa_queries.specs.NamedSources.{SelectRule, SaysTheSource}
 
 -- ---- under which keys there are paths from one port to another: paths may lead to ports near the first alone
-abbrev pub PathRule : Type 0
-PathRule = SubnetPort → SubnetPort → List ℕ
-
 abbrev pub LeadsToNear : PathRule → Type 0
 LeadsToNear rule =
     (ports : List SubnetPort) (own : SubnetPort) → port_with_guid ports own.guid ≡ Some own
@@ -32,9 +40,44 @@ keys_of_common_bases own other = filter (λ key. has_base (base_of key) other.ke
 abbrev pub PathsByBaseTell : Type 0
 PathsByBaseTell = LeadsToNear keys_of_common_bases → ⊥
 
+-- nor is such a base shared
+abbrev pub CommonBasesAreNotShared : Type 0
+CommonBasesAreNotShared = SharesBases keys_of_common_bases → ⊥
+
 -- ---- groups of all partitions, whoever asks
 abbrev pub groups_of_all : SubnetPort → List PartitionGroups → List GroupOfBase
 groups_of_all own partitions = flat_map groups_of partitions
 
 abbrev pub GroupsOfAllTell : Type 0
 GroupsOfAllTell = ShowsAlike groups_of_all → ⊥
+
+-- ---- to say of each record that it comes from the partition file: then nothing comes from far
+abbrev pub selected_of_file : SelectRule
+selected_of_file ports own state query =
+    map (λ (entry : Entry). record entry { source = Creator.PartitionFile }) (selected None ports own state query)
+
+abbrev pub AllOfFileIsWrong : Type 0
+AllOfFileIsWrong = SaysTheSource selected_of_file → ⊥
+
+-- ---- in which order services are shown: by LID, base and ServiceID
+abbrev pub ServiceRule : Type 0
+ServiceRule = List SubnetPort → SubnetPort → List PortServices → List ServiceOfPort
+
+abbrev pub ShowsInOrder : ServiceRule → Type 0
+ShowsInOrder rule =
+    (configuration : ConfigurationState) (own : SubnetPort) (services : List PortServices) → IsConfigured configuration
+    → map port_and_base services ≡ map port_and_base (no_services configuration.ports) → are_sound_services configuration.ports services ≡ true
+    → pairwise (is_offered_before configuration.ports) (rule configuration.ports own services) ≡ true
+
+-- ours keeps it
+abbrev pub ServicesStandInOrder : Type 0
+ServicesStandInOrder = ShowsInOrder visible_services
+
+-- a port's own services before those of others
+abbrev pub own_services_first : ServiceRule
+own_services_first ports own services =
+    filter (λ one. one.port == own.guid) (visible_services ports own services)
+    ++ filter (λ one. not (one.port == own.guid)) (visible_services ports own services)
+
+abbrev pub OwnFirstIsOutOfOrder : Type 0
+OwnFirstIsOutOfOrder = ShowsInOrder own_services_first → ⊥

@@ -2,8 +2,10 @@
 //! is the law.
 
 ghost use Rattle.sa_queries.specs.Laws.{AnswersComeFromNear, GroupsAreShownAlike, QueriesDependOnNear, QueriesEndAlike, SelectedAlike, VisibleComesFromNear};
+ghost use Rattle.sa_queries.specs.NamedSources.{SelectedSayTheirSource};
 ghost use Rattle.sa_queries.specs.Order.{VisibleStandsInOrder};
-ghost use Rattle.sa_queries.specs.WrongRules.{PathsLeadToNear};
+ghost use Rattle.sa_queries.specs.Shares.{SharingIsOneThing};
+ghost use Rattle.sa_queries.specs.WrongRules.{PathsLeadToNear, ServicesStandInOrder};
 
 /// Where a port sees the same of the groups of two states, it is shown the same of them.
 pub fn groups_are_shown_alike()
@@ -35,12 +37,31 @@ pub fn answers_come_from_near()
     ensures { AnswersComeFromNear }
 {}
 
+/// Each record that is selected has the source that it comes from: a node its port, a path the port that it leads to, a
+/// service its port, as the records themselves name them, and a group who made it.
+pub fn selected_say_their_source()
+    ensures { SelectedSayTheirSource }
+{}
+
 /// Paths lead only to ports near the one that they are shown to.
 pub fn paths_lead_to_near()
     ensures { PathsLeadToNear }
 {}
 
-/// Nodes are visible by LID, paths by the LID that they lead to and then by base, and groups by MLID.
+/// Two ports of a configured subnet share a base or they do not: a path between them is visible exactly under a key that
+/// the first holds of a base that they share, a node exactly where it is the port's own or they share some base, and
+/// services of a base exactly where they share it.
+pub fn sharing_is_one_thing()
+    ensures { SharingIsOneThing }
+{}
+
+/// Services are visible by the LID of their port, then by base, and then by ServiceID.
+pub fn services_stand_in_order()
+    ensures { ServicesStandInOrder }
+{}
+
+/// Nodes are visible by LID, paths by the LID that they lead to and then by base, groups by MLID, and services by the LID
+/// of their port, base and ServiceID, where the subnet is configured and the state has its partitions and places.
 pub fn visible_stands_in_order()
     ensures { VisibleStandsInOrder }
 {}

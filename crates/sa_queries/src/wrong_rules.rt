@@ -1,14 +1,29 @@
-//! Rules for what is shown that break isolation, so that a reader sees that the laws say something. Each
+//! Rules for what is shown that break isolation, or order, so that a reader sees that the laws say something. Each
 //! function does nothing: its contract is the law.
 
-ghost use Rattle.sa_queries.specs.WrongRules.{GroupsOfAllTell, PathsByBaseTell};
+ghost use Rattle.sa_queries.specs.WrongRules.{AllOfFileIsWrong, CommonBasesAreNotShared, GroupsOfAllTell, OwnFirstIsOutOfOrder, PathsByBaseTell};
 
 /// With a path in each common partition, one limited member is told of another.
 pub fn paths_by_base_tell()
     ensures { PathsByBaseTell }
 {}
 
+/// Two limited members share no base, so that a path in each common partition is one too many.
+pub fn common_bases_are_not_shared()
+    ensures { CommonBasesAreNotShared }
+{}
+
 /// Where groups of all partitions are shown, a port is told of what it has no part in.
 pub fn groups_of_all_tell()
     ensures { GroupsOfAllTell }
+{}
+
+/// To say of each record that it comes from the partition file is refused: a node comes from its port.
+pub fn all_of_file_is_wrong()
+    ensures { AllOfFileIsWrong }
+{}
+
+/// Where a port is shown its own services before those of others, they do not stand by LID.
+pub fn own_first_is_out_of_order()
+    ensures { OwnFirstIsOutOfOrder }
 {}

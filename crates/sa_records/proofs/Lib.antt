@@ -1,1 +1,3 @@
 mod SpeedLemmas
+mod ReadLemmas
+mod AskedLemmas

@@ -1,6 +1,6 @@
 -- What a record is asked by (IBA volume 1, 15.2.1.1): a field that a request may set, with its bits in the
 -- ComponentMask.
-use Rattle.std.specs.Prelude.{ℕ, ◌==◌, ◌^◌, Bool, nat_lt, if◌then◌else◌, List, [], ◌∷◌, Option, Some, None, map, option_map}
+use Rattle.std.specs.Prelude.{ℕ, ◌==◌, ◌^◌, nat_lt, if◌then◌else◌, List, Option, Some, None, map, option_map}
 use Rattle.std.specs.List.{find}
 use Rattle.std.specs.Str.{bytes_eq}
 use Rattle.mad_layout.specs.Bits.{put_field}

@@ -8,3 +8,6 @@ pub mod McMemberRecord
 pub mod McMemberMask
 pub mod ServiceRecord
 pub mod ServiceMask
+pub mod SaAttribute
+pub mod SaRecord
+pub mod Laws

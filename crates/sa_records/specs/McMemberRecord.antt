@@ -1,6 +1,6 @@
 -- MCMemberRecord (IBA volume 1, 15.2.5): the places of its fields.
 use Rattle.std.specs.Prelude.{ℕ, Bool, ◌==◌, List, [], ◌∷◌, replicate, codes}
-use Rattle.mad_layout.specs.Bits.{bit_of}
+use Rattle.mad_layout.specs.Bits.{bit_of, field}
 use Rattle.mad_layout.specs.Layout.{Field, at, put_all}
 use Rattle.sa_records.specs.declared.mc_member_record.McMemberRecord.{McMemberRecord}
 use Rattle.pkey_rules.specs.KeyTable.{same_base}
@@ -30,6 +30,29 @@ mc_member_record one =
     ∷ at 388 4 one.join_state
     ∷ at 392 1 (bit_of one.proxy_join)
     ∷ []
+
+-- the record that these bytes begin with
+unfoldable pub group_in : List ℕ → McMemberRecord
+group_in bytes = record {
+  mgid = field bytes 0 128;
+  port_gid = field bytes 128 128;
+  q_key = field bytes 256 32;
+  mlid = field bytes 288 16;
+  mtu_selector = field bytes 304 2;
+  mtu = field bytes 306 6;
+  t_class = field bytes 312 8;
+  p_key = field bytes 320 16;
+  rate_selector = field bytes 336 2;
+  rate = field bytes 338 6;
+  packet_life_time_selector = field bytes 344 2;
+  packet_life_time = field bytes 346 6;
+  sl = field bytes 352 4;
+  flow_label = field bytes 356 20;
+  hop_limit = field bytes 376 8;
+  scope = field bytes 384 4;
+  join_state = field bytes 388 4;
+  proxy_join = field bytes 392 1 == 1;
+}
 
 -- the bytes that it fills in a table
 unfoldable pub mc_member_record_bytes : McMemberRecord → List ℕ

@@ -1,6 +1,6 @@
 -- NodeRecord (IBA volume 1, 15.2.5): a LID, 16 bits that are reserved, NodeInfo (14.2.5.3) and NodeDescription.
-use Rattle.std.specs.Prelude.{ℕ, Bool, ◌==◌, List, [], ◌∷◌, replicate, codes}
-use Rattle.mad_layout.specs.Bits.{number}
+use Rattle.std.specs.Prelude.{ℕ, Bool, ◌==◌, List, [], ◌∷◌, replicate, codes, slice_range}
+use Rattle.mad_layout.specs.Bits.{field, number}
 use Rattle.mad_layout.specs.Layout.{Field, at, put_all}
 use Rattle.sa_records.specs.declared.node_record.NodeRecord.{NodeRecord}
 use Rattle.sa_records.specs.Component.{Component, on, is_selected}
@@ -23,6 +23,25 @@ node_record one =
     ∷ at 328 24 one.vendor_id
     ∷ at 352 512 (number one.node_string)
     ∷ []
+
+-- the record that these bytes begin with
+unfoldable pub node_in : List ℕ → NodeRecord
+node_in bytes = record {
+  lid = field bytes 0 16;
+  base_version = field bytes 32 8;
+  class_version = field bytes 40 8;
+  node_type = field bytes 48 8;
+  num_ports = field bytes 56 8;
+  system_image_guid = field bytes 64 64;
+  node_guid = field bytes 128 64;
+  port_guid = field bytes 192 64;
+  partition_cap = field bytes 256 16;
+  device_id = field bytes 272 16;
+  revision = field bytes 288 32;
+  local_port_num = field bytes 320 8;
+  vendor_id = field bytes 328 24;
+  node_string = slice_range bytes 44 108;
+}
 
 -- the bytes that it fills in a table
 unfoldable pub node_record_bytes : NodeRecord → List ℕ

@@ -1,6 +1,6 @@
 -- PathRecord (IBA volume 1, 15.2.5): the places of its fields.
 use Rattle.std.specs.Prelude.{ℕ, Bool, ◌==◌, List, [], ◌∷◌, replicate, codes}
-use Rattle.mad_layout.specs.Bits.{bit_of}
+use Rattle.mad_layout.specs.Bits.{bit_of, field}
 use Rattle.mad_layout.specs.Layout.{Field, at, put_all}
 use Rattle.sa_records.specs.declared.path_record.PathRecord.{PathRecord}
 use Rattle.pkey_rules.specs.KeyTable.{same_base}
@@ -33,6 +33,32 @@ path_record one =
     ∷ at 450 6 one.packet_life_time
     ∷ at 456 8 one.preference
     ∷ []
+
+-- the record that these bytes begin with
+unfoldable pub path_in : List ℕ → PathRecord
+path_in bytes = record {
+  service_id = field bytes 0 64;
+  dgid = field bytes 64 128;
+  sgid = field bytes 192 128;
+  dlid = field bytes 320 16;
+  slid = field bytes 336 16;
+  raw_traffic = field bytes 352 1 == 1;
+  flow_label = field bytes 356 20;
+  hop_limit = field bytes 376 8;
+  t_class = field bytes 384 8;
+  reversible = field bytes 392 1 == 1;
+  numb_path = field bytes 393 7;
+  p_key = field bytes 400 16;
+  qos_class = field bytes 416 12;
+  sl = field bytes 428 4;
+  mtu_selector = field bytes 432 2;
+  mtu = field bytes 434 6;
+  rate_selector = field bytes 440 2;
+  rate = field bytes 442 6;
+  packet_life_time_selector = field bytes 448 2;
+  packet_life_time = field bytes 450 6;
+  preference = field bytes 456 8;
+}
 
 -- the bytes that it fills in a table
 unfoldable pub path_record_bytes : PathRecord → List ℕ

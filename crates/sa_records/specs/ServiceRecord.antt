@@ -1,6 +1,6 @@
 -- ServiceRecord (IBA volume 1, 15.2.5.14): the places of its fields.
-use Rattle.std.specs.Prelude.{ℕ, Bool, ◌==◌, ◌&&◌, List, [], ◌∷◌, replicate, codes}
-use Rattle.mad_layout.specs.Bits.{number}
+use Rattle.std.specs.Prelude.{ℕ, Bool, ◌==◌, ◌&&◌, List, [], ◌∷◌, replicate, codes, slice_range}
+use Rattle.mad_layout.specs.Bits.{field, number}
 use Rattle.mad_layout.specs.Layout.{Field, at, put_all}
 use Rattle.sa_records.specs.declared.service_record.ServiceRecord.{ServiceRecord}
 use Rattle.std.specs.Str.{bytes_eq}
@@ -29,6 +29,18 @@ service_fields one =
     ∷ at 224 32 one.service_lease
     ∷ at 256 128 one.service_key
     ∷ []
+
+-- the record that these bytes begin with
+unfoldable pub service_in : List ℕ → ServiceRecord
+service_in bytes = record {
+  service_id = field bytes 0 64;
+  service_gid = field bytes 64 128;
+  service_p_key = field bytes 192 16;
+  service_lease = field bytes 224 32;
+  service_key = field bytes 256 128;
+  service_name = slice_range bytes 48 112;
+  service_data = slice_range bytes 112 176;
+}
 
 -- the bytes that it fills in a table
 unfoldable pub service_record_bytes : ServiceRecord → List ℕ

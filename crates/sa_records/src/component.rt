@@ -50,10 +50,14 @@ pub fn code_satisfies(selector: u8, shown: u8, asked: u8) -> bool
     satisfies(selector, shown.into(), asked.into())
 }
 
-/// The same for rates, by their speed: their codes don't rise with it. A code of no rate satisfies nothing.
+/// The same for rates, by their speed: their codes don't rise with it. A code of no rate satisfies only the selector
+/// that asks for any.
 pub fn rate_satisfies(selector: u8, shown: u8, asked: u8) -> bool
     ensures { result ≡ rate_satisfies selector shown asked }
 {
+    if selector >= 3 {
+        return true;
+    }
     match (speed_of(shown), speed_of(asked)) {
         (Some(shown), Some(asked)) => satisfies(selector, shown, asked),
         _ => false,

@@ -15,16 +15,20 @@ mod laws;
 mod mc_member_record;
 mod node_record;
 mod path_record;
+mod sa_attribute;
+mod sa_record;
 mod service_record;
 
 pub use crate::component::{code_satisfies, rate_satisfies};
 pub use crate::laws::{
-    mc_member_record_reads_back, node_record_reads_back, path_record_reads_back,
-    service_record_reads_back, the_numbers,
+    fields_have_own_bits, mc_member_records_read_back, node_records_read_back,
+    path_records_read_back, rates_are_in_order, service_records_read_back, the_numbers,
 };
 pub use crate::mc_member_record::{
     MC_MEMBER_RECORD_BYTES, MC_MEMBER_RECORD_OFFSET, McMemberRecord,
 };
 pub use crate::node_record::{NODE_RECORD_BYTES, NODE_RECORD_OFFSET, NodeRecord};
 pub use crate::path_record::{PATH_RECORD_BYTES, PATH_RECORD_OFFSET, PathRecord};
+pub use crate::sa_attribute::SaAttribute;
+pub use crate::sa_record::SaRecord;
 pub use crate::service_record::{SERVICE_RECORD_BYTES, SERVICE_RECORD_OFFSET, ServiceRecord};

@@ -1,13 +1,13 @@
 //! MCMemberRecord.
 
-ghost use Rattle.std.specs.Prelude.{◌≡◌, ◌≤◌, length, replicate};
+ghost use Rattle.std.specs.Prelude.{◌≡◌, replicate};
 ghost use Rattle.mad_layout.specs.Layout.{Holds, Fits, put_all, Spells};
 ghost use Rattle.sa_records.specs.Asked.{asked_by, bits_of, with_value};
-ghost use Rattle.sa_records.specs.McMemberRecord.{mc_member_record, mc_member_record_asked, mc_member_record_bytes, mc_member_record_selected};
+ghost use Rattle.sa_records.specs.McMemberRecord.{group_in, mc_member_record, mc_member_record_asked, mc_member_record_bytes, mc_member_record_selected};
 
 use crate::asked::{component_agrees, flag, is_word, selected, set_asked, set_field};
 use crate::component::{agrees, code_satisfies, rate_satisfies, same_base};
-use mad_layout::{JoinState, read_fields, write_fields};
+use mad_layout::{JoinState, SA_DATA_BYTES, read_fields, write_fields};
 
 /// How many bytes an MCMemberRecord fills in a table: its 52, and zero bytes up to a multiple of 8.
 pub const MC_MEMBER_RECORD_BYTES: usize = 56;
@@ -112,13 +112,22 @@ macro_rules! mc_member_record_components {
 }
 
 impl McMemberRecord {
-    /// Reads the record that these bytes begin with; bits outside its fields are not looked at.
-    pub fn read(bytes: &[u8]) -> McMemberRecord
-        requires { 52 ≤ length bytes.now }
+    /// Reads the record that the data of a MAD of subnet administration begin with; bits outside its fields are not
+    /// looked at.
+    pub fn read(bytes: &[u8; SA_DATA_BYTES]) -> McMemberRecord
         ensures fields { Holds bytes.now (mc_member_record result) }
         ensures fits { Fits (mc_member_record result) }
+        ensures value { result ≡ group_in bytes.now }
     {
         Self::fields_of(bytes)
+    }
+
+    /// The record that asks by nothing: each of its fields is 0.
+    pub fn blank() -> McMemberRecord
+        ensures zeros { mc_member_record_bytes result ≡ replicate 56 0 }
+        ensures fits { Fits (mc_member_record result) }
+    {
+        Self::read(&[0; SA_DATA_BYTES])
     }
 
     /// Writes the record; every bit outside its fields is 0.
@@ -147,17 +156,26 @@ impl McMemberRecord {
 
     /// Asks by the field of this name: sets its value, and gives the bits of the ComponentMask that name it. None, and
     /// nothing is set, where groups have no such field or the value is wider than it.
-    #[tactic(auto, unfolding(crate::specs::Asked::asked_by))]
     pub fn ask_by(&mut self, field: &[u8], value: u128) -> Option<u64>
+        ensures bits { result ≡ bits_of (asked_by field.now value mc_member_record_asked) }
+        ensures set { mc_member_record self.new ≡ with_value value (asked_by field.now value mc_member_record_asked) (mc_member_record self.old) }
+        ensures fits { Fits (mc_member_record self.old) → Fits (mc_member_record self.new) }
+    {
+        self.set_by(field, value)
+    }
+
+    #[tactic(auto, unfolding(crate::specs::Asked::asked_by))]
+    fn set_by(&mut self, field: &[u8], value: u128) -> Option<u64>
         ensures bits { result ≡ bits_of (asked_by field.now value mc_member_record_asked) }
         ensures set { mc_member_record self.new ≡ with_value value (asked_by field.now value mc_member_record_asked) (mc_member_record self.old) }
     {
         mc_member_record_components!(set_asked!(self field value))
     }
 
-    fn fields_of(bytes: &[u8]) -> McMemberRecord
-        requires { 52 ≤ length bytes.now }
-        ensures { Holds bytes.now (mc_member_record result) }
+    #[tactic(auto, unfolding(crate::specs::McMemberRecord::group_in))]
+    fn fields_of(bytes: &[u8; SA_DATA_BYTES]) -> McMemberRecord
+        ensures fields { Holds bytes.now (mc_member_record result) }
+        ensures value { result ≡ group_in bytes.now }
     {
         mc_member_record_layout!(read_fields!(McMemberRecord bytes))
     }

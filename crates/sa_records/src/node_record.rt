@@ -1,13 +1,13 @@
 //! NodeRecord.
 
-ghost use Rattle.std.specs.Prelude.{◌≡◌, ◌≤◌, length, replicate};
+ghost use Rattle.std.specs.Prelude.{◌≡◌, replicate};
 ghost use Rattle.mad_layout.specs.Layout.{Holds, Fits, put_all, Spells};
 ghost use Rattle.sa_records.specs.Asked.{asked_by, bits_of, with_value};
-ghost use Rattle.sa_records.specs.NodeRecord.{node_record, node_record_asked, node_record_bytes, node_record_selected};
+ghost use Rattle.sa_records.specs.NodeRecord.{node_in, node_record, node_record_asked, node_record_bytes, node_record_selected};
 
 use crate::asked::{component_agrees, is_word, selected, set_asked, set_field};
 use crate::component::agrees;
-use mad_layout::{read_fields, write_fields};
+use mad_layout::{SA_DATA_BYTES, read_fields, write_fields};
 
 /// How many bytes a NodeRecord fills in a table: its 108, and zero bytes up to a multiple of 8.
 pub const NODE_RECORD_BYTES: usize = 112;
@@ -86,13 +86,22 @@ macro_rules! node_record_components {
 }
 
 impl NodeRecord {
-    /// Reads the record that these bytes begin with; bits outside its fields are not looked at.
-    pub fn read(bytes: &[u8]) -> NodeRecord
-        requires { 108 ≤ length bytes.now }
+    /// Reads the record that the data of a MAD of subnet administration begin with; bits outside its fields are not
+    /// looked at.
+    pub fn read(bytes: &[u8; SA_DATA_BYTES]) -> NodeRecord
         ensures fields { Holds bytes.now (node_record result) }
         ensures fits { Fits (node_record result) }
+        ensures value { result ≡ node_in bytes.now }
     {
         Self::fields_of(bytes)
+    }
+
+    /// The record that asks by nothing: each of its fields is 0.
+    pub fn blank() -> NodeRecord
+        ensures zeros { node_record_bytes result ≡ replicate 112 0 }
+        ensures fits { Fits (node_record result) }
+    {
+        Self::read(&[0; SA_DATA_BYTES])
     }
 
     /// Writes the record; every bit outside its fields is 0.
@@ -114,17 +123,26 @@ impl NodeRecord {
 
     /// Asks by the field of this name: sets its value, and gives the bits of the ComponentMask that name it. None, and
     /// nothing is set, where nodes have no such field or the value is wider than it.
-    #[tactic(auto, unfolding(crate::specs::Asked::asked_by))]
     pub fn ask_by(&mut self, field: &[u8], value: u128) -> Option<u64>
+        ensures bits { result ≡ bits_of (asked_by field.now value node_record_asked) }
+        ensures set { node_record self.new ≡ with_value value (asked_by field.now value node_record_asked) (node_record self.old) }
+        ensures fits { Fits (node_record self.old) → Fits (node_record self.new) }
+    {
+        self.set_by(field, value)
+    }
+
+    #[tactic(auto, unfolding(crate::specs::Asked::asked_by))]
+    fn set_by(&mut self, field: &[u8], value: u128) -> Option<u64>
         ensures bits { result ≡ bits_of (asked_by field.now value node_record_asked) }
         ensures set { node_record self.new ≡ with_value value (asked_by field.now value node_record_asked) (node_record self.old) }
     {
         node_record_components!(set_asked!(self field value))
     }
 
-    fn fields_of(bytes: &[u8]) -> NodeRecord
-        requires { 108 ≤ length bytes.now }
-        ensures { Holds bytes.now (node_record result) }
+    #[tactic(auto, unfolding(crate::specs::NodeRecord::node_in))]
+    fn fields_of(bytes: &[u8; SA_DATA_BYTES]) -> NodeRecord
+        ensures fields { Holds bytes.now (node_record result) }
+        ensures value { result ≡ node_in bytes.now }
     {
         node_record_layout!(read_fields!(NodeRecord bytes))
     }

@@ -1,13 +1,13 @@
 //! PathRecord.
 
-ghost use Rattle.std.specs.Prelude.{◌≡◌, ◌≤◌, length, replicate};
+ghost use Rattle.std.specs.Prelude.{◌≡◌, replicate};
 ghost use Rattle.mad_layout.specs.Layout.{Holds, Fits, put_all, Spells};
 ghost use Rattle.sa_records.specs.Asked.{asked_by, bits_of, with_value};
-ghost use Rattle.sa_records.specs.PathRecord.{path_record, path_record_asked, path_record_bytes, path_record_selected};
+ghost use Rattle.sa_records.specs.PathRecord.{path_in, path_record, path_record_asked, path_record_bytes, path_record_selected};
 
 use crate::asked::{component_agrees, flag, is_word, selected, set_asked, set_field};
 use crate::component::{agrees, code_satisfies, rate_satisfies, same_base};
-use mad_layout::{read_fields, write_fields};
+use mad_layout::{SA_DATA_BYTES, read_fields, write_fields};
 
 /// How many bytes a PathRecord fills in a table.
 pub const PATH_RECORD_BYTES: usize = 64;
@@ -123,13 +123,22 @@ macro_rules! path_record_components {
 }
 
 impl PathRecord {
-    /// Reads the record that these bytes begin with; bits outside its fields are not looked at.
-    pub fn read(bytes: &[u8]) -> PathRecord
-        requires { 64 ≤ length bytes.now }
+    /// Reads the record that the data of a MAD of subnet administration begin with; bits outside its fields are not
+    /// looked at.
+    pub fn read(bytes: &[u8; SA_DATA_BYTES]) -> PathRecord
         ensures fields { Holds bytes.now (path_record result) }
         ensures fits { Fits (path_record result) }
+        ensures value { result ≡ path_in bytes.now }
     {
         Self::fields_of(bytes)
+    }
+
+    /// The record that asks by nothing: each of its fields is 0.
+    pub fn blank() -> PathRecord
+        ensures zeros { path_record_bytes result ≡ replicate 64 0 }
+        ensures fits { Fits (path_record result) }
+    {
+        Self::read(&[0; SA_DATA_BYTES])
     }
 
     /// Writes the record; every bit outside its fields is 0.
@@ -151,17 +160,26 @@ impl PathRecord {
 
     /// Asks by the field of this name: sets its value, and gives the bits of the ComponentMask that name it. None, and
     /// nothing is set, where paths have no such field or the value is wider than it.
-    #[tactic(auto, unfolding(crate::specs::Asked::asked_by))]
     pub fn ask_by(&mut self, field: &[u8], value: u128) -> Option<u64>
+        ensures bits { result ≡ bits_of (asked_by field.now value path_record_asked) }
+        ensures set { path_record self.new ≡ with_value value (asked_by field.now value path_record_asked) (path_record self.old) }
+        ensures fits { Fits (path_record self.old) → Fits (path_record self.new) }
+    {
+        self.set_by(field, value)
+    }
+
+    #[tactic(auto, unfolding(crate::specs::Asked::asked_by))]
+    fn set_by(&mut self, field: &[u8], value: u128) -> Option<u64>
         ensures bits { result ≡ bits_of (asked_by field.now value path_record_asked) }
         ensures set { path_record self.new ≡ with_value value (asked_by field.now value path_record_asked) (path_record self.old) }
     {
         path_record_components!(set_asked!(self field value))
     }
 
-    fn fields_of(bytes: &[u8]) -> PathRecord
-        requires { 64 ≤ length bytes.now }
-        ensures { Holds bytes.now (path_record result) }
+    #[tactic(auto, unfolding(crate::specs::PathRecord::path_in))]
+    fn fields_of(bytes: &[u8; SA_DATA_BYTES]) -> PathRecord
+        ensures fields { Holds bytes.now (path_record result) }
+        ensures value { result ≡ path_in bytes.now }
     {
         path_record_layout!(read_fields!(PathRecord bytes))
     }

@@ -1,14 +1,14 @@
 //! ServiceRecord.
 
-ghost use Rattle.std.specs.Prelude.{◌≡◌, ◌<◌, ◌≤◌, length, replicate};
+ghost use Rattle.std.specs.Prelude.{◌≡◌, replicate};
 ghost use Rattle.mad_layout.specs.Layout.{Holds, Fits, put_all, Spells};
 ghost use Rattle.std.specs.Option.{option_or};
 ghost use Rattle.sa_records.specs.Asked.{asked_by, bits_of, with_number, with_value};
-ghost use Rattle.sa_records.specs.ServiceRecord.{service_record, service_fields, service_record_asked, service_data_asked, service_record_bytes, service_record_selected, names_selected, data8_front_selected, data8_back_selected, data16_selected, data32_selected, data64_selected};
+ghost use Rattle.sa_records.specs.ServiceRecord.{service_in, service_record, service_fields, service_record_asked, service_data_asked, service_record_bytes, service_record_selected, names_selected, data8_front_selected, data8_back_selected, data16_selected, data32_selected, data64_selected};
 
 use crate::asked::{component_agrees, is_word, selected, set_asked, set_field, set_number};
 use crate::component::{agrees, same_base, same_part};
-use mad_layout::{put_bits, read_fields, write_fields};
+use mad_layout::{SA_DATA_BYTES, put_bits, read_fields, write_fields};
 
 /// How many bytes a ServiceRecord fills in a table.
 pub const SERVICE_RECORD_BYTES: usize = 176;
@@ -108,12 +108,21 @@ macro_rules! service_data_components {
 }
 
 impl ServiceRecord {
-    /// Reads the record that these bytes begin with; bits outside its fields are not looked at.
-    pub fn read(bytes: &[u8]) -> ServiceRecord
-        requires { 176 ≤ length bytes.now }
-        ensures { Holds bytes.now (service_record result) }
+    /// Reads the record that the data of a MAD of subnet administration begin with; bits outside its fields are not
+    /// looked at.
+    #[tactic(auto, unfolding(crate::specs::ServiceRecord::service_in))]
+    pub fn read(bytes: &[u8; SA_DATA_BYTES]) -> ServiceRecord
+        ensures fields { Holds bytes.now (service_record result) }
+        ensures value { result ≡ service_in bytes.now }
     {
         service_record_layout!(read_fields!(ServiceRecord bytes))
+    }
+
+    /// The record that asks by nothing: each of its fields is 0.
+    pub fn blank() -> ServiceRecord
+        ensures { service_record_bytes result ≡ replicate 176 0 }
+    {
+        Self::read(&[0; SA_DATA_BYTES])
     }
 
     /// Writes the record; every bit outside its fields is 0.

@@ -13,12 +13,13 @@ use Rattle.pkey_rules.specs.PKey.{base_of}
 use Rattle.rmpp_core.specs.Segments.{Transfer}
 use Rattle.sa_records.specs.declared.mc_member_record.McMemberRecord.{McMemberRecord}
 use Rattle.sa_records.specs.declared.service_record.ServiceRecord.{ServiceRecord}
-use Rattle.sa_records.specs.McMemberRecord.{mc_member_record_bytes}
+use Rattle.sa_records.specs.McMemberRecord.{mc_member_record_bytes, group_in}
+use Rattle.sa_records.specs.declared.sa_attribute.SaAttribute.TheVariants as sa_attribute
 use Rattle.subnet_model.specs.declared.subnet_port.SubnetPort.{SubnetPort}
 use Rattle.subnet_model.specs.Delivery.{port_with_guid}
 use Rattle.subnet_model.specs.Near.{is_near, ports_share}
 use Rattle.sa_groups.specs.JoinState.{is_joined}
-use Rattle.sa_groups.specs.Members.{is_member}
+use Rattle.sa_groups.specs.Members.{is_in, is_member}
 use Rattle.sa_groups.specs.Groups.{Membership, MulticastGroup, PartitionGroups}
 use Rattle.sa_groups.specs.Anchor.{free_mlid}
 use Rattle.sa_groups.specs.Joining.{has_mgid, is_of, joined}
@@ -31,14 +32,14 @@ use Rattle.sa_groups.proofs.SightLemmas.{near_leave}
 use Rattle.sa_groups.proofs.JoinSightLemmas.{free_seen, near_join}
 use Rattle.sa_services.specs.Services.{PortServices}
 use Rattle.sa_services.specs.ServiceChange.{Deed, is_place}
-use Rattle.sa_services.specs.ServiceSight.{is_shown, ports_share_base, services_seen}
+use Rattle.sa_services.specs.ServiceSight.{services_near}
 use Rattle.sa_services.proofs.ServiceLemmas.{services_alike}
 use Rattle.sa_services.proofs.DeedLemmas.{filter_within}
-use Rattle.sa_queries.specs.Visible.{SaState, is_in}
+use Rattle.sa_queries.specs.Visible.{SaState}
 use Rattle.sa_queries.specs.Shown.{Entry, group_record_of}
 use Rattle.sa_queries.specs.Selected.{Query}
 use Rattle.sa_queries.specs.Refusals.{Question, first_refusal}
-use Rattle.sa_queries.specs.Outcome.{unless_refused, got, table}
+use Rattle.sa_queries.specs.Outcome.{unless_status, got, table}
 use Rattle.sa_queries.specs.Laws.{SeesSame}
 use Rattle.sa_queries.proofs.NearLemmas.{member_if_in}
 use Rattle.sa_queries.proofs.QueryLemmas.{queries_end_alike}
@@ -47,15 +48,17 @@ use Rattle.rmpp_core.specs.Segments.{opened, segment_mad}
 use Rattle.sa_services.specs.ServiceChange.{has_id, has_room}
 use Rattle.sa_queries.specs.Gid.{gid_of}
 use Rattle.sa_queries.specs.Refusals.{refused_if}
-use Rattle.sa_replies.specs.Request.{Request, request_in, is_response, has_versions, group_in, service_in}
+use Rattle.sa_replies.specs.Request.{Request, request_in, is_response, has_versions, is_about}
+use Rattle.sa_records.specs.ServiceRecord.{service_in}
 use Rattle.sa_replies.specs.Reply.{reply, refusal_reply, table_header}
-use Rattle.sa_replies.specs.Transfers.{PortTransfer, with_table, place_of, table_at, table_of, on_rmpp}
+use Rattle.sa_replies.specs.Transfers.{PortTransfer, with_table, table_place, table_at, table_of, on_rmpp}
 use Rattle.sa_replies.specs.Success.{Success}
 use Rattle.sa_replies.specs.Joins.{join_asked, leave_asked, join_questions, founding_by, join_refusal, group_questions, group_named, bits_of_member, member_bytes, has_free_mlid}
 use Rattle.sa_replies.specs.Joins.{join_done, join_outcome, after_join, has_bit_of, is_taken_from, takes_some, leaving_by, leave_questions, leave_outcome}
 use Rattle.sa_replies.specs.ServiceRequests.{owner_questions, service_asked, change_asked, services_at, service_set, service_deleted}
-use Rattle.sa_replies.specs.Answer.{Administration, Answered, query_of, record_bytes, one_record, all_records, get_outcome, table_outcome}
-use Rattle.sa_replies.specs.Answer.{set_or_refused, delete_or_refused, outcome, told, after_rmpp, answer_to, answer}
+use Rattle.sa_replies.specs.Answer.{Administration, Answered, query_of, one_record, all_records, get_outcome, table_outcome}
+use Rattle.sa_records.specs.SaRecord.{record_bytes}
+use Rattle.sa_replies.specs.Answer.{set_or_refused, delete_or_refused, outcome, answered_with, after_rmpp, answer_to, answer}
 use Rattle.sa_replies.specs.Laws.{SeesAlike, RequestersAreAnsweredAlike}
 
 -- ---- what is looked for is kept
@@ -82,7 +85,7 @@ find_map test f same (x ∷ xs) = elim (cases_Bool (test x)) [
 abbrev pub groups_in : ℕ → List PartitionGroups → List MulticastGroup
 groups_in base partitions = flat_map (λ partition. partition.groups) (filter (λ partition. partition.base == base) partitions)
 
-groups_in_seen : (ports : List SubnetPort) (p base : ℕ) → is_member ports base p ≡ true → (partitions : List PartitionGroups)
+pub groups_in_seen : (ports : List SubnetPort) (p base : ℕ) → is_member ports base p ≡ true → (partitions : List PartitionGroups)
     → groups_in base (seen ports p partitions) ≡ map (group_seen ports p) (groups_in base partitions)
 groups_in_seen ports p base member [] = refl
 groups_in_seen ports p base member (x ∷ xs) = elim (cases_Bool (x.base == base)) [
@@ -184,14 +187,14 @@ takes_seen ports leave partitions sound =
 
 -- ---- the services of a port, by what it sees
 services_at_seen : (ports : List SubnetPort) (own : SubnetPort) (asked : ServiceRecord) (deed : Deed) (places : List PortServices)
-    → services_at (change_asked own asked deed) (services_seen ports own.guid places) ≡ services_at (change_asked own asked deed) places
+    → services_at (change_asked own asked deed) (services_near ports own.guid places) ≡ services_at (change_asked own asked deed) places
 services_at_seen ports own asked deed places =
-    ap (flat_map (λ place. place.services)) (filter_within (is_place (change_asked own asked deed)) (is_shown ports own.guid)
-    (λ place e. or_left (place.port == own.guid) (ports_share_base ports place.base own.guid place.port)
+    ap (flat_map (λ place. place.services)) (filter_within (is_place (change_asked own asked deed)) (λ place. is_near ports own.guid place.port)
+    (λ place e. or_left (place.port == own.guid) (ports_share ports own.guid place.port)
     (and_parts (place.port == own.guid) (place.base == base_of asked.service_p_key) e).0) places)
 
 services_at_alike : (ports : List SubnetPort) (own : SubnetPort) (asked : ServiceRecord) (deed : Deed) (s t : List PortServices)
-    → services_seen ports own.guid s ≡ services_seen ports own.guid t → services_at (change_asked own asked deed) s ≡ services_at (change_asked own asked deed) t
+    → services_near ports own.guid s ≡ services_near ports own.guid t → services_at (change_asked own asked deed) s ≡ services_at (change_asked own asked deed) t
 services_at_alike ports own asked deed s t same =
     sym (services_at_seen ports own asked deed s) ∙ (ap (services_at (change_asked own asked deed)) same ∙ services_at_seen ports own asked deed t)
 
@@ -213,14 +216,14 @@ same_if A true a b c d first second = first
 same_if A false a b c d first second = second
 
 unless_same : (A : SaState → SaState → Type 0) (r q : Option MadStatus) (a b : Result Success MadStatus) → r ≡ q → Same A a b
-    → Same A (unless_refused r a) (unless_refused q b)
+    → Same A (unless_status r a) (unless_status q b)
 unless_same A None None a b e same = same
 unless_same A (Some x) (Some y) a b e same = let told : x ≡ y = cc in told
 unless_same A None (Some y) a b e same = absurd (cc)
 unless_same A (Some x) None a b e same = absurd (cc)
 
 unless_then : (A : SaState → SaState → Type 0) (r : Option MadStatus) (a b : Result Success MadStatus) → (r ≡ None → Same A a b)
-    → Same A (unless_refused r a) (unless_refused r b)
+    → Same A (unless_status r a) (unless_status r b)
 unless_then A None a b same = same refl
 unless_then A (Some x) a b same = refl
 
@@ -336,17 +339,17 @@ delete_same ports own s t mask asked content a =
 set_or_refused_same : (ports : List SubnetPort) (own : SubnetPort) (s t : SaState) (request : Request) → Alikes ports own s t
     → Same (SeesSame ports own.guid) (set_or_refused ports own s request) (set_or_refused ports own t request)
 set_or_refused_same ports own s t request a =
-    same_if (SeesSame ports own.guid) (request.header.attribute_id == 56) _ _ _ _
+    same_if (SeesSame ports own.guid) (is_about sa_attribute.McMemberRecord request) _ _ _ _
     (join_same ports own s t request.component_mask (group_in request.content) a)
-    (same_if (SeesSame ports own.guid) (request.header.attribute_id == 49) _ _ _ _
+    (same_if (SeesSame ports own.guid) (is_about sa_attribute.ServiceRecord request) _ _ _ _
     (set_same ports own s t request.component_mask (service_in request.content) a) refl)
 
 delete_or_refused_same : (ports : List SubnetPort) (own : SubnetPort) (s t : SaState) (request : Request) → Alikes ports own s t
     → Same (SeesSame ports own.guid) (delete_or_refused ports own s request) (delete_or_refused ports own t request)
 delete_or_refused_same ports own s t request a =
-    same_if (SeesSame ports own.guid) (request.header.attribute_id == 56) _ _ _ _
+    same_if (SeesSame ports own.guid) (is_about sa_attribute.McMemberRecord request) _ _ _ _
     (leave_same ports own s t request.component_mask (group_in request.content) request.content a)
-    (same_if (SeesSame ports own.guid) (request.header.attribute_id == 49) _ _ _ _
+    (same_if (SeesSame ports own.guid) (is_about sa_attribute.ServiceRecord request) _ _ _ _
     (delete_same ports own s t request.component_mask (service_in request.content) request.content a) refl)
 
 outcome_same : (ports : List SubnetPort) (own : SubnetPort) (s t : SaState) (request : Request) → Alikes ports own s t
@@ -367,20 +370,20 @@ told_if ports p true a b c d first second = first
 told_if ports p false a b c d first second = second
 
 pub own_place : (p : ℕ) (table : Option Transfer) (transfers : List PortTransfer)
-    → place_of p (with_table p table transfers) ≡ option_map (λ place. record { port = p; open_table = table }) (place_of p transfers)
+    → table_place p (with_table p table transfers) ≡ option_map (λ place. record { port = p; open_table = table }) (table_place p transfers)
 own_place p table [] = refl
 own_place p table (x ∷ xs) = elim (cases_Bool (x.port == p)) [
   | inl this ↦ rw (this, eq-eqb p p refl) refl
   | inr other ↦ rw (other, other) (own_place p table xs)
 ]
 
-with_table_alike : (p : ℕ) (table : Option Transfer) (s t : List PortTransfer) → place_of p s ≡ place_of p t
-    → place_of p (with_table p table s) ≡ place_of p (with_table p table t)
+with_table_alike : (p : ℕ) (table : Option Transfer) (s t : List PortTransfer) → table_place p s ≡ table_place p t
+    → table_place p (with_table p table s) ≡ table_place p (with_table p table t)
 with_table_alike p table s t same =
     own_place p table s ∙ (ap (option_map (λ place. record { port = p; open_table = table })) same ∙ sym (own_place p table t))
 
 told_same : (ports : List SubnetPort) (own : SubnetPort) (request : Request) (s t : Administration) (r q : Result Success MadStatus) → SeesAlike ports own.guid s t
-    → Same (SeesSame ports own.guid) r q → Told ports own.guid (told own request s r) (told own request t q)
+    → Same (SeesSame ports own.guid) r q → Told ports own.guid (answered_with own request s r) (answered_with own request t q)
 told_same ports own request s t (Err x) (Err y) same e = (ap (λ status. refusal_reply request status ∷ []) e, same)
 told_same ports own request s t (Err x) (Ok (Success.one_reply c m)) same e = absurd e
 told_same ports own request s t (Err x) (Ok (Success.whole_table o c)) same e = absurd e
@@ -397,7 +400,7 @@ told_same ports own request s t (Ok (Success.whole_table o b)) (Ok (Success.whol
       record {
         remembered = same.remembered;
         own_table = with_table_alike own.guid (Some (opened (table_header request o) b)) s.transfers t.transfers same.own_table
-            ∙ ap (λ table. place_of own.guid (with_table own.guid (Some table) t.transfers)) opened_same;
+            ∙ ap (λ table. table_place own.guid (with_table own.guid (Some table) t.transfers)) opened_same;
       },
     )
 
@@ -410,7 +413,7 @@ rmpp_same ports own request s t same =
       record {
         remembered = same.remembered;
         own_table = with_table_alike own.guid (on_rmpp request (table_of own.guid s.transfers)).1 s.transfers t.transfers same.own_table
-            ∙ ap (λ answered. place_of own.guid (with_table own.guid answered.1 t.transfers)) answers;
+            ∙ ap (λ answered. table_place own.guid (with_table own.guid answered.1 t.transfers)) answers;
       },
     )
 

@@ -7,10 +7,11 @@ use Rattle.std.proofs.lemmas.List.Folds.{list_all-append, list_any-append}
 use Rattle.result_words.proofs.ListLemmas.{found_passes}
 use Rattle.pkey_rules.specs.PKey.{base_of}
 use Rattle.sa_groups.proofs.JoinSoundLemmas.{all_with_group, joined_mgid}
+use Rattle.sa_groups.proofs.InPlaceLemmas.{higher_ones, lower_ones, none_lower}
 use Rattle.sa_groups.proofs.ListLemmas.{any_map}
 use Rattle.sa_groups.specs.Anchor.{free_mlid}
 use Rattle.sa_groups.specs.Groups.{Membership, MulticastGroup, PartitionGroups}
-use Rattle.sa_groups.specs.Joining.{Join, has_mgid, is_of, joined, joined_group, joined_groups, may_create, may_join, more_joined, new_group, with_created, with_group, with_member}
+use Rattle.sa_groups.specs.Joining.{Join, has_mgid, in_place, is_of, joined, joined_group, joined_groups, may_create, may_join, more_joined, new_group, new_membership, with_created, with_group, with_member}
 use Rattle.sa_groups.specs.JoinState.{JoinState, is_joined, with_bits}
 use Rattle.sa_groups.specs.Members.{is_member}
 use Rattle.sa_queries.proofs.NearLemmas.{member_if_in}
@@ -76,17 +77,22 @@ module _ (join : Join) where
     | inr other ↦ let later : list_any (is_of join.port) memberships ≡ true = rw other at some in rw (other, other) (with_more memberships later)
   ]
 
-  with_new : (memberships : List Membership) → list_any (is_of join.port) memberships ≡ false
-      → takes_part_in (memberships ++ record { port = join.port; join_state = join.join_state } ∷ []) ≡ true
-  with_new [] none = rw (eq-eqb join.port join.port refl) (own_bits join.join_state)
-  with_new (first ∷ memberships) none =
-      let parts = or_parts (is_of join.port first) (list_any (is_of join.port) memberships) none in
-      rw parts.0 (with_new memberships parts.1)
+  new_behind : (before behind : List Membership) → list_any (is_of join.port) before ≡ false
+      → takes_part_in (before ++ new_membership join ∷ behind) ≡ true
+  new_behind [] behind none = rw (eq-eqb join.port join.port refl) (own_bits join.join_state)
+  new_behind (first ∷ before) behind none =
+      let parts = or_parts (is_of join.port first) (list_any (is_of join.port) before) none in
+      rw parts.0 (new_behind before behind parts.1)
+
+  with_new : (memberships : List Membership) → takes_part_in (in_place (new_membership join) memberships) ≡ true
+  with_new memberships =
+      new_behind (lower_ones (new_membership join) memberships) (higher_ones (new_membership join) memberships)
+      (none_lower (new_membership join) memberships)
 
   joined_takes_part : (memberships : List Membership) → takes_part_in (with_member join memberships) ≡ true
   joined_takes_part memberships = elim (cases_Bool (list_any (is_of join.port) memberships)) [
     | inl there ↦ rw there (with_more memberships there)
-    | inr none ↦ rw none (with_new memberships none)
+    | inr none ↦ rw none (with_new memberships)
   ]
 
   -- ---- a group: where it has the MGID, the port takes part in it

@@ -11,6 +11,7 @@ use Rattle.mad_layout.specs.declared.status.MadStatus.TheVariants.{NoRecords, No
 use Rattle.pkey_rules.specs.PKey.{base_of}
 use Rattle.sa_records.specs.declared.mc_member_record.McMemberRecord.{McMemberRecord}
 use Rattle.sa_records.specs.declared.service_record.ServiceRecord.{ServiceRecord}
+use Rattle.sa_records.specs.declared.sa_attribute.SaAttribute.TheVariants as sa_attribute
 use Rattle.subnet_model.specs.declared.subnet_port.SubnetPort.{SubnetPort}
 use Rattle.subnet_model.specs.Delivery.{port_with_guid}
 use Rattle.subnet_model.specs.Near.{is_near}
@@ -23,27 +24,29 @@ use Rattle.sa_groups.specs.Leaving.{Leave, is_left, less_joined, without_member,
 use Rattle.sa_groups.specs.Sound.{is_sound_membership, is_sound_group, is_sound_partition, is_sound}
 use Rattle.sa_groups.specs.Sight.{partition_seen, seen, Alike}
 use Rattle.sa_groups.proofs.SoundLemmas.{sound_parts, partition_parts}
-use Rattle.result_words.proofs.FilterLemmas.{filter_map_idle, filter_map_absorbs}
+use Rattle.result_words.proofs.FilterLemmas.{filter_map_idle}
 use Rattle.sa_groups.proofs.SightLemmas.{seen_absorbs, near_leave}
 use Rattle.sa_groups.proofs.JoinSightLemmas.{near_join, far_join}
 use Rattle.sa_services.specs.Services.{Service, PortServices}
-use Rattle.sa_services.specs.ServiceChange.{Deed, ServiceChange, is_place, has_id, has_room, changed_in, services_changed}
-use Rattle.sa_services.specs.ServiceSight.{ports_share_base, is_shown, services_seen}
-use Rattle.sa_services.proofs.ServiceLemmas.{services_alike}
+use Rattle.sa_services.specs.ServiceChange.{Deed, ServiceChange, is_place, has_id, has_room}
+use Rattle.sa_services.specs.ServiceSight.{services_near}
+use Rattle.sa_services.proofs.ServiceLemmas.{far_not_near, services_alike}
 use Rattle.sa_queries.specs.Visible.{SaState}
 use Rattle.sa_queries.specs.Shown.{Entry}
 use Rattle.sa_queries.specs.Selected.{Query}
 use Rattle.sa_queries.specs.Refusals.{refused_if, first_refusal}
-use Rattle.sa_queries.specs.Outcome.{unless_refused, got, table}
+use Rattle.sa_queries.specs.Outcome.{unless_status, got, table}
 use Rattle.sa_queries.specs.Laws.{SeesSame}
-use Rattle.sa_replies.specs.Request.{Request, request_in, is_response, has_versions, group_in, service_in}
-use Rattle.sa_replies.specs.Transfers.{place_of, table_of, on_rmpp}
+use Rattle.sa_replies.specs.Request.{Request, request_in, is_response, has_versions, is_about}
+use Rattle.sa_records.specs.McMemberRecord.{group_in}
+use Rattle.sa_records.specs.ServiceRecord.{service_in}
+use Rattle.sa_replies.specs.Transfers.{table_place, table_of, on_rmpp}
 use Rattle.sa_replies.specs.Success.{Success}
 use Rattle.sa_replies.specs.Joins.{join_asked, leave_asked, join_questions, join_refusal, group_questions, group_named, join_done, join_outcome, after_join}
 use Rattle.sa_replies.specs.Joins.{has_bit_of, is_taken_from, takes_some, leaving_by, leave_outcome}
 use Rattle.sa_replies.specs.ServiceRequests.{owner_questions, service_asked, change_asked, services_at, shown_bytes, set_outcome, service_set, delete_outcome, service_deleted, after_change}
 use Rattle.sa_replies.specs.Answer.{Administration, Answered, query_of, one_record, all_records, get_outcome, table_outcome}
-use Rattle.sa_replies.specs.Answer.{set_or_refused, delete_or_refused, outcome, told, version_refused, after_rmpp, answer_to, answer}
+use Rattle.sa_replies.specs.Answer.{set_or_refused, delete_or_refused, outcome, answered_with, version_refused, after_rmpp, answer_to, answer}
 use Rattle.sa_replies.specs.Laws.{SeesAlike, AnswersAreSeenAlike}
 use Rattle.sa_replies.proofs.SightLemmas.{other_table}
 use Rattle.sa_services.proofs.DeedLemmas.{filter_within}
@@ -140,38 +143,12 @@ unseen_join ports p join partitions outside sound =
       | inr other ↦ rw other refl
     ]
 
--- ---- a change of services that p is not shown
-unseen_change : (ports : List SubnetPort) (p : ℕ) (change : ServiceChange) (places : List PortServices)
-    → ((change.port == p) || ports_share_base ports change.base p change.port) ≡ false
-    → services_seen ports p (services_changed places change) ≡ services_seen ports p places
-unseen_change ports p change places hidden =
-    filter_map_absorbs (is_shown ports p) (changed_in change) shown_as_before untouched places
-  where
-    shown_as_before : (place : PortServices) → is_shown ports p (changed_in change place) ≡ is_shown ports p place
-    shown_as_before place = elim (cases_Bool (is_place change place)) [
-      | inl this ↦ rw this refl
-      | inr other ↦ rw other refl
-    ]
-
-    untouched : (place : PortServices) → is_shown ports p place ≡ true → changed_in change place ≡ place
-    untouched place shown = elim (cases_Bool (is_place change place)) [
-      | inl this ↦
-          let parts = and_parts (place.port == change.port) (place.base == change.base) this in
-          let port : place.port ≡ change.port = eqb-true place.port change.port parts.0 in
-          let base : place.base ≡ change.base = eqb-true place.base change.base parts.1 in
-          absurd (both_ways ((change.port == p) || ports_share_base ports change.base p change.port) hidden
-          (ap (λ q. (q == p) || ports_share_base ports change.base p q) (sym port) ∙ (ap (λ b. (place.port == p) || ports_share_base ports b p place.port) (sym base) ∙ shown)))
-      | inr other ↦ rw other refl
-    ]
-
-shown_services : (ports : List SubnetPort) (p : ℕ) (change : ServiceChange) (places : List PortServices)
-    → ((change.port == p) || ports_share_base ports change.base p change.port) ≡ true
-    → services_at change (services_seen ports p places) ≡ services_at change places
-shown_services ports p change places shown =
-    ap (flat_map (λ place. place.services)) (filter_within (is_place change) (is_shown ports p) (λ place e.
-    let parts = and_parts (place.port == change.port) (place.base == change.base) e in
-    ap (λ q. (q == p) || ports_share_base ports place.base p q) (eqb-true place.port change.port parts.0)
-    ∙ (ap (λ b. (change.port == p) || ports_share_base ports b p change.port) (eqb-true place.base change.base parts.1) ∙ shown)) places)
+-- ---- a change of the services of a port near p
+near_services : (ports : List SubnetPort) (p : ℕ) (change : ServiceChange) (places : List PortServices) → is_near ports p change.port ≡ true
+    → services_at change (services_near ports p places) ≡ services_at change places
+near_services ports p change places near =
+    ap (flat_map (λ place. place.services)) (filter_within (is_place change) (λ place. is_near ports p place.port)
+    (λ place e. ap (is_near ports p) (eqb-true place.port change.port (and_parts (place.port == change.port) (place.base == change.base) e).0) ∙ near) places)
 
 -- ---- the state that an outcome leaves
 abbrev left_by : SaState → Result Success MadStatus → SaState
@@ -188,20 +165,20 @@ end_if ports p s t true a b c d first second = first
 end_if ports p s t false a b c d first second = second
 
 end_unless : (ports : List SubnetPort) (p : ℕ) (s t : SaState) (r : Option MadStatus) (a b : Result Success MadStatus) → SeesSame ports p s t
-    → (r ≡ None → End ports p s t a b) → End ports p s t (unless_refused r a) (unless_refused r b)
+    → (r ≡ None → End ports p s t a b) → End ports p s t (unless_status r a) (unless_status r b)
 end_unless ports p s t None a b same ends = ends refl
 end_unless ports p s t (Some status) a b same ends = same
 
 -- refused or not in either
 end_any : (ports : List SubnetPort) (p : ℕ) (s t : SaState) (r q : Option MadStatus) (a b : Result Success MadStatus) → SeesSame ports p s t
-    → SeesSame ports p (left_by s a) t → SeesSame ports p s (left_by t b) → End ports p s t a b → End ports p s t (unless_refused r a) (unless_refused q b)
+    → SeesSame ports p (left_by s a) t → SeesSame ports p s (left_by t b) → End ports p s t a b → End ports p s t (unless_status r a) (unless_status q b)
 end_any ports p s t None None a b same first second both = both
 end_any ports p s t None (Some y) a b same first second both = first
 end_any ports p s t (Some x) None a b same first second both = second
 end_any ports p s t (Some x) (Some y) a b same first second both = same
 
 end_same : (ports : List SubnetPort) (p : ℕ) (s t : SaState) (r q : Option MadStatus) (a b : Result Success MadStatus) → r ≡ q → SeesSame ports p s t
-    → End ports p s t a b → End ports p s t (unless_refused r a) (unless_refused q b)
+    → End ports p s t a b → End ports p s t (unless_status r a) (unless_status q b)
 end_same ports p s t None None a b e same both = both
 end_same ports p s t (Some x) (Some y) a b e same both = same
 end_same ports p s t None (Some y) a b e same both = absurd (cc)
@@ -233,7 +210,7 @@ table_left ports own state None = refl
 same_by : (ports : List SubnetPort) (p : ℕ) (s t a b : SaState) → a ≡ s → b ≡ t → SeesSame ports p s t → SeesSame ports p a b
 same_by ports p s t a b x y same = record {
   groups = ap (λ state. seen ports p state.partitions) x ∙ (same.groups ∙ ap (λ state. seen ports p state.partitions) (sym y));
-  services = ap (λ state. services_seen ports p state.services) x ∙ (same.services ∙ ap (λ state. services_seen ports p state.services) (sym y));
+  services = ap (λ state. services_near ports p state.services) x ∙ (same.services ∙ ap (λ state. services_near ports p state.services) (sym y));
 }
 
 joins_alike : (ports : List SubnetPort) (p : ℕ) (own : SubnetPort) (s t : SaState) (join : Join) → Others ports p own s t
@@ -252,8 +229,8 @@ join_end : (ports : List SubnetPort) (p : ℕ) (own : SubnetPort) (s t : SaState
     → End ports p s t (join_outcome ports own s mask asked) (join_outcome ports own t mask asked)
 join_end ports p own s t mask asked o =
     end_unless ports p s t (first_refusal (join_questions own mask asked))
-    (unless_refused (join_refusal ports own mask asked s.partitions) (Ok (join_done own join (after_join ports join s))))
-    (unless_refused (join_refusal ports own mask asked t.partitions) (Ok (join_done own join (after_join ports join t)))) o.same
+    (unless_status (join_refusal ports own mask asked s.partitions) (Ok (join_done own join (after_join ports join s))))
+    (unless_status (join_refusal ports own mask asked t.partitions) (Ok (join_done own join (after_join ports join t)))) o.same
     (λ e. elim (cases_Bool (is_member ports (base_of asked.p_key) p)) [
       | inl member ↦ end_same ports p s t (join_refusal ports own mask asked s.partitions) (join_refusal ports own mask asked t.partitions)
           (Ok (join_done own join (after_join ports join s))) (Ok (join_done own join (after_join ports join t)))
@@ -275,7 +252,7 @@ join_end ports p own s t mask asked o =
 -- a leave ends as if it took something, whether it does or not
 leave_left : (ports : List SubnetPort) (own : SubnetPort) (state : SaState) (mask : ℕ) (asked : McMemberRecord) (content : List ℕ) → is_sound ports state.partitions ≡ true
     → left_by state (leave_outcome ports own state mask asked content)
-    ≡ left_by state (unless_refused (first_refusal (leaving_by own mask asked true))
+    ≡ left_by state (unless_status (first_refusal (leaving_by own mask asked true))
     (Ok (Success.one_reply content (record state { partitions = left ports (leave_asked own mask asked) state.partitions }))))
 leave_left ports own state mask asked content sound = elim (cases_Bool (takes_some (leave_asked own mask asked) state.partitions)) [
   | inl takes ↦ rw takes refl
@@ -283,7 +260,7 @@ leave_left ports own state mask asked content sound = elim (cases_Bool (takes_so
       (either (first_refusal (leaving_by own mask asked false)) ∙ sym (either (first_refusal (leaving_by own mask asked true))))
 ]
   where
-    either : (refused : Option MadStatus) → left_by state (unless_refused refused (Ok (Success.one_reply content state))) ≡ state
+    either : (refused : Option MadStatus) → left_by state (unless_status refused (Ok (Success.one_reply content state))) ≡ state
     either None = refl
     either (Some status) = refl
 
@@ -304,17 +281,17 @@ leave_end ports p own s t mask asked content o =
 -- a Set or a Delete is refused by what its port offers there, or not
 change_end : (ports : List SubnetPort) (p : ℕ) (s t : SaState) (change : ServiceChange) (refused : List Service → Option MadStatus) (bytes : List ℕ)
     → SeesSame ports p s t
-    → End ports p s t (unless_refused (refused (services_at change s.services)) (Ok (Success.one_reply bytes (after_change s change))))
-    (unless_refused (refused (services_at change t.services)) (Ok (Success.one_reply bytes (after_change t change))))
-change_end ports p s t change refused bytes same = elim (cases_Bool ((change.port == p) || ports_share_base ports change.base p change.port)) [
-  | inl shown ↦ end_same ports p s t (refused (services_at change s.services)) (refused (services_at change t.services))
+    → End ports p s t (unless_status (refused (services_at change s.services)) (Ok (Success.one_reply bytes (after_change s change))))
+    (unless_status (refused (services_at change t.services)) (Ok (Success.one_reply bytes (after_change t change))))
+change_end ports p s t change refused bytes same = elim (cases_Bool (is_near ports p change.port)) [
+  | inl near ↦ end_same ports p s t (refused (services_at change s.services)) (refused (services_at change t.services))
       (Ok (Success.one_reply bytes (after_change s change))) (Ok (Success.one_reply bytes (after_change t change)))
-      (ap refused (sym (shown_services ports p change s.services shown) ∙ (ap (services_at change) same.services ∙ shown_services ports p change t.services shown)))
+      (ap refused (sym (near_services ports p change s.services near) ∙ (ap (services_at change) same.services ∙ near_services ports p change t.services near)))
       same both
-  | inr hidden ↦ end_any ports p s t (refused (services_at change s.services)) (refused (services_at change t.services))
+  | inr far ↦ end_any ports p s t (refused (services_at change s.services)) (refused (services_at change t.services))
       (Ok (Success.one_reply bytes (after_change s change))) (Ok (Success.one_reply bytes (after_change t change))) same
-      (record { groups = same.groups; services = unseen_change ports p change s.services hidden ∙ same.services })
-      (record { groups = same.groups; services = same.services ∙ sym (unseen_change ports p change t.services hidden) }) both
+      (record { groups = same.groups; services = far_not_near ports p s.services change far ∙ same.services })
+      (record { groups = same.groups; services = same.services ∙ sym (far_not_near ports p t.services change far) }) both
 ]
   where
     both : SeesSame ports p (after_change s change) (after_change t change)
@@ -342,19 +319,19 @@ delete_end ports p own s t mask asked content o =
 set_or_refused_end : (ports : List SubnetPort) (p : ℕ) (own : SubnetPort) (s t : SaState) (request : Request) → Others ports p own s t
     → End ports p s t (set_or_refused ports own s request) (set_or_refused ports own t request)
 set_or_refused_end ports p own s t request o =
-    end_if ports p s t (request.header.attribute_id == 56) (join_outcome ports own s request.component_mask (group_in request.content)) _
+    end_if ports p s t (is_about sa_attribute.McMemberRecord request) (join_outcome ports own s request.component_mask (group_in request.content)) _
     (join_outcome ports own t request.component_mask (group_in request.content)) _ (join_end ports p own s t request.component_mask (group_in request.content) o)
-    (end_if ports p s t (request.header.attribute_id == 49) (service_set own s request.component_mask (service_in request.content)) (Err AttributeNotSupported)
+    (end_if ports p s t (is_about sa_attribute.ServiceRecord request) (service_set own s request.component_mask (service_in request.content)) (Err AttributeNotSupported)
     (service_set own t request.component_mask (service_in request.content)) (Err AttributeNotSupported)
     (set_end ports p own s t request.component_mask (service_in request.content) o) o.same)
 
 delete_or_refused_end : (ports : List SubnetPort) (p : ℕ) (own : SubnetPort) (s t : SaState) (request : Request) → Others ports p own s t
     → End ports p s t (delete_or_refused ports own s request) (delete_or_refused ports own t request)
 delete_or_refused_end ports p own s t request o =
-    end_if ports p s t (request.header.attribute_id == 56) (leave_outcome ports own s request.component_mask (group_in request.content) request.content) _
+    end_if ports p s t (is_about sa_attribute.McMemberRecord request) (leave_outcome ports own s request.component_mask (group_in request.content) request.content) _
     (leave_outcome ports own t request.component_mask (group_in request.content) request.content) _
     (leave_end ports p own s t request.component_mask (group_in request.content) request.content o)
-    (end_if ports p s t (request.header.attribute_id == 49) (service_deleted own s request.component_mask (service_in request.content) request.content) (Err AttributeNotSupported)
+    (end_if ports p s t (is_about sa_attribute.ServiceRecord request) (service_deleted own s request.component_mask (service_in request.content) request.content) (Err AttributeNotSupported)
     (service_deleted own t request.component_mask (service_in request.content) request.content) (Err AttributeNotSupported)
     (delete_end ports p own s t request.component_mask (service_in request.content) request.content o) o.same)
 
@@ -372,18 +349,18 @@ outcome_end ports p own s t request o =
 
 -- ---- and another port's table is as it was
 told_end : (ports : List SubnetPort) (p : ℕ) (own : SubnetPort) (request : Request) (s t : Administration) (r q : Result Success MadStatus) → (own.guid == p) ≡ false
-    → SeesAlike ports p s t → End ports p s.remembered t.remembered r q → SeesAlike ports p (told own request s r).1 (told own request t q).1
+    → SeesAlike ports p s t → End ports p s.remembered t.remembered r q → SeesAlike ports p (answered_with own request s r).1 (answered_with own request t q).1
 told_end ports p own request s t r q other same ends = record {
   remembered = same_by ports p (left_by s.remembered r) (left_by t.remembered q) _ _ (left_of s r) (left_of t q) ends;
   own_table = place_of_told s r ∙ (same.own_table ∙ sym (place_of_told t q));
 }
   where
-    left_of : (state : Administration) (result : Result Success MadStatus) → (told own request state result).1.remembered ≡ left_by state.remembered result
+    left_of : (state : Administration) (result : Result Success MadStatus) → (answered_with own request state result).1.remembered ≡ left_by state.remembered result
     left_of state (Err status) = refl
     left_of state (Ok (Success.one_reply bytes next)) = refl
     left_of state (Ok (Success.whole_table offset bytes)) = refl
 
-    place_of_told : (state : Administration) (result : Result Success MadStatus) → place_of p (told own request state result).1.transfers ≡ place_of p state.transfers
+    place_of_told : (state : Administration) (result : Result Success MadStatus) → table_place p (answered_with own request state result).1.transfers ≡ table_place p state.transfers
     place_of_told state (Err status) = refl
     place_of_told state (Ok (Success.one_reply bytes next)) = refl
     place_of_told state (Ok (Success.whole_table offset bytes)) = other_table p own.guid _ state.transfers other
@@ -407,8 +384,8 @@ answer_to_end ports p own request s t other same o =
     alike_if ports p (not (has_versions request.header)) (version_refused request, s) _ (version_refused request, t) _ same
     (alike_if ports p (bit_and request.rmpp.flags 1 == 1) (after_rmpp own s (on_rmpp request (table_of own.guid s.transfers))) _
     (after_rmpp own t (on_rmpp request (table_of own.guid t.transfers))) _ (rmpp_end ports p own request s t other same)
-    (alike_if ports p (is_response request.header) ([], s) (told own request s (outcome ports own s.remembered request)) ([], t)
-    (told own request t (outcome ports own t.remembered request)) same
+    (alike_if ports p (is_response request.header) ([], s) (answered_with own request s (outcome ports own s.remembered request)) ([], t)
+    (answered_with own request t (outcome ports own t.remembered request)) same
     (told_end ports p own request s t (outcome ports own s.remembered request) (outcome ports own t.remembered request) other same
     (outcome_end ports p own s.remembered t.remembered request o))))
 

@@ -11,25 +11,29 @@ use Rattle.mad_layout.specs.declared.method.Method.TheVariants.{Get, Set, GetTab
 use Rattle.mad_layout.specs.declared.status.MadStatus.{MadStatus}
 use Rattle.mad_layout.specs.declared.status.MadStatus.TheVariants.{BadVersion, MethodNotSupported, AttributeNotSupported, NoResources, NoRecords}
 use Rattle.rmpp_core.specs.Segments.{Transfer, opened, payload_size, segment_mad}
+use Rattle.sa_records.specs.declared.sa_record.SaRecord.TheVariants as sa_record
 use Rattle.sa_records.specs.declared.mc_member_record.McMemberRecord.{McMemberRecord}
 use Rattle.sa_records.specs.declared.service_record.ServiceRecord.{ServiceRecord}
+use Rattle.sa_records.specs.declared.sa_attribute.SaAttribute.TheVariants as sa_attribute
 use Rattle.subnet_model.specs.declared.subnet_port.SubnetPort.{SubnetPort}
 use Rattle.sa_groups.specs.Groups.{MulticastGroup}
 use Rattle.sa_groups.specs.Leaving.{left}
 use Rattle.sa_services.specs.ServiceChange.{Deed, has_id, has_room}
 use Rattle.sa_queries.specs.Visible.{SaState}
-use Rattle.sa_queries.specs.Shown.{SaRecord, Entry, service_record_of}
+use Rattle.sa_queries.specs.Shown.{Entry, service_record_of}
 use Rattle.sa_queries.specs.Selected.{Query}
 use Rattle.sa_queries.specs.Refusals.{refused_if, first_refusal}
-use Rattle.sa_queries.specs.Outcome.{unless_refused, got, table}
+use Rattle.sa_queries.specs.Outcome.{unless_status, got, table}
 use Rattle.pkey_rules.specs.PKey.{base_of}
-use Rattle.sa_replies.specs.Request.{Request, request_in, is_response, has_versions, group_in, service_in}
+use Rattle.sa_replies.specs.Request.{Request, request_in, is_response, has_versions, is_about}
+use Rattle.sa_records.specs.McMemberRecord.{group_in}
+use Rattle.sa_records.specs.ServiceRecord.{service_in}
 use Rattle.sa_replies.specs.Reply.{reply, refusal_reply, table_header}
 use Rattle.sa_replies.specs.Transfers.{PortTransfer, with_table, table_of, on_rmpp}
 use Rattle.sa_replies.specs.Success.{Success}
 use Rattle.sa_replies.specs.Joins.{join_asked, leave_asked, join_questions, join_refusal, join_done, join_outcome, after_join, group_named, member_bytes, member_record, leave_questions, leave_outcome}
 use Rattle.sa_replies.specs.ServiceRequests.{owner_questions, service_asked, change_asked, services_at, shown_bytes, set_outcome, service_set, delete_outcome, service_deleted, after_change}
-use Rattle.sa_replies.specs.Answer.{Administration, Answered, query_of, offset_of, one_record, all_records, get_outcome, table_outcome, set_or_refused, delete_or_refused, outcome, told, after_rmpp, version_refused, answer_to, answer}
+use Rattle.sa_replies.specs.Answer.{Administration, Answered, query_of, offset_of, one_record, all_records, get_outcome, table_outcome, set_or_refused, delete_or_refused, outcome, answered_with, after_rmpp, version_refused, answer_to, answer}
 use Rattle.sa_replies.specs.Laws.{is_of_transfer, asks_by, are_refusals, CanBeTold, RefusedChangeNothing, RequestsLeaveTheRest}
 use Rattle.sa_replies.proofs.StatusLemmas.{AreData, no_data, content_is_data, record_is_data, records_below, IsCopied, is_copied, reply_status, first_status, refusal_status}
 
@@ -42,28 +46,28 @@ pub ends_if : (P : Success → Type 0) (test : Bool) (a b : Result Success MadSt
 ends_if P true a b first second = first
 ends_if P false a b first second = second
 
-ends_unless : (P : Success → Type 0) (refused : Option MadStatus) (result : Result Success MadStatus) → Ends P result → Ends P (unless_refused refused result)
+pub ends_unless : (P : Success → Type 0) (refused : Option MadStatus) (result : Result Success MadStatus) → Ends P result → Ends P (unless_status refused result)
 ends_unless P None result ends = ends
 ends_unless P (Some status) result ends = tt
 
-ends_more : (P Q : Success → Type 0) → ((success : Success) → P success → Q success) → (result : Result Success MadStatus) → Ends P result → Ends Q result
+pub ends_more : (P Q : Success → Type 0) → ((success : Success) → P success → Q success) → (result : Result Success MadStatus) → Ends P result → Ends Q result
 ends_more P Q more (Ok success) ends = more success ends
 ends_more P Q more (Err status) ends = tt
 
 -- a Get ends in a reply and leaves the state, a GetTable in a table, a Set and a Delete in a reply; each by bytes
-abbrev IsGot : SaState → Success → Type 0
+abbrev pub IsGot : SaState → Success → Type 0
 IsGot state (Success.one_reply bytes next) = AreData bytes × (next ≡ state)
 IsGot state (Success.whole_table offset bytes) = ⊥
 
-abbrev IsTable : Success → Type 0
+abbrev pub IsTable : Success → Type 0
 IsTable (Success.one_reply bytes next) = ⊥
 IsTable (Success.whole_table offset bytes) = (offset < 2 ^ 16) × AllBelowBase 256 bytes
 
-abbrev IsReply : Success → Type 0
+abbrev pub IsReply : Success → Type 0
 IsReply (Success.one_reply bytes next) = AreData bytes
 IsReply (Success.whole_table offset bytes) = ⊥
 
-abbrev AreBytes : Success → Type 0
+abbrev pub AreBytes : Success → Type 0
 AreBytes (Success.one_reply bytes next) = AreData bytes
 AreBytes (Success.whole_table offset bytes) = (offset < 2 ^ 16) × AllBelowBase 256 bytes
 
@@ -93,23 +97,23 @@ all_end : (query : Query) (result : Result (List Entry) MadStatus) → Ends IsTa
 all_end query (Ok entries) = (offset_low query, records_below entries)
 all_end query (Err status) = tt
 
-get_ends : (ports : List SubnetPort) (own : SubnetPort) (state : SaState) (query : Option Query) → Ends (IsGot state) (get_outcome ports own state query)
+pub get_ends : (ports : List SubnetPort) (own : SubnetPort) (state : SaState) (query : Option Query) → Ends (IsGot state) (get_outcome ports own state query)
 get_ends ports own state (Some query) = one_ends state (got ports own state query)
 get_ends ports own state None = tt
 
-table_ends : (ports : List SubnetPort) (own : SubnetPort) (state : SaState) (query : Option Query) → Ends IsTable (table_outcome ports own state query)
+pub table_ends : (ports : List SubnetPort) (own : SubnetPort) (state : SaState) (query : Option Query) → Ends IsTable (table_outcome ports own state query)
 table_ends ports own state (Some query) = all_end query (table ports own state query)
 table_ends ports own state None = tt
 
 member_is_data : (own : SubnetPort) (base : ℕ) (group : Option MulticastGroup) → AreData (member_bytes own base group)
 member_is_data own base None = no_data
-member_is_data own base (Some group) = record_is_data (SaRecord.of_group (member_record own base group))
+member_is_data own base (Some group) = record_is_data (sa_record.Group (member_record own base group))
 
 join_ends : (ports : List SubnetPort) (own : SubnetPort) (state : SaState) (mask : ℕ) (asked : McMemberRecord) → Ends IsReply (join_outcome ports own state mask asked)
 join_ends ports own state mask asked =
     let join = join_asked own mask asked in
     let next = after_join ports join state in
-    ends_unless IsReply (first_refusal (join_questions own mask asked)) (unless_refused (join_refusal ports own mask asked state.partitions) (Ok (join_done own join next)))
+    ends_unless IsReply (first_refusal (join_questions own mask asked)) (unless_status (join_refusal ports own mask asked state.partitions) (Ok (join_done own join next)))
     (ends_unless IsReply (join_refusal ports own mask asked state.partitions) (Ok (join_done own join next))
     (member_is_data own join.base (group_named join.base join.mgid next.partitions)))
 
@@ -126,7 +130,7 @@ set_ends own state mask asked =
     ends_unless IsReply (first_refusal (owner_questions own mask asked)) (set_outcome own state asked service change)
     (ends_unless IsReply (first_refusal (refused_if (not (has_room service.service_id (services_at change state.services))) NoResources ∷ []))
     (Ok (Success.one_reply (shown_bytes own asked service) (after_change state change)))
-    (record_is_data (SaRecord.of_service (service_record_of (record { port = own.guid; base = base_of asked.service_p_key; service = service })))))
+    (record_is_data (sa_record.Service (service_record_of (record { port = own.guid; base = base_of asked.service_p_key; service = service })))))
 
 delete_ends : (own : SubnetPort) (state : SaState) (mask : ℕ) (asked : ServiceRecord) (content : List ℕ) → AreData content
     → Ends IsReply (service_deleted own state mask asked content)
@@ -136,22 +140,22 @@ delete_ends own state mask asked content are =
     (ends_unless IsReply (first_refusal (refused_if (not (list_any (has_id asked.service_id) (services_at change state.services))) NoRecords ∷ []))
     (Ok (Success.one_reply content (after_change state change))) are)
 
-set_or_refused_ends : (ports : List SubnetPort) (own : SubnetPort) (state : SaState) (request : Request) → Ends IsReply (set_or_refused ports own state request)
+pub set_or_refused_ends : (ports : List SubnetPort) (own : SubnetPort) (state : SaState) (request : Request) → Ends IsReply (set_or_refused ports own state request)
 set_or_refused_ends ports own state request =
-    ends_if IsReply (request.header.attribute_id == 56) (join_outcome ports own state request.component_mask (group_in request.content)) _
+    ends_if IsReply (is_about sa_attribute.McMemberRecord request) (join_outcome ports own state request.component_mask (group_in request.content)) _
     (join_ends ports own state request.component_mask (group_in request.content))
-    (ends_if IsReply (request.header.attribute_id == 49) (service_set own state request.component_mask (service_in request.content)) (Err AttributeNotSupported)
+    (ends_if IsReply (is_about sa_attribute.ServiceRecord request) (service_set own state request.component_mask (service_in request.content)) (Err AttributeNotSupported)
     (set_ends own state request.component_mask (service_in request.content)) tt)
 
 delete_or_refused_ends : (ports : List SubnetPort) (own : SubnetPort) (state : SaState) (request : Request) → AreData request.content
     → Ends IsReply (delete_or_refused ports own state request)
 delete_or_refused_ends ports own state request are =
-    ends_if IsReply (request.header.attribute_id == 56) (leave_outcome ports own state request.component_mask (group_in request.content) request.content) _
+    ends_if IsReply (is_about sa_attribute.McMemberRecord request) (leave_outcome ports own state request.component_mask (group_in request.content) request.content) _
     (leave_ends ports own state request.component_mask (group_in request.content) request.content are)
-    (ends_if IsReply (request.header.attribute_id == 49) (service_deleted own state request.component_mask (service_in request.content) request.content) (Err AttributeNotSupported)
+    (ends_if IsReply (is_about sa_attribute.ServiceRecord request) (service_deleted own state request.component_mask (service_in request.content) request.content) (Err AttributeNotSupported)
     (delete_ends own state request.component_mask (service_in request.content) request.content are) tt)
 
-outcome_ends : (ports : List SubnetPort) (own : SubnetPort) (state : SaState) (request : Request) → AreData request.content → Ends AreBytes (outcome ports own state request)
+pub outcome_ends : (ports : List SubnetPort) (own : SubnetPort) (state : SaState) (request : Request) → AreData request.content → Ends AreBytes (outcome ports own state request)
 outcome_ends ports own state request are =
     ends_if AreBytes (request.header.method == method_code Get) (get_outcome ports own state (query_of request)) _
     (ends_more (IsGot state) AreBytes (got_bytes state) (get_outcome ports own state (query_of request)) (get_ends ports own state (query_of request)))
@@ -179,8 +183,8 @@ is_told port transfer (x ∷ xs) can = elim (cases_Bool (x.port == port)) [
 
 -- ---- a request that is no MAD of a transfer
 told_refused : (own : SubnetPort) (request : Request) (state : Administration) (result : Result Success MadStatus) → IsCopied request → Ends AreBytes result
-    → CanBeTold (table_of own.guid (told own request state result).1.transfers) → are_refusals (told own request state result).0 ≡ true
-    → (told own request state result).1 ≡ state
+    → CanBeTold (table_of own.guid (answered_with own request state result).1.transfers) → are_refusals (answered_with own request state result).0 ≡ true
+    → (answered_with own request state result).1 ≡ state
 told_refused own request state (Err status) copied are can refused = refl
 told_refused own request state (Ok (Success.one_reply bytes next)) copied are can refused =
     let zero_status : are_refusals (reply request bytes ∷ []) ≡ false = rw (reply_status request bytes copied are) refl in
@@ -195,7 +199,7 @@ told_refused own request state (Ok (Success.whole_table offset bytes)) copied ar
     ]
 
 -- what holds of both branches, each where it is taken
-cases_if : {A : Type 0} (Q : A → Type 0) (test : Bool) (a b : A) → (test ≡ true → Q a) → (test ≡ false → Q b) → Q (if test then a else b)
+pub cases_if : {A : Type 0} (Q : A → Type 0) (test : Bool) (a b : A) → (test ≡ true → Q a) → (test ≡ false → Q b) → Q (if test then a else b)
 cases_if Q true a b first second = first refl
 cases_if Q false a b first second = second refl
 
@@ -204,41 +208,41 @@ abbrev KeepsGroupsAndServices : Administration → Administration → Type 0
 KeepsGroupsAndServices state next = next.remembered ≡ state.remembered
 
 told_got : (own : SubnetPort) (request : Request) (state : Administration) (result : Result Success MadStatus) → Ends (IsGot state.remembered) result
-    → (told own request state result).1 ≡ state
+    → (answered_with own request state result).1 ≡ state
 told_got own request state (Err status) is = refl
 told_got own request state (Ok (Success.one_reply bytes next)) is = ap (λ remembered. record state { remembered = remembered }) is.1
 told_got own request state (Ok (Success.whole_table offset bytes)) is = absurd is
 
 told_table : (own : SubnetPort) (request : Request) (state : Administration) (result : Result Success MadStatus) → Ends IsTable result
-    → (told own request state result).1.remembered ≡ state.remembered
+    → (answered_with own request state result).1.remembered ≡ state.remembered
 told_table own request state (Err status) is = refl
 told_table own request state (Ok (Success.one_reply bytes next)) is = absurd is
 told_table own request state (Ok (Success.whole_table offset bytes)) is = refl
 
 -- a reply is one whatever its bytes are
-abbrev IsOneReply : Success → Type 0
+abbrev pub IsOneReply : Success → Type 0
 IsOneReply (Success.one_reply bytes next) = Unit {0}
 IsOneReply (Success.whole_table offset bytes) = ⊥
 
 told_reply : (own : SubnetPort) (request : Request) (state : Administration) (result : Result Success MadStatus) → Ends IsOneReply result
-    → (told own request state result).1.transfers ≡ state.transfers
+    → (answered_with own request state result).1.transfers ≡ state.transfers
 told_reply own request state (Err status) is = refl
 told_reply own request state (Ok (Success.one_reply bytes next)) is = refl
 told_reply own request state (Ok (Success.whole_table offset bytes)) is = absurd is
 
-reply_is_one : (success : Success) → IsReply success → IsOneReply success
+pub reply_is_one : (success : Success) → IsReply success → IsOneReply success
 reply_is_one (Success.one_reply bytes next) is = tt
 reply_is_one (Success.whole_table offset bytes) is = absurd is
 
-delete_is_one : (ports : List SubnetPort) (own : SubnetPort) (state : SaState) (request : Request) → Ends IsOneReply (delete_or_refused ports own state request)
+pub delete_is_one : (ports : List SubnetPort) (own : SubnetPort) (state : SaState) (request : Request) → Ends IsOneReply (delete_or_refused ports own state request)
 delete_is_one ports own state request =
     let leave = leave_asked own request.component_mask (group_in request.content) in
     let asked = service_in request.content in
     let change = change_asked own asked (Deed.deletes asked.service_id) in
-    ends_if IsOneReply (request.header.attribute_id == 56) (leave_outcome ports own state request.component_mask (group_in request.content) request.content) _
+    ends_if IsOneReply (is_about sa_attribute.McMemberRecord request) (leave_outcome ports own state request.component_mask (group_in request.content) request.content) _
     (ends_unless IsOneReply (first_refusal (leave_questions own state request.component_mask (group_in request.content)))
     (Ok (Success.one_reply request.content (record state { partitions = left ports leave state.partitions }))) tt)
-    (ends_if IsOneReply (request.header.attribute_id == 49) (service_deleted own state request.component_mask asked request.content) (Err AttributeNotSupported)
+    (ends_if IsOneReply (is_about sa_attribute.ServiceRecord request) (service_deleted own state request.component_mask asked request.content) (Err AttributeNotSupported)
     (ends_unless IsOneReply (first_refusal (owner_questions own request.component_mask asked)) (delete_outcome state asked change request.content)
     (ends_unless IsOneReply (first_refusal (refused_if (not (list_any (has_id asked.service_id) (services_at change state.services))) NoRecords ∷ []))
     (Ok (Success.one_reply request.content (after_change state change))) tt)) tt)
@@ -249,7 +253,7 @@ module _ (ports : List SubnetPort) (own : SubnetPort) (payload : List ℕ) (stat
   is_ours = (length payload == 256) && (field payload 8 8 == 3)
 
   abbrev told_here : Answered
-  told_here = told own (request_in payload) state (outcome ports own state.remembered (request_in payload))
+  told_here = answered_with own (request_in payload) state (outcome ports own state.remembered (request_in payload))
 
   not_false : (b : Bool) → not b ≡ false → b ≡ true
   not_false true e = refl

@@ -13,11 +13,12 @@ use Rattle.sa_groups.specs.Groups.{MulticastGroup, PartitionGroups}
 use Rattle.sa_groups.specs.Joining.{has_mgid}
 use Rattle.sa_queries.proofs.NearLemmas.{visible_from_near}
 use Rattle.sa_queries.specs.Laws.{is_source_near}
-use Rattle.sa_queries.specs.Outcome.{unless_refused}
+use Rattle.sa_queries.specs.Outcome.{unless_status}
 use Rattle.sa_queries.specs.Refusals.{first_refusal, refused_if}
 use Rattle.sa_queries.specs.Shown.{Entry, group_entry}
-use Rattle.sa_queries.specs.Visible.{GroupOfBase, SaState, groups_of, is_in, visible_groups}
+use Rattle.sa_queries.specs.Visible.{GroupOfBase, SaState, groups_of, visible_groups}
 use Rattle.sa_services.specs.ServiceChange.{Deed, has_room}
+use Rattle.sa_groups.specs.Members.{is_in}
 use Rattle.subnet_model.specs.Near.{ports_share}
 use Rattle.subnet_model.specs.declared.subnet_port.SubnetPort.{SubnetPort}
 use Rattle.sa_replies.proofs.AlikeLemmas.{groups_in, join_is_in}
@@ -28,17 +29,17 @@ use Rattle.sa_replies.specs.Sources.{JoinRepliesComeFromNear, ServiceRepliesCome
 use Rattle.sa_replies.specs.Success.{Success}
 
 -- ---- what an outcome that is no refusal says
-not_refused : (refused : Option MadStatus) (rest : Result Success MadStatus) (success : Success) → unless_refused refused rest ≡ Ok success
+pub not_refused : (refused : Option MadStatus) (rest : Result Success MadStatus) (success : Success) → unless_status refused rest ≡ Ok success
     → (refused ≡ None) × (rest ≡ Ok success)
 not_refused None rest success is = (refl, is)
 not_refused (Some status) rest success is = absurd cc
 
-abbrev bytes_in : Result Success MadStatus → List ℕ
+abbrev pub bytes_in : Result Success MadStatus → List ℕ
 bytes_in (Ok (Success.one_reply bytes next)) = bytes
 bytes_in (Ok (Success.whole_table offset bytes)) = []
 bytes_in (Err status) = []
 
-abbrev state_in : SaState → Result Success MadStatus → SaState
+abbrev pub state_in : SaState → Result Success MadStatus → SaState
 state_in state (Ok (Success.one_reply bytes next)) = next
 state_in state (Ok (Success.whole_table offset bytes)) = state
 state_in state (Err status) = state

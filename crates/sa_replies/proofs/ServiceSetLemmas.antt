@@ -9,19 +9,22 @@ use Rattle.mad_layout.specs.Method.{method_code}
 use Rattle.mad_layout.specs.declared.method.Method.TheVariants.{Set, Delete}
 use Rattle.mad_layout.specs.declared.status.MadStatus.{MadStatus}
 use Rattle.mad_layout.specs.declared.status.MadStatus.TheVariants.{AttributeNotSupported, NoResources, NoRecords}
+use Rattle.sa_records.specs.declared.sa_attribute.SaAttribute.TheVariants as sa_attribute
 use Rattle.subnet_model.specs.declared.subnet_port.SubnetPort.{SubnetPort}
 use Rattle.sa_services.specs.Services.{PortServices}
 use Rattle.sa_services.specs.ServiceChange.{Deed, has_id, has_room}
 use Rattle.sa_services.specs.ServiceLaws.{is_of}
 use Rattle.sa_services.proofs.DeedLemmas.{set_services_are_there, deleted_services_are_gone}
-use Rattle.sa_queries.specs.Outcome.{unless_refused}
+use Rattle.sa_queries.specs.Outcome.{unless_status}
 use Rattle.sa_queries.specs.Refusals.{refused_if, first_refusal}
 use Rattle.sa_queries.specs.Visible.{SaState}
-use Rattle.sa_replies.specs.Answer.{Administration, outcome, told}
+use Rattle.sa_replies.specs.Answer.{Administration, outcome, answered_with}
 use Rattle.sa_replies.specs.Joins.{join_outcome, leave_outcome}
 use Rattle.sa_replies.specs.Laws.{asks_by, are_refusals, base_wanted, IsServiceSet, IsServiceDeleted, ServicesSetAreThere, ServicesDeletedAreGone}
 use Rattle.sa_replies.specs.Reply.{refusal_reply}
-use Rattle.sa_replies.specs.Request.{Request, request_in, group_in, service_in}
+use Rattle.sa_replies.specs.Request.{Request, request_in, is_about}
+use Rattle.sa_records.specs.McMemberRecord.{group_in}
+use Rattle.sa_records.specs.ServiceRecord.{service_in}
 use Rattle.sa_replies.specs.ServiceRequests.{owner_questions, service_asked, change_asked, services_at, shown_bytes, set_outcome, service_set, delete_outcome, service_deleted, after_change}
 use Rattle.sa_replies.specs.Success.{Success}
 use Rattle.sa_replies.proofs.AlikeLemmas.{none_so, unless_not}
@@ -34,13 +37,13 @@ ReplyLeaves P (Success.one_reply bytes next) = P next
 ReplyLeaves P (Success.whole_table offset bytes) = ⊥
 
 unless_so : (P : Success → Type 0) (refused : Option MadStatus) (result : Result Success MadStatus) → (refused ≡ None → Ends P result)
-    → Ends P (unless_refused refused result)
+    → Ends P (unless_status refused result)
 unless_so P None result ends = ends refl
 unless_so P (Some status) result ends = tt
 
 -- what is answered by a status 0 is not refused
 told_leaves : (P : SaState → Type 0) (own : SubnetPort) (request : Request) (state : Administration) (result : Result Success MadStatus) → IsCopied request
-    → Ends (ReplyLeaves P) result → are_refusals (told own request state result).0 ≡ false → P (told own request state result).1.remembered
+    → Ends (ReplyLeaves P) result → are_refusals (answered_with own request state result).0 ≡ false → P (answered_with own request state result).1.remembered
 told_leaves P own request state (Err status) copied ends answered =
     let refused : are_refusals (refusal_reply request status ∷ []) ≡ true =
     and_from (not (field (refusal_reply request status) 32 16 == 0)) true (refusal_status request status copied) refl in
@@ -84,7 +87,7 @@ pub services_set_are_there : ServicesSetAreThere
 services_set_are_there ports own payload state place asks one =
     let request = request_in payload in
     let s = state.remembered in
-    let parts = and_parts (asks_by Set payload) (request.header.attribute_id == 49) asks in
+    let parts = and_parts (asks_by Set payload) (is_about sa_attribute.ServiceRecord request) asks in
     let attribute : request.header.attribute_id ≡ 49 = eqb-true request.header.attribute_id 49 parts.1 in
     by_method ports own payload state Set (λ answered. are_refusals answered.0 ≡ false → IsServiceSet own request s answered.1.remembered) parts.0
     (λ mads refused answered. absurd (both_ways (are_refusals mads) answered refused))
@@ -109,7 +112,7 @@ pub services_deleted_are_gone : ServicesDeletedAreGone
 services_deleted_are_gone ports own payload state asks =
     let request = request_in payload in
     let s = state.remembered in
-    let parts = and_parts (asks_by Delete payload) (request.header.attribute_id == 49) asks in
+    let parts = and_parts (asks_by Delete payload) (is_about sa_attribute.ServiceRecord request) asks in
     let attribute : request.header.attribute_id ≡ 49 = eqb-true request.header.attribute_id 49 parts.1 in
     by_method ports own payload state Delete (λ answered. are_refusals answered.0 ≡ false → IsServiceDeleted own request s answered.1.remembered) parts.0
     (λ mads refused answered. absurd (both_ways (are_refusals mads) answered refused))

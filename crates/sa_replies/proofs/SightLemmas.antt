@@ -10,10 +10,10 @@ use Rattle.sa_groups.proofs.JoinSoundLemmas.{joined_sound}
 use Rattle.sa_groups.proofs.LeaveSoundLemmas.{left_sound}
 use Rattle.sa_groups.proofs.JoinSightLemmas.{far_join}
 use Rattle.sa_groups.proofs.SightLemmas.{far_leave}
-use Rattle.sa_services.proofs.ServiceLemmas.{far_services}
+use Rattle.sa_services.proofs.ServiceLemmas.{far_not_near}
 use Rattle.sa_services.proofs.ServiceSoundLemmas.{services_stay_sound}
 use Rattle.sa_replies.specs.Request.{Request, request_in, has_versions}
-use Rattle.sa_replies.specs.Transfers.{PortTransfer, with_table, place_of, table_of, on_rmpp}
+use Rattle.sa_replies.specs.Transfers.{PortTransfer, with_table, table_place, table_of, on_rmpp}
 use Rattle.sa_replies.specs.Answer.{Administration, version_refused, answer_to, answer}
 use Rattle.sa_replies.specs.Laws.{IsSound, AnswersKeepSound, SeesAlike, FarRequestsAreNotSeen}
 use Rattle.sa_replies.proofs.AnswerLemmas.{answer_leaves, second_if}
@@ -30,7 +30,7 @@ answers_keep_sound ports own payload state sound =
 
 -- ---- the table of another port
 pub other_table : (p q : ℕ) (table : Option Transfer) (transfers : List PortTransfer) → (q == p) ≡ false
-    → place_of p (with_table q table transfers) ≡ place_of p transfers
+    → table_place p (with_table q table transfers) ≡ table_place p transfers
 other_table p q table [] other = refl
 other_table p q table (x ∷ xs) other = elim (cases_Bool (x.port == q)) [
   | inl this ↦
@@ -69,7 +69,7 @@ far_requests ports p own payload state far sound =
         own_table = refl;
       };
       changes = λ change e. record {
-        remembered = record { groups = refl; services = far_services ports p state.remembered.services change (ap (is_near ports p) e ∙ far) };
+        remembered = record { groups = refl; services = far_not_near ports p state.remembered.services change (ap (is_near ports p) e ∙ far) };
         own_table = refl;
       };
     })

@@ -21,14 +21,16 @@ use Rattle.rmpp_core.specs.Segments.{opened, payload_size, segment_mad}
 use Rattle.rmpp_core.specs.Reply.{reply_bytes}
 use Rattle.rmpp_core.proofs.ReadBackLemmas.{segment_held}
 use Rattle.rmpp_core.proofs.ReplyLemmas.{reply_fits, reply_spelled}
+use Rattle.sa_records.specs.declared.sa_record.SaRecord.{SaRecord}
+use Rattle.sa_records.specs.declared.sa_record.SaRecord.TheVariants as sa_record
 use Rattle.sa_records.specs.NodeRecord.{node_record, node_record_bytes}
 use Rattle.sa_records.specs.PathRecord.{path_record, path_record_bytes}
 use Rattle.sa_records.specs.McMemberRecord.{mc_member_record, mc_member_record_bytes}
 use Rattle.sa_records.specs.ServiceRecord.{service_record, service_record_bytes}
-use Rattle.sa_queries.specs.Shown.{SaRecord, Entry}
+use Rattle.sa_queries.specs.Shown.{Entry}
 use Rattle.sa_replies.specs.Request.{Request, request_in, is_response}
 use Rattle.sa_replies.specs.Reply.{reply_header, reply_method, no_rmpp, with_content, reply, refusal_reply, table_header}
-use Rattle.sa_replies.specs.Answer.{record_bytes}
+use Rattle.sa_records.specs.SaRecord.{record_bytes}
 
 -- ---- bytes that fill the data of a MAD at most
 pub record AreData (bytes : List ℕ) : Type 0 where
@@ -58,16 +60,16 @@ content_is_data payload below =
 -- and so are those of each record
 pub record_is_data : (one : SaRecord) → AreData (record_bytes one)
 unfolding node_record_bytes path_record_bytes mc_member_record_bytes service_record_bytes
-record_is_data (SaRecord.of_node one) =
+record_is_data (sa_record.Node one) =
     let size = length-put_all (replicate 112 0) (node_record one) ∙ length-replicate {A = ℕ} 112 0 in
     record { below = spelled_below (node_record one) 112; short = omega (arith, size) }
-record_is_data (SaRecord.of_path one) =
+record_is_data (sa_record.Path one) =
     let size = length-put_all (replicate 64 0) (path_record one) ∙ length-replicate {A = ℕ} 64 0 in
     record { below = spelled_below (path_record one) 64; short = omega (arith, size) }
-record_is_data (SaRecord.of_group one) =
+record_is_data (sa_record.Group one) =
     let size = length-put_all (replicate 56 0) (mc_member_record one) ∙ length-replicate {A = ℕ} 56 0 in
     record { below = spelled_below (mc_member_record one) 56; short = omega (arith, size) }
-record_is_data (SaRecord.of_service one) =
+record_is_data (sa_record.Service one) =
     let size = length-put_all (replicate 176 0) (service_record one) ∙ length-replicate {A = ℕ} 176 0 in
     record { below = spelled_below (service_record one) 176; short = omega (arith, size) }
 
@@ -99,7 +101,7 @@ is_copied payload asks = record {
   mask = field_narrow payload 384 64;
 }
 
-padded_number : (bytes : List ℕ) → AreData bytes → number (bytes ++ replicate (200 - length bytes) 0) < 2 ^ 1600
+pub padded_number : (bytes : List ℕ) → AreData bytes → number (bytes ++ replicate (200 - length bytes) 0) < 2 ^ 1600
 padded_number bytes are =
     let zeros = length-replicate {A = ℕ} (200 - length bytes) 0 in
     let both = length-append bytes (replicate (200 - length bytes) 0) in
@@ -127,7 +129,7 @@ first_status request offset bytes copied low below size =
     sym (segment_held (opened (table_header request offset) bytes) 1 is (omega arith) (omega arith)).1.1.1.1.0
 
 -- no code of a refusal is 0
-code_low : (status : MadStatus) → mad_status_code status < 2 ^ 16
+pub code_low : (status : MadStatus) → mad_status_code status < 2 ^ 16
 code_low BadVersion = omega arith
 code_low MethodNotSupported = omega arith
 code_low AttributeNotSupported = omega arith

@@ -7,20 +7,22 @@ use Rattle.mad_layout.specs.declared.method.Method.TheVariants.{Get, Set, GetTab
 use Rattle.mad_layout.specs.declared.status.MadStatus.{MadStatus}
 use Rattle.mad_layout.specs.declared.status.MadStatus.TheVariants.{BadVersion, MethodNotSupported, AttributeNotSupported}
 use Rattle.rmpp_core.specs.Segments.{Transfer, opened, segment_mad}
-use Rattle.sa_records.specs.NodeRecord.{node_record_bytes}
-use Rattle.sa_records.specs.PathRecord.{path_record_bytes}
-use Rattle.sa_records.specs.McMemberRecord.{mc_member_record_bytes}
-use Rattle.sa_records.specs.ServiceRecord.{service_record_bytes}
+use Rattle.sa_records.specs.NodeRecord.{node_in}
+use Rattle.sa_records.specs.PathRecord.{path_in}
+use Rattle.sa_records.specs.McMemberRecord.{group_in}
+use Rattle.sa_records.specs.ServiceRecord.{service_in}
+use Rattle.sa_records.specs.SaRecord.{record_bytes}
 use Rattle.sa_records.specs.declared.node_record.TheConstants.{NODE_RECORD_OFFSET}
 use Rattle.sa_records.specs.declared.path_record.TheConstants.{PATH_RECORD_OFFSET}
 use Rattle.sa_records.specs.declared.mc_member_record.TheConstants.{MC_MEMBER_RECORD_OFFSET}
 use Rattle.sa_records.specs.declared.service_record.TheConstants.{SERVICE_RECORD_OFFSET}
+use Rattle.sa_records.specs.declared.sa_attribute.SaAttribute.TheVariants as sa_attribute
 use Rattle.subnet_model.specs.declared.subnet_port.SubnetPort.{SubnetPort}
 use Rattle.sa_queries.specs.Visible.{SaState}
-use Rattle.sa_queries.specs.Shown.{SaRecord, Entry}
+use Rattle.sa_queries.specs.Shown.{Entry}
 use Rattle.sa_queries.specs.Selected.{Query}
 use Rattle.sa_queries.specs.Outcome.{got, table}
-use Rattle.sa_replies.specs.Request.{Request, request_in, is_response, has_versions, node_in, path_in, group_in, service_in}
+use Rattle.sa_replies.specs.Request.{Request, request_in, is_response, has_versions, is_about}
 use Rattle.sa_replies.specs.Reply.{reply, refusal_reply, table_header}
 use Rattle.sa_replies.specs.Transfers.{PortTransfer, with_table, table_of, on_rmpp}
 use Rattle.sa_replies.specs.Success.{Success}
@@ -35,17 +37,11 @@ pub record Administration : Type 0 where
 -- ---- requests for records, by their AttributeID
 abbrev pub query_of : Request → Option Query
 query_of request =
-    if request.header.attribute_id == 17 then Some (Query.for_nodes request.component_mask (node_in request.content))
-    else if request.header.attribute_id == 53 then Some (Query.for_paths request.component_mask (path_in request.content))
-    else if request.header.attribute_id == 56 then Some (Query.for_groups request.component_mask (group_in request.content))
-    else if request.header.attribute_id == 49 then Some (Query.for_services request.component_mask (service_in request.content))
+    if is_about sa_attribute.NodeRecord request then Some (Query.for_nodes request.component_mask (node_in request.content))
+    else if is_about sa_attribute.PathRecord request then Some (Query.for_paths request.component_mask (path_in request.content))
+    else if is_about sa_attribute.McMemberRecord request then Some (Query.for_groups request.component_mask (group_in request.content))
+    else if is_about sa_attribute.ServiceRecord request then Some (Query.for_services request.component_mask (service_in request.content))
     else None
-
-abbrev pub record_bytes : SaRecord → List ℕ
-record_bytes (SaRecord.of_node shown) = node_record_bytes shown
-record_bytes (SaRecord.of_path shown) = path_record_bytes shown
-record_bytes (SaRecord.of_group shown) = mc_member_record_bytes shown
-record_bytes (SaRecord.of_service shown) = service_record_bytes shown
 
 -- from one record of a table to the next, in units of 8 bytes
 abbrev pub offset_of : Query → ℕ
@@ -73,15 +69,15 @@ table_outcome ports own state None = Err AttributeNotSupported
 -- ---- by method; MCMemberRecords and ServiceRecords alone are set and deleted
 abbrev pub set_or_refused : List SubnetPort → SubnetPort → SaState → Request → Result Success MadStatus
 set_or_refused ports own state request =
-    if request.header.attribute_id == 56 then join_outcome ports own state request.component_mask (group_in request.content)
-    else if request.header.attribute_id == 49 then service_set own state request.component_mask (service_in request.content)
+    if is_about sa_attribute.McMemberRecord request then join_outcome ports own state request.component_mask (group_in request.content)
+    else if is_about sa_attribute.ServiceRecord request then service_set own state request.component_mask (service_in request.content)
     else Err AttributeNotSupported
 
 abbrev pub delete_or_refused : List SubnetPort → SubnetPort → SaState → Request → Result Success MadStatus
 delete_or_refused ports own state request =
-    if request.header.attribute_id == 56
+    if is_about sa_attribute.McMemberRecord request
     then leave_outcome ports own state request.component_mask (group_in request.content) request.content
-    else if request.header.attribute_id == 49
+    else if is_about sa_attribute.ServiceRecord request
     then service_deleted own state request.component_mask (service_in request.content) request.content
     else Err AttributeNotSupported
 
@@ -97,10 +93,10 @@ outcome ports own state request =
 abbrev pub Answered : Type 0
 Answered = List (List ℕ) × Administration
 
-abbrev pub told : SubnetPort → Request → Administration → Result Success MadStatus → Answered
-told own request state (Err status) = (refusal_reply request status ∷ [], state)
-told own request state (Ok (Success.one_reply bytes next)) = (reply request bytes ∷ [], record state { remembered = next })
-told own request state (Ok (Success.whole_table offset bytes)) = (
+abbrev pub answered_with : SubnetPort → Request → Administration → Result Success MadStatus → Answered
+answered_with own request state (Err status) = (refusal_reply request status ∷ [], state)
+answered_with own request state (Ok (Success.one_reply bytes next)) = (reply request bytes ∷ [], record state { remembered = next })
+answered_with own request state (Ok (Success.whole_table offset bytes)) = (
   segment_mad (opened (table_header request offset) bytes) 1 ∷ [],
   record state { transfers = with_table own.guid (Some (opened (table_header request offset) bytes)) state.transfers },
 )
@@ -120,7 +116,7 @@ answer_to ports own request state =
     then (version_refused request, state)
     else if bit_and request.rmpp.flags 1 == 1 then after_rmpp own state (on_rmpp request (table_of own.guid state.transfers))
     else if is_response request.header then ([], state)
-    else told own request state (outcome ports own state.remembered request)
+    else answered_with own request state (outcome ports own state.remembered request)
 
 -- a MAD has 256 bytes, and those of subnet administration have class 3; to all else there is no answer
 abbrev pub answer : List SubnetPort → SubnetPort → List ℕ → Administration → Answered

@@ -11,6 +11,7 @@ use Rattle.sa_records.specs.Component.{satisfies}
 use Rattle.sa_records.specs.Speed.{rate_satisfies}
 use Rattle.sa_records.specs.McMemberRecord.{mc_member_record_bytes, mc_member_record_selected}
 use Rattle.sa_records.specs.McMemberMask as member_mask
+use Rattle.sa_groups.specs.Members.{is_in}
 use Rattle.subnet_model.specs.declared.subnet_port.SubnetPort.{SubnetPort}
 use Rattle.sa_groups.specs.JoinState.{JoinState}
 use Rattle.sa_groups.specs.Groups.{GroupParameters, Membership, MulticastGroup, PartitionGroups}
@@ -18,11 +19,11 @@ use Rattle.sa_groups.specs.Anchor.{free_mlid}
 use Rattle.sa_groups.specs.Joining.{Join, may_create, has_mgid, is_of, joined}
 use Rattle.sa_groups.specs.Leaving.{Leave, is_left, left}
 use Rattle.sa_queries.specs.Gid.{gid_of}
-use Rattle.sa_queries.specs.Visible.{SaState, is_in}
+use Rattle.sa_queries.specs.Visible.{SaState}
 use Rattle.sa_queries.specs.Shown.{group_record_of}
 use Rattle.sa_queries.specs.Selected.{asks}
 use Rattle.sa_queries.specs.Refusals.{Question, refused_if, first_refusal, asks_unknown_mtu, asks_unknown_rate}
-use Rattle.sa_queries.specs.Outcome.{unless_refused}
+use Rattle.sa_queries.specs.Outcome.{unless_status}
 use Rattle.sa_replies.specs.Success.{Success}
 
 -- ---- JoinState as bits
@@ -159,8 +160,8 @@ join_refusal ports own mask asked partitions =
 
 abbrev pub join_outcome : List SubnetPort → SubnetPort → SaState → ℕ → McMemberRecord → Result Success MadStatus
 join_outcome ports own state mask asked =
-    unless_refused (first_refusal (join_questions own mask asked))
-    (unless_refused (join_refusal ports own mask asked state.partitions)
+    unless_status (first_refusal (join_questions own mask asked))
+    (unless_status (join_refusal ports own mask asked state.partitions)
     (Ok (join_done own (join_asked own mask asked) (after_join ports (join_asked own mask asked) state))))
 
 -- ---- a leave, in the base that is asked or in each base: its reply has the request's own data
@@ -200,5 +201,5 @@ leave_questions own state mask asked = leaving_by own mask asked (takes_some (le
 
 abbrev pub leave_outcome : List SubnetPort → SubnetPort → SaState → ℕ → McMemberRecord → List ℕ → Result Success MadStatus
 leave_outcome ports own state mask asked content =
-    unless_refused (first_refusal (leave_questions own state mask asked))
+    unless_status (first_refusal (leave_questions own state mask asked))
     (Ok (Success.one_reply content (record state { partitions = left ports (leave_asked own mask asked) state.partitions })))

@@ -8,6 +8,7 @@ use Rattle.mad_layout.specs.Method.{method_code}
 use Rattle.mad_layout.specs.declared.method.Method.{Method}
 use Rattle.mad_layout.specs.declared.method.Method.TheVariants.{Get, Set, GetTable, Delete}
 use Rattle.rmpp_core.specs.Segments.{Transfer, payload_size}
+use Rattle.sa_records.specs.declared.sa_attribute.SaAttribute.TheVariants as sa_attribute
 use Rattle.subnet_model.specs.declared.subnet_port.SubnetPort.{SubnetPort}
 use Rattle.subnet_model.specs.Delivery.{port_with_guid}
 use Rattle.subnet_model.specs.Near.{is_near}
@@ -17,8 +18,9 @@ use Rattle.sa_services.specs.ServiceLaws.{is_of, IsSet, IsDeleted}
 use Rattle.sa_services.specs.ServiceSound.{are_sound_services}
 use Rattle.sa_queries.specs.Laws.{SeesSame}
 use Rattle.sa_queries.specs.Visible.{SaState}
-use Rattle.sa_replies.specs.Request.{Request, request_in, has_versions, service_in}
-use Rattle.sa_replies.specs.Transfers.{place_of, table_of}
+use Rattle.sa_replies.specs.Request.{Request, request_in, has_versions, is_about}
+use Rattle.sa_records.specs.ServiceRecord.{service_in}
+use Rattle.sa_replies.specs.Transfers.{table_place, table_of}
 use Rattle.sa_replies.specs.ServiceRequests.{service_asked}
 use Rattle.sa_replies.specs.Answer.{Administration, Answered, answer}
 
@@ -74,7 +76,7 @@ RequestsLeaveTheRest =
 
 -- ---- services that are set are there
 abbrev pub asks_for_service : Method → List ℕ → Bool
-asks_for_service method payload = asks_by method payload && ((request_in payload).header.attribute_id == 49)
+asks_for_service method payload = asks_by method payload && (is_about sa_attribute.ServiceRecord (request_in payload))
 
 abbrev pub base_wanted : Request → ℕ
 base_wanted request = base_of (service_in request.content).service_p_key
@@ -106,7 +108,7 @@ ServicesDeletedAreGone =
 -- ---- p sees the same in both states: of groups and services, and of its own table
 pub record SeesAlike (ports : List SubnetPort) (p : ℕ) (s t : Administration) : Type 0 where
   pub remembered : SeesSame ports p s.remembered t.remembered
-  pub own_table : place_of p s.transfers ≡ place_of p t.transfers
+  pub own_table : table_place p s.transfers ≡ table_place p t.transfers
 
 -- ---- what a rule for answers owes to a port p: whatever a port sends that is far from it, it sees the same after
 abbrev pub AnswerRule : Type 0

@@ -6,7 +6,13 @@ pub mod Joins
 pub mod ServiceRequests
 pub mod Answer
 pub mod Laws
+pub mod Taken
+pub mod Numbers
+pub mod Changed
+pub mod Notes
 pub mod Sources
+pub mod State
+pub mod OneReply
 pub mod WrongRules
 pub mod Examples
 pub mod ExampleLaws

@@ -9,15 +9,16 @@ use Rattle.pkey_rules.specs.PKey.{base_of}
 use Rattle.sa_records.specs.declared.service_record.ServiceRecord.{ServiceRecord}
 use Rattle.sa_records.specs.ServiceRecord.{service_record_bytes, service_data_asked}
 use Rattle.sa_records.specs.ServiceMask as service_mask
+use Rattle.sa_groups.specs.Members.{is_in}
 use Rattle.subnet_model.specs.declared.subnet_port.SubnetPort.{SubnetPort}
 use Rattle.sa_services.specs.Services.{Service, PortServices}
 use Rattle.sa_services.specs.ServiceChange.{Deed, ServiceChange, is_place, has_id, has_room, services_changed}
 use Rattle.sa_queries.specs.Gid.{gid_of}
-use Rattle.sa_queries.specs.Visible.{SaState, is_in}
+use Rattle.sa_queries.specs.Visible.{SaState}
 use Rattle.sa_queries.specs.Shown.{service_record_of}
 use Rattle.sa_queries.specs.Selected.{asks}
 use Rattle.sa_queries.specs.Refusals.{Question, refused_if, first_refusal}
-use Rattle.sa_queries.specs.Outcome.{unless_refused}
+use Rattle.sa_queries.specs.Outcome.{unless_status}
 use Rattle.sa_replies.specs.Success.{Success}
 
 -- ---- the service that is set: what the mask does not ask is 0
@@ -59,21 +60,21 @@ shown_bytes own asked service =
 
 abbrev pub set_outcome : SubnetPort → SaState → ServiceRecord → Service → ServiceChange → Result Success MadStatus
 set_outcome own state asked service change =
-    unless_refused (first_refusal (refused_if (not (has_room service.service_id (services_at change state.services))) NoResources ∷ []))
+    unless_status (first_refusal (refused_if (not (has_room service.service_id (services_at change state.services))) NoResources ∷ []))
     (Ok (Success.one_reply (shown_bytes own asked service) (after_change state change)))
 
 abbrev pub service_set : SubnetPort → SaState → ℕ → ServiceRecord → Result Success MadStatus
 service_set own state mask asked =
-    unless_refused (first_refusal (owner_questions own mask asked))
+    unless_status (first_refusal (owner_questions own mask asked))
     (set_outcome own state asked (service_asked mask asked) (change_asked own asked (Deed.sets (service_asked mask asked))))
 
 -- that to a Delete has the request's own data
 abbrev pub delete_outcome : SaState → ServiceRecord → ServiceChange → List ℕ → Result Success MadStatus
 delete_outcome state asked change content =
-    unless_refused (first_refusal (refused_if (not (list_any (has_id asked.service_id) (services_at change state.services))) NoRecords ∷ []))
+    unless_status (first_refusal (refused_if (not (list_any (has_id asked.service_id) (services_at change state.services))) NoRecords ∷ []))
     (Ok (Success.one_reply content (after_change state change)))
 
 abbrev pub service_deleted : SubnetPort → SaState → ℕ → ServiceRecord → List ℕ → Result Success MadStatus
 service_deleted own state mask asked content =
-    unless_refused (first_refusal (owner_questions own mask asked))
+    unless_status (first_refusal (owner_questions own mask asked))
     (delete_outcome state asked (change_asked own asked (Deed.deletes asked.service_id)) content)

@@ -1,8 +1,11 @@
--- Where the records come from that answer: those of open tables, of joins and of services that are set.
-use Rattle.std.specs.Prelude.{ℕ, ◌≡◌, Bool, true, false, not, ◌&&◌, ◌||◌, List, [], ◌∷◌, find, Option, Some, None, Ok}
-use Rattle.std.specs.List.{flat_map}
+-- Where the records come from that answer: all of them, as they are noted; those of joins and of services that are set.
+use Rattle.std.specs.Prelude.{ℕ, ◌≡◌, ◌<◌, ◌-◌, ◌^◌, Bool, true, false, not, ◌&&◌, ◌||◌}
+use Rattle.std.specs.Prelude.{List, [], ◌∷◌, ◌++◌, find, length, map, replicate, Option, Some, None, Ok}
+use Rattle.std.specs.Int.Digits.{AllBelowBase}
+use Rattle.std.specs.List.{AllByRecursion, flat_map, list_all}
 use Rattle.pkey_rules.specs.PKey.{base_of}
-use Rattle.rmpp_core.specs.Segments.{Transfer}
+use Rattle.mad_layout.specs.SaMad.{data_in}
+use Rattle.rmpp_core.specs.Segments.{Transfer, payload_size}
 use Rattle.sa_groups.specs.Groups.{Membership, MulticastGroup}
 use Rattle.sa_groups.specs.Joining.{is_of}
 use Rattle.sa_groups.specs.JoinState.{JoinState}
@@ -20,31 +23,81 @@ use Rattle.sa_queries.specs.Visible.{SaState, ServiceOfPort}
 use Rattle.sa_replies.specs.Joins.{group_named, join_outcome, join_state_of, member_record}
 use Rattle.sa_replies.specs.ServiceRequests.{service_set}
 use Rattle.sa_replies.specs.Success.{Success}
-use Rattle.sa_replies.specs.Transfers.{PortTransfer}
-use Rattle.sa_replies.specs.Answer.{Administration, answer, record_bytes}
+use Rattle.sa_replies.specs.Transfers.{CanBeSent, PortTransfer, table_of}
+use Rattle.sa_replies.specs.Answer.{Administration, Answered, answer}
+use Rattle.sa_records.specs.SaRecord.{record_bytes}
+use Rattle.sa_replies.specs.Notes.{NotedByte, NotedMad, Notes, NotedAnswer, answer_noted}
 
--- these bytes are spelt by some records, each with a source near p or the partition file; which source a record has is not
--- said yet
-pub record AreRecordsFromNear (ports : List SubnetPort) (p : ℕ) (bytes : List ℕ) : Type 0 where
-  pub entries : List Entry
-  pub spelt : bytes ≡ flat_map (λ entry. record_bytes entry.shown) entries
-  pub sources : come_from_near ports p entries ≡ true
+-- ---- what is noted stands beside the answer, and changes nothing of it
+pub record StandsBeside (noted : NotedAnswer) (answered : Answered) : Type 0 where
+  pub mads : map (λ one. one.mad) noted.mads ≡ answered.0
+  pub state : noted.state ≡ answered.1
 
-abbrev pub HasRecordsFromNear : List SubnetPort → ℕ → Option Transfer → Type 0
-HasRecordsFromNear ports p None = Unit {0}
-HasRecordsFromNear ports p (Some transfer) = AreRecordsFromNear ports p transfer.bytes
+abbrev pub NotesStandBeside : Type 0
+NotesStandBeside =
+    (ports : List SubnetPort) (own : SubnetPort) (payload : List ℕ) (state : Administration) (notes : Notes)
+    → StandsBeside (answer_noted ports own payload state notes) (answer ports own payload state)
 
--- so it is with each open table and its port
-abbrev pub TablesComeFromNear : List SubnetPort → List PortTransfer → Type 0
-TablesComeFromNear ports [] = Unit {0}
-TablesComeFromNear ports (place ∷ places) = HasRecordsFromNear ports place.port place.open_table × TablesComeFromNear ports places
+-- ---- the records that are noted for a port spell the table that is open to it
+abbrev pub Spell : List Entry → Option Transfer → Type 0
+Spell entries None = Unit {0}
+Spell entries (Some transfer) = transfer.bytes ≡ flat_map (λ entry. record_bytes entry.shown) entries
+
+abbrev pub SpellTables : Notes → List PortTransfer → Type 0
+SpellTables notes [] = Unit {0}
+SpellTables notes (place ∷ places) = Spell (notes place.port) place.open_table × SpellTables notes places
 
 -- every answer leaves it so
-abbrev pub TablesKeepTheirSources : Type 0
-TablesKeepTheirSources =
-    (ports : List SubnetPort) (own : SubnetPort) (payload : List ℕ) (state : Administration) → port_with_guid ports own.guid ≡ Some own
-    → is_sound ports state.remembered.partitions ≡ true → TablesComeFromNear ports state.transfers
-    → TablesComeFromNear ports (answer ports own payload state).1.transfers
+abbrev pub NotesSpellTables : Type 0
+NotesSpellTables =
+    (ports : List SubnetPort) (own : SubnetPort) (payload : List ℕ) (state : Administration) (notes : Notes)
+    → SpellTables notes state.transfers
+    → SpellTables (answer_noted ports own payload state notes).notes (answer_noted ports own payload state notes).state.transfers
+
+-- ---- the bytes that are noted of a MAD are its data, whose rest is 0
+abbrev pub filled : List ℕ → List ℕ
+filled bytes = bytes ++ replicate (200 - length bytes) 0
+
+abbrev pub HoldsNoted : NotedMad → Type 0
+HoldsNoted one = data_in one.mad ≡ filled (map (λ one. one.byte) one.bytes)
+
+-- what a rule for answers with notes owes: so it is with each MAD that answers a MAD, where the numbers of the table that is
+-- open to the port fit their fields, and the length of the records that are noted for it then can be told in 32 bits
+abbrev pub NotedRule : Type 0
+NotedRule = List SubnetPort → SubnetPort → List ℕ → Administration → Notes → NotedAnswer
+
+abbrev pub NotesItsData : NotedRule → Type 0
+NotesItsData rule =
+    (ports : List SubnetPort) (own : SubnetPort) (payload : List ℕ) (state : Administration) (notes : Notes)
+    → AllBelowBase 256 payload → CanBeSent (table_of own.guid state.transfers) → SpellTables notes state.transfers
+    → payload_size (flat_map (λ entry. record_bytes entry.shown) ((rule ports own payload state notes).notes own.guid)) < 2 ^ 32
+    → AllByRecursion HoldsNoted (rule ports own payload state notes).mads
+
+-- ours pays it
+abbrev pub DataIsNoted : Type 0
+DataIsNoted = NotesItsData answer_noted
+
+-- ---- and it owes to the port that asks: all that it is told comes from near it or from the partition file, now and as its
+-- table is sent
+abbrev pub bytes_from_near : List SubnetPort → ℕ → List NotedByte → Bool
+bytes_from_near ports p bytes = list_all (λ one. is_source_near ports p one.source) bytes
+
+abbrev pub NotesFromNear : List SubnetPort → Notes → Type 0
+NotesFromNear ports notes = (p : ℕ) → come_from_near ports p (notes p) ≡ true
+
+pub record IsFromNear (ports : List SubnetPort) (own : SubnetPort) (noted : NotedAnswer) : Type 0 where
+  pub mads : list_all (λ one. bytes_from_near ports own.guid one.bytes) noted.mads ≡ true
+  pub notes : NotesFromNear ports noted.notes
+
+abbrev pub TellsFromNear : NotedRule → Type 0
+TellsFromNear rule =
+    (ports : List SubnetPort) (own : SubnetPort) (payload : List ℕ) (state : Administration) (notes : Notes)
+    → port_with_guid ports own.guid ≡ Some own → is_sound ports state.remembered.partitions ≡ true → NotesFromNear ports notes
+    → IsFromNear ports own (rule ports own payload state notes)
+
+-- ours pays it
+abbrev pub AnswersTellFromNear : Type 0
+AnswersTellFromNear = TellsFromNear answer_noted
 
 -- ---- joins
 -- each bit that is asked is held

@@ -7,6 +7,7 @@ use Rattle.mad_layout.specs.RmppKind.{rmpp_kind_code}
 use Rattle.rmpp_core.specs.declared.abort.AbortCause.{AbortCause}
 use Rattle.rmpp_core.specs.declared.sender.Acknowledged.{Acknowledged}
 use Rattle.rmpp_core.specs.Acks.{after_ack, abort_mad}
+use Rattle.rmpp_core.specs.Laws.{IsTransfer}
 use Rattle.rmpp_core.specs.Segments.{Transfer, segment_count, segment_mad}
 use Rattle.subnet_model.specs.declared.subnet_port.SubnetPort.{SubnetPort}
 use Rattle.sa_replies.specs.Request.{Request}
@@ -23,15 +24,20 @@ no_transfers ports = map (λ port. record { port = port.guid; open_table = None 
 abbrev pub with_table : ℕ → Option Transfer → List PortTransfer → List PortTransfer
 with_table port table transfers = map (λ place. if place.port == port then record { port = port; open_table = table } else place) transfers
 
-abbrev pub place_of : ℕ → List PortTransfer → Option PortTransfer
-place_of port transfers = find (λ place. place.port == port) transfers
+abbrev pub table_place : ℕ → List PortTransfer → Option PortTransfer
+table_place port transfers = find (λ place. place.port == port) transfers
 
 abbrev pub table_at : Option PortTransfer → Option Transfer
 table_at (Some place) = place.open_table
 table_at None = None
 
 abbrev pub table_of : ℕ → List PortTransfer → Option Transfer
-table_of port transfers = table_at (place_of port transfers)
+table_of port transfers = table_at (table_place port transfers)
+
+-- a table that is open can be sent: its header fits, its bytes are bytes, and its length can be told in 32 bits
+abbrev pub CanBeSent : Option Transfer → Type 0
+CanBeSent None = Unit {0}
+CanBeSent (Some transfer) = IsTransfer transfer
 
 -- ---- what an ACK sends, and what it leaves of the table
 abbrev pub segments_between : Transfer → Acknowledged → List (List ℕ)

@@ -1,11 +1,27 @@
 //! The laws of answers, over the definitions alone. Each function does nothing: its contract is the law.
 
+ghost use Rattle.sa_replies.specs.Changed.{OthersChangeNoReceivers, RefusedChangeNoReceivers};
 ghost use Rattle.sa_replies.specs.Laws.{AnswersAreSeenAlike, AnswersKeepSound, FarRequestsAreNotSeen, RefusedChangeNothing, RequestersAreAnsweredAlike, RequestsLeaveTheRest, ServicesDeletedAreGone, ServicesSetAreThere};
-ghost use Rattle.sa_replies.specs.Sources.{JoinRepliesComeFromNear, ServiceRepliesComeFromNear, TablesKeepTheirSources};
+ghost use Rattle.sa_replies.specs.Sources.{AnswersTellFromNear, DataIsNoted, JoinRepliesComeFromNear, NotesSpellTables, NotesStandBeside, ServiceRepliesComeFromNear};
+ghost use Rattle.sa_replies.specs.OneReply.{OthersAreIgnored, RequestsAreAnsweredOnce};
+ghost use Rattle.sa_replies.specs.Numbers.{NumbersAreAsAsked};
+ghost use Rattle.sa_replies.specs.Taken.{TheGreatestIsTaken};
+ghost use Rattle.sa_replies.specs.State.{AnswersKeepStates, StartsAreStates};
 
 /// Whatever comes to subnet administration, what it remembers stays sound.
 pub fn answers_keep_sound()
     ensures { AnswersKeepSound }
+{}
+
+/// What is remembered before the first command is a state of the configuration.
+pub fn starts_are_states()
+    ensures { StartsAreStates }
+{}
+
+/// Whatever a port sends, what is remembered stays a state of the configuration: its partitions with sound groups, a
+/// place for services for each port and base, and one for a table for each port, which can be sent if it is open.
+pub fn answers_keep_states()
+    ensures { AnswersKeepStates }
 {}
 
 /// Whatever bytes come, but a MAD of a transfer: where each MAD that is answered has a status other than 0, or none is
@@ -14,10 +30,42 @@ pub fn refused_change_nothing()
     ensures { RefusedChangeNothing }
 {}
 
+/// In each state of a run each request is answered by one MAD: with the versions and the class that are ours, the method of
+/// its response, the TransactionID, AttributeID, AttributeModifier and ComponentMask of the request, and, where its status
+/// is not 0, no data.
+pub fn requests_are_answered_once()
+    ensures { RequestsAreAnsweredOnce }
+{}
+
+/// A response, a MAD of another class and what is no MAD are not answered, and leave all as it was.
+pub fn others_are_ignored()
+    ensures { OthersAreIgnored }
+{}
+
 /// A Get leaves all that is remembered, a GetTable groups and services, a Set and a Delete open tables, and a MAD of
 /// a transfer groups and services.
 pub fn requests_leave_the_rest()
     ensures { RequestsLeaveTheRest }
+{}
+
+/// A new group has the greatest MTU, rate and life time that we have and that satisfy what is asked.
+pub fn the_greatest_is_taken()
+    ensures { TheGreatestIsTaken }
+{}
+
+/// Each number in the data of a service that is set is as it is asked, and 0 where it is not asked.
+pub fn numbers_are_as_asked()
+    ensures { NumbersAreAsAsked }
+{}
+
+/// Only a join or a leave changes who receives what is sent to the groups of a partition.
+pub fn others_change_no_receivers()
+    ensures { OthersChangeNoReceivers }
+{}
+
+/// One that is refused changes it nowhere.
+pub fn refused_change_no_receivers()
+    ensures { RefusedChangeNoReceivers }
 {}
 
 /// After a Set of a service that is not refused the service is there, once, where the port has one place in this
@@ -49,10 +97,27 @@ pub fn answers_are_seen_alike()
     ensures { AnswersAreSeenAlike }
 {}
 
-/// Where each table that is open to a port is spelt by some records with sources near it, so it is after whatever a port
-/// sends. Which source a record has is not said yet.
-pub fn tables_keep_their_sources()
-    ensures { TablesKeepTheirSources }
+/// What is noted beside an answer changes nothing of it.
+pub fn notes_stand_beside()
+    ensures { NotesStandBeside }
+{}
+
+/// Where the records that are noted for each port spell the table that is open to it, so it is after whatever a port
+/// sends.
+pub fn notes_spell_tables()
+    ensures { NotesSpellTables }
+{}
+
+/// The bytes that are noted of a MAD which answers a port are its data, whose rest is 0, where the table that is open to
+/// the port can be sent, and the length of the records that are noted for it then can be told.
+pub fn data_is_noted()
+    ensures { DataIsNoted }
+{}
+
+/// Each byte of a record by which a port is answered, whole or in a segment, comes from a port near it or from the
+/// partition file; so do the records that are noted for its table.
+pub fn answers_tell_from_near()
+    ensures { AnswersTellFromNear }
 {}
 
 /// After a join that is answered by a record its group is there, and the port takes part in it with each bit that it

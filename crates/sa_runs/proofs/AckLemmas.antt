@@ -5,17 +5,17 @@ use Rattle.std.specs.List.{range_with_len}
 use Rattle.mad_layout.proofs.LayoutLemmas.{field_narrow}
 use Rattle.mad_layout.specs.Bits.{field}
 use Rattle.mad_layout.specs.Layout.{Fits}
-use Rattle.mad_layout.specs.MadHeader.{mad_header}
+use Rattle.mad_layout.specs.MadHeader.{mad_header, header_in}
 use Rattle.mad_layout.specs.declared.rmpp_header.RmppHeader.{RmppHeader}
 use Rattle.rmpp_core.proofs.ReadBackLemmas.{rmpp_held}
-use Rattle.rmpp_core.specs.Receiving.{rmpp_in}
+use Rattle.mad_layout.specs.RmppHeader.{rmpp_in}
 use Rattle.subnet_model.specs.declared.subnet_port.SubnetPort.{SubnetPort}
 use Rattle.subnet_model.specs.Configuration.{ConfigurationState}
 use Rattle.subnet_model.specs.Report.{answered_in_turn}
 use Rattle.sa_replies.proofs.SightLemmas.{transfers_are_unseen}
 use Rattle.sa_replies.specs.Answer.{Administration, answer}
 use Rattle.sa_replies.specs.Laws.{SeesAlike}
-use Rattle.sa_replies.specs.Request.{header_in, request_in}
+use Rattle.sa_replies.specs.Request.{request_in}
 use Rattle.sa_runs.proofs.AckReadLemmas.{ack_held}
 use Rattle.sa_runs.specs.Asking.{ack_header, ack_mad, ack_rmpp, ack_sa, acknowledgements, is_first_segment, segments_told}
 

@@ -3,13 +3,12 @@ use Rattle.std.proofs.Common.{ℕ, ◌+◌, ◌^◌, ◌<◌, ◌==◌, Bool, tr
 use Rattle.mad_layout.proofs.LayoutLemmas.{number_zeros}
 use Rattle.mad_layout.specs.Bits.{number as number_of}
 use Rattle.mad_layout.specs.Layout.{Fits, Holds}
-use Rattle.mad_layout.specs.MadHeader.{mad_header}
+use Rattle.mad_layout.specs.MadHeader.{mad_header, header_in}
 use Rattle.mad_layout.specs.declared.mad_header.Header.{Header}
 use Rattle.mad_layout.specs.declared.rmpp_header.RmppHeader.{RmppHeader}
 use Rattle.mad_layout.specs.declared.sa_mad.SaMad.{SaMad}
 use Rattle.rmpp_core.proofs.ReplyLemmas.{reply_fits, reply_spelled}
 use Rattle.rmpp_core.specs.Reply.{reply_fields}
-use Rattle.sa_replies.specs.Request.{header_in}
 use Rattle.sa_runs.specs.Asking.{ack_header, ack_mad, ack_rmpp, ack_sa}
 
 pub header_held : (mad : List ℕ) (header : Header) (rmpp : RmppHeader) (fields : SaMad) → Holds mad (reply_fields header rmpp fields) → header_in mad ≡ header

@@ -33,7 +33,7 @@ sound_whole : (configuration : ConfigurationState) (s : Administration) → IsSo
 sound_whole configuration s sound =
     and_from (is_sound configuration.ports s.remembered.partitions) (are_sound_services configuration.ports s.remembered.services) sound.groups sound.services
 
-seen_parts : (configuration : ConfigurationState) (p : ℕ) (s t : Administration) → sees configuration p s ≡ sees configuration p t → SeesAlike configuration.ports p s t
+pub seen_parts : (configuration : ConfigurationState) (p : ℕ) (s t : Administration) → sees configuration p s ≡ sees configuration p t → SeesAlike configuration.ports p s t
 seen_parts configuration p s t same = record {
   remembered = record { groups = ap (λ (seen : Seen). seen.groups) same; services = ap (λ (seen : Seen). seen.services) same };
   own_table = ap (λ (seen : Seen). seen.own_table) same;
@@ -80,7 +80,7 @@ administration_keeps_apart configuration = record {
     right : (p : ℕ) (s t : Administration) → Alike (is_sound_state configuration) (sees configuration) p s t → IsSound configuration.ports t
     right p s t alike = sound_parts configuration t alike.right_sound
 
-isolated : (configuration : ConfigurationState) → Isolated configuration subnet_administration (is_sound_state configuration) (sees configuration)
+pub isolated : (configuration : ConfigurationState) → Isolated configuration subnet_administration (is_sound_state configuration) (sees configuration)
 isolated configuration =
     keepers_isolate configuration subnet_administration (is_sound_state configuration) (sees configuration) (administration_keeps_apart configuration)
 

@@ -3,12 +3,12 @@ use Rattle.std.proofs.Common.{refl}
 use Rattle.mad_layout.specs.Bits.{field, put_field}
 use Rattle.rmpp_core.specs.Reply.{reply_bytes}
 use Rattle.rmpp_core.specs.Segments.{segment_of}
-use Rattle.sa_records.specs.McMemberRecord.{mc_member_record_bytes, mc_member_record_selected}
-use Rattle.sa_records.specs.NodeRecord.{node_record_bytes, node_record_selected}
-use Rattle.sa_records.specs.ServiceRecord.{data16_selected, data32_selected, data64_selected, data8_back_selected, data8_front_selected, names_selected, service_record_bytes, service_record_selected}
+use Rattle.sa_records.specs.McMemberRecord.{mc_member_record_bytes, mc_member_record_selected, group_in}
+use Rattle.sa_records.specs.NodeRecord.{node_record_bytes, node_record_selected, node_in}
+use Rattle.sa_records.specs.ServiceRecord.{data16_selected, data32_selected, data64_selected, data8_back_selected, data8_front_selected, names_selected, service_record_bytes, service_record_selected, service_in}
 use Rattle.sa_records.specs.Speed.{speed_of}
-use Rattle.sa_replies.specs.Request.{group_in, node_in, request_in, service_in}
-use Rattle.sa_runs.specs.ExampleLaws.{WhoHearsAGroup, WhatAskingBrings, WholeTable, ShorterTable, Closed, FirstSegment, NoMad, NoServices, OneService, HiddenService, GroupOfFile, Refused}
+use Rattle.sa_replies.specs.Request.{request_in}
+use Rattle.sa_runs.specs.ExampleLaws.{WhoHearsAGroup, WhatAskingBrings, WholeTable, ShorterTable, Closed, FirstSegment, NoMad, NoServices, OneService, HiddenService, GroupOfFile, Refused, WhatRecordsComeFrom, SourcesOfNodes, SourcesOfGroups, SourcesOfServices, SourcesOfAbort}
 
 pub who_hears_a_group : WhoHearsAGroup
 unfolding field put_field reply_bytes segment_of request_in group_in mc_member_record_bytes mc_member_record_selected speed_of
@@ -68,3 +68,22 @@ what_asking_brings = record {
   group_of_file = group_of_file;
   refused = refused;
 }
+
+sources_of_nodes : SourcesOfNodes
+unfolding field put_field reply_bytes segment_of request_in node_in node_record_bytes node_record_selected
+sources_of_nodes = refl
+
+sources_of_groups : SourcesOfGroups
+unfolding field put_field reply_bytes segment_of request_in group_in mc_member_record_bytes mc_member_record_selected speed_of
+sources_of_groups = record { made = refl; joined = refl; left = refl; of_file = refl; refused = refl; packet = refl }
+
+sources_of_services : SourcesOfServices
+unfolding field put_field reply_bytes segment_of request_in service_in service_record_bytes service_record_selected names_selected data8_front_selected data8_back_selected data16_selected data32_selected data64_selected
+sources_of_services = record { set = refl; shown = refl; hidden = refl }
+
+sources_of_abort : SourcesOfAbort
+unfolding field put_field reply_bytes segment_of request_in node_in node_record_bytes node_record_selected
+sources_of_abort = refl
+
+pub what_records_come_from : WhatRecordsComeFrom
+what_records_come_from = record { nodes = sources_of_nodes; groups = sources_of_groups; services = sources_of_services; abort = sources_of_abort }

@@ -1,6 +1,10 @@
 pub mod AckReadLemmas
 pub mod AckLemmas
 pub mod ApartLemmas
+pub mod InCommonLemmas
+pub mod WrongLemmas
+pub mod WrongNoteLemmas
 pub mod TableLemmas
 pub mod SourceLemmas
+pub mod RunDataLemmas
 pub mod ExampleLemmas

@@ -1,37 +1,40 @@
 -- A port that acknowledges each segment of a table is sent the next one, up to the last.
 use Rattle.std.proofs.Common.{ℕ, zero, suc, ◌+◌, ◌-◌, ◌^◌, ◌<◌, ◌≤◌, ◌==◌, nat_lt, true, false, if◌then◌else◌}
 use Rattle.std.proofs.Common.{List, [], ◌∷◌, ◌++◌, map, length, min, max, Option, Some, None, option_map, Ok}
-use Rattle.std.proofs.Common.{◌≡◌, ◌∙◌, refl, ap, sym, arith, inl, inr}
-use Rattle.std.proofs.lemmas.Bool.{cases_Bool, and_from, eq-eqb, eqb-true}
+use Rattle.std.proofs.Common.{◌≡◌, ◌∙◌, refl, ap, sym, subst, arith, inl, inr, All}
+use Rattle.std.proofs.lemmas.Bool.{cases_Bool, and_from, eq-eqb}
+use Rattle.std.proofs.lemmas.List.Elements.{recursion_from_All}
 use Rattle.std.proofs.lemmas.Bool.Decides.{nat_tests}
 use Rattle.std.specs.List.{range_with_len}
 use Rattle.mad_layout.specs.Bits.{field}
 use Rattle.mad_layout.specs.Layout.{Fits}
-use Rattle.mad_layout.specs.MadHeader.{mad_header}
+use Rattle.mad_layout.specs.MadHeader.{mad_header, header_in}
 use Rattle.mad_layout.specs.declared.mad_header.Header.{Header}
 use Rattle.mad_layout.specs.declared.rmpp_header.RmppHeader.{RmppHeader}
 use Rattle.rmpp_core.proofs.ReadBackLemmas.{reply_long, rmpp_held, segment_held}
 use Rattle.rmpp_core.proofs.WholeLemmas.{active_set, first_set, received}
 use Rattle.rmpp_core.specs.Laws.{IsTransfer, after_all, segment_mads}
-use Rattle.rmpp_core.specs.Receiving.{data_in, nothing, rmpp_in, whole_bytes}
+use Rattle.rmpp_core.specs.Receiving.{nothing, whole_bytes}
+use Rattle.mad_layout.specs.SaMad.{data_in}
+use Rattle.mad_layout.specs.RmppHeader.{rmpp_in}
 use Rattle.rmpp_core.specs.Segments.{Transfer, opened, payload_size, segment_count, segment_mad, segment_rmpp, segment_sa}
 use Rattle.subnet_model.specs.declared.subnet_port.SubnetPort.{SubnetPort}
 use Rattle.subnet_model.proofs.KeptLemmas.{run_keeps}
-use Rattle.subnet_model.specs.Configuration.{ConfigurationState}
 use Rattle.subnet_model.specs.Delivery.{port_with_guid}
 use Rattle.subnet_model.specs.Report.{answered_in_turn, answered_whole}
-use Rattle.subnet_model.specs.declared.command.Command.{Command}
+use Rattle.sa_queries.proofs.OrderLemmas.{stands_in_order}
 use Rattle.sa_replies.proofs.AlikeLemmas.{own_place}
-use Rattle.sa_replies.proofs.AnswerLemmas.{answer_leaves}
-use Rattle.sa_replies.specs.Answer.{Administration, Answered, after_rmpp, answer, answer_to, told}
+use Rattle.sa_replies.proofs.OpenTableLemmas.{answers_keep_states, found_can, starts_are_states}
+use Rattle.sa_replies.specs.Answer.{Administration, Answered, after_rmpp, answer, answer_to, answered_with}
 use Rattle.sa_replies.specs.Reply.{reply_header, table_header}
-use Rattle.sa_replies.specs.Request.{Request, header_in, request_in}
+use Rattle.sa_replies.specs.Request.{Request, request_in}
 use Rattle.sa_replies.specs.Success.{Success}
-use Rattle.sa_replies.specs.Transfers.{PortTransfer, no_transfers, on_ack, place_of, with_table}
+use Rattle.sa_replies.specs.Transfers.{CanBeSent, PortTransfer, on_ack, table_place, table_at, table_of, with_table}
 use Rattle.sa_runs.proofs.AckReadLemmas.{ack_held, header_held}
-use Rattle.sa_runs.specs.Administration.{at_start, subnet_administration}
+use Rattle.sa_runs.specs.Administration.{subnet_administration}
+use Rattle.sa_replies.specs.State.{IsStateOf, at_start}
 use Rattle.sa_runs.specs.Asking.{ack_header, ack_mad, ack_rmpp, ack_sa, acknowledgements, acks_of, is_first_segment, segments_told}
-use Rattle.sa_runs.specs.Laws.{remembered_after}
+use Rattle.sa_runs.specs.Laws.{RunsAreStates, RunsShowInOrder, remembered_after}
 use Rattle.sa_runs.specs.WholeTables.{TablesAreBroughtWhole, table_asked}
 
 -- ---- what an ACK brings: the next segment, or the end of the table
@@ -66,7 +69,7 @@ at_last transfer number at end =
 -- ---- an ACK of the table that is there to its port
 acknowledges : (ports : List SubnetPort) (own : SubnetPort) (request : Request) (spacing : ℕ) (bytes : List ℕ) (count number window : ℕ)
     (state : Administration) (mask : ℕ) (content : List ℕ)
-    → place_of own.guid state.transfers ≡ Some (record { port = own.guid; open_table = Some (at_window request spacing bytes window) })
+    → table_place own.guid state.transfers ≡ Some (record { port = own.guid; open_table = Some (at_window request spacing bytes window) })
     → answer_to ports own (record { header = ack_header (reply_header request 0); rmpp = ack_rmpp count number; component_mask = mask; content = content }) state
     ≡ after_rmpp own state (on_ack (at_window request spacing bytes window) (ack_rmpp count number))
 acknowledges ports own request spacing bytes count number window state mask content there =
@@ -84,7 +87,7 @@ is_answered ports own payload header rmpp state long same class rmpp_same =
 
 ack_answered : (ports : List SubnetPort) (own : SubnetPort) (request : Request) (spacing : ℕ) (bytes : List ℕ) (count number window : ℕ) (state : Administration)
     → Fits (mad_header (reply_header request 0)) → number + 1 < 2 ^ 32
-    → place_of own.guid state.transfers ≡ Some (record { port = own.guid; open_table = Some (at_window request spacing bytes window) })
+    → table_place own.guid state.transfers ≡ Some (record { port = own.guid; open_table = Some (at_window request spacing bytes window) })
     → answer ports own (ack_mad (reply_header request 0) count number) state
     ≡ after_rmpp own state (on_ack (at_window request spacing bytes window) (ack_rmpp count number))
 ack_answered ports own request spacing bytes count number window state narrow low there =
@@ -106,8 +109,8 @@ twice p first second (x ∷ xs) = elim (cases_Bool (x.port == p)) [
   | inr other ↦ rw (other, other) (ap (λ rest. x ∷ rest) (twice p first second xs))
 ]
 
-opens : (p : ℕ) (table : Option Transfer) (transfers : List PortTransfer) (place : PortTransfer) → place_of p transfers ≡ Some place
-    → place_of p (with_table p table transfers) ≡ Some (record { port = p; open_table = table })
+opens : (p : ℕ) (table : Option Transfer) (transfers : List PortTransfer) (place : PortTransfer) → table_place p transfers ≡ Some place
+    → table_place p (with_table p table transfers) ≡ Some (record { port = p; open_table = table })
 opens p table transfers place found = own_place p table transfers ∙ ap (option_map (λ place. record { port = p; open_table = table })) found
 
 abbrev turns : List SubnetPort → SubnetPort → List (List ℕ) → Administration → Answered
@@ -121,7 +124,7 @@ turn ports own mad mads state answered same =
 
 bring_the_rest : (ports : List SubnetPort) (own : SubnetPort) (request : Request) (spacing : ℕ) (bytes : List ℕ) (number left : ℕ) (state : Administration)
     → Fits (mad_header (reply_header request 0)) → segment_count bytes + 1 < 2 ^ 32 → 1 ≤ number → number + left ≡ segment_count bytes
-    → place_of own.guid state.transfers ≡ Some (record { port = own.guid; open_table = Some (at_window request spacing bytes number) })
+    → table_place own.guid state.transfers ≡ Some (record { port = own.guid; open_table = Some (at_window request spacing bytes number) })
     → turns ports own (map (ack_mad (reply_header request 0) (segment_count bytes)) (range_with_len number (suc left))) state
     ≡ (map (segment_mad (at_window request spacing bytes 1)) (range_with_len (number + 1) left), record state { transfers = with_table own.guid None state.transfers })
 bring_the_rest ports own request spacing bytes number zero state narrow low some end there =
@@ -168,7 +171,7 @@ first_acknowledged transfer is =
 
 -- ---- from the request to the last segment
 brought : (ports : List SubnetPort) (own : SubnetPort) (request : Request) (spacing : ℕ) (bytes : List ℕ) (state : Administration) (place : PortTransfer)
-    → IsTransfer (opened (table_header request spacing) bytes) → place_of own.guid state.transfers ≡ Some place
+    → IsTransfer (opened (table_header request spacing) bytes) → table_place own.guid state.transfers ≡ Some place
     → turns ports own (acknowledgements (segment_mad (opened (table_header request spacing) bytes) 1 ∷ []))
     (record state { transfers = with_table own.guid (Some (opened (table_header request spacing) bytes)) state.transfers })
     ≡ (map (segment_mad (opened (table_header request spacing) bytes)) (range_with_len 2 (segment_count bytes - 1)), record state { transfers = with_table own.guid None state.transfers })
@@ -185,8 +188,8 @@ brought ports own request spacing bytes state place is found =
     (twice own.guid (Some transfer) None state.transfers)
 
 whole : (ports : List SubnetPort) (own : SubnetPort) (mad : List ℕ) (spacing : ℕ) (bytes : List ℕ) (state : Administration) (place : PortTransfer)
-    → place_of own.guid state.transfers ≡ Some place
-    → answer ports own mad state ≡ told own (request_in mad) state (Ok (Success.whole_table spacing bytes))
+    → table_place own.guid state.transfers ≡ Some place
+    → answer ports own mad state ≡ answered_with own (request_in mad) state (Ok (Success.whole_table spacing bytes))
     → IsTransfer (table_asked mad spacing bytes)
     → answered_whole (answer ports own) acknowledgements mad state
     ≡ (segment_mads (table_asked mad spacing bytes), record state { transfers = with_table own.guid None state.transfers })
@@ -198,25 +201,10 @@ whole ports own mad spacing bytes state place found asks is =
     ∙ ap (λ (rest : Answered). (segment_mad transfer 1 ∷ rest.0, rest.1)) (brought ports own (request_in mad) spacing bytes state place is found)
     ∙ ap (λ (n : ℕ). (map (segment_mad transfer) (range_with_len 1 n), record state { transfers = with_table own.guid None state.transfers })) all
 
--- ---- each port has a place for its table, whatever was sent and asked
-abbrev HasPlaces : List SubnetPort → Administration → Type 0
-HasPlaces ports state = map (λ place. place.port) state.transfers ≡ map (λ port. port.guid) ports
-
-same_places : (p : ℕ) (table : Option Transfer) (transfers : List PortTransfer)
-    → map (λ place. place.port) (with_table p table transfers) ≡ map (λ place. place.port) transfers
-same_places p table [] = refl
-same_places p table (x ∷ xs) = elim (cases_Bool (x.port == p)) [
-  | inl this ↦ rw this (λ i. sym (eqb-true x.port p this) i ∷ same_places p table xs i)
-  | inr other ↦ rw other (ap (λ rest. x.port ∷ rest) (same_places p table xs))
-]
-
-a_place_each : (ports : List SubnetPort) → map (λ place. place.port) (no_transfers ports) ≡ map (λ port. port.guid) ports
-a_place_each [] = refl
-a_place_each (port ∷ ports) = ap (λ rest. port.guid ∷ rest) (a_place_each ports)
-
+-- ---- the place of a port
 place_found : (guid : ℕ) (ports : List SubnetPort) (own : SubnetPort) (transfers : List PortTransfer)
     → map (λ place. place.port) transfers ≡ map (λ port. port.guid) ports → port_with_guid ports guid ≡ Some own
-    → (place : PortTransfer) × (place_of guid transfers ≡ Some place)
+    → (place : PortTransfer) × (table_place guid transfers ≡ Some place)
 place_found guid [] own transfers same found = absurd (cc)
 place_found guid (port ∷ ports) own [] same found = absurd (cc)
 place_found guid (port ∷ ports) own (x ∷ xs) same found = elim (cases_Bool (x.port == guid)) [
@@ -230,18 +218,38 @@ place_found guid (port ∷ ports) own (x ∷ xs) same found = elim (cases_Bool (
       (next.0, rw other next.1)
 ]
 
-places_stay : (configuration : ConfigurationState) (commands : List Command) → HasPlaces configuration.ports (remembered_after configuration commands)
-places_stay configuration commands =
-    run_keeps (HasPlaces configuration.ports) subnet_administration configuration
-    (λ own mad state found so.
-    answer_leaves (HasPlaces configuration.ports) configuration.ports own mad state
-    (λ table. same_places own.guid table state.transfers ∙ so) so (record { same = so; joins = λ join e. so; leaves = λ leave e. so; changes = λ change e. so }))
-    commands (at_start configuration) (a_place_each configuration.ports)
+pub runs_are_states : RunsAreStates
+runs_are_states configuration commands configured =
+    run_keeps (IsStateOf configuration) subnet_administration configuration
+    (λ own mad state found is. answers_keep_states configuration own mad state configured found is)
+    commands (at_start configuration) (starts_are_states configuration configured)
+
+pub runs_show_in_order : RunsShowInOrder
+runs_show_in_order configuration commands own configured =
+    let state = remembered_after configuration commands in
+    let is = (runs_are_states configuration commands configured).remembered in
+    stands_in_order configuration own state.remembered configured
+    (record { partitions = is.partitions; groups = is.groups; places = is.places; services = is.services })
+
+-- a table that is answered is open then, so it can be sent
+opens_as_asked : (own : SubnetPort) (mad : List ℕ) (spacing : ℕ) (records : List ℕ) (state next : Administration) (place : PortTransfer)
+    → table_place own.guid state.transfers ≡ Some place → next ≡ (answered_with own (request_in mad) state (Ok (Success.whole_table spacing records))).1
+    → All (λ place. CanBeSent place.open_table) next.transfers → IsTransfer (table_asked mad spacing records)
+opens_as_asked own mad spacing records state next place found same can =
+    let all = recursion_from_All (λ (one : PortTransfer). CanBeSent one.open_table) next.transfers can in
+    let here : table_of own.guid next.transfers ≡ Some (table_asked mad spacing records) =
+    ap (λ (after : Administration). table_of own.guid after.transfers) same
+    ∙ ap table_at (opens own.guid (Some (table_asked mad spacing records)) state.transfers place found) in
+    let is = found_can own.guid next.transfers all in
+    subst CanBeSent here is
 
 pub tables_are_brought_whole : TablesAreBroughtWhole
-tables_are_brought_whole configuration commands own mad spacing records found asks is =
+tables_are_brought_whole configuration commands own mad spacing records configured found asks =
     let state = remembered_after configuration commands in
-    let place = place_found own.guid configuration.ports own state.transfers (places_stay configuration commands) found in
+    let states = runs_are_states configuration commands configured in
+    let place = place_found own.guid configuration.ports own state.transfers states.places found in
+    let is = opens_as_asked own mad spacing records state (answer configuration.ports own mad state).1 place.0 place.1
+    (ap (λ (a : Answered). a.1) asks) (answers_keep_states configuration own mad state configured found states).tables in
     let all = whole configuration.ports own mad spacing records state place.0 place.1 asks is in
     record {
       segments = ap (λ (a : Answered). a.0) all;

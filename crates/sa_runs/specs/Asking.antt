@@ -8,9 +8,10 @@ use Rattle.mad_layout.specs.declared.method.Method.TheVariants.{GetTable}
 use Rattle.mad_layout.specs.declared.rmpp_header.RmppHeader.{RmppHeader}
 use Rattle.mad_layout.specs.declared.rmpp_kind.RmppKind.TheVariants.{Ack}
 use Rattle.mad_layout.specs.declared.sa_mad.SaMad.{SaMad}
-use Rattle.rmpp_core.specs.Receiving.{is_data, is_first, rmpp_in}
+use Rattle.rmpp_core.specs.Receiving.{is_data, is_first}
+use Rattle.mad_layout.specs.RmppHeader.{rmpp_in}
 use Rattle.rmpp_core.specs.Reply.{reply_bytes}
-use Rattle.sa_replies.specs.Request.{header_in}
+use Rattle.mad_layout.specs.MadHeader.{header_in}
 
 -- the segments of the table whose first one tells this length: each has 200 bytes, and counts for 20 more
 abbrev pub segments_told : ℕ → ℕ

@@ -2,7 +2,7 @@
 use Rattle.std.specs.Prelude.{◌≡◌, ◌+◌, ◌*◌, ◌^◌, [], ◌∷◌, take}
 use Rattle.sa_groups.specs.Examples.{with_broadcast_group}
 use Rattle.sa_replies.specs.Examples.{making, joining, leaving, nodes_wanted, ack}
-use Rattle.sa_runs.specs.Examples.{ask, send_mad, send_to_group, setting, services_wanted, groups_wanted, without_default, heard, heard_in}
+use Rattle.sa_runs.specs.Examples.{ask, send_mad, send_to_group, setting, services_wanted, groups_wanted, without_default, heard, heard_in, sources, sources_in}
 
 -- a full member makes a group and a limited member joins it: a packet of another limited member reaches the full one
 -- alone, as two limited members have no key that matches; the full member's leave ends the group
@@ -114,3 +114,37 @@ pub record WhatAskingBrings : Type 0 where
   pub hidden_service : HiddenService
   pub group_of_file : GroupOfFile
   pub refused : Refused
+
+-- ---- what records come from
+-- of a table of four nodes in three segments: the second and the fourth are cut in two
+abbrev pub SourcesOfNodes : Type 0
+SourcesOfNodes =
+    sources [] (ask 0x111 (nodes_wanted 4)) ≡ (0x101 ∷ 0x111 ∷ []) ∷ (0x111 ∷ 0x121 ∷ 0x131 ∷ []) ∷ (0x131 ∷ []) ∷ []
+
+-- of a group, its maker, whoever joins it, and the partition file; of the reply to a leave, the port that leaves
+pub record SourcesOfGroups : Type 0 where
+  pub made : sources [] (ask 0x111 (making 0x111 0x8001)) ≡ (0x111 ∷ []) ∷ []
+  pub joined : sources (ask 0x111 (making 0x111 0x8001) ∷ []) (ask 0x121 (joining 0x121 0x8001)) ≡ (0x111 ∷ []) ∷ []
+  pub left : sources (ask 0x111 (making 0x111 0x8001) ∷ ask 0x121 (joining 0x121 0x8001) ∷ []) (ask 0x121 (leaving 0x121))
+      ≡ (0x121 ∷ []) ∷ []
+  pub of_file : sources_in with_broadcast_group [] (ask 0x111 (groups_wanted 1)) ≡ (0 ∷ []) ∷ []
+  -- a refusal has none, and neither has a packet from port to port
+  pub refused : sources [] (ask 0x121 (making 0x121 0x0001)) ≡ [] ∷ []
+  pub packet : sources (ask 0x111 (making 0x111 0x8001) ∷ []) (send_to_group 0x131 0x0001) ≡ [] ∷ []
+
+-- of a service, its port, as it sets it and as it is shown
+pub record SourcesOfServices : Type 0 where
+  pub set : sources [] (ask 0x121 (setting 0x121)) ≡ (0x121 ∷ []) ∷ []
+  pub shown : sources (ask 0x121 (setting 0x121) ∷ []) (ask 0x111 (services_wanted 11)) ≡ (0x121 ∷ []) ∷ []
+  pub hidden : sources (ask 0x121 (setting 0x121) ∷ []) (ask 0x131 (services_wanted 11)) ≡ [] ∷ []
+
+-- an ABORT has none, whatever its table had
+abbrev pub SourcesOfAbort : Type 0
+SourcesOfAbort =
+    sources (send_mad 0x121 (nodes_wanted 5) ∷ []) (send_mad 0x121 (ack 5 2 1)) ≡ [] ∷ []
+
+pub record WhatRecordsComeFrom : Type 0 where
+  pub nodes : SourcesOfNodes
+  pub groups : SourcesOfGroups
+  pub services : SourcesOfServices
+  pub abort : SourcesOfAbort

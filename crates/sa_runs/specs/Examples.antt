@@ -1,5 +1,5 @@
 -- Commands to the ports of the examples of groups, and what they bring.
-use Rattle.std.specs.Prelude.{ℕ, ◌+◌, List, [], ◌∷◌, replicate, take}
+use Rattle.std.specs.Prelude.{ℕ, ◌+◌, ◌==◌, not, List, [], ◌∷◌, filter, map, replicate, take}
 use Rattle.std.specs.List.{flat_map}
 use Rattle.mad_layout.specs.Bits.{number}
 use Rattle.subnet_model.specs.declared.command.Command.{Command}
@@ -9,12 +9,15 @@ use Rattle.subnet_model.specs.declared.event.Outcome.TheVariants.{Received, Refu
 use Rattle.subnet_model.specs.Configuration.{ConfigurationState}
 use Rattle.subnet_model.specs.Report.{events_from, state_from, step_by}
 use Rattle.sa_groups.specs.Examples.{adapter, configuration}
+use Rattle.sa_groups.specs.Groups.{Creator}
 use Rattle.sa_records.specs.ServiceRecord.{service_record_bytes}
 use Rattle.sa_records.specs.ServiceMask as service_mask
 use Rattle.sa_queries.specs.Gid.{gid_of}
 use Rattle.sa_replies.specs.Examples.{asking, header_of}
 use Rattle.sa_replies.specs.Reply.{no_rmpp}
-use Rattle.sa_runs.specs.Administration.{at_start, subnet_administration}
+use Rattle.sa_runs.specs.Administration.{subnet_administration}
+use Rattle.sa_replies.specs.State.{at_start}
+use Rattle.sa_runs.specs.Sources.{NotedEvent, noted_start, noted_step, noted_in}
 
 -- ---- the commands: a port asks by a MAD, sends a MAD to subnet administration itself, or a byte to an MLID
 abbrev pub ask : ℕ → List ℕ → Command
@@ -33,7 +36,7 @@ setting_mask =
 -- a service of the port, and a GetTable of all services, and of all groups
 abbrev pub setting : ℕ → List ℕ
 setting guid =
-    asking (header_of 2 10 49) no_rmpp setting_mask
+    asking (header_of 2 10 0x31) no_rmpp setting_mask
     (service_record_bytes (record {
       service_id = 1;
       service_gid = gid_of guid;
@@ -45,10 +48,10 @@ setting guid =
     }))
 
 abbrev pub services_wanted : ℕ → List ℕ
-services_wanted transaction = asking (header_of 18 transaction 49) no_rmpp 0 []
+services_wanted transaction = asking (header_of 0x12 transaction 0x31) no_rmpp 0 []
 
 abbrev pub groups_wanted : ℕ → List ℕ
-groups_wanted transaction = asking (header_of 18 transaction 56) no_rmpp 0 []
+groups_wanted transaction = asking (header_of 0x12 transaction 0x38) no_rmpp 0 []
 
 -- two ports alone, the second of which holds no key of the default partition
 abbrev pub without_default : ConfigurationState
@@ -67,3 +70,24 @@ heard_in subnet before command =
 
 abbrev pub heard : List Command → Command → List (List ℕ)
 heard before command = heard_in configuration before command
+
+-- ---- what the records come from that the last command brings: of each event each source once, in the order of their bytes;
+-- a port by its GUID, and the partition file by 0
+abbrev pub number_of : Creator → ℕ
+number_of (Creator.Port guid) = guid
+number_of Creator.PartitionFile = 0
+
+abbrev pub each_once : List ℕ → List ℕ
+each_once [] = []
+each_once (n ∷ ns) = n ∷ filter (λ m. not (m == n)) (each_once ns)
+
+abbrev pub sources_of : NotedEvent → List ℕ
+sources_of one = each_once (map (λ byte. number_of byte.source) (noted_in one.noted))
+
+abbrev pub sources_in : ConfigurationState → List Command → Command → List (List ℕ)
+sources_in subnet before command =
+    map sources_of
+    (events_from (noted_step subnet) (state_from (noted_step subnet) (noted_start subnet) before) (command ∷ []))
+
+abbrev pub sources : List Command → Command → List (List ℕ)
+sources before command = sources_in configuration before command

@@ -1,12 +1,15 @@
 -- Whole runs in which subnet administration answers.
 use Rattle.std.specs.Prelude.{◌≡◌, true, List}
 use Rattle.subnet_model.specs.Configuration.{ConfigurationState}
+use Rattle.subnet_model.specs.Configured.{IsConfigured}
 use Rattle.subnet_model.specs.Isolation.{IsIsolatedBy, KeepsApart}
 use Rattle.subnet_model.specs.Report.{report_by, state_from, step_by}
 use Rattle.subnet_model.specs.declared.command.Command.{Command}
+use Rattle.subnet_model.specs.declared.subnet_port.SubnetPort.{SubnetPort}
+use Rattle.sa_queries.specs.Order.{InOrder}
 use Rattle.sa_replies.specs.Answer.{Administration}
-use Rattle.sa_replies.specs.Sources.{TablesComeFromNear}
-use Rattle.sa_runs.specs.Administration.{at_start, subnet_administration}
+use Rattle.sa_replies.specs.State.{IsStateOf, at_start}
+use Rattle.sa_runs.specs.Administration.{subnet_administration}
 use Rattle.sa_runs.specs.Sight.{is_sound_state, sees}
 
 -- subnet administration keeps ports apart
@@ -29,8 +32,14 @@ RunsStaySound =
     (configuration : ConfigurationState) (commands : List Command)
     → is_sound_state configuration (remembered_after configuration commands) ≡ true
 
--- each table that is open to a port is spelt by some records with sources near it; which source a record has is not said yet
-abbrev pub OpenTablesComeFromNear : Type 0
-OpenTablesComeFromNear =
-    (configuration : ConfigurationState) (commands : List Command)
-    → TablesComeFromNear configuration.ports (remembered_after configuration commands).transfers
+-- which is always a state of the configuration
+abbrev pub RunsAreStates : Type 0
+RunsAreStates =
+    (configuration : ConfigurationState) (commands : List Command) → IsConfigured configuration
+    → IsStateOf configuration (remembered_after configuration commands)
+
+-- in which all that is visible to a port stands in its order
+abbrev pub RunsShowInOrder : Type 0
+RunsShowInOrder =
+    (configuration : ConfigurationState) (commands : List Command) (own : SubnetPort) → IsConfigured configuration
+    → InOrder configuration.ports own (remembered_after configuration commands).remembered

@@ -2,6 +2,10 @@ pub mod Asking
 pub mod Administration
 pub mod Sight
 pub mod Laws
+pub mod Sources
+pub mod RunData
+pub mod InCommon
+pub mod WrongRules
 pub mod WholeTables
 pub mod Examples
 pub mod ExampleLaws

@@ -5,12 +5,12 @@ use Rattle.sa_groups.specs.Groups.{PartitionGroups}
 use Rattle.sa_groups.specs.Sight.{seen}
 use Rattle.sa_groups.specs.Sound.{is_sound}
 use Rattle.sa_services.specs.Services.{PortServices}
-use Rattle.sa_services.specs.ServiceSight.{services_seen}
+use Rattle.sa_services.specs.ServiceSight.{services_near}
 use Rattle.sa_services.specs.ServiceSound.{are_sound_services}
 use Rattle.sa_replies.specs.Answer.{Administration}
-use Rattle.sa_replies.specs.Transfers.{PortTransfer, place_of}
+use Rattle.sa_replies.specs.Transfers.{PortTransfer, table_place}
 
--- the groups of its partitions with their members that are near it, the services that it is shown, and its own table
+-- the groups of its partitions with their members that are near it, the services of the ports near it, and its own table
 pub record Seen : Type 0 where
   pub groups : List PartitionGroups
   pub services : List PortServices
@@ -19,8 +19,8 @@ pub record Seen : Type 0 where
 abbrev pub sees : ConfigurationState → ℕ → Administration → Seen
 sees configuration p state = record {
   groups = seen configuration.ports p state.remembered.partitions;
-  services = services_seen configuration.ports p state.remembered.services;
-  own_table = place_of p state.transfers;
+  services = services_near configuration.ports p state.remembered.services;
+  own_table = table_place p state.transfers;
 }
 
 -- the groups are sound, and so are the services

@@ -10,17 +10,18 @@ use Rattle.subnet_model.specs.declared.subnet_port.SubnetPort.{SubnetPort}
 use Rattle.subnet_model.specs.Near.{is_near, ports_share, shares_with}
 use Rattle.result_words.proofs.FilterLemmas.{filter_map_same, filter_map_absorbs}
 use Rattle.sa_services.specs.Services.{PortServices}
-use Rattle.sa_services.specs.ServiceChange.{ServiceChange, is_place, changed_in, services_changed, services_after, service_changes_near, place_of}
-use Rattle.sa_services.specs.ServiceSight.{shares_base_with, ports_share_base, is_shown, services_seen}
+use Rattle.sa_services.specs.ServiceChange.{ServiceChange, is_place, changed_in, services_changed, services_after, service_changes_near, port_and_base}
+use Rattle.sa_services.proofs.DeedLemmas.{filter_within}
+use Rattle.sa_services.specs.ServiceSight.{shares_base_with, ports_share_base, is_shown, services_near, services_seen}
 
 -- ---- whose services they are stays
-pub changed_place : (change : ServiceChange) (place : PortServices) → place_of (changed_in change place) ≡ place_of place
+pub changed_place : (change : ServiceChange) (place : PortServices) → port_and_base (changed_in change place) ≡ port_and_base place
 changed_place change place = elim (cases_Bool (is_place change place)) [
   | inl this ↦ rw this refl
   | inr other ↦ rw other refl
 ]
 
-pub places_stay : (services : List PortServices) (change : ServiceChange) → map place_of (services_changed services change) ≡ map place_of services
+pub places_stay : (services : List PortServices) (change : ServiceChange) → map port_and_base (services_changed services change) ≡ map port_and_base services
 places_stay [] change = refl
 places_stay (place ∷ services) change = rw (changed_place change place, places_stay services change) refl
 
@@ -69,23 +70,53 @@ pub far_services : (ports : List SubnetPort) (p : ℕ) (services : List PortServ
 far_services ports p services change far =
     filter_map_absorbs (is_shown ports p) (changed_in change) (changed_shown ports p change) (λ place shown. far_is_other ports p change place far shown) services
 
-seen_changes : (ports : List SubnetPort) (p : ℕ) (services : List PortServices) (change : ServiceChange)
-    → services_seen ports p (services_changed services change) ≡ services_changed (services_seen ports p services) change
-seen_changes ports p services change = filter_map_same (is_shown ports p) (changed_in change) (changed_shown ports p change) services
+-- ---- those of the ports near p
+near_as_before : (ports : List SubnetPort) (p : ℕ) (change : ServiceChange) (place : PortServices)
+    → is_near ports p (changed_in change place).port ≡ is_near ports p place.port
+near_as_before ports p change place = elim (cases_Bool (is_place change place)) [
+  | inl this ↦ rw this refl
+  | inr other ↦ rw other refl
+]
 
-pub services_alike : (ports : List SubnetPort) (p : ℕ) (s t : List PortServices) (change : ServiceChange) → services_seen ports p s ≡ services_seen ports p t
-    → services_seen ports p (services_changed s change) ≡ services_seen ports p (services_changed t change)
+near_is_other : (ports : List SubnetPort) (p : ℕ) (change : ServiceChange) (place : PortServices) → is_near ports p change.port ≡ false
+    → is_near ports p place.port ≡ true → changed_in change place ≡ place
+near_is_other ports p change place far near = elim (cases_Bool (is_place change place)) [
+  | inl this ↦
+      let same : place.port ≡ change.port = eqb-true place.port change.port (and_parts (place.port == change.port) (place.base == change.base) this).0 in
+      absurd (both_ways (is_near ports p change.port) far (ap (is_near ports p) (sym same) ∙ near))
+  | inr other ↦ rw other refl
+]
+
+pub far_not_near : (ports : List SubnetPort) (p : ℕ) (services : List PortServices) (change : ServiceChange) → is_near ports p change.port ≡ false
+    → services_near ports p (services_changed services change) ≡ services_near ports p services
+far_not_near ports p services change far =
+    filter_map_absorbs (λ place. is_near ports p place.port) (changed_in change) (near_as_before ports p change)
+    (λ place near. near_is_other ports p change place far near) services
+
+-- what is shown is told by them
+pub shown_of_near : (ports : List SubnetPort) (p : ℕ) (services : List PortServices)
+    → services_seen ports p (services_near ports p services) ≡ services_seen ports p services
+shown_of_near ports p services =
+    filter_within (is_shown ports p) (λ place. is_near ports p place.port) (λ place shown. shown_is_near ports p place shown) services
+
+near_changes : (ports : List SubnetPort) (p : ℕ) (services : List PortServices) (change : ServiceChange)
+    → services_near ports p (services_changed services change) ≡ services_changed (services_near ports p services) change
+near_changes ports p services change =
+    filter_map_same (λ place. is_near ports p place.port) (changed_in change) (near_as_before ports p change) services
+
+pub services_alike : (ports : List SubnetPort) (p : ℕ) (s t : List PortServices) (change : ServiceChange) → services_near ports p s ≡ services_near ports p t
+    → services_near ports p (services_changed s change) ≡ services_near ports p (services_changed t change)
 services_alike ports p s t change same =
-    seen_changes ports p s change ∙ (ap (λ services. services_changed services change) same ∙ sym (seen_changes ports p t change))
+    near_changes ports p s change ∙ (ap (λ services. services_changed services change) same ∙ sym (near_changes ports p t change))
 
-after_alike : (ports : List SubnetPort) (p : ℕ) (changes : List ServiceChange) (s t : List PortServices) → services_seen ports p s ≡ services_seen ports p t
-    → services_seen ports p (services_after s changes) ≡ services_seen ports p (services_after t (service_changes_near ports p changes))
+after_alike : (ports : List SubnetPort) (p : ℕ) (changes : List ServiceChange) (s t : List PortServices) → services_near ports p s ≡ services_near ports p t
+    → services_near ports p (services_after s changes) ≡ services_near ports p (services_after t (service_changes_near ports p changes))
 after_alike ports p [] s t same = same
 after_alike ports p (change ∷ changes) s t same = elim (cases_Bool (is_near ports p change.port)) [
   | inl near ↦ rw near (after_alike ports p changes (services_changed s change) (services_changed t change) (services_alike ports p s t change same))
-  | inr far ↦ rw far (after_alike ports p changes (services_changed s change) t (far_services ports p s change far ∙ same))
+  | inr far ↦ rw far (after_alike ports p changes (services_changed s change) t (far_not_near ports p s change far ∙ same))
 ]
 
 pub services_depend : (ports : List SubnetPort) (p : ℕ) (services : List PortServices) (changes : List ServiceChange)
-    → services_seen ports p (services_after services changes) ≡ services_seen ports p (services_after services (service_changes_near ports p changes))
+    → services_near ports p (services_after services changes) ≡ services_near ports p (services_after services (service_changes_near ports p changes))
 services_depend ports p services changes = after_alike ports p changes services services refl

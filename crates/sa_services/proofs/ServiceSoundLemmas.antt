@@ -1,5 +1,5 @@
 -- What ports do to services keeps them sound.
-use Rattle.std.proofs.Common.{ℕ, suc, ◌+◌, ◌≤◌, Bool, true, false, not, ◌==◌, ◌&&◌, nat_lt, nat_le, List, [], ◌∷◌, ◌++◌, length, filter}
+use Rattle.std.proofs.Common.{ℕ, suc, ◌+◌, ◌≤◌, Bool, true, false, not, ◌==◌, ◌&&◌, nat_lt, nat_le, List, [], ◌∷◌, length, filter}
 use Rattle.std.proofs.Common.{◌≡◌, ◌∙◌, refl, inl, inr, arith, length-append}
 use Rattle.std.specs.List.{list_all, list_any, flat_map}
 use Rattle.std.proofs.lemmas.Bool.{cases_Bool, and_from, and_parts, or_cases, or_left, or_right, eq-eqb}
@@ -10,7 +10,7 @@ use Rattle.pkey_rules.specs.PKey.{base_of}
 use Rattle.pkey_rules.specs.KeyTable.{has_base}
 use Rattle.subnet_model.specs.declared.subnet_port.SubnetPort.{SubnetPort}
 use Rattle.sa_groups.specs.Sound.{pairwise}
-use Rattle.sa_groups.proofs.ListLemmas.{all_map, pairwise_filter}
+use Rattle.sa_groups.proofs.ListLemmas.{all_map, all_of_filter, pairwise_append, pairwise_filter}
 use Rattle.sa_services.specs.KeyOrder.{by_base}
 use Rattle.sa_services.specs.Services.{Service, PortServices, none_of_port, no_services}
 use Rattle.sa_services.specs.ServiceChange.{Deed, ServiceChange, is_place, has_id, lower_id, most_services, has_room, with_service, without_service, after_deed, changed_in, services_changed}
@@ -18,26 +18,8 @@ use Rattle.sa_services.specs.ServiceSound.{holds_base, is_sound_place, are_sound
 use Rattle.sa_services.proofs.KeyOrderLemmas.{all_by_base}
 
 -- ---- in the order of ServiceIDs
-pub pairwise_append : {X : Type 0} (r : X → X → Bool) (xs ys : List X) → pairwise r xs ≡ true → pairwise r ys ≡ true
-    → list_all (λ x. list_all (r x) ys) xs ≡ true → pairwise r (xs ++ ys) ≡ true
-pairwise_append r [] ys in_xs in_ys between = in_ys
-pairwise_append r (x ∷ xs) ys in_xs in_ys between =
-    let first = and_parts (list_all (r x) xs) (pairwise r xs) in_xs in
-    let to_ys = and_parts (list_all (r x) ys) (list_all (λ y. list_all (r y) ys) xs) between in
-    and_from (list_all (r x) (xs ++ ys)) (pairwise r (xs ++ ys))
-    (list_all-append (r x) xs ys ∙ and_from (list_all (r x) xs) (list_all (r x) ys) first.0 to_ys.0)
-    (pairwise_append r xs ys first.1 in_ys to_ys.1)
-
 lower_lower : (a b c : Service) → lower_id a b ≡ true → lower_id b c ≡ true → lower_id a c ≡ true
 lower_lower a b c x y = grind (arith, nat_tests)
-
--- what a filter lets pass, all of it, has what the filter implies
-all_of_filter : {X : Type 0} (keep p : X → Bool) → ((x : X) → keep x ≡ true → p x ≡ true) → (xs : List X) → list_all p (filter keep xs) ≡ true
-all_of_filter keep p implies [] = refl
-all_of_filter keep p implies (x ∷ xs) = elim (cases_Bool (keep x)) [
-  | inl here ↦ rw here (and_from (p x) (list_all p (filter keep xs)) (implies x here) (all_of_filter keep p implies xs))
-  | inr out ↦ rw out (all_of_filter keep p implies xs)
-]
 
 lower_than_rest : (new x : Service) (services : List Service) → lower_id x new ≡ true
     → list_all (lower_id x) (new ∷ filter (λ service. lower_id new service) services) ≡ true

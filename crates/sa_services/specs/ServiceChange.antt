@@ -62,5 +62,5 @@ abbrev pub service_changes_near : List SubnetPort → ℕ → List ServiceChange
 service_changes_near ports p changes = filter (λ change. is_near ports p change.port) changes
 
 -- the port and the base whose services they are
-abbrev pub place_of : PortServices → ℕ × ℕ
-place_of place = (place.port, place.base)
+abbrev pub port_and_base : PortServices → ℕ × ℕ
+port_and_base place = (place.port, place.base)

@@ -4,8 +4,8 @@ use Rattle.std.specs.List.{flat_map}
 use Rattle.subnet_model.specs.declared.subnet_port.SubnetPort.{SubnetPort}
 use Rattle.subnet_model.specs.Near.{is_near}
 use Rattle.sa_services.specs.Services.{Service, PortServices, no_services}
-use Rattle.sa_services.specs.ServiceChange.{Deed, ServiceChange, has_id, has_room, place_of, services_changed, services_after, service_changes_near}
-use Rattle.sa_services.specs.ServiceSight.{services_seen}
+use Rattle.sa_services.specs.ServiceChange.{Deed, ServiceChange, has_id, has_room, port_and_base, services_changed, services_after, service_changes_near}
+use Rattle.sa_services.specs.ServiceSight.{services_near, services_seen}
 use Rattle.sa_services.specs.ServiceSound.{are_sound_services}
 
 -- at the start they are sound, and what ports set or delete keeps them so
@@ -21,7 +21,7 @@ ServicesStaySound =
 abbrev pub PlacesStay : Type 0
 PlacesStay =
     (services : List PortServices) (change : ServiceChange)
-    → map place_of (services_changed services change) ≡ map place_of services
+    → map port_and_base (services_changed services change) ≡ map port_and_base services
 
 -- ---- what a Set and a Delete do: the place of a port and a base, and the services of an ID that stand there
 abbrev pub is_of : ℕ → ℕ → PortServices → Bool
@@ -74,16 +74,26 @@ HidesFarServices sight =
 abbrev pub FarServicesAreNotSeen : Type 0
 FarServicesAreNotSeen = HidesFarServices services_seen
 
--- where p sees the same before what any port does to services, it sees the same after
+-- nor does it change anything of the services of the ports near p
+abbrev pub FarServicesAreNotNear : Type 0
+FarServicesAreNotNear = HidesFarServices services_near
+
+-- what p is shown is told by the services of the ports near it
+abbrev pub ShownServicesAreNear : Type 0
+ShownServicesAreNear =
+    (ports : List SubnetPort) (p : ℕ) (services : List PortServices)
+    → services_seen ports p (services_near ports p services) ≡ services_seen ports p services
+
+-- where these are the same before what any port does to services, they are the same after
 abbrev pub ServicesAreSeenAlike : Type 0
 ServicesAreSeenAlike =
     (ports : List SubnetPort) (p : ℕ) (s t : List PortServices) (change : ServiceChange)
-    → services_seen ports p s ≡ services_seen ports p t
-    → services_seen ports p (services_changed s change) ≡ services_seen ports p (services_changed t change)
+    → services_near ports p s ≡ services_near ports p t
+    → services_near ports p (services_changed s change) ≡ services_near ports p (services_changed t change)
 
--- so whatever ports set and delete, p sees what it would see after what the ports near it alone set and delete
+-- so whatever ports set and delete, they are what they would be after what the ports near p alone set and delete
 abbrev pub ServicesDependOnNear : Type 0
 ServicesDependOnNear =
     (ports : List SubnetPort) (p : ℕ) (services : List PortServices) (changes : List ServiceChange)
-    → services_seen ports p (services_after services changes)
-    ≡ services_seen ports p (services_after services (service_changes_near ports p changes))
+    → services_near ports p (services_after services changes)
+    ≡ services_near ports p (services_after services (service_changes_near ports p changes))

@@ -1,8 +1,9 @@
--- What of services a port may be shown.
+-- What of services a port may be shown, and what of them depends on the ports near it alone.
 use Rattle.std.specs.Prelude.{ℕ, Bool, ◌==◌, ◌&&◌, ◌||◌, List, filter}
 use Rattle.std.specs.List.{list_any}
 use Rattle.pkey_rules.specs.KeyTable.{shares_base}
 use Rattle.subnet_model.specs.declared.subnet_port.SubnetPort.{SubnetPort}
+use Rattle.subnet_model.specs.Near.{is_near}
 use Rattle.sa_services.specs.Services.{PortServices}
 
 -- a port of this GUID shares the partition of this base with the port
@@ -19,3 +20,7 @@ is_shown ports p place = (place.port == p) || ports_share_base ports place.base 
 
 abbrev pub services_seen : List SubnetPort → ℕ → List PortServices → List PortServices
 services_seen ports p services = filter (is_shown ports p) services
+
+-- those of the ports near p, in whatever partition: what p is shown is among them
+abbrev pub services_near : List SubnetPort → ℕ → List PortServices → List PortServices
+services_near ports p services = filter (λ place. is_near ports p place.port) services

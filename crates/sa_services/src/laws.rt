@@ -2,7 +2,7 @@
 //! contract is the law.
 
 ghost use Rattle.sa_services.specs.KeyOrder.{KeysStandByBase};
-ghost use Rattle.sa_services.specs.ServiceLaws.{DeletedServicesAreGone, FarServicesAreNotSeen, NoServicesAreSound, PlacesStay, ServicesAreSeenAlike, ServicesDependOnNear, ServicesStaySound, SetServicesAreThere};
+ghost use Rattle.sa_services.specs.ServiceLaws.{DeletedServicesAreGone, FarServicesAreNotNear, FarServicesAreNotSeen, NoServicesAreSound, PlacesStay, ServicesAreSeenAlike, ServicesDependOnNear, ServicesStaySound, SetServicesAreThere, ShownServicesAreNear};
 
 /// A port's keys in the order of their bases are the same keys, and are in that order.
 pub fn keys_stand_by_base()
@@ -40,12 +40,23 @@ pub fn far_services_are_not_seen()
     ensures { FarServicesAreNotSeen }
 {}
 
-/// Where a port sees the same before a Set or a Delete of any port, it sees the same after.
+/// Nor does it change anything of the services of the ports near that one.
+pub fn far_services_are_not_near()
+    ensures { FarServicesAreNotNear }
+{}
+
+/// What a port is shown of services is told by those of the ports near it.
+pub fn shown_services_are_near()
+    ensures { ShownServicesAreNear }
+{}
+
+/// Where the services of the ports near a port are the same before a Set or a Delete of any port, they are the same
+/// after.
 pub fn services_are_seen_alike()
     ensures { ServicesAreSeenAlike }
 {}
 
-/// Whatever ports set and delete, what a port sees of services depends only on the ports near it.
+/// Whatever ports set and delete, the services of the ports near a port depend only on what these ports do.
 pub fn services_depend_on_near()
     ensures { ServicesDependOnNear }
 {}

@@ -10,13 +10,15 @@ use Rattle.subnet_core.specs.BringUp.{Becomes, ComesTo, FailsWith, IsUp, WithFab
 use Rattle.subnet_core.specs.Roster.{IsRostered, RosterState, fault_in}
 use Rattle.subnet_core.specs.declared.fault.RunFault.{RunFault}
 use Rattle.subnet_core.specs.declared.fault.RunFault.TheVariants.{NoMemory, Topology, Partitions, Sweep, NoLegalPath, Push, Script}
-use Rattle.subnet_fabric.specs.BringUp.{AreAssigned, HasNoPath, IsFound, BroughtUpState}
+use Rattle.fabric_wire.specs.OfTopology.{fabric_of}
+use Rattle.subnet_fabric.specs.BringUp.{HasNoPath, BroughtUpState}
+use Rattle.subnet_fabric.specs.SetUp.{AreAssigned, IsLaidOut}
 use Rattle.subnet_fabric.specs.Laws.{all_keys}
 use Rattle.subnet_fabric.proofs.ListedLemmas.{numbers_of}
 use Rattle.subnet_model.specs.declared.subnet_port.SubnetPort.{SubnetPort}
 use Rattle.subnet_ports.proofs.EndPortLemmas.{end_ports_stand_in_order}
 use Rattle.subnet_ports.proofs.GraphPortLemmas.{sweeps_find_what_is_listed}
-use Rattle.subnet_ports.specs.EndPorts.{HaveLidsInOrder}
+use Rattle.subnet_model.specs.Configured.{HaveLidsInOrder}
 use Rattle.subnet_ports.specs.Ports.{ports_of}
 use Rattle.sweep.specs.Graph.{GraphState}
 use Rattle.updn_routes.specs.Routes.{home_of}
@@ -93,10 +95,10 @@ hangs_at homes lid home is = by (lid == 0) refl is
         let within = slice_get_within homes (lid - 1) home is in
         (some, omega (arith, some, within))
 
-as_many : (roster : RosterState) → IsRostered roster → (graph : GraphState) (guids : List ℕ) → IsFound roster.plan graph → AreAssigned graph guids
+as_many : (roster : RosterState) → IsRostered roster → (graph : GraphState) (guids : List ℕ) → IsLaidOut (fabric_of roster.plan) graph → AreAssigned graph guids
     → length roster.configuration.ports ≡ length (homes_of graph guids)
 as_many roster is graph guids found assigned =
-    let of_graph = sweeps_find_what_is_listed is.partitions roster.plan graph guids is.topology found.of assigned.lids assigned.order in
+    let of_graph = sweeps_find_what_is_listed is.partitions roster.plan graph guids is.topology found.layout assigned.lids assigned.order in
     let ports = ports_of is.partitions roster.plan in
     let pairs = length-map {B = ℕ × ℕ} ports numbers_of in
     let numbered = length-enumerate_from 1 guids in
@@ -106,12 +108,12 @@ as_many roster is graph guids found assigned =
 
 pub switch_is_listed : (roster : RosterState) → IsRostered roster → (a b : ℕ) → HasNoPath roster.plan a b → AreListed roster a
 switch_is_listed roster is a b none =
-    let many = as_many roster is none.graph none.guids none.found none.assigned in
+    let many = as_many roster is none.graph none.guids none.laid none.assigned in
     let at = hangs_at _ a _ none.refused.first.pair.switch in
     record { first = at.0; last = omega (arith, many, at.1) }
 
 pub port_is_listed : (roster : RosterState) → IsRostered roster → (a b : ℕ) → HasNoPath roster.plan a b → AreListed roster b
 port_is_listed roster is a b none =
-    let many = as_many roster is none.graph none.guids none.found none.assigned in
+    let many = as_many roster is none.graph none.guids none.laid none.assigned in
     let at = hangs_at _ b _ none.refused.first.pair.adapter in
     record { first = at.0; last = omega (arith, many, at.1) }

@@ -20,7 +20,7 @@ use Rattle.subnet_fabric.proofs.OneFateLemmas.{no_path_excludes_coming_up, one_p
 use Rattle.subnet_fabric.specs.Laws.{all_keys}
 use Rattle.subnet_model.specs.declared.subnet_port.SubnetPort.{SubnetPort}
 use Rattle.subnet_ports.proofs.EndPortLemmas.{end_ports_stand_in_order}
-use Rattle.subnet_ports.specs.EndPorts.{HaveLidsInOrder}
+use Rattle.subnet_model.specs.Configured.{HaveLidsInOrder}
 use Rattle.sweep.specs.Hops.{IsTooFar}
 use Rattle.sweep.specs.declared.fault.SweepFault.TheVariants as sweep
 use Rattle.topo_file.specs.Sound.{IsSound}

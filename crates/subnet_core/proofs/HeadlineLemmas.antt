@@ -11,7 +11,7 @@ use Rattle.subnet_core.specs.Roster.{partitions_for, roster_of, rostered}
 use Rattle.subnet_core.specs.Run.{ReportState, report_of, told_of}
 use Rattle.subnet_core.specs.Script.{commands_in}
 use Rattle.subnet_ports.specs.Ports.{configuration_of, ports_of}
-use Rattle.subnet_ports.specs.EndPorts.{HaveLidsInOrder}
+use Rattle.subnet_model.specs.Configured.{HaveLidsInOrder}
 use Rattle.subnet_ports.proofs.LidLemmas.{own_lids}
 
 -- the roster of texts that are accepted

@@ -11,12 +11,16 @@ use Rattle.subnet_fabric.specs.Laws.{all_keys}
 use Rattle.subnet_model.specs.declared.state.State.{State}
 use Rattle.subnet_model.specs.declared.subnet_port.SubnetPort.{SubnetPort}
 use Rattle.subnet_model.specs.State.{start}
+use Rattle.topo_file.specs.Topology.{TopologyState}
 use Rattle.updn_routes.specs.Subnet.{RoutesState}
 
 -- ---- a fabric that is up
--- it is that of the topology, brought up by its routes with the keys of the end ports
+-- it is that of a topology, brought up by its routes with the keys of the end ports
+abbrev pub IsUpOver : TopologyState → List SubnetPort → BroughtUpState → Type 0
+IsUpOver plan ports up = IsBroughtUpBy plan (all_keys ports) up.routes up.fabric
+
 abbrev pub IsUp : RosterState → BroughtUpState → Type 0
-IsUp roster up = IsBroughtUpBy roster.plan (all_keys roster.configuration.ports) up.routes up.fabric
+IsUp roster up = IsUpOver roster.plan roster.configuration.ports up
 
 -- a subnet that runs: who is in it, its fabric and the routes in that, and what it remembers; after memory was refused it is
 -- broken
@@ -29,6 +33,14 @@ pub record SubnetState : Type 0 where
 
 abbrev pub up_in : SubnetState → BroughtUpState
 up_in subnet = record { routes = subnet.routes; fabric = subnet.fabric }
+
+-- the topology as its cables stand: today the one that was read
+abbrev pub standing_plan : SubnetState → TopologyState
+standing_plan subnet = subnet.roster.plan
+
+-- where it is not broken, its fabric is up
+abbrev pub StaysUp : SubnetState → Type 0
+StaysUp subnet = subnet.is_broken ≡ false → IsUpOver (standing_plan subnet) subnet.roster.configuration.ports (up_in subnet)
 
 -- before its first command
 pub record IsStarted (subnet : SubnetState) : Type 0 where

@@ -7,7 +7,7 @@ ghost use Rattle.subnet_core.specs.BringUp.{Answers, ComesTo, IsStarted, up_from
 ghost use Rattle.subnet_core.specs.Roster.{roster_of};
 ghost use Rattle.subnet_fabric.specs.BringUp.{HasNoPath, Stops};
 ghost use Rattle.subnet_fabric.specs.Laws.{all_keys};
-ghost use Rattle.subnet_ports.specs.EndPorts.{HaveLidsInOrder};
+ghost use Rattle.subnet_model.specs.Configured.{HaveLidsInOrder};
 
 use crate::fault::RunFault;
 use crate::roster::{Roster, read_roster};

@@ -31,3 +31,5 @@ pub use crate::report::Report;
 pub use crate::roster::{Roster, read_roster};
 pub use crate::running::run;
 pub use crate::subnet::Subnet;
+pub use subnet_model::Command;
+pub use subnet_sends::Event;

@@ -3,7 +3,7 @@
 ghost use Rattle.std.specs.Prelude.{IfOk};
 ghost use Rattle.std.specs.Option.{option_copied};
 ghost use Rattle.result_words.specs.AtLine.{on_line};
-ghost use Rattle.subnet_ports.specs.EndPorts.{HaveLidsInOrder};
+ghost use Rattle.subnet_model.specs.Configured.{HaveLidsInOrder};
 ghost use Rattle.subnet_core.specs.Headline.{KeepsPartitionsApart};
 ghost use Rattle.subnet_core.specs.BringUp.{Answers};
 ghost use Rattle.subnet_core.specs.Roster.{RunGives, of_text, roster_of};

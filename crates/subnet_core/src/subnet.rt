@@ -1,9 +1,9 @@
 //! A subnet on its fabric, command by command.
 
-ghost use Rattle.std.specs.Prelude.{◌≡◌, true, ◌↔◌, ◌++◌, map, All, IsErrOf, IfOk, IfSome, OnOk, OnErr};
+ghost use Rattle.std.specs.Prelude.{◌≡◌, false, true, ◌↔◌, ◌++◌, map, All, IsErrOf, IfOk, IfSome, OnOk, OnErr};
 ghost use Rattle.subnet_model.specs.Report.{events_from, step};
 ghost use Rattle.subnet_model.specs.State.{start};
-ghost use Rattle.subnet_core.specs.BringUp.{IsStarted, IsUp, up_in};
+ghost use Rattle.subnet_core.specs.BringUp.{IsStarted, IsUp, StaysUp};
 ghost use Rattle.subnet_core.specs.Listing.{listing_text};
 ghost use Rattle.subnet_core.specs.Roster.{RunGives};
 ghost use Rattle.subnet_core.specs.Run.{parsed, told_of};
@@ -35,7 +35,7 @@ pub struct Subnet {
 }
 
 impl Model for Subnet {
-    ghost use Rattle.subnet_core.specs.BringUp.{IsUp, SubnetState};
+    ghost use Rattle.subnet_core.specs.BringUp.{StaysUp, SubnetState};
 
     ghost Value = { SubnetState };
 
@@ -47,7 +47,13 @@ impl Model for Subnet {
       is_broken = subnet.is_broken;
     } };
 
-    ghost invariant = { λ subnet. IsUp subnet.roster (record { routes = subnet.routes; fabric = subnet.fabric }) };
+    ghost invariant = { λ subnet. StaysUp (record {
+      roster = subnet.roster;
+      routes = subnet.routes;
+      fabric = subnet.fabric;
+      state = subnet.state;
+      is_broken = subnet.is_broken;
+    }) };
 }
 
 impl Subnet {
@@ -75,10 +81,10 @@ impl Subnet {
         &self.roster
     }
 
-    /// Its one fabric, as it was brought up: commands change nothing of it.
+    /// Its one fabric. Where the subnet is not broken it is as it was brought up: commands change nothing of it.
     pub fn fabric(&self) -> &Fabric
         ensures value { result.now ≡ self.now.fabric }
-        ensures up { IsUp self.now.roster (up_in self.now) }
+        ensures up { StaysUp self.now }
     {
         &self.fabric
     }
@@ -93,7 +99,7 @@ impl Subnet {
     /// Who is in it, and its fabric, which then can be asked by SMPs; no command is taken any more.
     pub fn into_parts(self) -> (Roster, Fabric)
         ensures parts { (result.0 ≡ self.roster) × (result.1 ≡ self.fabric) }
-        ensures up { IsUp result.0 (record { routes = self.routes; fabric = result.1 }) }
+        ensures up { self.is_broken ≡ false → IsUp result.0 (record { routes = self.routes; fabric = result.1 }) }
     {
         (self.roster, self.fabric)
     }
@@ -122,8 +128,8 @@ impl Subnet {
     }
 
     /// Carries out one command over the fabric, and tells its events in order. Once memory was refused the subnet is
-    /// broken for good: every later step answers `Broken`. Its roster and its fabric stay, so that lines can be parsed
-    /// and members listed; what it remembers may be anything.
+    /// broken for good: every later step answers `Broken` and changes nothing. Its roster stays, so that lines can be
+    /// parsed and members listed; what it remembers, its routes and its fabric may be anything.
     ///
     /// A command of [`Subnet::parse`] names a listed port of a channel adapter; `comes` holds of any other too.
     pub fn step(&mut self, command: &Command) -> Result<Vec<Event>, StepFault>
@@ -137,7 +143,7 @@ impl Subnet {
         ensures broken { IsErrOf result StepFault.Broken ↔ (self.old.is_broken ≡ true) }
         ensures for_good { OnErr result (self.new.is_broken ≡ true) }
         ensures roster { OnErr result (self.new.roster ≡ self.old.roster) }
-        ensures fabric { OnErr result (up_in self.new ≡ up_in self.old) }
+        ensures stays { IsErrOf result StepFault.Broken → self.new ≡ self.old }
     {
         if self.is_broken {
             return Err(StepFault::Broken);
@@ -153,6 +159,7 @@ impl Subnet {
 
     /// What comes of a command.
     fn events_of(&self, command: &Command) -> Result<Vec<Event>, AllocError>
+        requires whole { self.now.is_broken ≡ false }
         ensures comes { IfOk result (λ events. Comes self.now.fabric command.now events.items) }
         ensures events { IfOk result (λ events. NamesSender self.now.roster.configuration.ports command.now
             → map event_of events.items ≡ (step self.now.roster.configuration self.now.state command.now).0) }
@@ -165,6 +172,7 @@ impl Subnet {
 
     /// What comes of a command to send.
     fn sent(&self, command: &SendCommand) -> Result<Vec<Event>, AllocError>
+        requires whole { self.now.is_broken ≡ false }
         ensures comes { IfOk result (λ events. ComesOf self.now.fabric command.now events.items) }
         ensures events { IfOk result (λ events. NamesSender self.now.roster.configuration.ports (Send command.now)
             → map event_of events.items ≡ (step self.now.roster.configuration self.now.state (Send command.now)).0) }
@@ -175,6 +183,7 @@ impl Subnet {
 
     /// What comes of a command to ask.
     fn asked(&self, command: &AskCommand) -> Result<Vec<Event>, AllocError>
+        requires whole { self.now.is_broken ≡ false }
         ensures comes { IfOk result (λ events. ComesOfAsk self.now.fabric command.now events.items) }
         ensures events { IfOk result (λ events. NamesSender self.now.roster.configuration.ports (Ask command.now)
             → map event_of events.items ≡ (step self.now.roster.configuration self.now.state (Ask command.now)).0) }

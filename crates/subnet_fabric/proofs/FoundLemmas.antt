@@ -1,11 +1,15 @@
--- What a sweep and routes over the fabric of a topology come to.
+-- What a sweep and routes over a fabric come to.
 use Rattle.std.proofs.Common.{ℕ, ◌≡◌, List, subst, sym}
 use Rattle.fabric_wire.proofs.OfTopologyGoodLemmas.{good}
 use Rattle.fabric_wire.proofs.OfTopologyLinksLemmas.{links}
 use Rattle.fabric_wire.proofs.OfTopologyWalkLemmas.{joined}
 use Rattle.fabric_wire.specs.OfTopology.{fabric_of}
-use Rattle.subnet_fabric.specs.BringUp.{AreAssigned, AreRoutesOfPlan, IsFound, Stops, root_guids}
+use Rattle.smp_wire.specs.FabricState.{FabricState}
+use Rattle.subnet_fabric.specs.BringUp.{Stops, root_guids}
 use Rattle.subnet_fabric.specs.Fault.{of_routes, of_sweep}
+use Rattle.subnet_fabric.specs.SetUp.{AreAssigned, AreRoutesOver, IsFound, IsLaidOut, IsNotSetUp}
+use Rattle.subnet_fabric.specs.declared.fault.FabricFault.{FabricFault}
+use Rattle.subnet_fabric.specs.declared.fault.FabricFault.TheVariants as fabric
 use Rattle.subnet_fabric.proofs.LimitLemmas.{not_too_big}
 use Rattle.sweep.specs.Graph.{GraphState}
 use Rattle.sweep.specs.Sweeps.{Fails, IsSweepable}
@@ -22,30 +26,44 @@ use Rattle.updn_routes.specs.declared.fault.RouteFault.TheVariants as routes
 pub sweepable : (plan : TopologyState) → IsSound plan → IsSweepable (fabric_of plan)
 sweepable plan sound = record { good = good plan sound; links = links plan; joined = joined plan sound }
 
--- of a sweep's faults two may come
-pub stops : (plan : TopologyState) (fault : SweepFault) → IsSound plan → Fails (fabric_of plan) fault → Stops plan (of_sweep fault)
-stops plan NoMemory sound fails = tt
-stops plan NoReply sound fails = fails
-stops plan WrongReply sound fails = fails
-stops plan TooManyHops sound fails = fails
-stops plan TooManyNodes sound fails = not_too_big plan sound fails
+pub laid_out : (over : FabricState) (graph : GraphState) → IsFound over graph → IsLaidOut over graph
+laid_out over graph found = record { layout = found.of.layout; joined = found.joined; near = found.near }
 
--- routes that are made are those of the topology
-pub are_routes : (plan : TopologyState) (graph : GraphState) (lids roots : List ℕ) (routes : RoutesState) → IsFound plan graph → AreAssigned graph lids
-    → roots ≡ root_guids plan → routes.graph ≡ graph → routes.lids ≡ lids
+-- of a sweep's faults two may come
+pub unswept : (over : FabricState) (fault : SweepFault) → Fails over fault → (roots : List ℕ) → IsNotSetUp over roots (of_sweep fault)
+unswept over NoMemory fails roots = tt
+unswept over NoReply fails roots = fails
+unswept over WrongReply fails roots = fails
+unswept over TooManyHops fails roots = fails
+unswept over TooManyNodes fails roots = fails
+
+-- routes that are made are those of the fabric
+pub are_routes : (over : FabricState) (graph : GraphState) (lids roots : List ℕ) (routes : RoutesState) → IsFound over graph → AreAssigned graph lids
+    → routes.graph ≡ graph → routes.lids ≡ lids
     → AreRoutesOf (rows_of graph) (guids_of graph) roots (homes_of graph lids) routes.between
-    → AllReached (rows_of graph) (order_of routes.between) (homes_of graph lids) → AreRoutesOfPlan plan routes
-are_routes plan graph lids roots routes found assigned named is_of has made reached =
+    → AllReached (rows_of graph) (order_of routes.between) (homes_of graph lids) → AreRoutesOver over roots routes
+are_routes over graph lids roots routes found assigned is_of has made reached =
     record {
-      found = subst (IsFound plan) (sym is_of) found;
+      found = subst (IsFound over) (sym is_of) found;
       assigned = rw (is_of, has) assigned;
-      made = rw (is_of, has, sym named) made;
+      made = rw (is_of, has) made;
       reached = rw (is_of, has) reached;
     }
 
 -- and routes that are not made have no path
-pub no_path : (plan : TopologyState) (graph : GraphState) (lids roots : List ℕ) (fault : RouteFault) → IsFound plan graph → AreAssigned graph lids
-    → roots ≡ root_guids plan → IsFaultOf (rows_of graph) (guids_of graph) roots (homes_of graph lids) fault → Stops plan (of_routes fault)
-no_path plan graph lids roots routes.NoMemory found assigned named fault = tt
-no_path plan graph lids roots (routes.NoLegalPath switch port) found assigned named fault =
-    record { graph = graph; found = found; guids = lids; assigned = assigned; refused = rw (sym named) fault }
+pub no_path : (over : FabricState) (graph : GraphState) (lids roots : List ℕ) (fault : RouteFault) → IsFound over graph → AreAssigned graph lids
+    → IsFaultOf (rows_of graph) (guids_of graph) roots (homes_of graph lids) fault → IsNotSetUp over roots (of_routes fault)
+no_path over graph lids roots routes.NoMemory found assigned fault = tt
+no_path over graph lids roots (routes.NoLegalPath switch port) found assigned fault =
+    record { graph = graph; laid = laid_out over graph found; guids = lids; assigned = assigned; refused = fault }
+
+-- ---- the fabric of a topology is not too big
+pub stops : (plan : TopologyState) (fault : FabricFault) → IsSound plan → IsNotSetUp (fabric_of plan) (root_guids plan) fault → Stops plan fault
+stops plan fabric.NoMemory sound not = tt
+stops plan (fabric.Sweep NoMemory) sound not = not
+stops plan (fabric.Sweep NoReply) sound not = not
+stops plan (fabric.Sweep WrongReply) sound not = not
+stops plan (fabric.Sweep TooManyHops) sound not = not
+stops plan (fabric.Sweep TooManyNodes) sound not = not_too_big plan sound not
+stops plan (fabric.NoLegalPath switch port) sound not = not
+stops plan (fabric.Push fault) sound not = not

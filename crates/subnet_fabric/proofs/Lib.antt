@@ -4,3 +4,4 @@ pub mod LimitLemmas
 pub mod ListedLemmas
 pub mod FoundLemmas
 pub mod OneFateLemmas
+pub mod OneTableLemmas

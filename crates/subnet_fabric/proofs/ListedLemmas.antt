@@ -52,7 +52,8 @@ use Rattle.topo_file.specs.Sound.{IsSound}
 use Rattle.topo_file.specs.Topology.{TopologyState}
 use Rattle.updn_routes.specs.Subnet.{RoutesState}
 use Rattle.subnet_fabric.proofs.KeyLemmas.{stored}
-use Rattle.subnet_fabric.specs.BringUp.{AreRoutesOfPlan}
+use Rattle.subnet_fabric.specs.BringUp.{root_guids}
+use Rattle.subnet_fabric.specs.SetUp.{AreRoutesOver}
 use Rattle.subnet_fabric.specs.Laws.{AFabricIsBroughtUpAsListed, all_keys}
 
 -- ---- places in lists
@@ -104,7 +105,7 @@ adapter_end fabric at end is adapter = by (is_end_port_of fabric at) refl (slice
 
 -- ---- the fabric that is brought up
 module _ (plan : TopologyState) (partitions : List Partition) (sound : IsSound plan) (whole : ArePartitions partitions)
-    (routes : RoutesState) (are : AreRoutesOfPlan plan routes) (home : RoutesLeadHome routes)
+    (routes : RoutesState) (are : AreRoutesOver (fabric_of plan) (root_guids plan) routes) (home : RoutesLeadHome routes)
     (pushed : ArePushed routes (all_keys (ports_of partitions plan)) (fabric_of plan)) where
   abbrev ports : List SubnetPort
   ports = ports_of partitions plan
@@ -119,7 +120,7 @@ module _ (plan : TopologyState) (partitions : List Partition) (sound : IsSound p
   ends = end_ports_stand_in_order partitions plan sound
 
   of_graph : AreOfGraph routes.graph routes.lids ports
-  of_graph = sweeps_find_what_is_listed partitions plan routes.graph routes.lids sound are.found.of are.assigned.lids are.assigned.order
+  of_graph = sweeps_find_what_is_listed partitions plan routes.graph routes.lids sound are.found.of.layout are.assigned.lids are.assigned.order
 
   up : IsBroughtUp routes keys fabric
   up = brings_up routes keys (fabric_of plan) home are.found.of (good plan sound) pushed

@@ -1,10 +1,13 @@
 -- What holds of every fabric that is brought up, and of what becomes of a topology's: the statements of the laws of
 -- `src/laws.rt`.
-use Rattle.std.specs.Prelude.{ℕ, ◌≡◌, List, map}
+use Rattle.std.specs.Prelude.{ℕ, ◌≡◌, List, map, slice_get, Option, Some, None}
+use Rattle.std.specs.Option.{option_and_then}
 use Rattle.fabric_wire.specs.OfTopology.{fabric_of}
 use Rattle.partition_file.specs.Sound.{IsSound as ArePartitions}
 use Rattle.partition_file.specs.declared.partition.Partition.{Partition}
 use Rattle.smp_wire.specs.FabricState.{FabricState}
+use Rattle.smp_wire.specs.declared.node.Node.{Node}
+use Rattle.smp_wire.specs.declared.node.Node.TheVariants.{Switch, Adapter}
 use Rattle.subnet_model.specs.declared.subnet_port.SubnetPort.{SubnetPort}
 use Rattle.subnet_ports.specs.Ports.{ports_of}
 use Rattle.subnet_sends.specs.OfFabric.{IsFabricOf}
@@ -40,3 +43,17 @@ NoPathExcludesComingUp =
 abbrev pub OnePairHasNoPath : Type 0
 OnePairHasNoPath =
     (plan : TopologyState) (a b c d : ℕ) → IsSound plan → HasNoPath plan a b → HasNoPath plan c d → (a ≡ c) × (b ≡ d)
+
+-- the linear forwarding table of the switch at that place
+abbrev pub linear_of : Node → Option (List ℕ)
+linear_of (Switch held) = Some held.linear
+linear_of (Adapter ports) = None
+
+abbrev pub linear_at : FabricState → ℕ → Option (List ℕ)
+linear_at fabric node = option_and_then linear_of (slice_get fabric.nodes node)
+
+-- and of a fabric that comes up each switch has one, whatever the keys
+abbrev pub OneTableIsLeft : Type 0
+OneTableIsLeft =
+    (plan : TopologyState) (keys other_keys : List (List ℕ)) (one other : FabricState) (node : ℕ) → IsSound plan
+    → IsBroughtUpOf plan keys one → IsBroughtUpOf plan other_keys other → linear_at other node ≡ linear_at one node

@@ -1,3 +1,4 @@
 pub mod Fault
+pub mod SetUp
 pub mod BringUp
 pub mod Laws

@@ -1,20 +1,17 @@
 //! How the fabric of a topology is brought up.
 
 ghost use Rattle.std.specs.Prelude.{◌≡◌, IfOk};
-ghost use Rattle.fabric_wire.specs.OfTopology.{fabric_of};
-ghost use Rattle.subnet_fabric.specs.BringUp.{AreRoutesOfPlan, ComesUp, Gives, IsFound, root_guids};
+ghost use Rattle.subnet_fabric.specs.BringUp.{ComesUp, root_guids};
 
 use crate::fault::FabricFault;
+use crate::setting_up::set_up;
 use fabric_wire::Fabric;
-use lid_assign::assign;
 use pkey_rules::{KeyTable, PARTITIONS};
 use std::alloc::{AllocError, Global};
 use std::marker::Model;
 use subnet_ports::guid_at;
-use sweep::{Graph, sweep};
-use table_push::{known_to_lead_home, push_all};
 use topo_file::Topology;
-use updn_routes::{Routes, routes};
+use updn_routes::Routes;
 
 /// A fabric that is up, and the routes that brought it there.
 #[derive(Debug, Drop)]
@@ -44,35 +41,13 @@ pub fn bring_up_fabric(
 ) -> Result<BroughtUp, FabricFault>
     ensures { ComesUp topology.now keys.now result }
 {
-    let mut fabric = Fabric::new(alloc, topology)?;
-    let graph = graph_of(alloc, topology, &mut fabric)?;
-    let routes = routes_of(alloc, topology, graph)?;
-    known_to_lead_home(&routes);
-    match push_all(&mut fabric, &routes, keys) {
-        Ok(()) => Ok(BroughtUp { routes, fabric }),
-        Err(fault) => Err(FabricFault::Push(fault)),
-    }
-}
-
-/// What a sweep of the topology's fabric finds, which stays as it is.
-fn graph_of(alloc: Global, topology: &Topology, fabric: &mut Fabric) -> Result<Graph, FabricFault>
-    requires { fabric.old ≡ fabric_of topology.now }
-    ensures found { Gives topology.now (IsFound topology.now) result }
-    ensures left { fabric.new ≡ fabric.old }
-{
     topology.known_sound();
-    Ok(sweep(alloc, fabric)?)
-}
-
-/// The routes of that graph, by its LIDs and from the topology's roots.
-fn routes_of(alloc: Global, topology: &Topology, graph: Graph) -> Result<Routes, FabricFault>
-    requires { IsFound topology.now graph }
-    ensures { Gives topology.now (AreRoutesOfPlan topology.now) result }
-{
-    topology.known_sound();
-    let lids = assign(alloc, &graph)?;
     let roots = root_guids(alloc, topology)?;
-    Ok(routes(alloc, graph, lids, &roots)?)
+    let mut fabric = Fabric::new(alloc, topology)?;
+    match set_up(alloc, &mut fabric, &roots, keys) {
+        Ok(routes) => Ok(BroughtUp { routes, fabric }),
+        Err(fault) => Err(fault),
+    }
 }
 
 /// The GUIDs of the topology's roots, in the order in which they are named.

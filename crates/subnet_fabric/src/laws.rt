@@ -1,7 +1,7 @@
 //! The laws of fabrics that are brought up, and of what becomes of a topology's. Each function's contract is its law; it
 //! does nothing.
 
-ghost use Rattle.subnet_fabric.specs.Laws.{AFabricIsBroughtUpAsListed, NoPathExcludesComingUp, OnePairHasNoPath, TooFarExcludesTheRest};
+ghost use Rattle.subnet_fabric.specs.Laws.{AFabricIsBroughtUpAsListed, NoPathExcludesComingUp, OnePairHasNoPath, OneTableIsLeft, TooFarExcludesTheRest};
 
 /// The fabric of a topology, brought up with the keys of its end ports, is the fabric of their list: each listed port of a
 /// channel adapter is there, set up as listed, and no other; and packets go by their LIDs. So what its ports stamp and
@@ -25,4 +25,10 @@ pub fn no_path_excludes_coming_up()
 /// The pair of LIDs that is told to have no legal path is one, in whatever order a sweep may find the switches.
 pub fn one_pair_has_no_path()
     ensures { OnePairHasNoPath }
+{}
+
+/// The linear forwarding tables of a sound topology's fabric are one, in whatever order a sweep may find the switches, and
+/// whatever keys are given.
+pub fn one_table_is_left()
+    ensures { OneTableIsLeft }
 {}

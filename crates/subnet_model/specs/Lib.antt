@@ -1,4 +1,5 @@
 pub mod Configuration
+pub mod Configured
 pub mod EndPorts
 pub mod Near
 pub mod State

@@ -5,6 +5,7 @@ ghost use Rattle.subnet_model.specs.Delivery.{is_for_sa};
 
 use data_packet::{Payload, QueuePair};
 use fabric_parts::MANAGER_LID;
+use mad_layout::Mad;
 
 /// What a port is told to do.
 #[derive(Debug, Drop, PartialEq, Eq)]
@@ -47,5 +48,5 @@ pub struct AskCommand {
     /// The GUID of the port that asks.
     pub port_guid: u64,
     /// The MAD that it sends.
-    pub mad: Payload,
+    pub mad: Mad,
 }

@@ -13,6 +13,7 @@ mod command;
 mod configuration;
 mod evaluation;
 mod event;
+mod group_receiver;
 mod laws;
 mod lids;
 mod nearness;
@@ -24,6 +25,7 @@ pub use crate::command::{AskCommand, Command, SendCommand};
 pub use crate::configuration::Configuration;
 pub use crate::evaluation::{carry_out, port_with_guid, report, step};
 pub use crate::event::{Event, Outcome};
+pub use crate::group_receiver::GroupReceiver;
 pub use crate::laws::{
     every_keeper_isolates, every_run_is_isolated, groups_reach_others, silence_keeps_apart,
     slids_name_their_ports, steps_while_silent, the_port_of_a_lid_is_near,

@@ -25,7 +25,8 @@ use Rattle.subnet_model.specs.declared.subnet_port.SubnetPort.{SubnetPort}
 use Rattle.subnet_model.specs.EndPorts.{lid_of}
 use Rattle.subnet_model.specs.Source.{same_lid}
 use Rattle.subnet_ports.specs.declared.end_ports.Seat.{Seat}
-use Rattle.subnet_ports.specs.EndPorts.{AreEndPorts, IsEndPort, is_end_port, same_guid}
+use Rattle.subnet_ports.specs.EndPorts.{AreEndPorts, IsEndPort, is_end_port}
+use Rattle.subnet_model.specs.Configured.{same_guid}
 use Rattle.subnet_ports.specs.Ports.{end_ports, keyed, ports_of, seated, seats, type_of, with_port, with_seat}
 use Rattle.subnet_ports.proofs.PortLemmas.{insert_in_order}
 use Rattle.subnet_ports.proofs.SeatLemmas.{IsSeat, all_are_seats, any_so, each_weaker, one_guid, place_of, seat_there, seats_are_distinct}

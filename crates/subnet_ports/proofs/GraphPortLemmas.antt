@@ -23,13 +23,14 @@ use Rattle.sweep.proofs.EndPortLemmas.{graphs_have_the_end_ports, manager_end, s
 use Rattle.sweep.proofs.FoundLemmas.{PassesAt, any_at, any_by}
 use Rattle.sweep.specs.EndPorts.{FabricPort, end_of_adapter, end_of_switch, end_port_in, end_ports_in}
 use Rattle.sweep.specs.Graph.{GraphState}
-use Rattle.sweep.specs.OfFabric.{IsGraphOf}
+use Rattle.sweep.specs.OfFabric.{IsLayoutOf}
 use Rattle.topo_file.specs.Node.{is_switch_at, port_guid_at}
 use Rattle.topo_file.specs.Sound.{IsSound}
 use Rattle.topo_file.specs.Topology.{TopologyState}
 use Rattle.subnet_ports.proofs.EndPortLemmas.{any_map, end_ports_stand_in_order, sm_is_end_port}
 use Rattle.subnet_ports.proofs.FabricPortLemmas.{end_ports_are_the_fabrics}
-use Rattle.subnet_ports.specs.EndPorts.{AreEndPorts, IsEndPort, is_end_port, same_guid}
+use Rattle.subnet_ports.specs.EndPorts.{AreEndPorts, IsEndPort, is_end_port}
+use Rattle.subnet_model.specs.Configured.{same_guid}
 use Rattle.subnet_ports.specs.FabricPorts.{listed_port, planned_port}
 use Rattle.subnet_ports.specs.Laws.{SweepsFindWhatIsListed}
 use Rattle.subnet_ports.specs.Ports.{ports_of, type_of}
@@ -175,7 +176,7 @@ planned_by plan at end is = by (is_end_port plan at) refl (sym (end_ports_are_th
     by false there is = absurd cc
 
 same_guids : (partitions : List Partition) (plan : TopologyState) (graph : GraphState) (ports : List SubnetPort) (guid : ℕ) → IsSound plan
-    → IsGraphOf graph (fabric_of plan) → AreEndPorts partitions plan ports
+    → IsLayoutOf graph (fabric_of plan) → AreEndPorts partitions plan ports
     → has_guid guid (guids_of ports) ≡ list_any (λ (end : FabricPort). end.guid == guid) (end_ports_in graph)
 same_guids partitions plan graph ports guid sound is are =
     any_map (λ (port : SubnetPort). port.guid) (λ other. other == guid) ports

@@ -5,3 +5,4 @@ pub mod FabricPortLemmas
 pub mod GraphPortLemmas
 pub mod LidLemmas
 pub mod OwnEndLemmas
+pub mod ConfiguredLemmas

@@ -10,6 +10,7 @@ use Rattle.topo_file.specs.Node.{is_switch_at, name_at, port_guid_at, ports_at}
 use Rattle.topo_file.specs.Sound.{is_port}
 use Rattle.topo_file.specs.Topology.{TopologyState}
 use Rattle.subnet_model.specs.declared.subnet_port.SubnetPort.{SubnetPort}
+use Rattle.subnet_model.specs.Configured.{HaveLidsInOrder, same_guid}
 use Rattle.subnet_ports.specs.Ports.{guid_at, type_of}
 
 -- the end ports of a topology: port 0 of each switch, and each port of an adapter that has a cable
@@ -36,13 +37,6 @@ pub record IsEndPort (partitions : List Partition) (plan : TopologyState) (port 
   pub number : port.number ≡ at.port
   pub node_type : port.node_type ≡ type_of (is_switch_at plan.nodes at.node)
   pub keys : port.keys ≡ keys_in partitions (end_port_at plan at)
-
-abbrev pub same_guid : SubnetPort → SubnetPort → Bool
-same_guid a b = a.guid == b.guid
-
--- LIDs count from 1, in the order of the list
-abbrev pub HaveLidsInOrder : List SubnetPort → Type 0
-HaveLidsInOrder ports = map (λ port. port.lid) ports ≡ range_with_len 1 (length ports)
 
 -- LIDs count from 1; LID 1 is the subnet manager's, and the others follow in order of GUID. Each
 -- port is an end port, each end port is there, and no two have one GUID.

@@ -6,7 +6,7 @@ use Rattle.lid_assign.specs.Lids.{AreLids, IsInOrder, end_ports}
 use Rattle.partition_file.specs.declared.partition.Partition.{Partition}
 use Rattle.sweep.specs.EndPorts.{end_port_in}
 use Rattle.sweep.specs.Graph.{GraphState}
-use Rattle.sweep.specs.OfFabric.{IsGraphOf}
+use Rattle.sweep.specs.OfFabric.{IsLayoutOf}
 use Rattle.topo_file.specs.Sound.{IsSound}
 use Rattle.topo_file.specs.Topology.{TopologyState}
 use Rattle.subnet_ports.specs.EndPorts.{AreEndPorts}
@@ -26,5 +26,5 @@ EndPortsAreTheFabrics = (plan : TopologyState) (at : PortRef) → end_port_in (f
 abbrev pub SweepsFindWhatIsListed : Type 0
 SweepsFindWhatIsListed =
     (partitions : List Partition) (plan : TopologyState) (graph : GraphState) (guids : List ℕ) → IsSound plan
-    → IsGraphOf graph (fabric_of plan)
+    → IsLayoutOf graph (fabric_of plan)
     → AreLids (end_ports graph) guids → IsInOrder graph.manager guids → AreOfGraph graph guids (ports_of partitions plan)

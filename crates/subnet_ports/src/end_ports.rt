@@ -6,6 +6,7 @@ ghost use Rattle.topo_file.specs.Node.{HasGuids, port_guid, ports_at};
 ghost use Rattle.fabric_parts.specs.declared.limits.TheConstants.{SWITCHES, ADAPTER_PORTS};
 ghost use Rattle.subnet_ports.specs.EndPorts.{AreEndPorts};
 ghost use Rattle.subnet_ports.specs.Ports.{switch_seat, adapter_seat, seat_if_cabled, adapter_seats, seats_of_type, seats, end_ports, type_of, guid_at, seated, with_port, with_seat, in_order, configuration_of};
+ghost use Rattle.subnet_model.specs.Configured.{IsConfigured};
 ghost use Rattle.subnet_model.specs.EndPorts.{lid_of};
 
 use fabric_parts::{NodeType, PortRef};
@@ -33,6 +34,7 @@ pub fn configuration_of(
     ensures value { IfOk result (λ configuration. configuration ≡ configuration_of partitions.now topology.now) }
     ensures end_ports { IfOk result (λ configuration.
         AreEndPorts partitions.now topology.now configuration.ports) }
+    ensures configured { IfOk result IsConfigured }
 {
     topology.known_sound();
     let seats = seats(alloc, topology)?;

@@ -12,7 +12,6 @@ use Rattle.result_words.proofs.ListLemmas.{all_there}
 use Rattle.fabric_parts.specs.Cable.{far_end, is_cabled, port}
 use Rattle.fabric_parts.specs.declared.cable.Cable.{Cable}
 use Rattle.fabric_parts.specs.declared.cable.PortRef.{PortRef}
-use Rattle.fabric_parts.specs.declared.node_type.NodeType.TheVariants as node_type
 use Rattle.port_model.specs.AdapterState.{AdapterState}
 use Rattle.smp_wire.proofs.CableLemmas.{far_ends_meet, far_is_port}
 use Rattle.smp_wire.specs.FabricState.{FabricState, adapter_port, is_port, is_switch, is_switch_at}
@@ -22,7 +21,7 @@ use Rattle.smp_wire.specs.declared.node.Node.TheVariants.{Switch, Adapter}
 use Rattle.sweep.specs.EndPorts.{FabricPort, end_of_adapter, end_of_switch, end_port_in, end_ports_in, held_in, is_end_port_of}
 use Rattle.sweep.specs.Graph.{GraphState}
 use Rattle.sweep.specs.Laws.{GraphsHaveTheEndPorts}
-use Rattle.sweep.specs.OfFabric.{Found, IsGraphOf, is_among, node_at, nodes_of, port_seen, port_to, ports_at, all_ports, ports_up_to, switch_of}
+use Rattle.sweep.specs.OfFabric.{Found, IsLayoutOf, is_among, node_at, nodes_of, port_seen, port_to, ports_at, all_ports, ports_up_to, switch_of}
 use Rattle.sweep.specs.Seen.{name_at, seen_at, seen_in}
 use Rattle.sweep.specs.declared.graph.GraphPort.{GraphPort}
 use Rattle.sweep.specs.declared.graph.GraphSwitch.{GraphSwitch}
@@ -323,7 +322,7 @@ graphs_have_the_end_ports fabric graph end good is = (from, to)
     to at = subst (λ (all : List FabricPort). Contains all end) (sym same) (has_end fabric is.found at.0 end good is.all at.1)
 
 -- the subnet manager's is among them
-pub manager_end : (fabric : FabricState) (graph : GraphState) (end : FabricPort) → IsGood fabric → IsGraphOf graph fabric
+pub manager_end : (fabric : FabricState) (graph : GraphState) (end : FabricPort) → IsGood fabric → IsLayoutOf graph fabric
     → end_port_in fabric fabric.manager ≡ Some end → end.guid ≡ graph.manager
 manager_end fabric graph end good is held =
     let is_end : is_end_port_of fabric fabric.manager ≡ true =

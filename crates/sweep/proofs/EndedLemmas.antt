@@ -150,12 +150,14 @@ pub graph_is : (fabric : FabricState) (found : List Found) (survey : SurveyState
 graph_is fabric found survey manager sweepable is all =
     let some = found ++ all.more in
     record {
-      found = some;
-      once = all.progress.discovery.once;
-      all = each_found fabric some survey sweepable.joined all.progress;
+      layout = record {
+        found = some;
+        once = all.progress.discovery.once;
+        all = each_found fabric some survey sweepable.joined all.progress;
+        manager = is;
+        switches = all.progress.noted.switches;
+        rows = all.progress.noted.rows ∙ ap (map (λ one. row_of fabric (nodes_of some) one.node)) (take_all (length some) some (omega arith));
+        ports = all.progress.noted.ports ∙ append-nil (ports_before fabric some (length some));
+      };
       lead = all.progress.discovery.lead;
-      manager = is;
-      switches = all.progress.noted.switches;
-      rows = all.progress.noted.rows ∙ ap (map (λ one. row_of fabric (nodes_of some) one.node)) (take_all (length some) some (omega arith));
-      ports = all.progress.noted.ports ∙ append-nil (ports_before fabric some (length some));
     }

@@ -21,3 +21,4 @@ pub mod NearLemmas
 pub mod GuidLemmas
 pub mod AdapterLemmas
 pub mod EndPortLemmas
+pub mod JoinedLemmas

@@ -65,7 +65,7 @@ is_right_row switches rows place =
 abbrev pub is_near : List (List Link) → ℕ → Bool
 is_near rows place = list_any (λ link. nat_lt link.to.node place) (get_or rows place [])
 
--- so does one of each but the first: then links join all switches
+-- so does one of each but the first
 abbrev pub is_joined : List (List Link) → Bool
 is_joined rows = list_all (λ place. (place == 0) || is_near rows place) (range_with_len 0 (length rows))
 

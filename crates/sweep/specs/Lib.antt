@@ -1,6 +1,7 @@
 pub mod Fault
 pub mod Seen
 pub mod Graph
+pub mod Joined
 pub mod Adapters
 pub mod OfFabric
 pub mod EndPorts

@@ -1,5 +1,6 @@
--- What the graph of a fabric is. One list says where its switches stand among the fabric's nodes, and by which paths
--- they were found; all else of the graph is a function of that list.
+-- What the graph of a fabric is. One list says where its switches stand among the fabric's nodes, and with which paths;
+-- all else of the graph is a function of that list. That it lays out the fabric is one thing, and that its paths lead to
+-- its switches another: once a cable is gone some may not.
 use Rattle.std.specs.Prelude.{ℕ, ◌≡◌, ◌≤◌, ◌==◌, Bool, if◌then◌else◌, List, [], ◌∷◌, map, flat_map, length, slice_get, Some, option_map, unwrap_or}
 use Rattle.std.specs.List.{All, IsDistinct, list_any, position_or_len, range_with_len}
 use Rattle.std.specs.Option.{option_map_or}
@@ -16,7 +17,7 @@ use Rattle.sweep.specs.declared.graph.Link.{Link}
 use Rattle.sweep.specs.declared.path.TheConstants.{PATH_HOPS}
 use Rattle.sweep.specs.declared.seen.Seen.{Seen}
 
--- a switch that was found: its place among the fabric's nodes, and the path that led there
+-- a switch of a graph: its place among the fabric's nodes, and the path that the graph has for it
 pub record Found : Type 0 where
   pub node : ℕ
   pub path : List ℕ
@@ -112,13 +113,18 @@ pub record Leads (fabric : FabricState) (found : Found) : Type 0 where
   pub short : length found.path ≤ PATH_HOPS
 
 -- ---- the graph
-pub record IsGraphOf (graph : GraphState) (fabric : FabricState) : Type 0 where
+-- it has the switches, links and ports of the fabric, wherever its paths may lead
+pub record IsLayoutOf (graph : GraphState) (fabric : FabricState) : Type 0 where
   pub found : List Found
-  -- each switch, and each once, with a path that leads there
+  -- each switch, and each once
   pub once : IsDistinct (λ a b. a == b) (nodes_of found)
   pub all : (node : ℕ) → is_among (nodes_of found) node ≡ is_switch_at fabric.nodes node
-  pub lead : All (Leads fabric) found
   pub manager : option_map (λ seen. seen.port_guid) (seen_at fabric fabric.manager) ≡ Some graph.manager
   pub switches : graph.switches ≡ map (switch_of fabric) found
   pub rows : graph.rows ≡ map (λ one. row_of fabric (nodes_of found) one.node) found
   pub ports : graph.ports ≡ all_ports fabric found
+
+-- and each path leads to its switch
+pub record IsGraphOf (graph : GraphState) (fabric : FabricState) : Type 0 where
+  pub layout : IsLayoutOf graph fabric
+  pub lead : All (Leads fabric) layout.found

@@ -6,7 +6,7 @@ ghost use Rattle.fabric_parts.specs.Cable.{port};
 ghost use Rattle.fabric_parts.specs.declared.cable.PortRef.{PortRef};
 ghost use Rattle.smp_wire.specs.FabricState.{FabricState};
 ghost use Rattle.smp_wire.specs.Good.{IsGood};
-ghost use Rattle.sweep.specs.Graph.{is_joined};
+ghost use Rattle.sweep.specs.Joined.{AllJoined};
 ghost use Rattle.sweep.specs.Sweeps.{Adds, Finds, IsSweepable, Noted};
 ghost use Rattle.sweep.specs.declared.graph.Link.{Link};
 ghost use Rattle.fabric_parts.specs.declared.limits.TheConstants.{SWITCHES};
@@ -80,7 +80,7 @@ pub(crate) fn start<W: SmpWire>(
 /// It returns over every wire, and what it gives is a graph whose switches are joined. `WrongReply` where replies
 /// are none of such a graph.
 pub fn sweep<W: SmpWire>(alloc: Global, wire: &mut W) -> Result<Graph, SweepFault>
-    ensures joined { IfOk result (λ graph. is_joined graph.rows ≡ true) }
+    ensures joined { IfOk result (λ graph. AllJoined graph.rows) }
     ensures found { ForSome (W.fabric wire.old) (λ fabric. IsSweepable fabric → Finds fabric result) }
     ensures left { ForSome (W.fabric wire.old) (λ fabric. IsGood fabric → W.fabric wire.new ≡ Some fabric) }
 {

@@ -1,7 +1,8 @@
 //! What a graph holds.
 
-ghost use Rattle.std.specs.Prelude.{◌≡◌, [], ◌∷◌, ◌++◌, length, IfOk, OnOk};
+ghost use Rattle.std.specs.Prelude.{◌≡◌, true, [], ◌∷◌, ◌++◌, length, IfOk, OnOk};
 ghost use Rattle.sweep.specs.Graph.{IsGraph, end_guids, is_joined};
+ghost use Rattle.sweep.specs.Joined.{AllJoined};
 
 use crate::agreement::{end_guids, has_a_nearer_switch};
 use crate::path::Path;
@@ -148,9 +149,10 @@ impl Graph {
         end_guids(alloc, &self.switches, &self.ports)
     }
 
-    /// Whether links join all switches: whether each but the first has a link to one that was found earlier.
-    pub fn is_joined(&self) -> bool
-        ensures { result ≡ is_joined self.now.rows }
+    /// Whether each switch but the first has a link to one that was found earlier. Then links join all switches.
+    pub(crate) fn is_joined(&self) -> bool
+        ensures order { result ≡ is_joined self.now.rows }
+        ensures joined { result ≡ true → AllJoined self.now.rows }
     {
         has_a_nearer_switch(&self.rows)
     }

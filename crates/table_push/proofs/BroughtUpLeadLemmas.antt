@@ -65,7 +65,7 @@ module _ (routes : RoutesState) (keys : List (List ℕ)) (fabric : FabricState) 
   homes = homes_of routes.graph routes.lids
 
   -- ---- along next hops
-  entry_of : (place lid number : ℕ) (found : Found) (here : PortRef) → slice_get up.graph.found place ≡ Some found → found.node ≡ here.node
+  entry_of : (place lid number : ℕ) (found : Found) (here : PortRef) → slice_get up.graph.layout.found place ≡ Some found → found.node ≡ here.node
       → lid ≤ length routes.lids → next_hop routes.between place lid ≡ Some number → entry_at fabric.nodes here.node lid ≡ Some number
   entry_of place lid number found here stands node within hop =
       ap (λ (n : ℕ). entry_at fabric.nodes n lid) (sym node) ∙ entry_there routes keys fabric home up place lid found stands within
@@ -73,15 +73,15 @@ module _ (routes : RoutesState) (keys : List (List ℕ)) (fabric : FabricState) 
 
   record IsFoundAt (place node : ℕ) : Type 0 where
     found : Found
-    there : slice_get up.graph.found place ≡ Some found
+    there : slice_get up.graph.layout.found place ≡ Some found
     node_is : found.node ≡ node
 
-  found_at_place : (place node : ℕ) → is_switch_at fabric.nodes node ≡ true → found_place (nodes_of up.graph.found) node ≡ place → IsFoundAt place node
+  found_at_place : (place node : ℕ) → is_switch_at fabric.nodes node ≡ true → found_place (nodes_of up.graph.layout.found) node ≡ place → IsFoundAt place node
   found_at_place place node switch is =
-      let at = among_place (nodes_of up.graph.found) node (up.graph.all node ∙ switch) in
-      let same : at.0 ≡ place = sym (place_is (nodes_of up.graph.found) at.0 node up.graph.once at.1) ∙ is in
-      let found = found_there up.graph.found at.0 node at.1 in
-      record { found = found.0; there = ap (slice_get up.graph.found) (sym same) ∙ found.1; node_is = found.2 }
+      let at = among_place (nodes_of up.graph.layout.found) node (up.graph.layout.all node ∙ switch) in
+      let same : at.0 ≡ place = sym (place_is (nodes_of up.graph.layout.found) at.0 node up.graph.layout.once at.1) ∙ is in
+      let found = found_there up.graph.layout.found at.0 node at.1 in
+      record { found = found.0; there = ap (slice_get up.graph.layout.found) (sym same) ∙ found.1; node_is = found.2 }
 
   record Steps (lid place t : ℕ) : Type 0 where
     out : ℕ
@@ -96,18 +96,18 @@ module _ (routes : RoutesState) (keys : List (List ℕ)) (fabric : FabricState) 
 
   record IsEnd (lid d number : ℕ) (at : PortRef) : Type 0 where
     last : Found
-    there : slice_get up.graph.found d ≡ Some last
+    there : slice_get up.graph.layout.found d ≡ Some last
     cable : far_end fabric.cables (port last.node number) ≡ Some at
     hop : next_hop routes.between d lid ≡ Some number
     within : lid ≤ length routes.lids
 
   follow : (lid d number : ℕ) (at : PortRef) (steps : List ℕ) (place : ℕ) (found : Found) (here : PortRef) → IsEnd lid d number at
-      → slice_get up.graph.found place ≡ Some found → found.node ≡ here.node
+      → slice_get up.graph.layout.found place ≡ Some found → found.node ≡ here.node
       → is_route routes.between.rows (λ t. next_hop routes.between t lid) place steps d ≡ true
       → (way : List PortRef) × Follows fabric.nodes fabric.cables lid here way at
   follow lid d number at [] place found here end stands node route =
       let same = eqb-true place d route in
-      let one : found ≡ end.last = same_Some found end.last (sym stands ∙ ap (slice_get up.graph.found) same ∙ end.there) in
+      let one : found ≡ end.last = same_Some found end.last (sym stands ∙ ap (slice_get up.graph.layout.found) same ∙ end.there) in
       let leads_on : Leads fabric.nodes fabric.cables lid here at =
       record {
         out = number;
@@ -143,11 +143,11 @@ module _ (routes : RoutesState) (keys : List (List ℕ)) (fabric : FabricState) 
       ap (home_in routes.graph) (sym seat.guid_is) ∙ port_home routes.graph seat.index seat.hung home.graph seat.has ∙ seat.at_is in
       record { named = named; hangs = home_at routes.graph routes.lids one.info.lid one.port_guid named ∙ ap (λ (p : PortRef). Some p) there }
 
-  switch_lid : (place : ℕ) (found : Found) → slice_get up.graph.found place ≡ Some found → (lid : ℕ) × (home_of homes lid ≡ Some (port place 0))
+  switch_lid : (place : ℕ) (found : Found) → slice_get up.graph.layout.found place ≡ Some found → (lid : ℕ) × (home_of homes lid ≡ Some (port place 0))
   switch_lid place found stands =
       let one = switch_of fabric found in
       let there : slice_get routes.graph.switches place ≡ Some one =
-      ap (λ (switches : List GraphSwitch). slice_get switches place) up.graph.switches ∙ slice_get-map (switch_of fabric) up.graph.found place
+      ap (λ (switches : List GraphSwitch). slice_get switches place) up.graph.layout.switches ∙ slice_get-map (switch_of fabric) up.graph.layout.found place
       ∙ ap (option_map (switch_of fabric)) stands in
       let end = switch_first routes.graph.switches (map (adapter_end routes.graph.manager) routes.graph.ports) place one there in
       let lid = lid_of (end_ports routes.graph) (switch_end one) in

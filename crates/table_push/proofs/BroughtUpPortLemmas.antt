@@ -127,29 +127,29 @@ module _ (routes : RoutesState) (keys : List (List ℕ)) (fabric : FabricState) 
   record IsFoundAt (node : ℕ) : Type 0 where
     place : ℕ
     found : Found
-    there : slice_get of.found place ≡ Some found
+    there : slice_get of.layout.found place ≡ Some found
     node_is : found.node ≡ node
-    at_place : node_at of.found place ≡ node
+    at_place : node_at of.layout.found place ≡ node
 
   found_at : (node : ℕ) → is_switch_at fabric.nodes node ≡ true → IsFoundAt node
   found_at node switch =
-      let at = among_place (nodes_of of.found) node (of.all node ∙ switch) in
-      let found = found_there of.found at.0 node at.1 in
+      let at = among_place (nodes_of of.layout.found) node (of.layout.all node ∙ switch) in
+      let found = found_there of.layout.found at.0 node at.1 in
       record {
         place = at.0;
         found = found.0;
         there = found.1;
         node_is = found.2;
-        at_place = node_of of.found at.0 found.0 found.1 ∙ found.2;
+        at_place = node_of of.layout.found at.0 found.0 found.1 ∙ found.2;
       }
 
   -- the graph has it where its node stands
-  place_at : (place node guid : ℕ) (found : Found) → slice_get of.found place ≡ Some found → found.node ≡ node → guid_at fabric node ≡ guid
+  place_at : (place node guid : ℕ) (found : Found) → slice_get of.layout.found place ≡ Some found → found.node ≡ node → guid_at fabric node ≡ guid
       → place_of routes.graph.switches guid ≡ Some place
   place_at place node guid found there node_is guid_is =
       let one = switch_of fabric found in
       let stands_there : slice_get routes.graph.switches place ≡ Some one =
-      ap (λ (switches : List GraphSwitch). slice_get switches place) of.switches ∙ slice_get-map (switch_of fabric) of.found place
+      ap (λ (switches : List GraphSwitch). slice_get switches place) of.layout.switches ∙ slice_get-map (switch_of fabric) of.layout.found place
       ∙ ap (option_map (switch_of fabric)) there in
       ap (place_of routes.graph.switches) (sym (ap (guid_at fabric) node_is ∙ guid_is)) ∙ own_switch routes.graph place one home.graph stands_there
 
@@ -187,32 +187,32 @@ module _ (routes : RoutesState) (keys : List (List ℕ)) (fabric : FabricState) 
           let found = found_is (λ other. is_same_port other.at (port at_place.place here.port)) routes.graph.ports one some in
           let hangs = is_hung fabric routes.graph found.0 one of found.1 in
           let same : one.at ≡ port at_place.place here.port = same_port one.at (port at_place.place here.port) found.2 in
-          let near : far_end fabric.cables here ≡ far_end fabric.cables (port (node_at of.found one.at.node) one.at.port) =
+          let near : far_end fabric.cables here ≡ far_end fabric.cables (port (node_at of.layout.found one.at.node) one.at.port) =
           ap (λ (n : ℕ). far_end fabric.cables (port n here.port)) (sym at_place.at_place)
-          ∙ ap (λ (p : PortRef). far_end fabric.cables (port (node_at of.found p.node) p.port)) (sym same) in
+          ∙ ap (λ (p : PortRef). far_end fabric.cables (port (node_at of.layout.found p.node) p.port)) (sym same) in
           let there : hangs.there ≡ at = same_Some _ at (sym hangs.cable ∙ sym near ∙ cable) in
           absurd (false≢true (sym hangs.adapter ∙ ap (λ (p : PortRef). is_switch_at fabric.nodes p.node) there ∙ switch))
 
   is_linked : (here at : PortRef) (at_place : IsFoundAt here.node) → far_end fabric.cables here ≡ Some at → is_switch_at fabric.nodes at.node ≡ true
       → has_link routes.graph at_place.place here.port ≡ true
   is_linked here at at_place cable switch =
-      let row = row_of fabric (nodes_of of.found) at_place.found.node in
-      let link : Link = record { port = here.port; to = placed (nodes_of of.found) at } in
+      let row = row_of fabric (nodes_of of.layout.found) at_place.found.node in
+      let link : Link = record { port = here.port; to = placed (nodes_of of.layout.found) at } in
       let range = in_range fabric here.node here.port (cabled_is_port fabric.nodes fabric.cables here at good.cables cable) in
       let node = at_place.node_is in
-      let made : option_map_or (link_to fabric (nodes_of of.found) here.port) (far_end fabric.cables (port at_place.found.node here.port)) [] ≡ link ∷ [] =
-      ap (λ (n : ℕ). option_map_or (link_to fabric (nodes_of of.found) here.port) (far_end fabric.cables (port n here.port)) []) node
-      ∙ ap (λ (o : Option PortRef). option_map_or (link_to fabric (nodes_of of.found) here.port) o []) cable
+      let made : option_map_or (link_to fabric (nodes_of of.layout.found) here.port) (far_end fabric.cables (port at_place.found.node here.port)) [] ≡ link ∷ [] =
+      ap (λ (n : ℕ). option_map_or (link_to fabric (nodes_of of.layout.found) here.port) (far_end fabric.cables (port n here.port)) []) node
+      ∙ ap (λ (o : Option PortRef). option_map_or (link_to fabric (nodes_of of.layout.found) here.port) o []) cable
       ∙ ap (λ (b : Bool). if b then link ∷ [] else []) switch in
       let has : Contains row link =
-      in_all (λ number. option_map_or (link_to fabric (nodes_of of.found) number) (far_end fabric.cables (port at_place.found.node number)) [])
+      in_all (λ number. option_map_or (link_to fabric (nodes_of of.layout.found) number) (far_end fabric.cables (port at_place.found.node number)) [])
       1 (ports_at fabric at_place.found.node) here.port link range.0 (rw node (omega (arith, range.1)))
       (subst (λ (links : List Link). Contains links link) (sym made) (there_is (link ∷ []) 0 link refl)) in
       let at_row = stands row link has in
       let rows : slice_get routes.graph.rows at_place.place ≡ Some row =
-      ap (λ (rows : List (List Link)). slice_get rows at_place.place) of.rows
-      ∙ slice_get-map (λ (found : Found). row_of fabric (nodes_of of.found) found.node) of.found at_place.place
-      ∙ ap (option_map (λ (found : Found). row_of fabric (nodes_of of.found) found.node)) at_place.there in
+      ap (λ (rows : List (List Link)). slice_get rows at_place.place) of.layout.rows
+      ∙ slice_get-map (λ (found : Found). row_of fabric (nodes_of of.layout.found) found.node) of.layout.found at_place.place
+      ∙ ap (option_map (λ (found : Found). row_of fabric (nodes_of of.layout.found) found.node)) at_place.there in
       ap (list_any (λ (other : Link). other.port == here.port)) (get_or_from_slice_get routes.graph.rows at_place.place row [] rows)
       ∙ any_by (λ (other : Link). other.port == here.port) row at_row.0 link at_row.1 (eq-eqb here.port here.port refl)
 

@@ -57,14 +57,14 @@ module _ (routes : RoutesState) (keys : List (List ℕ)) (fabric : FabricState) 
     table : held.linear ≡ linear_table routes place
     top : held.info.linear_fdb_top ≡ length routes.lids
 
-  holds : (place : ℕ) (found : Found) → slice_get up.graph.found place ≡ Some found → Holds place found
+  holds : (place : ℕ) (found : Found) → slice_get up.graph.layout.found place ≡ Some found → Holds place found
   holds place found stands =
       let switch = switch_by fabric.nodes found.node (slice_get fabric.nodes found.node) refl
-      (sym (up.graph.all found.node) ∙ among_at (nodes_of up.graph.found) place found.node (node_there up.graph.found place found stands)) in
+      (sym (up.graph.layout.all found.node) ∙ among_at (nodes_of up.graph.layout.found) place found.node (node_there up.graph.layout.found place found stands)) in
       let has = up.tables found.node switch.held switch.there in
       let one = switch_of fabric found in
       let there : slice_get routes.graph.switches place ≡ Some one =
-      ap (λ (switches : List GraphSwitch). slice_get switches place) up.graph.switches ∙ slice_get-map (switch_of fabric) up.graph.found place
+      ap (λ (switches : List GraphSwitch). slice_get switches place) up.graph.layout.switches ∙ slice_get-map (switch_of fabric) up.graph.layout.found place
       ∙ ap (option_map (switch_of fabric)) stands in
       let guid : one.guid ≡ switch.held.node_guid = ap (λ (o : Option Node). option_map_or node_guid o 0) switch.there in
       let same : place ≡ has.0.place = by has.0.place (slice_get routes.graph.switches has.0.place) refl has.0.guid_is (own_switch routes.graph place one home.graph there) guid in
@@ -83,7 +83,7 @@ module _ (routes : RoutesState) (keys : List (List ℕ)) (fabric : FabricState) 
           same_Some place other
           (sym own ∙ ap (place_of routes.graph.switches) (same ∙ sym guids) ∙ own_switch routes.graph other switch home.graph at)
 
-  pub entry_there : (place lid : ℕ) (found : Found) → slice_get up.graph.found place ≡ Some found → lid ≤ length routes.lids
+  pub entry_there : (place lid : ℕ) (found : Found) → slice_get up.graph.layout.found place ≡ Some found → lid ≤ length routes.lids
       → entry_at fabric.nodes found.node lid ≡ Some (linear_entry routes place lid)
   entry_there place lid found stands within =
       let has = holds place found stands in
@@ -97,7 +97,7 @@ module _ (routes : RoutesState) (keys : List (List ℕ)) (fabric : FabricState) 
     pub within : lid ≤ length routes.lids
     pub is : out ≡ linear_entry routes place lid
 
-  pub entry_is : (place lid out : ℕ) (found : Found) → slice_get up.graph.found place ≡ Some found → entry_at fabric.nodes found.node lid ≡ Some out
+  pub entry_is : (place lid out : ℕ) (found : Found) → slice_get up.graph.layout.found place ≡ Some found → entry_at fabric.nodes found.node lid ≡ Some out
       → IsEntry place lid out
   entry_is place lid out found stands is =
       let has = holds place found stands in

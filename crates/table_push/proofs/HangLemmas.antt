@@ -31,11 +31,11 @@ use Rattle.table_push.proofs.LeadLemmas.{found_at_place}
 pub switch_leads : (fabric : FabricState) (graph : GraphState) (place number : ℕ) (switch : GraphSwitch) → IsGraphOf graph fabric
     → slice_get graph.switches place ≡ Some switch → number ≤ switch.num_ports → LeadsToPort fabric switch.path number switch.guid number
 switch_leads fabric graph place number switch of there within =
-    let at = found_at_place fabric of.found place switch (ap (λ (switches : List GraphSwitch). slice_get switches place) (sym of.switches) ∙ there) in
-    let leads = all_have (Leads fabric) of.found place at.0 of.lead at.1 in
-    let among = among_at (nodes_of of.found) place at.0.node (node_there of.found place at.0 at.1) in
+    let at = found_at_place fabric of.layout.found place switch (ap (λ (switches : List GraphSwitch). slice_get switches place) (sym of.layout.switches) ∙ there) in
+    let leads = all_have (Leads fabric) of.layout.found place at.0 of.lead at.1 in
+    let among = among_at (nodes_of of.layout.found) place at.0.node (node_there of.layout.found place at.0 at.1) in
     let is : is_switch_at fabric.nodes leads.at.node ≡ true =
-    ap (λ (node : ℕ). is_switch_at fabric.nodes node) leads.node ∙ sym (of.all at.0.node) ∙ among in
+    ap (λ (node : ℕ). is_switch_at fabric.nodes node) leads.node ∙ sym (of.layout.all at.0.node) ∙ among in
     let count : switch.num_ports ≡ ports_at fabric leads.at.node = ap (λ (one : GraphSwitch). one.num_ports) at.2 ∙ ap (ports_at fabric) (sym leads.node) in
     let fits : number ≤ ports_at fabric leads.at.node = omega (arith, within, count) in
     let asked : IsAskedFor true (ports_at fabric leads.at.node) leads.at.port number number = (refl, fits) in
@@ -104,9 +104,9 @@ hangs fabric found one has =
     }
 
 hung : (fabric : FabricState) (graph : GraphState) (k : ℕ) (one : GraphPort) → (of : IsGraphOf graph fabric) → slice_get graph.ports k ≡ Some one
-    → Hangs fabric of.found one
+    → Hangs fabric of.layout.found one
 hung fabric graph k one of there =
-    hangs fabric of.found one (there_is (all_ports fabric of.found) k one (ap (λ (ports : List GraphPort). slice_get ports k) (sym of.ports) ∙ there))
+    hangs fabric of.layout.found one (there_is (all_ports fabric of.layout.found) k one (ap (λ (ports : List GraphPort). slice_get ports k) (sym of.layout.ports) ∙ there))
 
 -- what is at the other end of the cable that it hangs on
 pub record IsHung (fabric : FabricState) (found : List Found) (one : GraphPort) : Type 0 where
@@ -115,13 +115,13 @@ pub record IsHung (fabric : FabricState) (found : List Found) (one : GraphPort) 
   pub adapter : is_switch_at fabric.nodes there.node ≡ false
 
 pub is_hung : (fabric : FabricState) (graph : GraphState) (k : ℕ) (one : GraphPort) → (of : IsGraphOf graph fabric) → slice_get graph.ports k ≡ Some one
-    → IsHung fabric of.found one
+    → IsHung fabric of.layout.found one
 is_hung fabric graph k one of there =
     let a = hung fabric graph k one of there in
     let at : one.at ≡ port a.place a.number = ap (λ (p : GraphPort). p.at) a.behind.is in
     record {
       there = a.behind.there;
-      cable = ap (λ (p : PortRef). far_end fabric.cables (port (node_at of.found p.node) p.port)) at ∙ a.behind.cable;
+      cable = ap (λ (p : PortRef). far_end fabric.cables (port (node_at of.layout.found p.node) p.port)) at ∙ a.behind.cable;
       adapter = a.behind.adapter;
     }
 
@@ -133,7 +133,7 @@ one_hangs fabric graph j k one other of first second same =
     let b = hung fabric graph k other of second in
     let at : port a.place a.number ≡ port b.place b.number =
     ap (λ (p : GraphPort). p.at) (sym a.behind.is) ∙ same ∙ ap (λ (p : GraphPort). p.at) b.behind.is in
-    let near = ap (λ (p : PortRef). far_end fabric.cables (port (node_at of.found p.node) p.port)) at in
+    let near = ap (λ (p : PortRef). far_end fabric.cables (port (node_at of.layout.found p.node) p.port)) at in
     let there : a.behind.there ≡ b.behind.there = same_Some _ _ (sym a.behind.cable ∙ near ∙ b.behind.cable) in
     let seen : a.behind.seen ≡ b.behind.seen = same_Some _ _ (sym a.behind.seen_is ∙ ap (seen_at fabric) there ∙ b.behind.seen_is) in
     let shown : port_seen (port a.place a.number) (unwrap_or (name_at fabric a.behind.there) []) a.behind.seen
@@ -149,13 +149,13 @@ adapter_leads fabric graph k one switch good of there home =
     let a = hung fabric graph k one of there in
     let end = a.behind.there in
     let at : one.at ≡ port a.place a.number = ap (λ (p : GraphPort). p.at) a.behind.is in
-    let f = found_at_place fabric of.found a.place switch
-    (ap (λ (switches : List GraphSwitch). slice_get switches a.place) (sym of.switches) ∙ ap (λ (p : PortRef). slice_get graph.switches p.node) (sym at) ∙ home) in
-    let leads = all_have (Leads fabric) of.found a.place f.0 of.lead f.1 in
-    let among = among_at (nodes_of of.found) a.place f.0.node (node_there of.found a.place f.0 f.1) in
+    let f = found_at_place fabric of.layout.found a.place switch
+    (ap (λ (switches : List GraphSwitch). slice_get switches a.place) (sym of.layout.switches) ∙ ap (λ (p : PortRef). slice_get graph.switches p.node) (sym at) ∙ home) in
+    let leads = all_have (Leads fabric) of.layout.found a.place f.0 of.lead f.1 in
+    let among = among_at (nodes_of of.layout.found) a.place f.0.node (node_there of.layout.found a.place f.0 f.1) in
     let switch_there : is_switch_at fabric.nodes leads.at.node ≡ true =
-    ap (λ (node : ℕ). is_switch_at fabric.nodes node) leads.node ∙ sym (of.all f.0.node) ∙ among in
-    let node : node_at of.found a.place ≡ leads.at.node = node_of of.found a.place f.0 f.1 ∙ sym leads.node in
+    ap (λ (node : ℕ). is_switch_at fabric.nodes node) leads.node ∙ sym (of.layout.all f.0.node) ∙ among in
+    let node : node_at of.layout.found a.place ≡ leads.at.node = node_of of.layout.found a.place f.0 f.1 ∙ sym leads.node in
     let cable : far_end fabric.cables (port leads.at.node a.number) ≡ Some end =
     ap (λ (n : ℕ). far_end fabric.cables (port n a.number)) (sym node) ∙ a.behind.cable in
     let ends = end_more fabric f.0.path leads.at end a.number leads.ends switch_there

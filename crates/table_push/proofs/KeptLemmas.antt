@@ -88,14 +88,16 @@ module _ (change : Node → Node) (unseen : IsUnseen change) (fabric : FabricSta
 
   pub graph_stays : (graph : GraphState) → IsSameShape fabric (with_nodes change fabric) → IsGraphOf graph fabric → IsGraphOf graph (with_nodes change fabric)
   graph_stays graph same of = record {
-    found = of.found;
-    once = of.once;
-    all = λ node. of.all node ∙ sym (switches_stay node);
+    layout = record {
+      found = of.layout.found;
+      once = of.layout.once;
+      all = λ node. of.layout.all node ∙ sym (switches_stay node);
+      manager = ap (option_map (λ (seen : Seen). seen.port_guid)) (sights_stay fabric.manager) ∙ of.layout.manager;
+      switches = of.layout.switches ∙ sym (λ i. map (λ one. switch_same one i) of.layout.found);
+      rows = of.layout.rows ∙ sym (λ i. map (λ one. row_same (nodes_of of.layout.found) one.node i) of.layout.found);
+      ports = of.layout.ports ∙ sym (ports_same of.layout.found);
+    };
     lead = λ i d within. leads_same _ same (of.lead i d within);
-    manager = ap (option_map (λ (seen : Seen). seen.port_guid)) (sights_stay fabric.manager) ∙ of.manager;
-    switches = of.switches ∙ sym (λ i. map (λ one. switch_same one i) of.found);
-    rows = of.rows ∙ sym (λ i. map (λ one. row_same (nodes_of of.found) one.node i) of.found);
-    ports = of.ports ∙ sym (ports_same of.found);
   }
 
 -- the PortInfo of all ports is set up

@@ -55,11 +55,11 @@ pub every_switch_has_its_table : EverySwitchHasItsTable
 every_switch_has_its_table routes fabric node held graph of good there =
     let was = was_switch routes fabric.nodes node held there in
     let switch : is_switch_at fabric.nodes node ≡ true = ap (λ (o : Option Node). option_map_or is_switch o false) was.there in
-    let at = among_place (nodes_of of.found) node (of.all node ∙ switch) in
-    let found = found_there of.found at.0 node at.1 in
+    let at = among_place (nodes_of of.layout.found) node (of.layout.all node ∙ switch) in
+    let found = found_there of.layout.found at.0 node at.1 in
     let one = switch_of fabric found.0 in
     let stands : slice_get routes.graph.switches at.0 ≡ Some one =
-    ap (λ (switches : List GraphSwitch). slice_get switches at.0) of.switches ∙ switch_at fabric of.found at.0 found.0 found.1 in
+    ap (λ (switches : List GraphSwitch). slice_get switches at.0) of.layout.switches ∙ switch_at fabric of.layout.found at.0 found.0 found.1 in
     let guid : one.guid ≡ was.was.node_guid =
     ap (guid_at fabric) found.2 ∙ ap (λ (o : Option Node). option_map_or node_guid o 0) was.there in
     let own : IsDistinct (λ a b. a == b) (map (λ other. other.guid) routes.graph.switches) =

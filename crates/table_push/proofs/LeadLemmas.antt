@@ -138,10 +138,10 @@ found_at_place fabric (one ∷ found) (suc place) switch there = found_at_place 
 pub graph_leads : (fabric : FabricState) (graph : GraphState) (place : ℕ) (switch : GraphSwitch) → IsGraphOf graph fabric
     → slice_get graph.switches place ≡ Some switch → LeadsToSwitch fabric switch.path switch.guid
 graph_leads fabric graph place switch of there =
-    let at = found_at_place fabric of.found place switch (ap (λ (switches : List GraphSwitch). slice_get switches place) (sym of.switches) ∙ there) in
-    let leads = all_have (Leads fabric) of.found place at.0 of.lead at.1 in
-    let among = among_at (nodes_of of.found) place at.0.node (node_there of.found place at.0 at.1) in
-    let is : is_switch_at fabric.nodes at.0.node ≡ true = sym (of.all at.0.node) ∙ among in
+    let at = found_at_place fabric of.layout.found place switch (ap (λ (switches : List GraphSwitch). slice_get switches place) (sym of.layout.switches) ∙ there) in
+    let leads = all_have (Leads fabric) of.layout.found place at.0 of.lead at.1 in
+    let among = among_at (nodes_of of.layout.found) place at.0.node (node_there of.layout.found place at.0 at.1) in
+    let is : is_switch_at fabric.nodes at.0.node ≡ true = sym (of.layout.all at.0.node) ∙ among in
     subst (λ (one : GraphSwitch). LeadsToSwitch fabric one.path one.guid) (sym at.2)
     (record {
       at = leads.at;

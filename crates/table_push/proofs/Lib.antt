@@ -35,3 +35,4 @@ pub mod BroughtUpNodeLemmas
 pub mod BroughtUpPortLemmas
 pub mod BroughtUpLemmas
 pub mod EndLemmas
+pub mod ForgetLemmas

@@ -48,19 +48,19 @@ linked_by fabric nodes node number link has = by_far (far_end fabric.cables (por
     by_far None far has = absurd (no_link link has)
     by_far (Some there) far has = by_kind there far (is_switch_at fabric.nodes there.node) refl has
 
-row_at : (fabric : FabricState) (graph : GraphState) (place : ℕ) (found : Found) → (of : IsGraphOf graph fabric) → slice_get of.found place ≡ Some found
-    → slice_get (rows_of graph) place ≡ Some (row_of (fabric_row fabric (nodes_of of.found) found.node))
+row_at : (fabric : FabricState) (graph : GraphState) (place : ℕ) (found : Found) → (of : IsGraphOf graph fabric) → slice_get of.layout.found place ≡ Some found
+    → slice_get (rows_of graph) place ≡ Some (row_of (fabric_row fabric (nodes_of of.layout.found) found.node))
 row_at fabric graph place found of there =
-    let rows : slice_get graph.rows place ≡ Some (fabric_row fabric (nodes_of of.found) found.node) =
-    ap (λ (rows : List (List GraphLink)). slice_get rows place) of.rows
-    ∙ slice_get-map (λ (one : Found). fabric_row fabric (nodes_of of.found) one.node) of.found place
-    ∙ ap (option_map (λ (one : Found). fabric_row fabric (nodes_of of.found) one.node)) there in
+    let rows : slice_get graph.rows place ≡ Some (fabric_row fabric (nodes_of of.layout.found) found.node) =
+    ap (λ (rows : List (List GraphLink)). slice_get rows place) of.layout.rows
+    ∙ slice_get-map (λ (one : Found). fabric_row fabric (nodes_of of.layout.found) one.node) of.layout.found place
+    ∙ ap (option_map (λ (one : Found). fabric_row fabric (nodes_of of.layout.found) one.node)) there in
     slice_get-map row_of graph.rows place ∙ ap (option_map row_of) rows
 
-pub row_within : (fabric : FabricState) (graph : GraphState) (place : ℕ) (found : Found) → (of : IsGraphOf graph fabric) → slice_get of.found place ≡ Some found
+pub row_within : (fabric : FabricState) (graph : GraphState) (place : ℕ) (found : Found) → (of : IsGraphOf graph fabric) → slice_get of.layout.found place ≡ Some found
     → place < length (rows_of graph)
 row_within fabric graph place found of there =
-    slice_get_within (rows_of graph) place (row_of (fabric_row fabric (nodes_of of.found) found.node)) (row_at fabric graph place found of there)
+    slice_get_within (rows_of graph) place (row_of (fabric_row fabric (nodes_of of.layout.found) found.node)) (row_at fabric graph place found of there)
 
 made_of : (row : List GraphLink) (k : ℕ) (one : Link) → slice_get (map link_of row) k ≡ Some one
     → (link : GraphLink) × Contains row link × (link_of link ≡ one)
@@ -70,20 +70,20 @@ made_of row k one there = by (slice_get row k) refl (sym (slice_get-map link_of 
     by None at is = absurd (none-some one is)
     by (Some link) at is = (link, there_is row k link at, same_Some (link_of link) one is)
 
-pub linked : (fabric : FabricState) (graph : GraphState) (place out t : ℕ) (found : Found) → (of : IsGraphOf graph fabric) → slice_get of.found place ≡ Some found
-    → leads (rows_of graph) place out t ≡ true → IsLinked fabric (nodes_of of.found) found.node out t
+pub linked : (fabric : FabricState) (graph : GraphState) (place out t : ℕ) (found : Found) → (of : IsGraphOf graph fabric) → slice_get of.layout.found place ≡ Some found
+    → leads (rows_of graph) place out t ≡ true → IsLinked fabric (nodes_of of.layout.found) found.node out t
 linked fabric graph place out t found of there leading =
-    let row = fabric_row fabric (nodes_of of.found) found.node in
+    let row = fabric_row fabric (nodes_of of.layout.found) found.node in
     let links : links_of (rows_of graph) place ≡ row_of row =
     get_or_from_slice_get (rows_of graph) place (row_of row) [] (row_at fabric graph place found of there) in
     let at = any_at (λ (link : Link). (link.port == out) && (link.to == t)) (row_of row)
     (sym (ap (list_any (λ (link : Link). (link.port == out) && (link.to == t))) links) ∙ leading) in
     let one = made_of row at.place at.one at.there in
     let parts = and_parts (at.one.port == out) (at.one.to == t) at.passes in
-    let number = of_one (λ number. option_map_or (link_to fabric (nodes_of of.found) number) (far_end fabric.cables (port found.node number)) [])
+    let number = of_one (λ number. option_map_or (link_to fabric (nodes_of of.layout.found) number) (far_end fabric.cables (port found.node number)) [])
     1 (ports_at fabric found.node) one.0 one.1 in
-    let goes = linked_by fabric (nodes_of of.found) found.node number.number one.0 number.has in
+    let goes = linked_by fabric (nodes_of of.layout.found) found.node number.number one.0 number.has in
     let out_is : one.0.port ≡ out = ap (λ (link : Link). link.port) one.2 ∙ eqb-true at.one.port out parts.0 in
     let to_is : one.0.to.node ≡ t = ap (λ (link : Link). link.to) one.2 ∙ eqb-true at.one.to t parts.1 in
-    subst (λ (n : ℕ). IsLinked fabric (nodes_of of.found) found.node n t) out_is
-    (subst (IsLinked fabric (nodes_of of.found) found.node one.0.port) to_is goes)
+    subst (λ (n : ℕ). IsLinked fabric (nodes_of of.layout.found) found.node n t) out_is
+    (subst (IsLinked fabric (nodes_of of.layout.found) found.node one.0.port) to_is goes)

@@ -79,7 +79,7 @@ pub record IsSeated (fabric : FabricState) (graph : GraphState) (of : IsGraphOf 
   pub switch : is_switch_at fabric.nodes back.node ≡ true
   pub place : ℕ
   pub found : Found
-  pub there : slice_get of.found place ≡ Some found
+  pub there : slice_get of.layout.found place ≡ Some found
   pub node : found.node ≡ back.node
   pub index : ℕ
   pub hung : GraphPort
@@ -97,22 +97,22 @@ seated fabric graph at one good of cabled =
     let home : far_end fabric.cables back ≡ Some at = good_once fabric at back good cabled.cable in
     let range = in_range fabric back.node back.port (far_is_port fabric.nodes fabric.cables at back good.cables cabled.cable) in
     let switch = to_switch fabric at back good adapter cabled.cable in
-    let place = among_place (nodes_of of.found) back.node (of.all back.node ∙ switch) in
-    let found = found_there of.found place.0 back.node place.1 in
-    let node : node_at of.found place.0 ≡ back.node = node_of of.found place.0 found.0 found.1 ∙ found.2 in
+    let place = among_place (nodes_of of.layout.found) back.node (of.layout.all back.node ∙ switch) in
+    let found = found_there of.layout.found place.0 back.node place.1 in
+    let node : node_at of.layout.found place.0 ≡ back.node = node_of of.layout.found place.0 found.0 found.1 ∙ found.2 in
     let seen = is_seen fabric at one cabled.there in
     let hung = port_seen (port place.0 back.port) (unwrap_or (name_at fabric at) []) seen.seen in
-    let here : Contains (option_map_or (port_to fabric (port place.0 back.port)) (far_end fabric.cables (port (node_at of.found place.0) back.port)) []) hung =
+    let here : Contains (option_map_or (port_to fabric (port place.0 back.port)) (far_end fabric.cables (port (node_at of.layout.found place.0) back.port)) []) hung =
     subst (λ (n : ℕ). Contains (option_map_or (port_to fabric (port place.0 back.port)) (far_end fabric.cables (port n back.port)) []) hung) (sym node)
     (subst (λ (o : Option PortRef). Contains (option_map_or (port_to fabric (port place.0 back.port)) o []) hung) (sym home)
     (subst (λ (some : List GraphPort). Contains some hung) (sym (port_is fabric (port place.0 back.port) at seen.seen adapter seen.is))
     (there_is (hung ∷ []) 0 hung refl))) in
-    let among : Contains (all_ports fabric of.found) hung =
-    in_all (λ place. ports_up_to fabric place (node_at of.found place) (ports_at fabric (node_at of.found place))) 0 (length of.found) place.0 hung (omega arith)
-    (omega (arith, slice_get_within of.found place.0 found.0 found.1))
-    (in_all (λ number. option_map_or (port_to fabric (port place.0 number)) (far_end fabric.cables (port (node_at of.found place.0) number)) [])
-    1 (ports_at fabric (node_at of.found place.0)) back.port hung range.0 (rw node (omega (arith, range.1))) here) in
-    let stood = stands (all_ports fabric of.found) hung among in
+    let among : Contains (all_ports fabric of.layout.found) hung =
+    in_all (λ place. ports_up_to fabric place (node_at of.layout.found place) (ports_at fabric (node_at of.layout.found place))) 0 (length of.layout.found) place.0 hung (omega arith)
+    (omega (arith, slice_get_within of.layout.found place.0 found.0 found.1))
+    (in_all (λ number. option_map_or (port_to fabric (port place.0 number)) (far_end fabric.cables (port (node_at of.layout.found place.0) number)) [])
+    1 (ports_at fabric (node_at of.layout.found place.0)) back.port hung range.0 (rw node (omega (arith, range.1))) here) in
+    let stood = stands (all_ports fabric of.layout.found) hung among in
     record {
       home = home;
       switch = switch;
@@ -122,7 +122,7 @@ seated fabric graph at one good of cabled =
       node = found.2;
       index = stood.0;
       hung = hung;
-      has = ap (λ (ports : List GraphPort). slice_get ports stood.0) of.ports ∙ stood.1;
+      has = ap (λ (ports : List GraphPort). slice_get ports stood.0) of.layout.ports ∙ stood.1;
       at_is = refl;
       guid_is = seen.guid;
       node_is = seen.node;

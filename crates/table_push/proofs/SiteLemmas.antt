@@ -48,17 +48,17 @@ pub record Seated (fabric : FabricState) (found : List Found) (place : ℕ) (swi
   pub count : switch.num_ports ≡ ports_at fabric (node_at found place)
 
 pub seated : (fabric : FabricState) (graph : GraphState) (place : ℕ) (switch : GraphSwitch) → (of : IsGraphOf graph fabric)
-    → slice_get graph.switches place ≡ Some switch → Seated fabric of.found place switch
+    → slice_get graph.switches place ≡ Some switch → Seated fabric of.layout.found place switch
 seated fabric graph place switch of there =
-    let f = found_at_place fabric of.found place switch (ap (λ (switches : List GraphSwitch). slice_get switches place) (sym of.switches) ∙ there) in
-    let leads = all_have (Leads fabric) of.found place f.0 of.lead f.1 in
-    let among = among_at (nodes_of of.found) place f.0.node (node_there of.found place f.0 f.1) in
-    let node = node_of of.found place f.0 f.1 in
+    let f = found_at_place fabric of.layout.found place switch (ap (λ (switches : List GraphSwitch). slice_get switches place) (sym of.layout.switches) ∙ there) in
+    let leads = all_have (Leads fabric) of.layout.found place f.0 of.lead f.1 in
+    let among = among_at (nodes_of of.layout.found) place f.0.node (node_there of.layout.found place f.0 f.1) in
+    let node = node_of of.layout.found place f.0 f.1 in
     record {
       at = leads.at;
       ends = ap (λ (one : GraphSwitch). end_of fabric one.path) f.2 ∙ leads.ends;
       node = leads.node ∙ sym node;
-      is = ap (λ (n : ℕ). is_switch_at fabric.nodes n) leads.node ∙ sym (of.all f.0.node) ∙ among;
+      is = ap (λ (n : ℕ). is_switch_at fabric.nodes n) leads.node ∙ sym (of.layout.all f.0.node) ∙ among;
       count = ap (λ (one : GraphSwitch). one.num_ports) f.2 ∙ ap (ports_at fabric) (sym node);
     }
 
@@ -95,24 +95,24 @@ by_link fabric found place number link has = by_far (far_end fabric.cables (port
     by_far (Some there) far has = by_kind there far (is_switch_at fabric.nodes there.node) refl has
 
 pub linked : (fabric : FabricState) (graph : GraphState) (place k : ℕ) (row : List Link) (link : Link) → (of : IsGraphOf graph fabric)
-    → slice_get graph.rows place ≡ Some row → slice_get row k ≡ Some link → Linked fabric of.found place link.port
+    → slice_get graph.rows place ≡ Some row → slice_get row k ≡ Some link → Linked fabric of.layout.found place link.port
 linked fabric graph place k row link of there at =
-    let f = mapped_at (λ (one : Found). row_of fabric (nodes_of of.found) one.node) of.found place row
-    (ap (λ (rows : List (List Link)). slice_get rows place) (sym of.rows) ∙ there) in
-    let node = node_of of.found place f.0 f.1 in
-    let same : row ≡ row_of fabric (nodes_of of.found) (node_at of.found place) = f.2 ∙ ap (row_of fabric (nodes_of of.found)) (sym node) in
+    let f = mapped_at (λ (one : Found). row_of fabric (nodes_of of.layout.found) one.node) of.layout.found place row
+    (ap (λ (rows : List (List Link)). slice_get rows place) (sym of.layout.rows) ∙ there) in
+    let node = node_of of.layout.found place f.0 f.1 in
+    let same : row ≡ row_of fabric (nodes_of of.layout.found) (node_at of.layout.found place) = f.2 ∙ ap (row_of fabric (nodes_of of.layout.found)) (sym node) in
     let has = subst (λ (links : List Link). Contains links link) same (there_is row k link at) in
-    let number = of_one (λ number. option_map_or (link_to fabric (nodes_of of.found) number) (far_end fabric.cables (port (node_at of.found place) number)) [])
-    1 (ports_at fabric (node_at of.found place)) link has in
-    by_link fabric of.found place number.number link number.has
+    let number = of_one (λ number. option_map_or (link_to fabric (nodes_of of.layout.found) number) (far_end fabric.cables (port (node_at of.layout.found place) number)) [])
+    1 (ports_at fabric (node_at of.layout.found place)) link has in
+    by_link fabric of.layout.found place number.number link number.has
 
 -- its port is not port 0
 pub link_number : (fabric : FabricState) (graph : GraphState) (place k : ℕ) (row : List Link) (link : Link) → IsGood fabric → IsGraphOf graph fabric
     → slice_get graph.rows place ≡ Some row → slice_get row k ≡ Some link → (link.port == 0) ≡ false
 link_number fabric graph place k row link good of there at =
     let is = linked fabric graph place k row link of there at in
-    let range = in_range fabric (node_at of.found place) link.port
-    (cabled_is_port fabric.nodes fabric.cables (port (node_at of.found place) link.port) is.there good.cables is.cable) in
+    let range = in_range fabric (node_at of.layout.found place) link.port
+    (cabled_is_port fabric.nodes fabric.cables (port (node_at of.layout.found place) link.port) is.there good.cables is.cable) in
     ne_eqb link.port 0 (λ none. omega (arith, none, range.0))
 
 -- ---- LIDs are unicast
@@ -159,7 +159,7 @@ module _ (fabric : FabricState) (good : IsGood fabric) (shows : ShowsLinks fabri
 
   -- a port of a switch, with a cable
   at_switch : (graph : GraphState) (place number : ℕ) (switch : GraphSwitch) (there : PortRef) (on : Bool) → (of : IsGraphOf graph fabric)
-      → slice_get graph.switches place ≡ Some switch → far_end fabric.cables (port (node_at of.found place) number) ≡ Some there
+      → slice_get graph.switches place ≡ Some switch → far_end fabric.cables (port (node_at of.layout.found place) number) ≡ Some there
       → TakesChange fabric switch.path number switch.guid number (record stays { enforcement = Some on; active = true })
   at_switch graph place number switch there on of home cable =
       let sits = seated fabric graph place switch of home in

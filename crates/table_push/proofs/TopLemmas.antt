@@ -183,10 +183,10 @@ every_switch : (fabric : FabricState) (graph : GraphState) (node : ℕ) (held : 
     → list_any (λ switch. switch.guid == held.node_guid) graph.switches ≡ true
 every_switch fabric graph node held of there =
     let switch : is_switch_at fabric.nodes node ≡ true = ap (λ (o : Option Node). option_map_or is_switch o false) there in
-    let at = among_place (nodes_of of.found) node (of.all node ∙ switch) in
-    let found = found_there of.found at.0 node at.1 in
+    let at = among_place (nodes_of of.layout.found) node (of.layout.all node ∙ switch) in
+    let found = found_there of.layout.found at.0 node at.1 in
     let stands : slice_get graph.switches at.0 ≡ Some (switch_of fabric found.0) =
-    ap (λ (switches : List GraphSwitch). slice_get switches at.0) of.switches ∙ switch_at fabric of.found at.0 found.0 found.1 in
+    ap (λ (switches : List GraphSwitch). slice_get switches at.0) of.layout.switches ∙ switch_at fabric of.layout.found at.0 found.0 found.1 in
     any_by (λ (one : GraphSwitch). one.guid == held.node_guid) graph.switches at.0 (switch_of fabric found.0) stands
     (eq-eqb (guid_at fabric found.0.node) held.node_guid (ap (guid_at fabric) found.2 ∙ ap (λ (o : Option Node). option_map_or node_guid o 0) there))
 

@@ -84,7 +84,7 @@ none_hangs fabric graph place k row link of there at (Some one) hangs =
     let hung = is_hung fabric graph here.0 one of here.1 in
     let same = same_port one.at (port place link.port) here.2 in
     let far : is.there ≡ hung.there =
-    same_Some _ _ (sym is.cable ∙ ap (λ (p : PortRef). far_end fabric.cables (port (node_at of.found p.node) p.port)) (sym same) ∙ hung.cable) in
+    same_Some _ _ (sym is.cable ∙ ap (λ (p : PortRef). far_end fabric.cables (port (node_at of.layout.found p.node) p.port)) (sym same) ∙ hung.cable) in
     absurd (false≢true (sym hung.adapter ∙ ap (λ (p : PortRef). is_switch_at fabric.nodes p.node) (sym far) ∙ is.switch))
 
 pub wanted_link : (fabric : FabricState) (routes : RoutesState) (guid place k : ℕ) (row : List Link) (link : Link) → IsGraphOf routes.graph fabric

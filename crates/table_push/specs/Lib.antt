@@ -9,4 +9,5 @@ pub mod Steps
 pub mod SetUp
 pub mod BroughtUp
 pub mod Pushed
+pub mod Forget
 pub mod BroughtUpLaws

@@ -1,6 +1,7 @@
 //! What holds after every push. The functions do nothing; their clauses are the theorems.
 
 ghost use Rattle.table_push.specs.BroughtUpLaws.{BroughtUpForwardsByLid, PushesBringUp, PushesKeepTheEndPorts};
+ghost use Rattle.table_push.specs.Forget.{PushesForget, PushesReplace};
 ghost use Rattle.table_push.specs.SetUp.{EachPortIsServed, EachSwitchIsSetUp};
 ghost use Rattle.table_push.specs.Laws.{EverySwitchHasItsTable, PushesKeepTheGraph};
 
@@ -34,4 +35,11 @@ pub fn brought_up_forwards_by_lid()
 pub fn pushes_bring_up()
     ensures up { PushesBringUp }
     ensures ends { PushesKeepTheEndPorts }
+{}
+
+/// Two fabrics that differ only in what pushes write become one by the same pushes. So a push after another, over the same
+/// graph, by the same LIDs and with keys for as many of them, leaves nothing of what that wrote.
+pub fn pushes_forget()
+    ensures forget { PushesForget }
+    ensures replace { PushesReplace }
 {}

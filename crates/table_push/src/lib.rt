@@ -22,7 +22,7 @@ pub use crate::fault::PushFault;
 pub use crate::keys::push_keys;
 pub use crate::laws::{
     brought_up_forwards_by_lid, brought_up_is_as_routed, every_switch_has_its_table,
-    pushes_bring_up, pushes_keep_the_graph,
+    pushes_bring_up, pushes_forget, pushes_keep_the_graph,
 };
 pub use crate::linear::push_linear;
 pub use crate::ports::push_ports;

@@ -260,8 +260,9 @@ fn set_info<W: SmpWire>(
 ) -> Result<(), PushFault>
     requires path { length path.now ≤ 63 }
     requires fits { Fits (port_info info.now) }
-    ensures { ForSome (W.fabric wire.old) (λ fabric. TakesAndGives fabric (W.fabric wire.new) path.now attribute.PortInfo asked
+    ensures left { ForSome (W.fabric wire.old) (λ fabric. TakesAndGives fabric (W.fabric wire.new) path.now attribute.PortInfo asked
         (port_info_bytes (with_state state info.now)) result) }
+    ensures counted { transaction_id.new ≡ (transaction_id.old + 1) % 2 ^ 64 }
 {
     let wanted = PortInfo {
         port_state: state.code(),

@@ -1,27 +1,14 @@
 -- Rows of links: what one port leads to, and where links end.
-use Rattle.std.proofs.Common.{◌≡◌, ℕ, zero, suc, ◌+◌, ◌<◌, ◌≤◌, Bool, true, false, not, ◌==◌, ◌&&◌, nat_lt, List, [], ◌∷◌, map, length, refl, sym, ap, subst, ◌∙◌, inl, inr, arith}
-use Rattle.std.specs.List.{list_all, list_any, range_with_len}
+use Rattle.std.proofs.Common.{◌≡◌, ℕ, ◌<◌, Bool, true, false, not, ◌==◌, ◌&&◌, nat_lt, List, [], ◌∷◌, map, length, refl, sym, ap, subst, ◌∙◌, inl, inr, arith}
+use Rattle.std.specs.List.{list_all, list_any}
 use Rattle.std.proofs.lemmas.Bool.{and_parts, and_from, or_cases, or_left, or_right, cases_lt, eqb-true, eqb-false, eq-eqb, ne_eqb, ltb-true, false≢true, not-true}
 use Rattle.std.proofs.lemmas.List.{get_or_past}
 use Rattle.result_words.proofs.ListLemmas.{list_all_weaker, list_any_weaker}
+use Rattle.sweep.proofs.JoinedLemmas.{at_each}
 use Rattle.updn_routes.specs.declared.link.Link.{Link}
 use Rattle.updn_routes.specs.Cabling.{is_cabling, is_next_to, is_row, leads, links_of, rises}
 
 -- ---- lists
--- what passes at each number of a range
-pub at_each : (p : ℕ → Bool) (first count s : ℕ) → list_all p (range_with_len first count) ≡ true → first ≤ s
-    → s < first + count → p s ≡ true
-at_each p first zero s all low high = absurd (let no_room : ⊥ = omega (arith, low, high) in no_room)
-at_each p first (suc count) s all low high =
-    by (first == s) refl (λ more. at_each p (first + 1) count s parts.1 more (omega (arith, high)))
-  where
-    parts : (p first ≡ true) × (list_all p (range_with_len (first + 1) count) ≡ true)
-    parts = and_parts (p first) (list_all p (range_with_len (first + 1) count)) all
-
-    by : (b : Bool) → (first == s) ≡ b → (first + 1 ≤ s → p s ≡ true) → p s ≡ true
-    by true e later = subst (λ (k : ℕ). p k ≡ true) (eqb-true first s e) parts.0
-    by false e later = let other = eqb-false first s e in later (omega (arith, low, other))
-
 -- an element that passes a test passes what all that pass it do
 pub some_of : {X : Type 0} (p q : X → Bool) (xs : List X) → list_all q xs ≡ true → list_any p xs ≡ true
     → (x : X) × ((p x ≡ true) × (q x ≡ true))

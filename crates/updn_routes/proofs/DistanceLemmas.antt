@@ -7,7 +7,8 @@ use Rattle.result_words.proofs.ListLemmas.{list_any_weaker}
 use Rattle.updn_routes.specs.declared.link.Link.{Link}
 use Rattle.updn_routes.specs.Cabling.{AllJoined, is_cabling, is_next_to, is_walk, links_of}
 use Rattle.updn_routes.specs.Order.{AreDistances, IsDistance}
-use Rattle.updn_routes.proofs.CablingLemmas.{at_each, ends, some_of}
+use Rattle.updn_routes.proofs.CablingLemmas.{ends, some_of}
+use Rattle.sweep.proofs.JoinedLemmas.{at_each}
 
 -- ---- one distance
 pub one_distance : (rows : List (List Link)) (passes : ℕ → Bool) (s one other : ℕ) → IsDistance rows passes s one

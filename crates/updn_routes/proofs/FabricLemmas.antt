@@ -7,7 +7,7 @@ use Rattle.updn_routes.specs.declared.link.Link.{Link}
 use Rattle.updn_routes.specs.Cabling.{AllJoined, is_next_to, is_walk}
 use Rattle.updn_routes.specs.Fabric.{HasRoutes, IsFabric}
 use Rattle.updn_routes.specs.Order.{IsOrder, is_first_root, is_root, precedes}
-use Rattle.updn_routes.proofs.CablingLemmas.{at_each}
+use Rattle.sweep.proofs.JoinedLemmas.{at_each}
 use Rattle.updn_routes.proofs.DistanceLemmas.{joined_distances}
 use Rattle.updn_routes.proofs.ExistLemmas.{there_are}
 use Rattle.updn_routes.proofs.OrderLemmas.{ranks_order}

@@ -1,18 +1,21 @@
 -- Every graph whose switches are joined is a fabric, and its LIDs hang on its switches.
-use Rattle.std.proofs.Common.{◌≡◌, ◌≢◌, ℕ, zero, suc, ◌+◌, ◌<◌, ◌≤◌, ◌⊎◌, Bool, true, false, cond, not, ◌==◌, ◌&&◌, ◌||◌, nat_le, nat_lt, List, [], ◌∷◌, ◌++◌, length, map, find, get_or, position}
+use Rattle.std.proofs.Common.{◌≡◌, ℕ, zero, suc, ◌+◌, ◌<◌, ◌≤◌, ◌⊎◌, Bool, true, cond, not, ◌==◌, ◌&&◌, ◌||◌, nat_le, nat_lt, List, [], ◌∷◌, length, map, find, get_or, position}
 use Rattle.std.proofs.Common.{Option, Some, None, option_map, refl, sym, ap, subst, ◌∙◌, inl, inr, arith, length-append}
 use Rattle.std.specs.List.{list_all, list_any, position_or_len, range_with_len}
 use Rattle.std.specs.Option.{option_map_or}
-use Rattle.std.proofs.lemmas.Bool.{and_parts, and_from, cases_lt, eqb-true, eq-eqb, leb-true, ltb-true, le-ltb, lt-ltb, or_cases, or_left, or_right, false≢true}
+use Rattle.std.proofs.lemmas.Bool.{and_parts, and_from, cases_lt, leb-true, ltb-true, le-ltb, lt-ltb, false≢true}
 use Rattle.std.proofs.lemmas.List.Folds.{find_at, list_all-map}
 use Rattle.std.proofs.lemmas.Option.{slice_get_cases}
 use Rattle.std.proofs.Math.ListN.{get_or-map}
-use Rattle.fabric_parts.specs.Cable.{is_same_port, port}
+use Rattle.fabric_parts.specs.Cable.{port}
 use Rattle.fabric_parts.specs.declared.cable.PortRef.{PortRef}
 use Rattle.lid_assign.specs.Lids.{AreLids, adapter_end, end_ports, switch_end}
-use Rattle.result_words.proofs.ListLemmas.{list_all_weaker, list_any_weaker}
+use Rattle.result_words.proofs.ListLemmas.{list_all_weaker}
 use Rattle.result_words.proofs.DistinctLemmas.{left_part}
-use Rattle.sweep.specs.Graph.{GraphState, IsGraph, count_at, is_joined, is_linked, is_near, is_right_link, is_right_port, is_right_row, is_switch_port, rise_above}
+use Rattle.result_words.proofs.TestLemmas.{same_and}
+use Rattle.sweep.proofs.JoinedLemmas.{at_each}
+use Rattle.sweep.specs.Graph.{GraphState, IsGraph, count_at, is_linked, is_right_link, is_right_port, is_right_row, is_switch_port, rise_above}
+use Rattle.sweep.specs.Joined.{AllJoined as AllJoinedThere, is_next_to as is_next_there, is_walk_by}
 use Rattle.sweep.specs.declared.graph.GraphPort.{GraphPort}
 use Rattle.sweep.specs.declared.graph.GraphSwitch.{GraphSwitch}
 use Rattle.sweep.specs.declared.graph.Link.{Link as GraphLink}
@@ -21,8 +24,7 @@ use Rattle.updn_routes.specs.Cabling.{AllJoined, is_cabling, is_next_to, is_row,
 use Rattle.updn_routes.specs.Fabric.{IsFabric}
 use Rattle.updn_routes.specs.Routes.{all_hang}
 use Rattle.updn_routes.specs.Subnet.{guids_of, home_from, home_in, homes_of, link_of, place_of, row_of, rows_of, seat_of}
-use Rattle.updn_routes.proofs.CablingLemmas.{at_each, some_of}
-use Rattle.updn_routes.proofs.FabricLemmas.{walk_on}
+use Rattle.updn_routes.proofs.CablingLemmas.{some_of}
 use Rattle.updn_routes.proofs.WriteLemmas.{past_end}
 
 -- ---- lists
@@ -46,17 +48,6 @@ all_get : {X : Type 0} (p : X → Bool) (xs : List X) (i : ℕ) (d : X) → list
 all_get p [] i d all less = absurd (let no_room : ⊥ = omega (arith, less) in no_room)
 all_get p (x ∷ xs) zero d all less = (and_parts (p x) (list_all p xs) all).0
 all_get p (x ∷ xs) (suc i) d all less = all_get p xs i d (and_parts (p x) (list_all p xs) all).1 (omega (arith, less))
-
--- an element that passes a test, and is one of them
-some_in : {X : Type 0} (f : X → ℕ) (p q : X → Bool) (xs : List X) → list_all q xs ≡ true → list_any p xs ≡ true
-    → (x : X) × (p x ≡ true) × (q x ≡ true) × (list_any (λ y. f y == f x) xs ≡ true)
-some_in f p q [] all h = absurd (false≢true h)
-some_in f p q (x ∷ xs) all h =
-    let parts = and_parts (q x) (list_all q xs) all in
-    elim (or_cases (p x) (list_any p xs) h) [
-      | inl here ↦ (x, here, parts.0, or_left (f x == f x) (list_any (λ y. f y == f x) xs) (eq-eqb (f x) (f x) refl))
-      | inr later ↦ (let more = some_in f p q xs parts.1 later in (more.0, more.1, more.2, or_right (f x == f more.0) (list_any (λ y. f y == f more.0) xs) more.3))
-    ]
 
 position_low : {X : Type 0} (p : X → Bool) (xs : List X) (i : ℕ) → position p xs ≡ Some i → i < length xs
 position_low p xs i e = by (cases_lt (position_or_len p xs) (length xs))
@@ -131,62 +122,19 @@ module _ (graph : GraphState) (is : IsGraph graph) where
           (list_all-map (λ link. nat_lt link.to (length (rows_of graph)) && not (link.to == s)) link_of (get_or graph.rows s [])
           ∙ list_all_weaker (is_right_link graph.switches graph.rows s) (λ link. nat_lt link.to.node (length (rows_of graph)) && not (link.to.node == s)) (right_link s) (get_or graph.rows s []) parts.1))
 
-  -- ---- walks to the first switch, and back
-  beside : (s t : ℕ) → list_any (λ link. link.to.node == t) (get_or graph.rows s []) ≡ true → is_next_to (rows_of graph) s t ≡ true
-  beside s t h =
-      subst (λ (r : List Link). list_any (λ link. link.to == t) r ≡ true) (sym (row_is s)) (any_map (λ link. link.to == t) link_of (get_or graph.rows s []) ∙ h)
+  -- ---- walks
+  beside : (s t : ℕ) → is_next_to (rows_of graph) s t ≡ is_next_there graph.rows s t
+  beside s t = ap (list_any (λ link. link.to == t)) (row_is s) ∙ any_map (λ link. link.to == t) link_of (get_or graph.rows s [])
 
-  record Nearer (s : ℕ) : Type 0 where
-    to : ℕ
-    less : to < s
-    there : is_next_to (rows_of graph) s to ≡ true
-    back : is_next_to (rows_of graph) to s ≡ true
+  walks : (s d : ℕ) (steps : List ℕ) → is_walk (rows_of graph) s steps d ≡ is_walk_by (is_next_there graph.rows) s steps d
+  walks s d [] = refl
+  walks s d (t ∷ steps) = same_and (is_next_to (rows_of graph) s t) (is_next_there graph.rows s t) _ _ (beside s t) (walks t d steps)
 
-  nearer : (s : ℕ) → s < length graph.rows → is_near graph.rows s ≡ true → Nearer s
-  nearer s low near =
-      let right = (and_parts (rise_above 0 (get_or graph.rows s [])) (list_all (is_right_link graph.switches graph.rows s) (get_or graph.rows s [])) (right_row s low)).1 in
-      let link = some_in (λ link. link.to.node) (λ link. nat_lt link.to.node s) (is_right_link graph.switches graph.rows s) (get_or graph.rows s []) right near in
-      let one = and_parts (nat_le link.0.port (count_at graph.switches s)) _ link.2 in
-      let two = and_parts (not (link.0.to.node == s)) (is_linked graph.rows link.0.to (port s link.0.port)) one.1 in
-      record {
-        to = link.0.to.node;
-        less = ltb-true link.0.to.node s link.1;
-        there = beside s link.0.to.node link.3;
-        back = beside link.0.to.node s (list_any_weaker (λ l. (l.port == link.0.to.port) && is_same_port l.to (port s link.0.port)) (λ l. l.to.node == s) (λ l k. (and_parts (l.to.node == s) _ (and_parts (l.port == link.0.to.port) _ k).1).0) (get_or graph.rows link.0.to.node []) two.1);
-      }
-
-  abbrev Joined : ℕ → Type 0
-  Joined s =
-      (there : List ℕ) × (back : List ℕ) × (is_walk (rows_of graph) s there 0 ≡ true) × (is_walk (rows_of graph) 0 back s ≡ true)
-
-  to_first : (most s : ℕ) → s ≤ most → s < length graph.rows → is_joined graph.rows ≡ true → Joined s
-  to_first zero s low less joined =
-      let same : s ≡ 0 = omega (arith, low) in
-      ([], [], eq-eqb s 0 same, eq-eqb 0 s (sym same))
-  to_first (suc most) s low less joined =
-      by (at_each (λ place. (place == 0) || is_near graph.rows place) 0 (length graph.rows) s joined (omega arith) (omega (arith, less))) (λ t high. to_first most t high)
-    where
-      by : ((s == 0) || is_near graph.rows s) ≡ true → ((t : ℕ) → t ≤ most → t < length graph.rows → is_joined graph.rows ≡ true → Joined t) → Joined s
-      by h later =
-          elim (or_cases (s == 0) (is_near graph.rows s) h) [
-            | inl first ↦ ([], [], first, eq-eqb 0 s (sym (eqb-true s 0 first)))
-            | inr near ↦
-                (let one = nearer s less near in
-                let fewer = one.less in
-                let more : Joined one.to = later one.to (omega (arith, fewer, low)) (omega (arith, fewer, less)) joined in (
-                  one.to ∷ more.0,
-                  more.1 ++ s ∷ [],
-                  and_from (is_next_to (rows_of graph) s one.to) (is_walk (rows_of graph) one.to more.0 0) one.there more.2,
-                  walk_on (rows_of graph) 0 one.to s more.1 (s ∷ []) more.3 (and_from (is_next_to (rows_of graph) one.to s) (s == s) one.back (eq-eqb s s refl)),
-                ))
-          ]
-
-  all_joined : is_joined graph.rows ≡ true → AllJoined (rows_of graph)
+  all_joined : AllJoinedThere graph.rows → AllJoined (rows_of graph)
   all_joined joined s d sl dl =
       let even = count in
-      let one : Joined s = to_first s s (omega arith) (omega (arith, sl, even)) joined in
-      let other : Joined d = to_first d d (omega arith) (omega (arith, dl, even)) joined in
-      (one.0 ++ other.1, walk_on (rows_of graph) s 0 d one.0 other.1 one.2 other.3)
+      let walk = joined s d (omega (arith, sl, even)) (omega (arith, dl, even)) in
+      (walk.0, walks s d walk.0 ∙ walk.1)
 
   -- ---- switches
   switches : length (rows_of graph) ≡ length graph.switches
@@ -209,7 +157,7 @@ module _ (graph : GraphState) (is : IsGraph graph) where
       let low = seat manager.0.at (and_parts (is_switch_port graph.switches manager.0.at) _ manager.1.1).0 in
       omega (arith, low)
 
-  pub graph_is_fabric : (roots : List ℕ) → is_joined graph.rows ≡ true
+  pub graph_is_fabric : (roots : List ℕ) → AllJoinedThere graph.rows
       → list_all (λ root. list_any (λ guid. guid == root) (guids_of graph)) roots ≡ true
       → IsFabric (rows_of graph) (guids_of graph) roots
   graph_is_fabric roots joined named =

@@ -1,4 +1,4 @@
--- A cabling whose switches are numbered by their places has the same walks, and the same choices.
+-- A cabling whose switches are numbered otherwise, as by their places, has the same walks, and the same choices.
 use Rattle.std.proofs.Common.{◌≡◌, ℕ, suc, ◌<◌, Bool, true, false, ◌==◌, ◌&&◌, nat_lt, List, [], ◌∷◌, map, length, Option, Some, None, refl}
 use Rattle.std.proofs.Common.{sym, ap, subst, ◌∙◌, inl, inr, arith}
 use Rattle.std.specs.List.{list_all, list_any}
@@ -52,14 +52,21 @@ choice_moves place down down_there up up_there d u (Some p) (inr h) =
     inr (none_moves place down down_there d h.0, least_moves place up up_there u p h.1)
 
 -- ---- places
-module _ (rows placed : List (List Link)) (before : ℕ → ℕ → Bool) (place : ℕ → ℕ) (cabling : is_cabling rows ≡ true)
-    (keeps : KeepsTheOrder (length rows) before place) (is : IsPlaced rows place placed) where
+-- the row of each switch stands at its place, where it keeps its order, and no two switches have one
+pub record IsMoved (rows placed : List (List Link)) (before too : ℕ → ℕ → Bool) (place : ℕ → ℕ) : Type 0 where
+  pub below : (s : ℕ) → s < length rows → place s < length placed
+  pub less : (s t : ℕ) → s < length rows → t < length rows → too (place s) (place t) ≡ before s t
+  pub own : (s t : ℕ) → s < length rows → t < length rows → place s ≡ place t → s ≡ t
+  pub each : (s : ℕ) → s < length rows → links_of placed (place s) ≡ map (placed_link place) (links_of rows s)
+
+module _ (rows placed : List (List Link)) (before too : ℕ → ℕ → Bool) (place : ℕ → ℕ) (cabling : is_cabling rows ≡ true)
+    (is : IsMoved rows placed before too place) where
   same_place : (s t : ℕ) → s < length rows → t < length rows → (place s == place t) ≡ (s == t)
   same_place s t sl tl = by (s == t) refl
     where
       by : (b : Bool) → (s == t) ≡ b → (place s == place t) ≡ (s == t)
       by true e = eq-eqb (place s) (place t) (ap place (eqb-true s t e)) ∙ sym e
-      by false e = ne_eqb (place s) (place t) (λ h. eqb-false s t e (keeps.own s t sl tl h)) ∙ sym e
+      by false e = ne_eqb (place s) (place t) (λ h. eqb-false s t e (is.own s t sl tl h)) ∙ sym e
 
   abbrev Within : List Link → Type 0
   Within row = list_all (λ link. nat_lt link.to (length rows)) row ≡ true
@@ -139,24 +146,21 @@ module _ (rows placed : List (List Link)) (before : ℕ → ℕ → Bool) (place
       and_from (is_next_to placed (place s) (place t)) _ (next_same s t sl tl ∙ parts.0) (walk_there t d steps tl dl parts.1)
 
   down_same : (s d : ℕ) (steps : List ℕ) → s < length rows → is_walk rows s steps d ≡ true
-      → goes_down nat_lt (place s) (map place steps) ≡ goes_down before s steps
+      → goes_down too (place s) (map place steps) ≡ goes_down before s steps
   down_same s d [] sl walk = refl
   down_same s d (t ∷ steps) sl walk =
       let parts = and_parts (is_next_to rows s t) (is_walk rows t steps d) walk in
       let tl = (ends rows s t cabling sl parts.0).0 in
-      same_and (nat_lt (place s) (place t)) (before s t) _ _ (keeps.less s t sl tl) (down_same t d steps tl parts.1)
+      same_and (too (place s) (place t)) (before s t) _ _ (is.less s t sl tl) (down_same t d steps tl parts.1)
 
   legal_same : (s d : ℕ) (steps : List ℕ) → s < length rows → is_walk rows s steps d ≡ true
-      → is_legal nat_lt (place s) (map place steps) ≡ is_legal before s steps
+      → is_legal too (place s) (map place steps) ≡ is_legal before s steps
   legal_same s d [] sl walk = refl
   legal_same s d (t ∷ steps) sl walk =
       let parts = and_parts (is_next_to rows s t) (is_walk rows t steps d) walk in
       let tl = (ends rows s t cabling sl parts.0).0 in
-      same_or _ _ _ _ (same_and (nat_lt (place t) (place s)) (before t s) _ _ (keeps.less t s tl sl) (legal_same t d steps tl parts.1))
+      same_or _ _ _ _ (same_and (too (place t) (place s)) (before t s) _ _ (is.less t s tl sl) (legal_same t d steps tl parts.1))
       (down_same s d (t ∷ steps) sl walk)
-
-  pub keeps_walks : KeepsTheWalks rows placed before place
-  keeps_walks = record { links = leads_same; walks = walks_same; no_other = no_other; legal = legal_same }
 
   -- a port of a place leads to the place of a switch
   port_back : (s port v : ℕ) → s < length rows → leads placed (place s) port v ≡ true
@@ -166,11 +170,11 @@ module _ (rows placed : List (List Link)) (before : ℕ → ℕ → Bool) (place
       (t.0, t.1, t.2, sym (leads_same s port t.0 sl t.1) ∙ subst (λ (k : ℕ). leads placed (place s) port k ≡ true) (sym t.2) h)
 
   downs_same : (s d : ℕ) → s < length rows → d < length rows
-      → SameWays place (is_way_down rows before s d) (is_way_down placed nat_lt (place s) (place d))
+      → SameWays place (is_way_down rows before s d) (is_way_down placed too (place s) (place d))
   downs_same s d sl dl = record { there = there; back = back }
     where
       there : (p : ℕ) (path : List ℕ) → is_way_down rows before s d p path ≡ true
-          → is_way_down placed nat_lt (place s) (place d) p (map place path) ≡ true
+          → is_way_down placed too (place s) (place d) p (map place path) ≡ true
       there p [] way = absurd (false≢true way)
       there p (t ∷ steps) way =
           let one = and_parts (leads rows s p t) _ way in
@@ -181,17 +185,17 @@ module _ (rows placed : List (List Link)) (before : ℕ → ℕ → Bool) (place
           and_from (leads placed (place s) p (place t)) _ (leads_same s p t sl tl ∙ one.0)
           (and_from (is_walk placed (place t) (map place steps) (place d)) _ (walk_there t d steps tl dl two.0) (down_same s d (t ∷ steps) sl all ∙ two.1))
 
-      back : (p : ℕ) (path : List ℕ) → is_way_down placed nat_lt (place s) (place d) p path ≡ true
+      back : (p : ℕ) (path : List ℕ) → is_way_down placed too (place s) (place d) p path ≡ true
           → (steps : List ℕ) × ((map place steps ≡ path) × (is_way_down rows before s d p steps ≡ true))
       back p [] way = absurd (false≢true way)
       back p (v ∷ path) way =
           let one = and_parts (leads placed (place s) p v) _ way in
-          let two = and_parts (is_walk placed v path (place d)) (goes_down nat_lt (place s) (v ∷ path)) one.1 in
+          let two = and_parts (is_walk placed v path (place d)) (goes_down too (place s) (v ∷ path)) one.1 in
           let t = port_back s p v sl one.0 in
           let more : Between t.0 d path = no_other t.0 d path t.1 dl (subst (λ (k : ℕ). is_walk placed k path (place d) ≡ true) (sym t.2) two.0) in
           let same : map place (t.0 ∷ more.0) ≡ v ∷ path = ap (λ k. k ∷ map place more.0) t.2 ∙ ap (λ r. v ∷ r) more.1 in
           let all = and_from (is_next_to rows s t.0) (is_walk rows t.0 more.0 d) (leads_next rows s p t.0 t.3) more.2 in
-          let down = sym (down_same s d (t.0 ∷ more.0) sl all) ∙ subst (λ (r : List ℕ). goes_down nat_lt (place s) r ≡ true) (sym same) two.1 in
+          let down = sym (down_same s d (t.0 ∷ more.0) sl all) ∙ subst (λ (r : List ℕ). goes_down too (place s) r ≡ true) (sym same) two.1 in
           (t.0 ∷ more.0, (same, and_from (leads rows s p t.0) _ t.3 (and_from (is_walk rows t.0 more.0 d) (goes_down before s (t.0 ∷ more.0)) more.2 down)))
 
   -- ---- routes, and ways up
@@ -206,7 +210,7 @@ module _ (rows placed : List (List Link)) (before : ℕ → ℕ → Bool) (place
         let f = first_step rows own s t steps d route in
         let tl = (ends rows s t cabling sl (leads_next rows s f.port t f.out)).0 in
         step_first placed next (place s) (place t) (map place steps) (place d) (record {
-          away = λ same. f.away (keeps.own s d sl dl same);
+          away = λ same. f.away (is.own s d sl dl same);
           port = f.port;
           picked = f.picked;
           out = leads_same s f.port t sl tl ∙ f.out;
@@ -229,32 +233,59 @@ module _ (rows placed : List (List Link)) (before : ℕ → ℕ → Bool) (place
         )
 
     ups_same : (s d : ℕ) → s < length rows → d < length rows
-        → SameWays place (is_way_up rows before own s d) (is_way_up placed nat_lt next (place s) (place d))
+        → SameWays place (is_way_up rows before own s d) (is_way_up placed too next (place s) (place d))
     ups_same s d sl dl = record { there = there; back = back }
       where
         there : (p : ℕ) (path : List ℕ) → is_way_up rows before own s d p path ≡ true
-            → is_way_up placed nat_lt next (place s) (place d) p (map place path) ≡ true
+            → is_way_up placed too next (place s) (place d) p (map place path) ≡ true
         there p [] way = absurd (false≢true way)
         there p (t ∷ steps) way =
             let w = way_up rows before own s d p t steps way in
             let tl = (ends rows s t cabling sl (leads_next rows s p t w.out)).0 in
-            up_way placed nat_lt next (place s) (place d) p (place t) (map place steps)
-            (record { out = leads_same s p t sl tl ∙ w.out; step = keeps.less t s tl sl ∙ w.step; rest = route_there t d steps tl dl w.rest })
+            up_way placed too next (place s) (place d) p (place t) (map place steps)
+            (record { out = leads_same s p t sl tl ∙ w.out; step = is.less t s tl sl ∙ w.step; rest = route_there t d steps tl dl w.rest })
 
-        back : (p : ℕ) (path : List ℕ) → is_way_up placed nat_lt next (place s) (place d) p path ≡ true
+        back : (p : ℕ) (path : List ℕ) → is_way_up placed too next (place s) (place d) p path ≡ true
             → (steps : List ℕ) × ((map place steps ≡ path) × (is_way_up rows before own s d p steps ≡ true))
         back p [] way = absurd (false≢true way)
         back p (v ∷ path) way =
-            let w = way_up placed nat_lt next (place s) (place d) p v path way in
+            let w = way_up placed too next (place s) (place d) p v path way in
             let t = port_back s p v sl w.out in
             let more : Routed t.0 d path = route_back t.0 d path t.1 dl (subst (λ (k : ℕ). is_route placed next k path (place d) ≡ true) (sym t.2) w.rest) in
-            let step = sym (keeps.less t.0 s t.1 sl) ∙ subst (λ (k : ℕ). nat_lt k (place s) ≡ true) (sym t.2) w.step in
+            let step = sym (is.less t.0 s t.1 sl) ∙ subst (λ (k : ℕ). too k (place s) ≡ true) (sym t.2) w.step in
             (t.0 ∷ more.0, (ap (λ k. k ∷ map place more.0) t.2 ∙ ap (λ r. v ∷ r) more.1, up_way rows before own s d p t.0 more.0 (record { out = t.3; step = step; rest = more.2 })))
 
-    pub keeps_choices : (d : ℕ) → d < length rows → AllChosen placed nat_lt next (place d)
+    pub choices_move : (d : ℕ) → d < length rows → AllChosen placed too next (place d)
         → AllChosen rows before own d
-    keeps_choices d dl chosen s sl away =
-        let below = keeps.below s sl in
-        let count = is.count in
-        choice_moves place (is_way_down rows before s d) (is_way_down placed nat_lt (place s) (place d)) (is_way_up rows before own s d) (is_way_up placed nat_lt next (place s) (place d))
-        (downs_same s d sl dl) (ups_same s d sl dl) (next (place s)) (chosen (place s) (omega (arith, below, count)) (λ same. away (keeps.own s d sl dl same)))
+    choices_move d dl chosen s sl away =
+        choice_moves place (is_way_down rows before s d) (is_way_down placed too (place s) (place d)) (is_way_up rows before own s d) (is_way_up placed too next (place s) (place d))
+        (downs_same s d sl dl) (ups_same s d sl dl) (next (place s)) (chosen (place s) (is.below s sl) (λ same. away (is.own s d sl dl same)))
+
+-- ---- by their places in the order
+is_moved : (rows placed : List (List Link)) (before : ℕ → ℕ → Bool) (place : ℕ → ℕ) → KeepsTheOrder (length rows) before place
+    → IsPlaced rows place placed → IsMoved rows placed before nat_lt place
+is_moved rows placed before place keeps is =
+    record {
+      below = λ s low. let below = keeps.below s low in let count = is.count in omega (arith, below, count);
+      less = keeps.less;
+      own = keeps.own;
+      each = is.each;
+    }
+
+module _ (rows placed : List (List Link)) (before : ℕ → ℕ → Bool) (place : ℕ → ℕ) (cabling : is_cabling rows ≡ true)
+    (keeps : KeepsTheOrder (length rows) before place) (is : IsPlaced rows place placed) where
+  abbrev by_place : IsMoved rows placed before nat_lt place
+  by_place = is_moved rows placed before place keeps is
+
+  pub keeps_walks : KeepsTheWalks rows placed before place
+  keeps_walks =
+      record {
+        links = leads_same rows placed before nat_lt place cabling by_place;
+        walks = walks_same rows placed before nat_lt place cabling by_place;
+        no_other = no_other rows placed before nat_lt place cabling by_place;
+        legal = legal_same rows placed before nat_lt place cabling by_place;
+      }
+
+  pub keeps_choices : (next : ℕ → Option ℕ) (d : ℕ) → d < length rows → AllChosen placed nat_lt next (place d)
+      → AllChosen rows before (λ s. next (place s)) d
+  keeps_choices next d low chosen = choices_move rows placed before nat_lt place cabling by_place next d low chosen

@@ -7,7 +7,8 @@ use Rattle.updn_routes.specs.declared.link.Link.{Link}
 use Rattle.updn_routes.specs.Cabling.{is_cabling, leads, links_of}
 use Rattle.updn_routes.specs.Choice.{AllChosen}
 use Rattle.updn_routes.specs.UpDown.{is_down, is_up}
-use Rattle.updn_routes.proofs.CablingLemmas.{at_each, goes, some_of}
+use Rattle.updn_routes.proofs.CablingLemmas.{goes, some_of}
+use Rattle.sweep.proofs.JoinedLemmas.{at_each}
 use Rattle.updn_routes.proofs.TableLemmas.{IsBest, IsEntry, NoneAt, table_chosen}
 
 -- ---- the test

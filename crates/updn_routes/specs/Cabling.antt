@@ -1,7 +1,8 @@
 -- The cables between switches. A cabling is a list of rows, one for each switch, that holds the switch's links. Adapters
 -- stand in no row, since no packet passes through one.
-use Rattle.std.specs.Prelude.{ℕ, ◌≡◌, ◌==◌, ◌<◌, not, ◌&&◌, nat_lt, Bool, true, List, [], ◌∷◌, map, length, get_or}
+use Rattle.std.specs.Prelude.{ℕ, ◌==◌, not, ◌&&◌, nat_lt, Bool, true, List, [], ◌∷◌, map, length, get_or}
 use Rattle.std.specs.List.{list_all, list_any, range_with_len}
+use Rattle.sweep.specs.Joined.{AreJoinedBy, is_walk_by}
 use Rattle.updn_routes.specs.declared.link.Link.{Link}
 
 -- each number is less than all that follow
@@ -31,10 +32,8 @@ is_next_to rows s t = list_any (λ link. link.to == t) (links_of rows s)
 
 -- a walk goes over cables from switch to switch: its steps are the switches that it comes to, the last of them d
 abbrev pub is_walk : List (List Link) → ℕ → List ℕ → ℕ → Bool
-is_walk rows s [] d = s == d
-is_walk rows s (t ∷ steps) d = is_next_to rows s t && is_walk rows t steps d
+is_walk rows = is_walk_by (is_next_to rows)
 
 -- every two switches are joined by a walk
 abbrev pub AllJoined : List (List Link) → Type 0
-AllJoined rows =
-    (s d : ℕ) → s < length rows → d < length rows → (steps : List ℕ) × (is_walk rows s steps d ≡ true)
+AllJoined rows = AreJoinedBy (is_next_to rows) (length rows)

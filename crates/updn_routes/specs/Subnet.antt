@@ -1,9 +1,10 @@
 -- What routes are of: the cables between the switches of a graph, their GUIDs, and where each LID hangs. And the routes
 -- of a subnet, which keep the graph and the LIDs.
-use Rattle.std.specs.Prelude.{ℕ, ◌≡◌, ◌==◌, true, List, map, find, position, Option, Some, None, option_map}
+use Rattle.std.specs.Prelude.{ℕ, ◌≡◌, ◌==◌, List, map, find, position, Option, Some, None, option_map}
 use Rattle.fabric_parts.specs.declared.cable.PortRef.{PortRef}
 use Rattle.lid_assign.specs.Lids.{AreLids, end_ports}
-use Rattle.sweep.specs.Graph.{GraphState, is_joined}
+use Rattle.sweep.specs.Graph.{GraphState}
+use Rattle.sweep.specs.Joined.{AllJoined}
 use Rattle.sweep.specs.declared.graph.GraphPort.{GraphPort}
 use Rattle.sweep.specs.declared.graph.GraphSwitch.{GraphSwitch}
 use Rattle.sweep.specs.declared.graph.Link.{Link as GraphLink}
@@ -54,7 +55,7 @@ pub record RoutesState : Type 0 where
 
 -- they are of that graph, whose switches are joined, and of its LIDs
 pub record AreOfGraph (routes : RoutesState) : Type 0 where
-  pub joined : is_joined routes.graph.rows ≡ true
+  pub joined : AllJoined routes.graph.rows
   pub lids_are : AreLids (end_ports routes.graph) routes.lids
   pub rows_are : routes.between.rows ≡ rows_of routes.graph
   pub guids_are : routes.between.guids ≡ guids_of routes.graph

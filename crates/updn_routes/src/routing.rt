@@ -3,7 +3,7 @@
 ghost use Rattle.std.specs.Prelude.{ℕ, ◌≡◌, ◌≤◌, ◌==◌, true, length, IfErr, IfOk};
 ghost use Rattle.std.specs.List.{list_all, list_any};
 ghost use Rattle.lid_assign.specs.Lids.{AreLids, end_ports};
-ghost use Rattle.sweep.specs.Graph.{is_joined};
+ghost use Rattle.sweep.specs.Joined.{AllJoined};
 ghost use Rattle.updn_routes.specs.Fabric.{IsFabric};
 ghost use Rattle.updn_routes.specs.Fault.{IsFaultOf};
 ghost use Rattle.updn_routes.specs.Order.{AreRanks};
@@ -30,7 +30,7 @@ use sweep::Graph;
 ///
 /// `NoLegalPath` exactly where some switch that carries adapters' ports has no legal path to one of these.
 pub fn routes(alloc: Global, graph: Graph, lids: Lids, roots: &[u64]) -> Result<Routes, RouteFault>
-    requires joined { is_joined graph.rows ≡ true }
+    requires joined { AllJoined graph.rows }
     requires lids { AreLids (end_ports graph) lids }
     requires named { list_all (λ root. list_any (λ guid. guid == root) (guids_of graph)) roots.now ≡ true }
     ensures graph { IfOk result (λ routes. routes.graph ≡ graph) }
@@ -54,7 +54,7 @@ fn routes_between(
     lids: &Lids,
     roots: &[u64],
 ) -> Result<SwitchRoutes, RouteFault>
-    requires joined { is_joined graph.now.rows ≡ true }
+    requires joined { AllJoined graph.now.rows }
     requires lids { AreLids (end_ports graph.now) lids.now }
     requires named { list_all (λ root. list_any (λ guid. guid == root) (guids_of graph.now)) roots.now ≡ true }
     ensures made { IfOk result (λ routes. AreRoutesOf (rows_of graph.now) (guids_of graph.now) roots.now (homes_of graph.now lids.now) routes) }

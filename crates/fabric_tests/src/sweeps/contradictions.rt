@@ -8,7 +8,9 @@ use std::test::Fail;
 use sweep::{SweepFault, sweep};
 use test_fabrics::two_switch_wire;
 
-/// The place of an SMP's method; of what is longer than one byte these are the places of the last.
+/// The place of an SMP's class version, of its method, and so on; of what is longer than one byte these are the places of the last.
+const CLASS_VERSION: usize = 2;
+
 const METHOD: usize = 3;
 
 const STATUS: usize = 5;
@@ -75,7 +77,34 @@ impl SmpWire for EditedWire {
 }
 
 /// Edits, and how many SMPs a sweep sends before it stops: at the first reply, or when all was asked.
-const EDITS: [(Edit, u64); 5] = [
+const EDITS: [(Edit, u64); 8] = [
+    // Each is of another version of its class.
+    (
+        Edit {
+            of: &[],
+            place: CLASS_VERSION,
+            value: 2,
+        },
+        1,
+    ),
+    // Each PortInfo is that of another port.
+    (
+        Edit {
+            of: &[(ATTRIBUTE, PORT_INFO)],
+            place: MODIFIER,
+            value: 9,
+        },
+        4,
+    ),
+    // Seen from B, A has fewer ports than before.
+    (
+        Edit {
+            of: &[(ATTRIBUTE, NODE_INFO), (HOP_COUNT, 3), (NODE_GUID, 0x10)],
+            place: NUM_PORTS,
+            value: 3,
+        },
+        21,
+    ),
     // Each reply has another TransactionID than its request, which count from 1.
     (
         Edit {
@@ -180,5 +209,36 @@ fn a_sweep_without_end_stops_at_the_65th_switch(rt: HostRuntime) -> Result<(), F
     let swept = sweep(rt.alloc(), &mut wire);
     assert_eq!(rt; swept.err(), Some(SweepFault::TooManyNodes));
     assert_eq!(rt; wire.count, 1 + 3 * 65 - 1);
+    Ok(())
+}
+
+/// Answers a request only where its TransactionID is the number of the exchange, counted from 1. It stands for no fabric.
+#[derive(Drop)]
+struct NumberingWire {
+    wire: PlainWire,
+    exchanges: u8,
+}
+
+impl SmpWire for NumberingWire {
+    ghost fabric = { λ _. None };
+
+    fn exchange(&mut self, smp: &Mad) -> Option<Mad> {
+        self.exchanges = self.exchanges.wrapping_add(1);
+        if smp[TRANSACTION_ID] == self.exchanges {
+            self.wire.exchange(smp)
+        } else {
+            None
+        }
+    }
+}
+
+#[test]
+fn each_request_of_a_sweep_has_the_next_number(rt: HostRuntime) -> Result<(), Fail> {
+    let mut wire = NumberingWire {
+        wire: two_switch_wire(rt.alloc())?,
+        exchanges: 0,
+    };
+    assert_eq!(rt; sweep(rt.alloc(), &mut wire).err(), None);
+    assert_eq!(rt; wire.exchanges, 22);
     Ok(())
 }

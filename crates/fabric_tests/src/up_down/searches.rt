@@ -1,5 +1,7 @@
 //! Routes compared with a plain search over all legal walks.
 
+ghost use Rattle.sweep.specs.Joined.{AllJoined};
+
 use crate::fixtures::graph_of;
 use crate::sweeps::graphs::fabric_text;
 use crate::up_down::routes_of;
@@ -216,7 +218,9 @@ fn agree(
     again: Graph,
     lids: &Lids,
     roots: &[u64],
-) -> Result<(), Fail> {
+) -> Result<(), Fail>
+    requires joined { AllJoined again.rows }
+{
     let least = [least_guid(graph)];
     let ranks = ranks_of(alloc, graph, if roots.is_empty() { &least } else { roots })?;
     let routes = match routes_of(alloc, again, roots) {

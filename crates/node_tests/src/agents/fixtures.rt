@@ -15,6 +15,11 @@ pub fn adapter_port() -> AdapterPort {
     AdapterPort::new(0x100, 1, 1, 0x101, b"h0", Link::Cabled)
 }
 
+/// Port 2 of an adapter of two ports, cabled.
+pub fn second_port() -> AdapterPort {
+    AdapterPort::new(0x100, 2, 2, 0x102, b"h0", Link::Cabled)
+}
+
 /// A switch of four ports, the last of which has no cable.
 pub fn switch() -> TestSwitch {
     let links = [Link::Cabled, Link::Cabled, Link::Cabled, Link::Uncabled];

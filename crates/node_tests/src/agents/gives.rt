@@ -2,6 +2,7 @@
 
 use crate::agents::fixtures::{
     adapter_port_info, answer_of_a_port, answer_of_a_switch, attribute_with, get, reply,
+    second_port,
 };
 use agent_rules::{node_info_of, switch_info_at_power_up};
 use attr_tables::SmpAttribute;
@@ -29,6 +30,24 @@ fn a_new_adapter_port_gives_its_attributes(rt: HostRuntime) {
         let sent = get(attribute, modifier);
         let given = reply(sent, 0x81, 0, Some(bytes));
         assert_eq!(rt; answer_of_a_port(sent), Some(given));
+    }
+}
+
+/// A modifier of PortInfo, and the status of the reply of port 2 of two: 0 and its number are its own, and not the number of
+/// port 1.
+const ASKED_OF_PORT_2: [(u32, u8); 4] = [(0, 0), (1, 0x1c), (2, 0), (3, 0x1c)];
+
+#[test]
+fn the_second_port_of_two_gives_its_own_port_info(rt: HostRuntime) {
+    let mut info = adapter_port_info(2);
+    // LocalPortNum
+    info[28] = 2;
+    for (modifier, status) in ASKED_OF_PORT_2 {
+        let sent = get(SmpAttribute::PortInfo, modifier);
+        let mut smp = sent;
+        second_port().agent(&mut smp);
+        let given = if status == 0 { Some(info) } else { None };
+        assert_eq!(rt; smp, reply(sent, 0x81, status, given));
     }
 }
 

@@ -1,8 +1,11 @@
-use Rattle.std.proofs.Common.{◌≡◌, map, refl, sym, subst, ap, ◌∙◌}
-use Rattle.partition_file.specs.Members.{heading_of}
+use Rattle.std.proofs.Common.{◌≡◌, List, map, refl, sym, subst, ap, ◌∙◌}
+use Rattle.partition_file.specs.declared.heading.Heading.{Heading}
+use Rattle.partition_file.specs.Members.{AreSoundHeadings, heading_of}
 use Rattle.subnet_ports.specs.Ports.{end_ports, in_order, ports_of, seats}
 use Rattle.subnet_model.specs.Configuration.{ConfigurationState}
+use Rattle.subnet_model.specs.Configured.{IsConfigured}
 use Rattle.subnet_ports.specs.EndPorts.{AreEndPorts}
+use Rattle.subnet_ports.proofs.ConfiguredLemmas.{is_configured}
 use Rattle.subnet_ports.proofs.EndPortLemmas.{end_ports_stand_in_order}
 use Rattle.subnet_ports.proofs.PortLemmas.{zip_is_keyed}
 use Rattle.subnet_ports.proofs.end_ports.configuration_of.Goals as goal
@@ -21,3 +24,11 @@ pub returns-clause-end_ports : goal.returns-clause-end_ports
 returns-clause-end_ports c =
     subst (λ (k : ConfigurationState). AreEndPorts c.args.partitions.now c.args.topology.now k.ports) (sym (returns-clause-value c))
     (end_ports_stand_in_order c.args.partitions.now c.args.topology.now c.known_sound.ensures)
+
+pub returns-clause-configured : goal.returns-clause-configured
+returns-clause-configured c =
+    let headings : c.into_parts-headings.result.0.items ≡ map heading_of c.args.partitions.now =
+    c.into_parts-headings.ensures.headings ∙ rw c.in_ok-members.ensures refl in
+    let P : List Heading → Type 0 = AreSoundHeadings in
+    subst IsConfigured (sym (returns-clause-value c))
+    (is_configured c.args.partitions.now c.args.topology.now c.known_sound.ensures (subst P headings c.into_parts-headings.ensures.sound))

@@ -34,7 +34,7 @@ returns-then-not-is_joined-clause-found g c x stands sweepable =
     always_joined x (found_first x start.there) c.visit_all.new.survey _ sweepable
     (subst (Comes x (λ _. IsAllAsked x (found_first x start.there) c.visit_all.new.survey)) c.in-Ok-visit_all.is
     (c.visit_all.ensures.went x (c.start.ensures.left x stands sweepable.good) sweepable (found_first x start.there) begun))
-    (ap (λ (graph : GraphState). graph.rows) c.in-Ok-into_graph.ensures.ok) (sym c.is_joined.ensures ∙ c.if-not-is_joined.true)
+    (ap (λ (graph : GraphState). graph.rows) c.in-Ok-into_graph.ensures.ok) (sym c.is_joined.ensures.order ∙ c.if-not-is_joined.true)
 
 pub returns-clause-found : goal.returns-clause-found
 returns-clause-found g c x stands sweepable =

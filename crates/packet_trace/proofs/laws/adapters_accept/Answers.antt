@@ -1,0 +1,5 @@
+use Rattle.packet_trace.proofs.DeliveryLemmas.{adapters_accept}
+use Rattle.packet_trace.proofs.laws.adapters_accept.Goals as goal
+
+pub returns : goal.returns
+returns c = adapters_accept

@@ -1,0 +1,12 @@
+use Rattle.std.proofs.Common.{List, sym, subst, refl}
+use Rattle.mad_layout.specs.Layout.{Field, Fits}
+use Rattle.sa_records.specs.McMemberRecord.{mc_member_record, mc_member_record_asked}
+use Rattle.sa_records.proofs.AskedLemmas.{fits_with_value, is_as_wide}
+use Rattle.sa_records.proofs.mc_member_record.McMemberRecord.ask_by.Goals as goal
+
+pub returns-clause-fits : goal.returns-clause-fits
+unfolding is_as_wide
+returns-clause-fits c = λ fits.
+    let P : List Field → Type 0 = Fits in
+    subst P (sym c.set_by.ensures.set)
+    (fits_with_value c.args.field.now c.args.value mc_member_record_asked (mc_member_record c.args.self.now) refl fits)
