@@ -11,6 +11,7 @@ pub mod Numbers
 pub mod Changed
 pub mod Notes
 pub mod Sources
+pub mod NamedNotes
 pub mod State
 pub mod OneReply
 pub mod WrongRules

@@ -15,7 +15,9 @@ use Rattle.sa_replies.specs.Transfers.{table_of}
 use Rattle.sa_replies.specs.Answer.{Administration, Answered, answer, answered_with}
 use Rattle.sa_records.specs.SaRecord.{record_bytes}
 use Rattle.sa_replies.specs.Laws.{AnswerRule, HidesFarRequests, are_refusals}
-use Rattle.sa_replies.specs.Notes.{Notes, NotedAnswer, answer_noted, in_segment, is_request, noted_records, with_notes}
+use Rattle.sa_replies.specs.Notes.{NotedByte, Notes, NotedAnswer, answer_noted, in_segment, is_request, noted_records, with_notes}
+use Rattle.sa_groups.specs.Groups.{Creator}
+use Rattle.sa_replies.specs.NamedNotes.{NamesSources}
 use Rattle.sa_replies.specs.State.{KeepsStates}
 use Rattle.sa_replies.specs.OneReply.{AnswersOnce, IgnoresOthers, asks_something}
 use Rattle.sa_replies.specs.Sources.{NotedRule, NotesItsData, TellsFromNear}
@@ -72,6 +74,23 @@ answer_noting_nothing ports own payload state notes = record {
 
 abbrev pub NothingNotedIsLess : Type 0
 NothingNotedIsLess = NotesItsData answer_noting_nothing → ⊥
+
+-- ---- to note the bytes and the records, and of each that it comes from the partition file: then nothing comes from far either
+abbrev pub from_file : NotedByte → NotedByte
+from_file one = record { byte = one.byte; source = Creator.PartitionFile }
+
+abbrev pub of_file : List Entry → List Entry
+of_file entries = map (λ (entry : Entry). record { shown = entry.shown; source = Creator.PartitionFile }) entries
+
+abbrev pub answer_noting_the_file : NotedRule
+answer_noting_the_file ports own payload state notes = record {
+  mads = map (λ one. record { mad = one.mad; bytes = map from_file one.bytes }) (answer_noted ports own payload state notes).mads;
+  state = (answer_noted ports own payload state notes).state;
+  notes = λ p. of_file ((answer_noted ports own payload state notes).notes p);
+}
+
+abbrev pub TheFileIsNoSource : Type 0
+TheFileIsNoSource = NamesSources answer_noting_the_file → ⊥
 
 -- ---- an answer after which there is no place for any table
 abbrev pub answer_losing_places : AnswerRule

@@ -4,6 +4,7 @@ ghost use Rattle.sa_replies.specs.Changed.{OthersChangeNoReceivers, RefusedChang
 ghost use Rattle.sa_replies.specs.Laws.{AnswersAreSeenAlike, AnswersKeepSound, FarRequestsAreNotSeen, RefusedChangeNothing, RequestersAreAnsweredAlike, RequestsLeaveTheRest, ServicesDeletedAreGone, ServicesSetAreThere};
 ghost use Rattle.sa_replies.specs.Sources.{AnswersTellFromNear, DataIsNoted, JoinRepliesComeFromNear, NotesSpellTables, NotesStandBeside, ServiceRepliesComeFromNear};
 ghost use Rattle.sa_replies.specs.OneReply.{OthersAreIgnored, RequestsAreAnsweredOnce};
+ghost use Rattle.sa_replies.specs.NamedNotes.{NotesNameSources};
 ghost use Rattle.sa_replies.specs.Numbers.{NumbersAreAsAsked};
 ghost use Rattle.sa_replies.specs.Taken.{TheGreatestIsTaken};
 ghost use Rattle.sa_replies.specs.State.{AnswersKeepStates, StartsAreStates};
@@ -112,6 +113,12 @@ pub fn notes_spell_tables()
 /// the port can be sent, and the length of the records that are noted for it then can be told.
 pub fn data_is_noted()
     ensures { DataIsNoted }
+{}
+
+/// The records that are noted of a table come from the sources that they themselves name, when it is opened; its segments
+/// have their parts of these, byte for byte with the source; and so it is with the record that answers a Get.
+pub fn notes_name_sources()
+    ensures { NotesNameSources }
 {}
 
 /// Each byte of a record by which a port is answered, whole or in a segment, comes from a port near it or from the

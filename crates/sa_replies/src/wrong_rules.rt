@@ -1,7 +1,7 @@
 //! Rules for answers that break isolation, so that a reader sees that the laws say something. Each function
 //! does nothing: its contract is the law.
 
-ghost use Rattle.sa_replies.specs.WrongRules.{AllNodesTell, LostPlacesAreMissed, NothingNotedIsLess, OneTableTells, OthersAreAnswered, RefusalsKeepNoData, TwiceIsNotOnce};
+ghost use Rattle.sa_replies.specs.WrongRules.{AllNodesTell, LostPlacesAreMissed, NothingNotedIsLess, OneTableTells, OthersAreAnswered, RefusalsKeepNoData, TheFileIsNoSource, TwiceIsNotOnce};
 
 /// With one open table for all ports, a port is told that a port far from it asked for one.
 pub fn one_table_tells()
@@ -16,6 +16,11 @@ pub fn all_nodes_tell()
 /// Where nothing is noted, the bytes that are noted are not those of the data that a port is sent.
 pub fn nothing_noted_is_less()
     ensures { NothingNotedIsLess }
+{}
+
+/// Where all bytes are noted as those of the partition file, a table does not name the ports that its nodes come from.
+pub fn the_file_is_no_source()
+    ensures { TheFileIsNoSource }
 {}
 
 /// An answer after which no port has a place for a table leaves no state of the configuration.
