@@ -13,8 +13,8 @@ use Rattle.mad_layout.proofs.LayoutLemmas.{field_narrow, fits_both}
 use Rattle.fabric_parts.specs.declared.node_type.NodeType.{NodeType}
 use Rattle.fabric_parts.specs.declared.node_type.NodeType.TheVariants.{ChannelAdapter, Switch}
 use Rattle.attr_tables.specs.PortInfo.{port_info}
-use Rattle.agent_rules.specs.declared.link.Link.{Link}
-use Rattle.agent_rules.specs.declared.link.Link.TheVariants.{Cabled, Uncabled, Internal}
+use Rattle.agent_rules.specs.declared.link.PortLink.{PortLink}
+use Rattle.agent_rules.specs.declared.link.PortLink.TheVariants.{Cabled, Uncabled, Internal}
 use Rattle.agent_rules.specs.PowerUp.{guid_cap_of, keys_at_power_up, physical_state_at_power_up, port_info_at_power_up, state_at_power_up}
 use Rattle.attr_tables.specs.declared.port_info.PortInfo.{PortInfo}
 use Rattle.attr_tables.specs.Blocks.{has_block, with_block}
@@ -88,12 +88,12 @@ ports_take_back enforces info good =
     passed (is_valid info wanted) (Ok (taken_over enforces info wanted)) InvalidField valid ∙ ap (λ (one : PortInfo). Ok one) (same_taken enforces info)
 
 -- ---- PortInfo at power-up
-state_small : (link : Link) → state_at_power_up link < 2 ^ 4
+state_small : (link : PortLink) → state_at_power_up link < 2 ^ 4
 state_small Cabled = omega arith
 state_small Uncabled = omega arith
 state_small Internal = omega arith
 
-physical_small : (link : Link) → physical_state_at_power_up link < 2 ^ 4
+physical_small : (link : PortLink) → physical_state_at_power_up link < 2 ^ 4
 physical_small Cabled = omega arith
 physical_small Uncabled = omega arith
 physical_small Internal = omega arith
@@ -102,7 +102,7 @@ guids_small : (node_type : NodeType) → guid_cap_of node_type < 2 ^ 8
 guids_small ChannelAdapter = omega arith
 guids_small Switch = omega arith
 
-new_fits : (node_type : NodeType) (number : ℕ) (link : Link) → number < 256 → Fits (port_info (port_info_at_power_up node_type number link))
+new_fits : (node_type : NodeType) (number : ℕ) (link : PortLink) → number < 256 → Fits (port_info (port_info_at_power_up node_type number link))
 new_fits node_type number link small =
     let new = port_info (port_info_at_power_up node_type number link) in
     fits_both 8 new (omega arith, (omega arith, (omega arith, (omega arith, (omega arith, (omega arith, (omega arith, (small, tt))))))))
@@ -112,12 +112,12 @@ new_fits node_type number link small =
     (fits_both 8 (drop 32 new) (omega arith, (omega arith, (omega arith, (omega arith, (omega arith, (omega arith, (guids_small node_type, (omega arith, tt))))))))
     (omega arith, (omega arith, (omega arith, (omega arith, (omega arith, tt)))))))))
 
-new_regular : (node_type : NodeType) (number : ℕ) (link : Link) → is_regular (port_info_at_power_up node_type number link) ≡ true
+new_regular : (node_type : NodeType) (number : ℕ) (link : PortLink) → is_regular (port_info_at_power_up node_type number link) ≡ true
 new_regular node_type number Cabled = refl
 new_regular node_type number Uncabled = refl
 new_regular node_type number Internal = refl
 
-pub new_info_good : (node_type : NodeType) (number : ℕ) (link : Link) → number < 256 → IsGoodInfo (port_info_at_power_up node_type number link)
+pub new_info_good : (node_type : NodeType) (number : ℕ) (link : PortLink) → number < 256 → IsGoodInfo (port_info_at_power_up node_type number link)
 new_info_good node_type number link small =
     record { fits = new_fits node_type number link small; regular = new_regular node_type number link }
 

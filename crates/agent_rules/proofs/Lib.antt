@@ -8,3 +8,4 @@ pub mod GoodLemmas
 pub mod GivenLemmas
 pub mod CarryLemmas
 pub mod UnseenLemmas
+pub mod TakenLemmas

@@ -1,19 +1,22 @@
 -- What holds of the agent of every node, in the terms of who asks it.
 use Rattle.std.specs.Int.Digits.{AllBelowBase}
-use Rattle.std.specs.Prelude.{ℕ, ◌+◌, ◌/◌, ◌^◌, ◌<◌, ◌≤◌, ◌≡◌, ◌≢◌, Bool, true, false, if◌then◌else◌, List, [], ◌∷◌, length, get_or, take, drop, Result, Ok, Err}
+use Rattle.std.specs.Prelude.{ℕ, ◌+◌, ◌/◌, ◌^◌, ◌<◌, ◌≤◌, ◌≡◌, ◌≢◌, ◌==◌, Bool, true, false, if◌then◌else◌, List, [], ◌∷◌, length, get_or, take, drop, Result, Ok, Err}
 use Rattle.mad_layout.specs.Bits.{field, put_field}
 use Rattle.mad_layout.specs.Layout.{Fits, at, is_free}
 use Rattle.mad_layout.specs.MadStatus.{mad_status_code}
 use Rattle.mad_layout.specs.declared.status.MadStatus.{MadStatus}
 use Rattle.attr_tables.specs.declared.port_info.PortInfo.{PortInfo}
 use Rattle.attr_tables.specs.declared.switch_info.SwitchInfo.{SwitchInfo}
+use Rattle.fabric_parts.specs.declared.node_type.NodeType.{NodeType}
 use Rattle.attr_tables.specs.Attribute.{IsAttribute}
 use Rattle.attr_tables.specs.Blocks.{word_bytes}
+use Rattle.attr_tables.specs.NodeInfo.{node_info, node_info_bytes}
 use Rattle.attr_tables.specs.PortInfo.{port_info, port_info_bytes}
 use Rattle.attr_tables.specs.SwitchInfo.{switch_info, switch_info_bytes}
 use Rattle.agent_rules.specs.Agent.{Getter, Setter, after, answer}
 use Rattle.agent_rules.specs.Carried.{linear_fdb_top_in, ports_in, words_in}
 use Rattle.agent_rules.specs.Good.{IsGoodInfo, IsTable}
+use Rattle.agent_rules.specs.PowerUp.{node_info_of}
 use Rattle.agent_rules.specs.PortSetting.{port_info_after, port_setting, setting_asked}
 use Rattle.agent_rules.specs.Request.{KeepsRest, attribute_asked, data_of, is_request, is_set, modifier_of}
 use Rattle.agent_rules.specs.Request.{reply_method, reply_to}
@@ -96,6 +99,37 @@ abbrev pub SettingsKeepGood : Type 0
 SettingsKeepGood =
     (enforces : Bool) (info next : PortInfo) (attribute : List ℕ) → IsGoodInfo info
     → port_info_after enforces info (port_setting attribute) ≡ Ok next → IsGoodInfo next
+
+-- what a port has after a Set that it takes: each field that a Set may change reads as the attribute asks at its place there,
+-- the state where not 0 is asked, and both enforcement bits of a port that enforces partitions; all else is as before
+pub record IsTaken (enforces : Bool) (info next : PortInfo) (attribute : List ℕ) : Type 0 where
+  pub gid_prefix : next.gid_prefix ≡ field attribute 64 64
+  pub lid : next.lid ≡ field attribute 128 16
+  pub master_sm_lid : next.master_sm_lid ≡ field attribute 144 16
+  pub neighbor_mtu : next.neighbor_mtu ≡ field attribute 288 4
+  pub master_sm_sl : next.master_sm_sl ≡ field attribute 292 4
+  pub state : next.port_state ≡ (if field attribute 260 4 == 0 then info.port_state else field attribute 260 4)
+  pub inbound : enforces ≡ true → next.partition_enforcement_inbound ≡ (field attribute 348 1 == 1)
+  pub outbound : enforces ≡ true → next.partition_enforcement_outbound ≡ (field attribute 349 1 == 1)
+  pub rest : unsettable enforces next ≡ unsettable enforces info
+
+abbrev pub SetsAreTaken : Type 0
+SetsAreTaken =
+    (enforces : Bool) (info next : PortInfo) (attribute : List ℕ) → port_info_after enforces info (port_setting attribute) ≡ Ok next
+    → IsTaken enforces info next attribute
+
+-- the three GUIDs of NodeInfo, each at its place: that of the system and of the node are the node's, and that of the port is
+-- the port's own, which need not be the same
+pub record NamesGuids (attribute : List ℕ) (node_guid port_guid : ℕ) : Type 0 where
+  pub system : field attribute 32 64 ≡ node_guid
+  pub node : field attribute 96 64 ≡ node_guid
+  pub port : field attribute 160 64 ≡ port_guid
+
+abbrev pub NodeInfosNameGuids : Type 0
+NodeInfosNameGuids =
+    (node_type : NodeType) (num_ports node_guid port_guid number : ℕ)
+    → Fits (node_info (node_info_of node_type num_ports node_guid port_guid number))
+    → NamesGuids (node_info_bytes (node_info_of node_type num_ports node_guid port_guid number)) node_guid port_guid
 
 -- no bit of the field is one that an agent reads or writes: it is of the path, say, or of the TransactionID
 abbrev pub is_unseen : ℕ → ℕ → Bool

@@ -1,7 +1,7 @@
 -- What a simulated node has at power-up: the capabilities that our nodes have, and 0 for all else.
 use Rattle.std.specs.Prelude.{ℕ, ◌-◌, Bool, true, false, List, ◌∷◌, replicate}
-use Rattle.agent_rules.specs.declared.link.Link.{Link}
-use Rattle.agent_rules.specs.declared.link.Link.TheVariants.{Cabled, Uncabled, Internal}
+use Rattle.agent_rules.specs.declared.link.PortLink.{PortLink}
+use Rattle.agent_rules.specs.declared.link.PortLink.TheVariants.{Cabled, Uncabled, Internal}
 use Rattle.fabric_parts.specs.declared.node_type.NodeType.{NodeType}
 use Rattle.fabric_parts.specs.declared.node_type.NodeType.TheVariants.{ChannelAdapter, Switch}
 use Rattle.attr_tables.specs.declared.node_info.NodeInfo.{NodeInfo}
@@ -12,18 +12,18 @@ use Rattle.fabric_parts.specs.NodeType.{node_type_code}
 use Rattle.pkey_rules.specs.declared.key_table.TheConstants.{PARTITIONS}
 
 -- a cabled port is Initialize (2), one without a cable Down (1), port 0 of a switch Active (4)
-abbrev pub state_at_power_up : Link → ℕ
+abbrev pub state_at_power_up : PortLink → ℕ
 state_at_power_up Cabled = 2
 state_at_power_up Uncabled = 1
 state_at_power_up Internal = 4
 
 -- and the physical link is LinkUp (5), without a cable Polling (2)
-abbrev pub physical_state_at_power_up : Link → ℕ
+abbrev pub physical_state_at_power_up : PortLink → ℕ
 physical_state_at_power_up Cabled = 5
 physical_state_at_power_up Uncabled = 2
 physical_state_at_power_up Internal = 5
 
-abbrev pub is_uncabled : Link → Bool
+abbrev pub is_uncabled : PortLink → Bool
 is_uncabled Cabled = false
 is_uncabled Uncabled = true
 is_uncabled Internal = false
@@ -33,7 +33,7 @@ abbrev pub guid_cap_of : NodeType → ℕ
 guid_cap_of ChannelAdapter = 1
 guid_cap_of Switch = 0
 
-abbrev pub port_info_at_power_up : NodeType → ℕ → Link → PortInfo
+abbrev pub port_info_at_power_up : NodeType → ℕ → PortLink → PortInfo
 port_info_at_power_up node_type local_port_num link =
     record {
       m_key = 0;

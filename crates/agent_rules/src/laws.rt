@@ -3,7 +3,7 @@
 ghost use Rattle.std.specs.Prelude.{◌≡◌};
 ghost use Rattle.agent_rules.specs.declared.power_up.TheConstants.{LINEAR_TABLE, MULTICAST_TABLE};
 ghost use Rattle.agent_rules.specs.declared.request.TheConstants.{DIRECTED_ROUTE_CLASS, SMP_VERSION};
-ghost use Rattle.agent_rules.specs.Laws.{PortsTakeBack, RepliesCarry, SettingsKeepGood, SpelledIsRead, UnseenPasses};
+ghost use Rattle.agent_rules.specs.Laws.{NodeInfosNameGuids, PortsTakeBack, RepliesCarry, SetsAreTaken, SettingsKeepGood, SpelledIsRead, UnseenPasses};
 
 /// A reply carries the attribute or the refusal that answers, and all of the request beside. Like the
 /// laws below it does nothing: its contract is the law.
@@ -25,6 +25,16 @@ pub fn spelled_is_read()
 /// changes nothing.
 pub fn ports_take_back()
     ensures { PortsTakeBack }
+{}
+
+/// After a Set that a port takes, each field that a Set may change reads as it was asked, and every other as before.
+pub fn sets_are_taken()
+    ensures { SetsAreTaken }
+{}
+
+/// NodeInfo names the GUID of the system, of the node and of the port, each at its place.
+pub fn node_infos_name_guids()
+    ensures { NodeInfosNameGuids }
 {}
 
 /// Whatever a Set asks for, what the port has after it is good where it was good.

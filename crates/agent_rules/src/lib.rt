@@ -3,7 +3,7 @@
 //! [`is_request`], [`attribute_asked`] and [`put_reply`] read a request and write its reply,
 //! [`port_info_after`] is a Set of PortInfo, [`word_block_at`] and [`set_word_block`] read and set a
 //! block of a table of keys or masks. [`port_info_at_power_up`] and its like say what a simulated node
-//! has at power-up, by its [`Link`]s. A kind of node adds what it gives for a Get and what it takes from
+//! has at power-up, by its [`PortLink`]s. A kind of node adds what it gives for a Get and what it takes from
 //! a Set (`specs/Agent.antt`). The rules are those of the IBA volume 1
 //!, chapters 13 and 14; what a node has at power-up is ours.
 #![tactic(auto)]
@@ -21,7 +21,7 @@ pub use crate::carried::{linear_fdb_top_in, ports_in, words_in};
 pub use crate::laws::{
     ports_take_back, replies_carry, settings_keep_good, spelled_is_read, the_numbers, unseen_passes,
 };
-pub use crate::link::Link;
+pub use crate::link::PortLink;
 pub use crate::local_port::shown_at;
 pub use crate::port_setting::{PortSetting, port_info_after};
 pub use crate::power_up::{

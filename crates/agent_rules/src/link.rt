@@ -2,7 +2,7 @@
 
 /// What a simulated port is linked to.
 #[derive(Clone, Copy, Debug, PartialEq, Eq)]
-pub enum Link {
+pub enum PortLink {
     /// A cable.
     Cabled,
     /// Nothing.

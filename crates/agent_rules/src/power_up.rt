@@ -6,7 +6,7 @@ ghost use Rattle.attr_tables.specs.PortInfo.{port_info};
 ghost use Rattle.agent_rules.specs.PortSetting.{is_down};
 ghost use Rattle.mad_layout.specs.Layout.{Fits};
 
-use crate::link::Link;
+use crate::link::PortLink;
 use attr_tables::{Mtu, NodeInfo, PortInfo, PortPhysicalState, PortState, SwitchInfo};
 use fabric_parts::NodeType;
 use pkey_rules::{DEFAULT_BASE, PARTITIONS, key_of};
@@ -18,15 +18,15 @@ pub const LINEAR_TABLE: usize = 512;
 pub const MULTICAST_TABLE: usize = 1024;
 
 /// What a port of a simulated node has at power-up.
-pub fn port_info_at_power_up(node_type: NodeType, local_port_num: u8, link: Link) -> PortInfo
+pub fn port_info_at_power_up(node_type: NodeType, local_port_num: u8, link: PortLink) -> PortInfo
     ensures value { result ≡ port_info_at_power_up node_type local_port_num link }
     ensures fits { Fits (port_info result) }
     ensures down { is_down result ≡ is_uncabled link }
 {
     let (port_state, physical_state) = match link {
-        Link::Cabled => (PortState::Initialize, PortPhysicalState::LinkUp),
-        Link::Uncabled => (PortState::Down, PortPhysicalState::Polling),
-        Link::Internal => (PortState::Active, PortPhysicalState::LinkUp),
+        PortLink::Cabled => (PortState::Initialize, PortPhysicalState::LinkUp),
+        PortLink::Uncabled => (PortState::Down, PortPhysicalState::Polling),
+        PortLink::Internal => (PortState::Active, PortPhysicalState::LinkUp),
     };
     let guid_cap = match node_type {
         NodeType::ChannelAdapter => 1,

@@ -1,4 +1,4 @@
-//! Files and writers in memory, some of which fail. All of them tell what they hold.
+//! Files and writers in memory, some of which fail. All of them say what they hold.
 
 ghost use Rattle.std.specs.Prelude.{◌≡◌, false, [], ◌∷◌, Some, find, map, option_map, string_bytes};
 ghost use Rattle.std.specs.Str.{bytes_eq};

@@ -120,7 +120,7 @@ fn output_that_is_not_written(rt: HostRuntime) -> Result<(), Fail> {
     Ok(())
 }
 
-/// Words, and a part of the text that tells what is wrong with them.
+/// Words, and a part of the text that says what is wrong with them.
 const REFUSED: [(&[&str], &str); 13] = [
     (&["fabric"], "Usage:"),
     (&["fabric", "run"], "TOPO"),

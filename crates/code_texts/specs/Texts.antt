@@ -1,5 +1,5 @@
 -- What is told of each code. The texts themselves stand in the code, and here what holds of them.
-use Rattle.std.specs.Prelude.{ℕ, Bool, List, ◌∷◌, [], ◌++◌, ◌==◌, length, take}
+use Rattle.std.specs.Prelude.{ℕ, Bool, List, ◌∷◌, [], ◌++◌, ◌==◌, length, take, Option, Some, None}
 use Rattle.std.specs.Str.{bytes_eq}
 use Rattle.std.specs.List.{before_first, flat_map}
 use Rattle.code_texts.specs.declared.code.Code.{Code}
@@ -72,3 +72,8 @@ line_of code = first_line (text_of code) ++ 10 ∷ []
 -- a line for each code
 abbrev pub listing : List ℕ
 listing = flat_map line_of ALL
+
+-- what is said of a code, or a line for each
+abbrev pub explained : Option Code → List ℕ
+explained None = listing
+explained (Some code) = text_of code

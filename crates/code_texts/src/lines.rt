@@ -1,14 +1,26 @@
-//! The list of all codes.
+//! What is said of codes.
 
 ghost use Rattle.std.specs.Prelude.{◌≡◌, ◌≤◌, ◌<◌, ◌==◌, ◌++◌, length, position, IfOk, IfSome, OnOk};
 ghost use Rattle.std.specs.List.{flat_map, position_or_len};
-ghost use Rattle.code_texts.specs.Texts.{first_line, line_of, listing};
+ghost use Rattle.code_texts.specs.Texts.{explained, first_line, line_of, listing};
 
 use crate::code::{ALL, Code};
 use std::alloc::{AllocError, Global};
 
+/// The text of a code, or without one a line for each. Memory alone can be refused.
+pub fn explained(alloc: Global, code: Option<Code>) -> Result<Vec<u8>, AllocError>
+    ensures { IfOk result (λ text. text.items ≡ explained code) }
+{
+    let Some(code) = code else {
+        return listing(alloc);
+    };
+    let mut text = Vec::new(alloc);
+    text.extend_from_slice(code.text().as_bytes())?;
+    Ok(text)
+}
+
 /// A line for each code, in their order: the first of its text. Memory alone can be refused.
-pub fn listing(alloc: Global) -> Result<Vec<u8>, AllocError>
+fn listing(alloc: Global) -> Result<Vec<u8>, AllocError>
     ensures { IfOk result (λ text. text.items ≡ listing) }
 {
     let mut text = Vec::new(alloc);

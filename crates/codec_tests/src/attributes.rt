@@ -1,5 +1,7 @@
+//! Vectors of the attributes of subnet management, of nodes at power-up.
+
 use crate::fixtures::{bytes_from, filled};
-use agent_rules::{Link, node_info_of, port_info_at_power_up, switch_info_at_power_up};
+use agent_rules::{PortLink, node_info_of, port_info_at_power_up, switch_info_at_power_up};
 use attr_tables::{
     BlockPlace, Mtu, NodeDescription, NodeInfo, PortBlock, PortInfo, PortPhysicalState, PortState,
     SwitchInfo, WordBlock, block_count, block_place,
@@ -31,7 +33,7 @@ fn a_cabled_adapter_port_at_power_up(rt: HostRuntime) {
     let mut bytes = bytes_from(28, &CABLED_ADAPTER_PORT);
     // GUIDCap
     bytes[50] = 0x01;
-    let info = port_info_at_power_up(NodeType::ChannelAdapter, 1, Link::Cabled);
+    let info = port_info_at_power_up(NodeType::ChannelAdapter, 1, PortLink::Cabled);
     let mut written = [0xff; 64];
     info.write(&mut written);
     assert_eq!(rt; written, bytes);

@@ -1,3 +1,5 @@
+//! Vectors of the headers of MADs.
+
 use crate::fixtures::{bytes_from, filled};
 use bitflags::Flags;
 use mad_layout::{DrSmp, Header, Mad, MadStatus, Method, RmppFlags, RmppHeader, RmppKind, SaMad};

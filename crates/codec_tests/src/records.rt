@@ -1,3 +1,5 @@
+//! Vectors of the four records of subnet administration, and what a request asks of them.
+
 use crate::fixtures::filled;
 use bitflags::Flags;
 use mad_layout::JoinState;

@@ -1,3 +1,5 @@
+//! Worked segments of long answers, sent and received.
+
 use mad_layout::{Header, Mad};
 use rmpp_core::{AbortCause, ReceiveFault, Receiver, ReplyHeader, Sender};
 use std::alloc::Global;

@@ -8,15 +8,19 @@ use Rattle.subnet_core.specs.declared.fault.RunFault.{RunFault}
 use Rattle.subnet_core.specs.declared.fault.RunFault.TheVariants as run
 use Rattle.fabric_cli.specs.declared.faults.Stop.{Stop}
 use Rattle.fabric_cli.specs.declared.faults.Stop.TheVariants.{Words, NoMemory, Unread, Unwritten, Run, Port, Second}
-use Rattle.fabric_cli.specs.Faults.{line_of, memory_line, not_text_line, run_line, run_status, status_of, IsOfGiven}
+use Rattle.fabric_cli.specs.Faults.{line_of, memory_line, run_line, run_status, status_of, stop_of, NamesUnread}
 use Rattle.fabric_cli.specs.Files.{Contents, OpensAll, OpensInOrder}
-use Rattle.fabric_cli.specs.Serving.{AppendsSome, Bytes, ComesTo, Ending, complete, explained, faulted, judged_of, not_text, output_in, refused, Ends, EndsAs, EndsForSomeBytes, ForEnding, ForSomeBytes, IsRefused, IsTold, RunStops, Stops, TellsStop, texts_of}
-use Rattle.fabric_cli.specs.declared.words.Call.{Call}
-use Rattle.fabric_cli.specs.declared.words.Call.TheVariants.{Explain, Subnet}
-use Rattle.fabric_cli.specs.Words.{Names, asked_by_given, given_items, given_texts, opened_for}
+use Rattle.fabric_cli.specs.Serving.{AppendsSome, Bytes, ComesTo, Ending, complete, faulted, judged_for, output_in, refused, texts_of}
+use Rattle.fabric_cli.specs.Serving.{Ends, EndsAs, ForEnding, ForSomeBytes, IsRefusal, IsRefused, IsTold, RunStops, Stops, TellsStop}
+use Rattle.code_texts.specs.Texts.{explained}
+use Rattle.call_words.specs.Refusals.{IsOfGiven, IsOfWords}
+use Rattle.call_words.specs.Words.{Asking, Names, asked_by_given, given_items, given_texts, opened_for}
+use Rattle.call_words.specs.declared.call.Call.TheVariants.{Explain, Subnet}
+use Rattle.call_words.specs.declared.call.Refused.{Refused}
+use Rattle.call_words.specs.declared.call.Refused.TheVariants as refusal
 use Rattle.fabric_cli.specs.Writing.{AppendsPart, Writes}
 use Rattle.fabric_cli.proofs.JudgedLemmas.{for_ending}
-use Rattle.fabric_cli.proofs.ServingLemmas.{of_memory, other_status}
+use Rattle.fabric_cli.proofs.ServingLemmas.{stop_is_refused}
 
 kept : (known : Option (List ℕ)) → Keeps known known
 kept None = tt
@@ -50,11 +54,19 @@ run_ends judged (run.NoLegalPath switch node number) answer out err err' is othe
 run_ends judged (run.Push fault) answer out err err' is other told = fault_ends judged _ answer out err err' is.1 (told.0 ∙ is.0) told.1
 run_ends judged (run.Script line cause) answer out err err' is other told = fault_ends judged _ answer out err err' is.1 told.0 told.1
 
+-- refused words, with their text
+refusal_ends : (text : List ℕ) (answer : ℕ) (out err err' : Option (List ℕ)) → (answer ≡ 2) × Appends err err' text → (ending : Ending)
+    → IsRefusal ending text → Ends ending answer out out err err'
+refusal_ends text answer out err err' told (refused shown) is = (told.0, kept out, (text, is, told.1))
+refusal_ends text answer out err err' told (faulted status line) is = absurd is
+refusal_ends text answer out err err' told (complete output) is = absurd is
+
 -- a stop
 pub stop_ends : (judged : Result Bytes Ending) (stop : Stop) (answer : ℕ) (out err err' : Option (List ℕ)) → Stops judged stop → answer ≢ 3
     → (answer ≡ status_of stop) × Appends err err' (line_of stop) → EndsAs judged answer out out err err'
 stop_ends judged (Words text) answer out err err' is other told =
-    for_ending judged (λ ending. ending ≡ refused) (λ ending. Ends ending answer out out err err') (λ ending same. rw same (told.0, kept out, (string_bytes text, told.1))) is
+    for_ending judged (λ ending. IsRefusal ending (string_bytes text)) (λ ending. Ends ending answer out out err err')
+    (refusal_ends (string_bytes text) answer out err err' told) is
 stop_ends judged NoMemory answer out err err' is other told = absurd (other told.0)
 stop_ends judged (Unread name) answer out err err' is other told = absurd (other told.0)
 stop_ends judged Unwritten answer out err err' is other told = absurd is
@@ -83,11 +95,11 @@ of_texts None names texts result are comes = tt
 of_texts (Some file) names texts result are comes =
     subst (λ (read : Result Bytes Ending). ComesTo (λ (text : Vec ℕ Global). text.items) read result) (sym are) comes
 
-pub for_some_bytes : (asked : Option (Call Names)) (P Q : Result Bytes Ending → Type 0) → ((judged : Result Bytes Ending) → P judged → Q judged) → ForSomeBytes asked P
+pub for_some_bytes : (asked : Asking) (P Q : Result Bytes Ending → Type 0) → ((judged : Result Bytes Ending) → P judged → Q judged) → ForSomeBytes asked P
     → ForSomeBytes asked Q
-for_some_bytes None P Q f some = f (Err refused) some
-for_some_bytes (Some (Subnet names)) P Q f some = (some.0, some.1, f (Ok some.0) some.2)
-for_some_bytes (Some (Explain code)) P Q f some = f (Err (complete (explained code))) some
+for_some_bytes (Err shown) P Q f some = f (Err (refused shown)) some
+for_some_bytes (Ok (Subnet names)) P Q f some = (some.0, some.1, f (Ok some.0) some.2)
+for_some_bytes (Ok (Explain code)) P Q f some = f (Err (complete (explained code))) some
 
 nothing_opened : (opened : Option (List (List ℕ))) → OpensAll opened opened []
 nothing_opened None = inr refl
@@ -101,56 +113,57 @@ pub given_are : (given : Result (IntoIter (String Global) Global) Error) (words 
     → given_texts given ≡ Some (map string_bytes words)
 given_are given words is = ap (option_map (λ all. map string_bytes all)) is
 
+-- ---- words that ask for nothing
+pub words_stop : (file : Contents) (asked : Asking) (stop : Refused (String Global)) → IsOfWords asked stop → Stops (judged_for file asked) (stop_of stop)
+words_stop file (Ok call) (refusal.Words text) is = absurd is
+words_stop file (Err shown) (refusal.Words text) is = is
+words_stop file asked refusal.NoMemory is = tt
+
+pub words_any : (asked : Asking) (stop : Refused (String Global)) → IsOfWords asked stop
+    → let result : Result (Vec ℕ Global) Stop = Err (stop_of stop) in IsTold result → ForSomeBytes asked (λ judged. ComesTo (λ text. text.items) judged result)
+words_any (Ok call) (refusal.Words text) is told = absurd is
+words_any (Err shown) (refusal.Words text) is told = is
+words_any asked refusal.NoMemory is told = absurd told
+
 -- words that are not given are not text, unless memory was refused
-not_text_ends : (given : Result (IntoIter (String Global) Global) Error) (stop : Stop) (answer : ℕ) (out err err' : Option (List ℕ))
-    → IsOfGiven given stop → answer ≢ 3 → (answer ≡ status_of stop) × Appends err err' (line_of stop)
-    → (given_texts given ≡ None) × Ends not_text answer out out err err'
-not_text_ends (Ok words) (Words text) answer out err err' is other told = absurd is
-not_text_ends (Err error) (Words text) answer out err err' is other told = (refl, (told.0, kept out, rw is.1 at told.1))
-not_text_ends given NoMemory answer out err err' is other told = absurd (other told.0)
-not_text_ends given (Unread name) answer out err err' is other told = absurd (other told.0)
-not_text_ends given Unwritten answer out err err' is other told = absurd (other told.0)
-not_text_ends (Ok words) (Run fault) answer out err err' is other told = absurd is
-not_text_ends (Err error) (Run fault) answer out err err' is other told = absurd is
-not_text_ends (Ok words) (Port cause) answer out err err' is other told = absurd is
-not_text_ends (Err error) (Port cause) answer out err err' is other told = absurd is
-not_text_ends (Ok words) (Second line cause) answer out err err' is other told = absurd is
-not_text_ends (Err error) (Second line cause) answer out err err' is other told = absurd is
+not_given : (given : Result (IntoIter (String Global) Global) Error) (stop : Refused (String Global)) → IsOfGiven given stop
+    → IsOfWords (asked_by_given (given_texts given)) stop
+not_given (Ok words) (refusal.Words text) is = absurd is.0
+not_given (Err error) (refusal.Words text) is = is.1
+not_given given refusal.NoMemory is = tt
 
-pub not_given_ends : (told : Option Contents) (given : Result (IntoIter (String Global) Global) Error) (stop : Stop) (answer : ℕ) (out err err' : Option (List ℕ))
-    → IsOfGiven given stop → answer ≢ 3 → (answer ≡ status_of stop) × Appends err err' (line_of stop)
-    → IfSome told (λ file. EndsAs (judged_of file (given_texts given)) answer out out err err')
-not_given_ends None given stop answer out err err' is other told = tt
-not_given_ends (Some file) given stop answer out err err' is other told =
-    let ends = not_text_ends given stop answer out err err' is other told in rw ends.0 ends.1
+module _ (given : Result (IntoIter (String Global) Global) Error) (stop : Refused (String Global)) (is : IsOfGiven given stop) where
+  abbrev asked : Asking
+  asked = asked_by_given (given_texts given)
 
-pub not_given_any : (given : Result (IntoIter (String Global) Global) Error) (stop : Stop) (answer : ℕ) (out err err' : Option (List ℕ))
-    → IsOfGiven given stop → answer ≢ 3 → (answer ≡ status_of stop) × Appends err err' (line_of stop)
-    → EndsForSomeBytes (given_texts given) (λ judged. EndsAs judged answer out out err err')
-not_given_any given stop answer out err err' is other told =
-    let ends = not_text_ends given stop answer out err err' is other told in rw ends.0 ends.1
+  stops : (file : Contents) → Stops (judged_for file asked) (stop_of stop)
+  stops file = words_stop file asked stop (not_given given stop is)
 
-not_text_refused : (file : Contents) (reads : Bool) (opened : Option (List (List ℕ))) (given : Result (IntoIter (String Global) Global) Error) (stop : Stop) (answer : ℕ) (a b : Bool) (err err' : Option (List ℕ))
-    → answer ≡ 3 → IsOfGiven given stop → TellsStop stop answer b err err' ⊎ Writes b err err' memory_line
-    → IsRefused file reads opened opened (opened_for (asked_by_given (given_texts given))) (judged_of file (given_texts given)) a b err err'
-not_text_refused file reads opened given stop answer a b err err' three is (inr told) = of_memory file reads opened opened _ _ a b err err' told
-not_text_refused file reads opened (Ok words) (Words text) answer a b err err' three is (inl told) = absurd is
-not_text_refused file reads opened (Err error) (Words text) answer a b err err' three is (inl told) =
-    record { line = not_text_line; is = inr (inr (refl, other_status 2 answer b three told.status (λ e. omega (arith, e)))); told = rw is.1 at told.told }
-not_text_refused file reads opened given NoMemory answer a b err err' three is (inl told) = of_memory file reads opened opened _ _ a b err err' told.told
-not_text_refused file reads opened (Ok words) (Unread name) answer a b err err' three is (inl told) = absurd is
-not_text_refused file reads opened (Err error) (Unread name) answer a b err err' three is (inl told) = absurd is
-not_text_refused file reads opened (Ok words) Unwritten answer a b err err' three is (inl told) = absurd is
-not_text_refused file reads opened (Err error) Unwritten answer a b err err' three is (inl told) = absurd is
-not_text_refused file reads opened (Ok words) (Run fault) answer a b err err' three is (inl told) = absurd is
-not_text_refused file reads opened (Err error) (Run fault) answer a b err err' three is (inl told) = absurd is
-not_text_refused file reads opened (Ok words) (Port cause) answer a b err err' three is (inl told) = absurd is
-not_text_refused file reads opened (Err error) (Port cause) answer a b err err' three is (inl told) = absurd is
-not_text_refused file reads opened (Ok words) (Second line cause) answer a b err err' three is (inl told) = absurd is
-not_text_refused file reads opened (Err error) (Second line cause) answer a b err err' three is (inl told) = absurd is
+  module _ (answer : ℕ) (out err err' : Option (List ℕ)) where
+    pub not_given_ends : (told : Option Contents) → answer ≢ 3 → (answer ≡ status_of (stop_of stop)) × Appends err err' (line_of (stop_of stop))
+        → IfSome told (λ file. EndsAs (judged_for file asked) answer out out err err')
+    not_given_ends None other written = tt
+    not_given_ends (Some file) other written = stop_ends (judged_for file asked) (stop_of stop) answer out err err' (stops file) other written
 
-pub not_given_refused : (told : Option Contents) (reads : Bool) (opened : Option (List (List ℕ))) (given : Result (IntoIter (String Global) Global) Error) (stop : Stop) (answer : ℕ) (a b : Bool) (err err' : Option (List ℕ))
-    → answer ≡ 3 → IsOfGiven given stop → TellsStop stop answer b err err' ⊎ Writes b err err' memory_line
-    → IfSome told (λ file. IsRefused file reads opened opened (opened_for (asked_by_given (given_texts given))) (judged_of file (given_texts given)) a b err err')
-not_given_refused None reads opened given stop answer a b err err' three is told = tt
-not_given_refused (Some file) reads opened given stop answer a b err err' three is told = not_text_refused file reads opened given stop answer a b err err' three is told
+    pub not_given_any : answer ≢ 3 → (answer ≡ status_of (stop_of stop)) × Appends err err' (line_of (stop_of stop))
+        → ForSomeBytes asked (λ judged. EndsAs judged answer out out err err')
+    not_given_any other written =
+        for_some_bytes asked (λ judged. ComesTo (λ (text : Vec ℕ Global). text.items) judged (Err (stop_of stop))) (λ judged. EndsAs judged answer out out err err')
+        (λ judged stopped. stop_ends judged (stop_of stop) answer out err err' stopped other written)
+        (words_any asked stop (not_given given stop is) (is_told (Vec ℕ Global) (stop_of stop) answer other written.0))
+
+    pub not_given_refused : (told : Option Contents) (reads : Bool) (opened : Option (List (List ℕ))) (a b : Bool) → answer ≡ 3
+        → TellsStop (stop_of stop) answer b err err' ⊎ Writes b err err' memory_line
+        → IfSome told (λ file. IsRefused file reads opened opened (opened_for asked) (judged_for file asked) a b err err')
+    not_given_refused told reads opened a b three part =
+        stop_is_refused told reads opened opened (opened_for asked) (λ file. judged_for file asked) (stop_of stop) answer a b err err' three
+        (all_stop told) (no_name told stop) part
+      where
+        all_stop : (t : Option Contents) → IfSome t (λ file. Stops (judged_for file asked) (stop_of stop))
+        all_stop None = tt
+        all_stop (Some file) = stops file
+
+        no_name : (t : Option Contents) (s : Refused (String Global)) → NamesUnread t reads opened opened (opened_for asked) (stop_of s)
+        no_name None s = tt
+        no_name (Some file) (refusal.Words text) = tt
+        no_name (Some file) refusal.NoMemory = tt

@@ -1,5 +1,7 @@
 -- What comes of texts and of their fabric.
 use Rattle.std.proofs.Common.{ℕ, ◌≡◌, List, [], Option, Some, None, Result, Ok, Err, Vec, Global, refl, sym, ◌∙◌, ap, subst}
+use Rattle.std.specs.Prelude.{IfErr, IfOk, IsErr}
+use Rattle.std.specs.declared.alloc.AllocError.{AllocError}
 use Rattle.result_words.specs.AtLine.{AtLine}
 use Rattle.result_words.specs.Gives.{Fails}
 use Rattle.result_words.specs.Steps.{◌>>=◌}
@@ -18,13 +20,13 @@ use Rattle.subnet_core.specs.declared.fault.RunFault.TheVariants as run
 use Rattle.subnet_fabric.specs.BringUp.{BroughtUpState}
 use Rattle.subnet_model.specs.declared.command.Command.{Command}
 use Rattle.sweep.specs.declared.fault.SweepFault.TheVariants as sweep
-use Rattle.fabric_cli.specs.Faults.{run_line, run_status}
+use Rattle.fabric_cli.specs.Faults.{run_line, run_status, IsOfRun}
 use Rattle.fabric_cli.specs.Serving.{Bytes, Comes, ComesTo, Ending, ForEnding, ForTexts, RunStops, Stops, complete, ending_by, ending_over, faulted, inspected, looked_at, second_stop, shares_in, changes_in, texts_with}
-use Rattle.fabric_cli.specs.declared.words.Inspection.{Inspection}
+use Rattle.call_words.specs.declared.call.Inspection.{Inspection}
 use Rattle.fabric_cli.specs.declared.faults.Stop.{Stop}
 use Rattle.fabric_cli.specs.declared.faults.Stop.TheVariants.{Words, NoMemory, Unread, Unwritten, Run, Port, Second}
-use Rattle.fabric_cli.specs.declared.words.Work.{Work}
-use Rattle.fabric_cli.specs.declared.words.Work.TheVariants as work
+use Rattle.call_words.specs.declared.call.Work.{Work}
+use Rattle.call_words.specs.declared.call.Work.TheVariants as work
 
 -- ---- no fault of a text or of its fabric has another status than 1
 of_text_at_one : {X Cause : Type 0} (make : ℕ → Cause → RunFault) → ((line : ℕ) (cause : Cause) → run_status (make line cause) ≡ 1)
@@ -91,6 +93,21 @@ pub for_ending : (judged : Result Bytes Ending) (P Q : Ending → Type 0) → ((
 for_ending (Ok texts) P Q f so = record { outcome = so.outcome; comes = so.comes; is = f _ so.is }
 for_ending (Err ending) P Q f so = f ending so
 
+-- a text that is made comes as it is, unless memory for it is refused
+pub made_comes : (judged : Result Bytes Ending) (made : Result (Vec ℕ Global) AllocError) (result : Result (Vec ℕ Global) Stop)
+    → IfOk made (λ text. ForEnding judged (λ ending. ending ≡ complete text.items)) → IfOk result (λ text. made ≡ Ok text)
+    → IfErr result (λ stop. (stop ≡ NoMemory) × IsErr made) → ComesTo (λ text. text.items) judged result
+made_comes judged made (Ok text) is same refused = rw same at is
+made_comes judged made (Err stop) is same refused = rw refused.0 tt
+
+pub refused_of_run : {X : Type 0} (result : Result X Stop) (P : Type 0) → IfErr result (λ stop. (stop ≡ NoMemory) × P) → IfErr result IsOfRun
+refused_of_run (Ok text) P is = tt
+refused_of_run (Err stop) P is = rw is.0 tt
+
+pub ok_then : {X E : Type 0} (P Q : X → Type 0) → ((x : X) → P x → Q x) → (result : Result X E) → IfOk result P → IfOk result Q
+ok_then P Q f (Ok x) is = f x is
+ok_then P Q f (Err error) is = tt
+
 -- a fault is told where it is no want of memory
 pub stopped_by : (judged : Result Bytes Ending) (fault : RunFault)
     → (fault_in fault ≡ Some fault → (run_status fault ≡ 1) × ForEnding judged (λ ending. ending ≡ faulted 1 (run_line fault))) → RunStops judged fault
@@ -113,7 +130,7 @@ nothing_up = record {
     lids = [];
     between = record { rows = []; guids = []; ranks = []; depths = []; places = []; tables = []; homes = [] };
   };
-  fabric = record { nodes = []; cables = []; manager = nothing_at };
+  fabric = record { nodes = []; cables = []; cut = []; manager = nothing_at };
 }
 
 outcome_of : (given : Result RosterState RunFault) (stop : Option RunFault) → Becomes given stop

@@ -1,5 +1,5 @@
 -- What standard error is told at status 3.
-use Rattle.std.proofs.Common.{ℕ, ◌≡◌, ◌≢◌, ◌⊎◌, ◌∙◌, inl, inr, refl, sym, append-nil, arith, Bool, true, false, List, Option, Some, None, Result, IfSome}
+use Rattle.std.proofs.Common.{ℕ, ◌≡◌, ◌≢◌, ◌⊎◌, ◌∙◌, inl, inr, refl, sym, append-nil, arith, Bool, true, false, List, Option, Some, None, Result, IfSome, string_bytes}
 use Rattle.std.specs.Io.KnownBytes.{Keeps}
 use Rattle.subnet_core.specs.declared.fault.RunFault.{RunFault}
 use Rattle.subnet_core.specs.declared.fault.RunFault.TheVariants as run
@@ -7,7 +7,7 @@ use Rattle.fabric_cli.specs.declared.faults.Stop.{Stop}
 use Rattle.fabric_cli.specs.declared.faults.Stop.TheVariants.{Words, NoMemory, Unread, Unwritten, Run, Port, Second}
 use Rattle.fabric_cli.specs.Faults.{NamesUnread, line_of, memory_line, port_line, run_line, run_status, second_line, unwritten_line}
 use Rattle.fabric_cli.specs.Files.{Contents}
-use Rattle.fabric_cli.specs.Serving.{AppendsSome, Bytes, Ending, complete, faulted, refused, ForEnding, IsLineOf, IsRefused, RunStops, Stops, TellsStop}
+use Rattle.fabric_cli.specs.Serving.{AppendsSome, Bytes, Ending, complete, faulted, refused, ForEnding, IsLineOf, IsRefusal, IsRefused, RunStops, Stops, TellsStop}
 use Rattle.fabric_cli.specs.Writing.{AppendsPart, Writes}
 use Rattle.fabric_cli.proofs.JudgedLemmas.{for_ending}
 
@@ -67,6 +67,12 @@ module _ (file : Contents) (reads : Bool) (old new : Option (List (List ℕ))) (
         told = told;
       }
 
+  -- refused words whose text does not go out
+  refusal_line : (text : List ℕ) → b ≢ true → (ending : Ending) → IsRefusal ending text → IsLineOf a b ending text
+  refusal_line text may (refused shown) is = (is, may)
+  refusal_line text may (faulted status line) is = absurd is
+  refusal_line text may (complete output) is = absurd is
+
   of_run : (fault : RunFault) → RunStops judged fault → TellsStop (Run fault) answer b err err' → IsRefused file reads old new names judged a b err err'
   of_run run.NoMemory is part = of_memory file reads old new names judged a b err err' part.told
   of_run (run.Topology line cause) is part = of_fault _ _ is.0 is.1 part.told part.status
@@ -83,8 +89,8 @@ module _ (file : Contents) (reads : Bool) (old new : Option (List (List ℕ))) (
       record {
         line = line_of (Words text);
         is =
-            inr (inr (for_ending judged (λ ending. ending ≡ refused) (λ ending. IsLineOf a b ending (line_of (Words text)))
-            (λ ending same. rw same (other_status 2 answer b three part.status (λ e. omega (arith, e)))) is));
+            inr (inr (for_ending judged (λ ending. IsRefusal ending (string_bytes text)) (λ ending. IsLineOf a b ending (string_bytes text))
+            (λ ending same. refusal_line (string_bytes text) (other_status 2 answer b three part.status (λ e. omega (arith, e))) ending same) is));
         told = part.told;
       }
   of_stop NoMemory is unread (inl part) = of_memory file reads old new names judged a b err err' part.told

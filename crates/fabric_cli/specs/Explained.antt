@@ -1,4 +1,4 @@
--- The codes that the program tells, and that each of them is explained.
+-- The codes that the program prints, and that each of them is explained.
 use Rattle.std.specs.Prelude.{ℕ, ◌≡◌, ◌==◌, ◌||◌, ◌++◌, true, Bool, List, codes, drop, Some}
 use Rattle.std.specs.List.{before_first}
 use Rattle.code_texts.specs.Codes.{code_of}
@@ -8,7 +8,7 @@ use Rattle.fabric_cli.specs.Faults.{line_of}
 use Rattle.fabric_cli.specs.declared.faults.Stop.{Stop}
 use Rattle.fabric_cli.specs.declared.faults.Stop.TheVariants.{Words}
 
--- as the word of `fabric explain` it is read as a code, and what is told of that begins with the word
+-- as the word of `fabric explain` it is read as a code, and the text of that begins with the word
 pub record IsExplained (word : List ℕ) : Type 0 where
   pub code : Code
   pub read : code_of word ≡ Some code
@@ -22,7 +22,7 @@ ends_word byte = (byte == 32) || (byte == 10)
 abbrev pub told_word : List ℕ → List ℕ
 told_word line = before_first ends_word (drop 6 line)
 
--- what standard error is told has a code behind `fault `, unless it is the text of refused words
+-- what standard error gains has a code behind `fault `, unless it is the text of refused words
 pub record TellsCode (line : List ℕ) : Type 0 where
   pub begins : begins_with (codes "fault ") line ≡ true
   pub explained : IsExplained (told_word line)

@@ -1,12 +1,9 @@
--- Why a call does not complete: the line that tells it, and the exit status.
-use Rattle.std.specs.Prelude.{ℕ, ◌≡◌, ◌≢◌, Bool, List, ◌++◌, codes, decimal, Option, Some, None, Result, Err, string_bytes, IfSome}
+-- Why a call does not complete: the line that says so, and the exit status.
+use Rattle.std.specs.Prelude.{ℕ, Bool, List, ◌++◌, codes, decimal, Option, Some, None, String, string_bytes}
 use Rattle.std.specs.Option.{option_map_or}
-use Rattle.std.specs.IoError.{error_kind}
-use Rattle.std.specs.declared.io.Error.{Error as IoError}
-use Rattle.std.specs.declared.io.ErrorKind.TheVariants.{OutOfMemory as IoOutOfMemory}
-use Rattle.clap.specs.Words.{kind_of}
-use Rattle.clap.specs.declared.error.Error.{Error}
-use Rattle.clap.specs.declared.error.kind.ErrorKind.TheVariants.{OutOfMemory}
+use Rattle.std.specs.Global.{Global}
+use Rattle.call_words.specs.declared.call.Refused.{Refused}
+use Rattle.call_words.specs.declared.call.Refused.TheVariants as refused
 use Rattle.topo_file.specs.Fault.{code_of as topology_code}
 use Rattle.partition_file.specs.Fault.{code_of as partitions_code}
 use Rattle.subnet_core.specs.Fault.{code_of as script_code}
@@ -16,7 +13,7 @@ use Rattle.sweep.specs.declared.fault.SweepFault.TheVariants.{TooManyHops}
 use Rattle.table_push.specs.Fault.{code_of as push_code}
 use Rattle.subnet_core.specs.declared.fault.RunFault.{RunFault}
 use Rattle.subnet_core.specs.declared.fault.RunFault.TheVariants as run
-use Rattle.fabric_cli.specs.Files.{Contents, StopsAt}
+use Rattle.fabric_cli.specs.Files.{Contents, Opened, StopsAt}
 use Rattle.fabric_cli.specs.declared.faults.Stop.{Stop}
 use Rattle.fabric_cli.specs.declared.faults.Stop.TheVariants.{Words, NoMemory, Unread, Unwritten, Run, Port, Second}
 
@@ -76,7 +73,7 @@ run_status (run.Sweep fault) = sweep_status fault
 run_status (run.Push fault) = 3
 run_status _ = 1
 
--- what standard error is told: one line, or where the words are refused, the text that goes with that
+-- what standard error gains: one line, or where the words are refused, the text that goes with that
 abbrev pub line_of : Stop → List ℕ
 line_of (Words text) = string_bytes text
 line_of NoMemory = memory_line
@@ -95,32 +92,10 @@ status_of (Run fault) = run_status fault
 status_of (Port cause) = 1
 status_of (Second line cause) = 1
 
--- the words are refused with a text, unless memory was refused
-abbrev pub IsRefusalOf : Error → Stop → Type 0
-IsRefusalOf error (Words text) = kind_of error ≢ OutOfMemory
-IsRefusalOf error NoMemory = Unit {0}
-IsRefusalOf error _ = ⊥
-
--- a refusal of words has the text by which an error shows itself, where that is known
-abbrev pub TellsAll : Option (List ℕ) → Stop → Type 0
-TellsAll shown (Words text) = IfSome shown (λ bytes. string_bytes text ≡ bytes)
-TellsAll shown NoMemory = Unit {0}
-TellsAll shown _ = ⊥
-
-abbrev pub not_text_line : List ℕ
-not_text_line = codes "error: a word is not text\n"
-
--- words that are given are refused only where they are not all text, by one line, unless memory was refused
-abbrev pub IsOfGiven : {X : Type 0} → Result X IoError → Stop → Type 0
-IsOfGiven (Err error) (Words text) = (error_kind error ≢ IoOutOfMemory) × (string_bytes text ≡ not_text_line)
-IsOfGiven given NoMemory = Unit {0}
-IsOfGiven given _ = ⊥
-
--- words that ask for nothing are refused, and no others
-abbrev pub IsOfWords : {X : Type 0} → Option X → Stop → Type 0
-IsOfWords asked (Words text) = asked ≡ None
-IsOfWords asked NoMemory = Unit {0}
-IsOfWords asked _ = ⊥
+-- words that ask for nothing
+abbrev pub stop_of : Refused (String Global) → Stop
+stop_of (refused.Words text) = Words text
+stop_of refused.NoMemory = NoMemory
 
 -- reading files ends only in these
 abbrev pub IsOfFiles : Stop → Type 0
@@ -137,7 +112,7 @@ IsOfRun (Second line cause) = Unit {0}
 IsOfRun _ = ⊥
 
 -- a stop for a file that is not read names the file at which reading stopped
-abbrev pub NamesUnread : Option Contents → Bool → Option (List (List ℕ)) → Option (List (List ℕ)) → List (List ℕ) → Stop → Type 0
+abbrev pub NamesUnread : Option Contents → Bool → Opened → Opened → List (List ℕ) → Stop → Type 0
 NamesUnread None reads old new names stop = Unit {0}
 NamesUnread (Some file) reads old new names (Unread name) = StopsAt file reads old new names name.now
 NamesUnread (Some file) reads old new names _ = Unit {0}

@@ -1,5 +1,6 @@
--- Files that tell what they hold: the bytes behind each name, and the names opened so far.
-use Rattle.std.specs.Prelude.{ℕ, ◌≡◌, ◌≤◌, ◌⊎◌, Bool, true, List, [], ◌∷◌, ◌++◌, length, take, Option, Some, None, is_some, IfSome, option_map}
+-- Files that say what they hold: the bytes behind each name, and the names opened so far.
+use Rattle.std.specs.Prelude.{ℕ, ◌≡◌, ◌≤◌, ◌⊎◌, Bool, true, List, [], ◌∷◌, ◌++◌, length, take, Option}
+use Rattle.std.specs.Prelude.{Some, None, is_some, IfSome, option_map}
 use Rattle.std.specs.List.{list_all}
 use Rattle.fabric_cli.specs.declared.reading.TheConstants.{READS}
 
@@ -7,15 +8,19 @@ use Rattle.fabric_cli.specs.declared.reading.TheConstants.{READS}
 abbrev pub Contents : Type 0
 Contents = List ℕ → Option (List ℕ)
 
--- where the names opened are told still, these were opened last, one after the other, and no other
-abbrev pub OpensAll : Option (List (List ℕ)) → Option (List (List ℕ)) → List (List ℕ) → Type 0
+-- the names opened so far, where they are known
+abbrev pub Opened : Type 0
+Opened = Option (List (List ℕ))
+
+-- where the names opened are known still, these were opened last, one after the other, and no other
+abbrev pub OpensAll : Opened → Opened → List (List ℕ) → Type 0
 OpensAll old new names = (new ≡ None) ⊎ (new ≡ option_map (λ opened. opened ++ names) old)
 
 -- of these names the first few were opened, one after the other, and no other
-abbrev pub OpensInOrder : Option (List (List ℕ)) → Option (List (List ℕ)) → List (List ℕ) → Type 0
+abbrev pub OpensInOrder : Opened → Opened → List (List ℕ) → Type 0
 OpensInOrder old new names = (k : ℕ) × OpensAll old new (take k names)
 
--- where the files tell what they hold, a name opens to its bytes
+-- where the files say what they hold, a name opens to its bytes
 abbrev pub Opens : {I : Type 0} → (I → Option (List ℕ)) → Option Contents → List ℕ → Option I → Type 0
 Opens remaining told name input = IfSome told (λ file. option_map remaining input ≡ option_map Some (file name))
 
@@ -29,7 +34,7 @@ IsEndless known = IfSome known (λ bytes. READS ≤ length bytes)
 
 -- of these names this one was opened last, and those before it open to bytes: reading stopped here,
 -- which where no read fails it does only at a name that opens to nothing, or to bytes without an end
-pub record StopsAt (file : Contents) (reads : Bool) (old new : Option (List (List ℕ))) (names : List (List ℕ)) (name : List ℕ) : Type 0 where
+pub record StopsAt (file : Contents) (reads : Bool) (old new : Opened) (names : List (List ℕ)) (name : List ℕ) : Type 0 where
   pub before : List (List ℕ)
   pub after : List (List ℕ)
   pub cut : names ≡ before ++ name ∷ after

@@ -1,5 +1,6 @@
 -- What a call answers, from its words, the bytes of its files, and what becomes of the fabric that they describe.
-use Rattle.std.specs.Prelude.{ℕ, ◌≡◌, ◌≢◌, ◌⊎◌, Bool, true, List, [], Option, Some, None, is_some, option_map, Result, Ok, Err, Vec}
+use Rattle.std.specs.Prelude.{ℕ, ◌≡◌, ◌≢◌, ◌⊎◌, Bool, true, List, [], Option, Some, None, is_some, option_map}
+use Rattle.std.specs.Prelude.{string_bytes, IfSome, Result, Ok, Err, Vec}
 use Rattle.std.specs.Borrow.{Bor}
 use Rattle.std.specs.Global.{Global}
 use Rattle.std.specs.Io.KnownBytes.{Appends, Keeps}
@@ -26,24 +27,23 @@ use Rattle.topo_file.specs.Topology.{TopologyState}
 use Rattle.result_words.specs.Steps.{◌>>=◌}
 use Rattle.subnet_core.specs.EventLines.{report_text}
 use Rattle.fabric_cli.specs.declared.faults.Stop.{Stop}
-use Rattle.fabric_cli.specs.declared.serving.Texts.{Texts}
-use Rattle.code_texts.specs.Texts.{listing, text_of}
-use Rattle.code_texts.specs.declared.code.Code.{Code}
-use Rattle.fabric_cli.specs.declared.words.Call.{Call}
-use Rattle.fabric_cli.specs.declared.words.Call.TheVariants.{Explain, Subnet}
-use Rattle.fabric_cli.specs.declared.words.Inspection.{Inspection}
-use Rattle.fabric_cli.specs.declared.words.Inspection.TheVariants.{Graph, Keys, Tables, Trace}
-use Rattle.fabric_cli.specs.declared.words.Work.{Work}
-use Rattle.fabric_cli.specs.declared.words.Work.TheVariants as work
+use Rattle.fabric_cli.specs.declared.texts.Texts.{Texts}
+use Rattle.code_texts.specs.Texts.{explained}
+use Rattle.call_words.specs.declared.call.Call.TheVariants.{Explain, Subnet}
+use Rattle.call_words.specs.declared.call.Inspection.{Inspection}
+use Rattle.call_words.specs.declared.call.Inspection.TheVariants.{Graph, Keys, Tables, Trace}
+use Rattle.call_words.specs.declared.call.Work.{Work}
+use Rattle.call_words.specs.declared.call.Work.TheVariants as work
 use Rattle.fabric_cli.specs.declared.faults.Stop.TheVariants.{Words, NoMemory, Unread, Unwritten, Run, Port, Second}
-use Rattle.fabric_cli.specs.Faults.{line_of, status_of, memory_line, not_text_line, port_line, run_line, second_line, run_status, unread_line, unwritten_line}
-use Rattle.fabric_cli.specs.Files.{Contents, StopsAt}
-use Rattle.fabric_cli.specs.Words.{Names, asked_of, named_inspection}
+use Rattle.fabric_cli.specs.Faults.{line_of, status_of, memory_line, port_line, run_line, second_line, run_status, unread_line}
+use Rattle.fabric_cli.specs.Faults.{unwritten_line}
+use Rattle.fabric_cli.specs.Files.{Contents, Opened, StopsAt}
+use Rattle.call_words.specs.Words.{Asking, Names, named_inspection, opened_for}
 use Rattle.fabric_cli.specs.Writing.{AppendsPart, Writes}
 
--- how a call ends: the words are refused, or a fault's status and line, or a whole output
+-- how a call ends: the words are refused, with this text where it is known; or a fault's status and line; or a whole output
 pub data Ending : Type 0 where
-  refused : Ending
+  refused : Option (List ℕ) → Ending
   faulted : ℕ → List ℕ → Ending
   complete : List ℕ → Ending
 
@@ -107,7 +107,7 @@ abbrev pub reported : List ℕ → Option (List ℕ) → List ℕ → Option Run
 reported topology partitions script stop =
     report_of topology partitions script stop >>= λ told. Ok (report_text told.ports told.events)
 
--- a fault is told by its line alone, and an output comes whole
+-- of a fault its line alone is printed, and an output comes whole
 abbrev pub ending_by : Result (List ℕ) RunFault → Ending
 ending_by (Ok output) = complete output
 ending_by (Err fault) = faulted (run_status fault) (run_line fault)
@@ -184,24 +184,11 @@ abbrev pub ForEnding : Result Bytes Ending → (Ending → Type 0) → Type 0
 ForEnding (Ok texts) Is = ForTexts texts Is
 ForEnding (Err ending) Is = Is ending
 
--- what is told of a code, or a line for each
-abbrev pub explained : Option Code → List ℕ
-explained None = listing
-explained (Some code) = text_of code
-
-abbrev pub judged_for : Contents → Option (Call Names) → Result Bytes Ending
-judged_for file None = Err refused
-judged_for file (Some (Subnet names)) = texts_of file names
-judged_for file (Some (Explain code)) = Err (complete (explained code))
-
--- words that are not text are refused by a line of ours
-abbrev pub not_text : Ending
-not_text = faulted 2 not_text_line
-
--- what is judged in a call with these words, where each name opens to the bytes that `file` says
-abbrev pub judged_of : Contents → Option (List (List ℕ)) → Result Bytes Ending
-judged_of file None = Err not_text
-judged_of file (Some words) = judged_for file (asked_of words)
+-- what is judged in a call that asks for this, where each name opens to the bytes that `file` says
+abbrev pub judged_for : Contents → Asking → Result Bytes Ending
+judged_for file (Err shown) = Err (refused shown)
+judged_for file (Ok (Subnet names)) = texts_of file names
+judged_for file (Ok (Explain code)) = Err (complete (explained code))
 
 -- what is to be done, whatever stands in its files
 abbrev pub without_files : {W S : Type 0} → Work W S → Work W (Unit {0})
@@ -216,29 +203,32 @@ abbrev pub AreFor : Names → Bytes → Type 0
 AreFor names texts = (is_some texts.partitions ≡ is_some names.partitions) × (without_files texts.work ≡ without_files names.work)
 
 -- it is so where each file that is asked for had some bytes; one name that is asked for twice may have had two
-abbrev pub ForSomeBytes : Option (Call Names) → (Result Bytes Ending → Type 0) → Type 0
-ForSomeBytes None Is = Is (Err refused)
-ForSomeBytes (Some (Subnet names)) Is = (texts : Bytes) × AreFor names texts × Is (Ok texts)
-ForSomeBytes (Some (Explain code)) Is = Is (Err (complete (explained code)))
+abbrev pub ForSomeBytes : Asking → (Result Bytes Ending → Type 0) → Type 0
+ForSomeBytes (Err shown) Is = Is (Err (refused shown))
+ForSomeBytes (Ok (Subnet names)) Is = (texts : Bytes) × AreFor names texts × Is (Ok texts)
+ForSomeBytes (Ok (Explain code)) Is = Is (Err (complete (explained code)))
 
-abbrev pub EndsForSomeBytes : Option (List (List ℕ)) → (Result Bytes Ending → Type 0) → Type 0
-EndsForSomeBytes None Is = Is (Err not_text)
-EndsForSomeBytes (Some words) Is = ForSomeBytes (asked_of words) Is
+-- the text is the one that is known
+abbrev pub IsKnown : Option (List ℕ) → List ℕ → Type 0
+IsKnown shown text = IfSome shown (λ known. text ≡ known)
 
--- the exit status, and how the two outputs grow. Where the words are refused, standard error gains a text:
--- it is clap's, whose contracts don't say which, or says that there is no such code
+-- the contents grew by one text, which is the one that is known
+abbrev pub AppendsKnown : Option (List ℕ) → Option (List ℕ) → Option (List ℕ) → Type 0
+AppendsKnown shown old new = (text : List ℕ) × IsKnown shown text × Appends old new text
+
+-- the exit status, and how the two outputs grow. Where the words are refused, standard error gains one text
 abbrev pub Ends : Ending → ℕ → Option (List ℕ) → Option (List ℕ) → Option (List ℕ) → Option (List ℕ) → Type 0
-Ends refused status out out' err err' = (status ≡ 2) × Keeps out out' × ((text : List ℕ) × Appends err err' text)
+Ends (refused shown) status out out' err err' = (status ≡ 2) × Keeps out out' × AppendsKnown shown err err'
 Ends (faulted fault line) status out out' err err' = (status ≡ fault) × Keeps out out' × Appends err err' line
 Ends (complete output) status out out' err err' = (status ≡ 0) × Appends out out' output × Keeps err err'
 
 -- so a call ends in which this is judged
-abbrev pub EndsAs : Result Bytes Ending → ℕ → Option (List ℕ) → Option (List ℕ) → Option (List ℕ) → Option (List ℕ) → Type 0
+abbrev pub EndsAs : Result Bytes Ending → ℕ → (out out' err err' : Option (List ℕ)) → Type 0
 EndsAs judged status out out' err err' = ForEnding judged (λ ending. Ends ending status out out' err err')
 
 -- what goes to the output where all of it goes out
 abbrev pub output_in : Ending → List ℕ
-output_in refused = []
+output_in (refused shown) = []
 output_in (faulted fault line) = []
 output_in (complete output) = output
 
@@ -246,24 +236,25 @@ output_in (complete output) = output
 abbrev pub AppendsSome : Result Bytes Ending → Option (List ℕ) → Option (List ℕ) → Type 0
 AppendsSome judged out out' = Keeps out out' ⊎ ForEnding judged (λ ending. AppendsPart out out' (output_in ending))
 
--- the line that is told, whole or in part, where a call could not end so: that an output that may refuse
+-- the line that is printed, whole or in part, where a call could not end so: that an output that may refuse
 -- did not go out, or the line of the fault itself, at which standard error refused (after all of it was
--- written too: a flush that fails looks so); where the words are refused, only that standard error may refuse
+-- written too: a flush that fails looks so); where the words are refused, their text
 abbrev pub IsLineOf : (out_is_sure err_is_sure : Bool) → Ending → List ℕ → Type 0
-IsLineOf out_is_sure err_is_sure refused line = err_is_sure ≢ true
+IsLineOf out_is_sure err_is_sure (refused shown) line = IsKnown shown line × (err_is_sure ≢ true)
 IsLineOf out_is_sure err_is_sure (faulted status fault) line = (line ≡ fault) × (err_is_sure ≢ true)
 IsLineOf out_is_sure err_is_sure (complete output) line = (line ≡ unwritten_line) × (out_is_sure ≢ true)
 
 -- the line of a file at which reading stopped
-abbrev pub IsUnreadLine : Contents → Bool → Option (List (List ℕ)) → Option (List (List ℕ)) → List (List ℕ) → List ℕ → Type 0
+abbrev pub IsUnreadLine : Contents → Bool → Opened → Opened → List (List ℕ) → List ℕ → Type 0
 IsUnreadLine file reads old new names line = (name : List ℕ) × StopsAt file reads old new names name × (line ≡ unread_line name)
 
 -- status 3: standard error has some beginning of a line, and all of it where it refuses nothing: the line
--- that tells that memory, a file or the output was refused, or the line of a fault at which it refused itself
-pub record IsRefused (file : Contents) (reads : Bool) (old new : Option (List (List ℕ))) (names : List (List ℕ))
+-- that says that memory, a file or the output was refused, or the line of a fault at which it refused itself
+pub record IsRefused (file : Contents) (reads : Bool) (old new : Opened) (names : List (List ℕ))
     (judged : Result Bytes Ending) (out_is_sure err_is_sure : Bool) (err err' : Option (List ℕ)) : Type 0 where
   pub line : List ℕ
-  pub is : (line ≡ memory_line) ⊎ (IsUnreadLine file reads old new names line ⊎ ForEnding judged (λ ending. IsLineOf out_is_sure err_is_sure ending line))
+  pub is : (line ≡ memory_line)
+      ⊎ (IsUnreadLine file reads old new names line ⊎ ForEnding judged (λ ending. IsLineOf out_is_sure err_is_sure ending line))
   pub told : Writes err_is_sure err err' line
 
 -- why the output is not made, unless the machine refuses; no fault of a text or of its fabric has another status than 1
@@ -276,8 +267,13 @@ abbrev pub second_stop : RunFault → Stop
 second_stop (run.Partitions line cause) = Second line cause
 second_stop fault = Run fault
 
+-- words are refused, with this text
+abbrev pub IsRefusal : Ending → List ℕ → Type 0
+IsRefusal (refused shown) text = IsKnown shown text
+IsRefusal _ text = ⊥
+
 abbrev pub Stops : Result Bytes Ending → Stop → Type 0
-Stops judged (Words text) = ForEnding judged (λ ending. ending ≡ refused)
+Stops judged (Words text) = ForEnding judged (λ ending. IsRefusal ending (string_bytes text))
 Stops judged NoMemory = Unit {0}
 Stops judged (Unread name) = Unit {0}
 Stops judged Unwritten = ⊥
@@ -285,12 +281,12 @@ Stops judged (Run fault) = RunStops judged fault
 Stops judged (Port cause) = ForEnding judged (λ ending. ending ≡ faulted 1 (port_line (script_code cause)))
 Stops judged (Second line cause) = ForEnding judged (λ ending. ending ≡ faulted 1 (second_line (partitions_code cause) line))
 
--- a stop is told by its line, and with its status where the line can go out
+-- of a stop its line is printed, and with its status where the line can go out
 pub record TellsStop (stop : Stop) (answer : ℕ) (is_sure : Bool) (err err' : Option (List ℕ)) : Type 0 where
   pub told : Writes is_sure err err' (line_of stop)
   pub status : is_sure ≡ true → answer ≡ status_of stop
 
--- files are read to their end before anything is told of them
+-- files are read to their end before anything is said of them
 abbrev pub IsTold : {X : Type 0} → Result X Stop → Type 0
 IsTold (Ok output) = Unit {0}
 IsTold (Err (Words text)) = Unit {0}
@@ -303,3 +299,15 @@ IsTold _ = ⊥
 abbrev pub ComesTo : {X : Type 0} → (X → List ℕ) → Result Bytes Ending → Result X Stop → Type 0
 ComesTo view judged (Ok output) = ForEnding judged (λ ending. ending ≡ complete (view output))
 ComesTo view judged (Err stop) = Stops judged stop
+
+-- ---- of a call that asks for this, where the files say what they hold
+abbrev pub EndsFor : Asking → Option Contents → ℕ → (out out' err err' : Option (List ℕ)) → Type 0
+EndsFor asked told status out out' err err' = IfSome told (λ file. EndsAs (judged_for file asked) status out out' err err')
+
+abbrev pub IsRefusedFor : Asking → Option Contents → Bool → (old new : Opened) → (out_is_sure err_is_sure : Bool)
+    → (err err' : Option (List ℕ)) → Type 0
+IsRefusedFor asked told reads old new out_is_sure err_is_sure err err' =
+    IfSome told (λ file. IsRefused file reads old new (opened_for asked) (judged_for file asked) out_is_sure err_is_sure err err')
+
+abbrev pub AppendsSomeFor : Asking → Option Contents → (out out' : Option (List ℕ)) → Type 0
+AppendsSomeFor asked told out out' = IfSome told (λ file. AppendsSome (judged_for file asked) out out')

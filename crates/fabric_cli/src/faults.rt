@@ -1,12 +1,14 @@
-//! Why a call does not complete, and how that is told.
+//! Why a call does not complete, and the line that says so.
 
 ghost use Rattle.std.specs.Prelude.{◌≡◌, IfOk, option_map};
 ghost use Rattle.std.specs.Option.{option_map_or};
-ghost use Rattle.fabric_cli.specs.Faults.{fabric_line, line_of, memory_line, no_path_line, port_line, run_line, run_status, second_line, status_of, sweep_status};
+ghost use Rattle.fabric_cli.specs.Faults.{fabric_line, line_of, memory_line, no_path_line, port_line, run_line, run_status};
+ghost use Rattle.fabric_cli.specs.Faults.{second_line, status_of, stop_of, sweep_status};
 ghost use Rattle.fabric_cli.specs.declared.faults.Stop.TheVariants.{NoMemory};
 ghost use Rattle.subnet_core.specs.Fault.{code_of as script_code};
 ghost use Rattle.partition_file.specs.Fault.{code_of as partitions_code};
 
+use call_words::Refused;
 use partition_file::PartitionCause;
 use std::alloc::{AllocError, AllocFailed, Global};
 use subnet_core::{RunFault, ScriptCause};
@@ -21,13 +23,13 @@ pub const WORDS_REFUSED: u8 = 2;
 /// The exit status where the machine refuses: memory, a file, or the output.
 pub const REFUSED: u8 = 3;
 
-/// What standard error is told where memory was refused.
+/// What standard error gains where memory was refused.
 pub const MEMORY_LINE: &str = "fault memory\n";
 
 /// Why a call does not complete.
 #[derive(Drop)]
 pub enum Stop<'a> {
-    /// The words are refused, or help or the version is asked for: the text that tells it.
+    /// The words are refused, or help or the version is asked for: the text that says so.
     Words(String),
     /// Memory was refused.
     NoMemory,
@@ -49,6 +51,16 @@ pub enum Stop<'a> {
 }
 
 impl<'a> Stop<'a> {
+    /// Words ask for nothing.
+    pub fn of_words(refused: Refused<String>) -> Self
+        ensures { result ≡ stop_of refused }
+    {
+        match refused {
+            Refused::Words(text) => Stop::Words(text),
+            Refused::NoMemory => Stop::NoMemory,
+        }
+    }
+
     /// The exit status.
     pub fn status(&self) -> u8
         ensures { result ≡ status_of self.now }
@@ -61,7 +73,7 @@ impl<'a> Stop<'a> {
         }
     }
 
-    /// What standard error is told.
+    /// What standard error gains.
     pub fn line(&self, alloc: Global) -> Result<Vec<u8>, AllocError>
         ensures { IfOk result (λ text. text.items ≡ line_of self.now) }
     {

@@ -11,7 +11,7 @@ use std::{fs, io, rt};
 /// What an opened file is read by.
 ///
 /// Its ghost members are what a contract may know of it: `remaining` is the bytes that are left, where
-/// they are told, and `is_sure` whether no read of it fails.
+/// they are known, and `is_sure` whether no read of it fails.
 pub trait Reader {
     ghost remaining: { Self → Option (List ℕ) };
 
@@ -39,7 +39,7 @@ impl<R: Read> Reader for R {
 /// A place that opens names to readers.
 ///
 /// Its ghost members are what a contract may know of it: `told` is which bytes each name opens to, or
-/// that it opens to nothing; `opened` the names opened so far. Each may be `None`: nothing is told, or
+/// that it opens to nothing; `opened` the names opened so far. Each may be `None`: nothing is known, or
 /// the names could not be kept. `reads` is whether no read of any of the files fails.
 pub trait Files {
     /// What an opened file is read by.
@@ -60,7 +60,7 @@ pub trait Files {
         ensures bytes { Opens Self.Input.remaining (told self.old) name.now result };
 }
 
-/// The machine's files. Nothing is told of them.
+/// The machine's files. Nothing is known of them.
 #[derive(Drop)]
 pub struct MachineFiles<'a, R: rt::Files> {
     rt: &'a R,

@@ -5,21 +5,23 @@
 //! it, and `fabric diff TOPO PARTS PARTS2` what another partition file changes. `fabric tables TOPO PARTS`, `fabric keys
 //! TOPO PARTS` and `fabric trace TOPO PARTS PORT DLID PKEY` print what its fabric holds, and the way of a packet through
 //! that, and `fabric graph TOPO PARTS` a picture of it. `fabric run TOPO PARTS SCRIPT` runs a
-//! script of commands in it, and prints what its ports receive. `fabric explain CODE` tells what the code of a fault
+//! script of commands in it, and prints what its ports receive. `fabric explain CODE` says what the code of a fault
 //! or a refusal means. [`serve`] is the one call: it does all the work, over any words, any files and any two writers,
 //! and its contract says what it answers of the words and the bytes alone.
 #![tactic(auto)]
 
-mod explaining;
 mod faults;
 mod files;
 mod laws;
+mod outputs;
 mod reading;
 mod serving;
-mod words;
+mod texts;
 mod writing;
 
 pub use crate::files::{Files, MachineFiles, Reader};
-pub use crate::laws::{every_code_that_is_told_is_explained, the_numbers};
-pub use crate::serving::{serve, serve_given};
+pub use crate::laws::{
+    every_code_that_is_told_is_explained, files_that_agree_are_judged_alike, the_numbers,
+};
+pub use crate::serving::{serve, serve_by, serve_given};
 pub use crate::writing::Output;

@@ -47,7 +47,8 @@ pub fn read_file<'a, F: Files>(
     ensures bytes { IfOk result (λ bytes. IfSome (F.told files.old)
         (λ file. file name.entry.now ≡ Some bytes.items)) }
     ensures fault { IfErr result IsOfFiles }
-    ensures unread { IfErr result (NamesUnread (F.told files.old) (F.reads files.old) (F.opened files.old) (F.opened files.new) (name.entry.now ∷ [])) }
+    ensures unread { IfErr result (NamesUnread (F.told files.old) (F.reads files.old)
+        (F.opened files.old) (F.opened files.new) (name.entry.now ∷ [])) }
 {
     let Some(mut input) = files.open(name) else {
         return Err(Stop::Unread(name));

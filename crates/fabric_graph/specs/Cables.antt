@@ -1,7 +1,8 @@
 -- The cables of a topology in DOT, as edges with the numbers of the ports at both ends. DOT draws the first end of an edge
 -- above the second where they are not in one row, so that each row of switches stands below that of the rank before, and
 -- adapters stand below their switches.
-use Rattle.std.specs.Prelude.{ℕ, Bool, true, false, nat_lt, if◌then◌else◌, List, ◌++◌, codes, decimal, slice_get, Option, Some, None}
+use Rattle.std.specs.Prelude.{ℕ, Bool, true, false, nat_lt, if◌then◌else◌, List, ◌++◌, codes, decimal, slice_get, Option}
+use Rattle.std.specs.Prelude.{Some, None}
 use Rattle.std.specs.Option.{option_and_then}
 use Rattle.fabric_graph.specs.Nodes.{quoted}
 use Rattle.fabric_graph.specs.Ranks.{rank_of}

@@ -1,9 +1,10 @@
 -- The fabric of a subnet as a text in DOT, the language of Graphviz.
-use Rattle.std.specs.Prelude.{ℕ, List, ◌++◌, codes, flat_map, length}
+use Rattle.std.specs.Prelude.{ℕ, if◌then◌else◌, List, [], ◌++◌, codes, flat_map, length, Option}
 use Rattle.std.specs.List.{range_with_len}
 use Rattle.fabric_graph.specs.Cables.{cable_line}
-use Rattle.fabric_graph.specs.Nodes.{node_line}
+use Rattle.fabric_graph.specs.Lists.{SeatState, is_in_list, place_text, places, seats_of, spacing}
 use Rattle.fabric_graph.specs.Ranks.{rank_line}
+use Rattle.fabric_parts.specs.declared.cable.Cable.{Cable}
 use Rattle.subnet_model.specs.Configuration.{ConfigurationState}
 use Rattle.topo_file.specs.Topology.{TopologyState}
 use Rattle.updn_routes.specs.Subnet.{RoutesState}
@@ -16,11 +17,18 @@ head = codes "graph fabric {\n  node [fontname=\"sans-serif\", fontsize=11];\n  
 abbrev pub ranks_drawn : RoutesState → List ℕ
 ranks_drawn routes = range_with_len 0 (length routes.graph.switches)
 
--- each node, each rank, each cable
-unfoldable pub graph_text : TopologyState → ConfigurationState → RoutesState → List ℕ
-graph_text plan subnet routes =
-    head
-    ++ flat_map (node_line plan subnet) plan.nodes
+-- a cable that no list shows
+abbrev pub edge_of : TopologyState → RoutesState → List (Option SeatState) → Cable → List ℕ
+edge_of plan routes seats cable = if is_in_list seats cable then [] else cable_line routes plan.nodes cable
+
+-- each node, by itself or in a list; each rank; and each cable that no list shows
+unfoldable pub text_by : TopologyState → ConfigurationState → RoutesState → List (Option SeatState) → List ℕ
+text_by plan subnet routes seats =
+    head ++ spacing seats
+    ++ flat_map (place_text plan subnet seats) (places seats)
     ++ flat_map (rank_line routes plan.nodes) (ranks_drawn routes)
-    ++ flat_map (cable_line routes plan.nodes) plan.cables
+    ++ flat_map (edge_of plan routes seats) plan.cables
     ++ codes "}\n"
+
+abbrev pub graph_text : TopologyState → ConfigurationState → RoutesState → List ℕ
+graph_text plan subnet routes = text_by plan subnet routes (seats_of plan subnet)

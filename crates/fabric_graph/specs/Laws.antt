@@ -1,8 +1,17 @@
--- What holds of every drawing: the statement of the law of `src/laws.rt`.
-use Rattle.std.specs.Prelude.{ℕ, ◌≡◌, List, Some}
+-- What holds of every drawing: the statements of the laws of `src/laws.rt`.
+use Rattle.std.specs.Prelude.{ℕ, ◌≡◌, ◌==◌, ◌<◌, ◌&&◌, ◌||◌, Bool, false, if◌then◌else◌, List, []}
+use Rattle.std.specs.Prelude.{◌∷◌, filter, flat_map, length, slice_get, Option, Some}
 use Rattle.std.specs.List.{Contains}
+use Rattle.std.specs.Option.{option_map_or}
 use Rattle.fabric_graph.specs.Graph.{ranks_drawn}
+use Rattle.fabric_graph.specs.Lists.{SeatState, drawn_at, is_in_list, listed_seat, places, seats_of}
 use Rattle.fabric_graph.specs.Ranks.{rank_of}
+use Rattle.fabric_parts.specs.Cable.{is_same_port, port}
+use Rattle.fabric_parts.specs.declared.cable.Cable.{Cable}
+use Rattle.fabric_parts.specs.declared.cable.PortRef.{PortRef}
+use Rattle.subnet_model.specs.Configuration.{ConfigurationState}
+use Rattle.topo_file.specs.Sound.{AreSound}
+use Rattle.topo_file.specs.Topology.{TopologyState}
 use Rattle.topo_file.specs.declared.node.Node.{Node}
 use Rattle.updn_routes.specs.Order.{AreRanks}
 use Rattle.updn_routes.specs.Routes.{AreRoutes}
@@ -14,3 +23,27 @@ EachRankHasARow =
     (routes : RoutesState) (roots : List ℕ) (node : Node) (rank : ℕ)
     → AreOfGraph routes → AreRoutes routes.between → AreRanks routes.between.rows routes.between.guids roots routes.between.ranks
     → rank_of routes node ≡ Some rank → Contains (ranks_drawn routes) rank
+
+-- of all nodes that are drawn, by themselves or in lists, each is one, and no more than one
+abbrev pub EachNodeIsDrawnOnce : Type 0
+EachNodeIsDrawnOnce =
+    (seats : List (Option SeatState)) (place : ℕ) → place < length seats
+    → filter (λ drawn. drawn == place) (flat_map (drawn_at seats) (places seats)) ≡ place ∷ []
+
+-- the cable joins these two ports
+abbrev pub joins : PortRef → PortRef → Cable → Bool
+joins a b cable =
+    (is_same_port cable.first a && is_same_port cable.second b) || (is_same_port cable.first b && is_same_port cable.second a)
+
+-- the adapter of that place stands in a list, and its line shows this cable
+abbrev pub shows_cable : List (Option SeatState) → Cable → ℕ → Bool
+shows_cable seats cable place =
+    option_map_or (λ seat. joins (port place 1) (port seat.switch seat.port) cable) (listed_seat seats place) false
+
+-- a cable that is an edge of its own has no line in any list, and each other one has one line
+abbrev pub EachCableIsDrawnOnce : Type 0
+EachCableIsDrawnOnce =
+    (plan : TopologyState) (subnet : ConfigurationState) (k : ℕ) (cable : Cable)
+    → AreSound plan.nodes plan.cables → slice_get plan.cables k ≡ Some cable
+    → let seats = seats_of plan subnet in
+    length (filter (shows_cable seats cable) (places seats)) ≡ (if is_in_list seats cable then 1 else 0)

@@ -1,5 +1,6 @@
 -- The nodes of a topology in DOT: switches as boxes, channel adapters as ellipses.
-use Rattle.std.specs.Prelude.{ℕ, ◌==◌, Bool, false, if◌then◌else◌, List, [], ◌++◌, codes, decimal, flat_map, slice_get}
+use Rattle.std.specs.Prelude.{ℕ, ◌==◌, Bool, false, if◌then◌else◌, List, [], ◌∷◌, ◌++◌, codes, decimal, flat_map}
+use Rattle.std.specs.Prelude.{slice_get}
 use Rattle.std.specs.Int.{w16, w64, to_be_bytes}
 use Rattle.std.specs.Option.{option_map_or}
 use Rattle.fabric_graph.specs.Partitions.{fill_of, is_of}
@@ -20,9 +21,6 @@ abbrev pub is_manager : TopologyState → Node → Bool
 is_manager plan node = option_map_or (λ manager. manager.guid == node.guid) (slice_get plan.nodes plan.sm.node) false
 
 -- ---- its label, in which `\n` breaks the line
-abbrev pub guid_line : Node → List ℕ
-guid_line node = if is_switch node then codes "\\n" ++ hex_text (to_be_bytes w64 node.guid) else []
-
 -- the number of a port; that of a switch is the switch itself
 abbrev pub port_words : ℕ → List ℕ
 port_words number = if number == 0 then [] else codes "port " ++ decimal number ++ codes " "
@@ -37,11 +35,17 @@ lid_line_of node port = if is_of node port then lid_line port else []
 abbrev pub manager_line : TopologyState → Node → List ℕ
 manager_line plan node = if is_manager plan node then codes "\\nsubnet manager" else []
 
--- the name, the GUID of a switch, the LIDs of its ports, and whether the subnet manager runs there
+-- the name, the LIDs of its ports, and whether the subnet manager runs there
 unfoldable pub label : TopologyState → ConfigurationState → Node → List ℕ
 label plan subnet node =
-    codes ", label=\"" ++ node.name ++ guid_line node
-    ++ flat_map (lid_line_of node) subnet.ports ++ manager_line plan node ++ codes "\""
+    codes ", label=\"" ++ node.name ++ flat_map (lid_line_of node) subnet.ports ++ manager_line plan node ++ codes "\""
+
+-- what is shown of a switch where one points at it: its GUID, which would make each box twice as wide
+unfoldable pub guid_words : ℕ → List ℕ
+guid_words guid = codes ", tooltip=\"" ++ hex_text (to_be_bytes w64 guid) ++ 34 ∷ []
+
+abbrev pub tooltip : Node → List ℕ
+tooltip node = if is_switch node then guid_words node.guid else []
 
 -- ---- its line
 abbrev pub shape : Node → List ℕ
@@ -53,7 +57,7 @@ mark plan node = if is_manager plan node then codes ", peripheries=2" else []
 
 unfoldable pub attributes : TopologyState → ConfigurationState → Node → List ℕ
 attributes plan subnet node =
-    codes "shape=" ++ shape node ++ label plan subnet node ++ mark plan node ++ fill_of subnet node
+    codes "shape=" ++ shape node ++ label plan subnet node ++ tooltip node ++ mark plan node ++ fill_of subnet node
 
 -- as `"h1" [shape=ellipse, label="h1\nport 1 LID 0x0004", style=filled, fillcolor="/set312/1"];`
 abbrev pub node_line : TopologyState → ConfigurationState → Node → List ℕ

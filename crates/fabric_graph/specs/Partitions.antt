@@ -1,5 +1,6 @@
 -- The colours of channel adapters in DOT, by the partitions that they are in (IBA volume 1, 14.2.5.7).
-use Rattle.std.specs.Prelude.{ℕ, ◌+◌, ◌-◌, ◌%◌, ◌==◌, ◌&&◌, Bool, false, if◌then◌else◌, List, [], ◌∷◌, ◌++◌, codes, decimal, filter, flat_map, length, slice_get}
+use Rattle.std.specs.Prelude.{ℕ, ◌+◌, ◌-◌, ◌%◌, ◌==◌, ◌&&◌, Bool, false, if◌then◌else◌, List, [], ◌∷◌}
+use Rattle.std.specs.Prelude.{◌++◌, codes, decimal, filter, flat_map, length, slice_get}
 use Rattle.std.specs.List.{list_any, range_with_len}
 use Rattle.std.specs.Option.{option_map_or}
 use Rattle.pkey_rules.specs.KeyTable.{has_base}
@@ -36,17 +37,26 @@ further_colour number = codes ":" ++ colour number
 
 -- a node of one colour is filled with it, and one of several is cut into wedges
 abbrev pub style : List ℕ → List ℕ
-style [] = codes "filled"
-style (second ∷ more) = codes "wedged"
+style (first ∷ second ∷ more) = codes "wedged"
+style _ = codes "filled"
 
 abbrev pub colours : ℕ → List ℕ → List ℕ
 colours first others = codes "\"" ++ colour first ++ flat_map further_colour others ++ codes "\""
 
--- the attributes of a node in these partitions; in none it stays as it is
-unfoldable pub fill : List ℕ → List ℕ
-fill [] = []
-fill (first ∷ others) = codes ", style=" ++ style others ++ codes ", fillcolor=" ++ colours first others
+unfoldable pub colour_words : List ℕ
+colour_words = codes ", fillcolor="
+
+abbrev pub style_words : List ℕ → List ℕ
+style_words filled = codes ", style=" ++ filled ++ colour_words
+
+-- the attributes of a node in these partitions, which is filled in this style; in none it stays as it is
+unfoldable pub fill : List ℕ → List ℕ → List ℕ
+fill filled [] = []
+fill filled (first ∷ others) = style_words filled ++ colours first others
+
+abbrev pub styled_fill : List ℕ → List ℕ
+styled_fill numbers = fill (style numbers) numbers
 
 -- channel adapters alone are coloured
 abbrev pub fill_of : ConfigurationState → Node → List ℕ
-fill_of subnet node = if is_switch node then [] else fill (partitions_of subnet node)
+fill_of subnet node = if is_switch node then [] else styled_fill (partitions_of subnet node)

@@ -1,5 +1,6 @@
 -- The ranks of switches in DOT: those of one rank stand side by side, the roots on top.
-use Rattle.std.specs.Prelude.{ℕ, ◌==◌, Bool, false, if◌then◌else◌, List, [], ◌++◌, codes, flat_map, get_or, Option, None, option_map}
+use Rattle.std.specs.Prelude.{ℕ, ◌==◌, Bool, false, if◌then◌else◌, List, [], ◌++◌, codes, flat_map, get_or, Option}
+use Rattle.std.specs.Prelude.{None, option_map}
 use Rattle.std.specs.List.{list_any}
 use Rattle.std.specs.Option.{option_map_or}
 use Rattle.fabric_graph.specs.Nodes.{quoted}

@@ -1,13 +1,14 @@
 //! The whole text.
 
 ghost use Rattle.std.specs.Prelude.{◌≡◌, ◌++◌, OnOk, IfOk, flat_map};
-ghost use Rattle.fabric_graph.specs.Cables.{cable_line};
-ghost use Rattle.fabric_graph.specs.Graph.{graph_text, head, ranks_drawn};
-ghost use Rattle.fabric_graph.specs.Nodes.{node_line};
+ghost use Rattle.std.specs.List.{range_with_len};
+ghost use Rattle.fabric_graph.specs.Graph.{edge_of, graph_text, head, ranks_drawn, text_by};
+ghost use Rattle.fabric_graph.specs.Lists.{place_text, places, spacing};
 ghost use Rattle.fabric_graph.specs.Ranks.{rank_line};
 
 use crate::cables::push_cable_line;
-use crate::nodes::push_node_line;
+use crate::list_lines::push_place_text;
+use crate::lists::{Seat, has_lists, is_in_list, seats_of};
 use crate::ranks::push_rank_line;
 use fabric_parts::Cable;
 use std::alloc::{AllocError, Global};
@@ -15,12 +16,12 @@ use subnet_model::Configuration;
 use topo_file::{Node, Topology};
 use updn_routes::Routes;
 
-/// The fabric in DOT: a node of the picture for each node of the topology, a row for each rank of switches, and an edge for
-/// each cable. Memory alone can be refused.
+/// The fabric in DOT: a node of the picture for each node of the topology, or for a list of adapters that hang on one switch
+/// and are in the same partitions; a row for each rank of switches; and an edge for each cable that no list shows. Memory
+/// alone can be refused.
 ///
 /// Switches are boxes and channel adapters ellipses, with the LIDs of their ports, and adapters are coloured by the
 /// partitions other than the default one that they are in.
-#[tactic(auto, unfolding(crate::specs::Graph::graph_text))]
 pub fn graph_text(
     alloc: Global,
     topology: &Topology,
@@ -29,13 +30,39 @@ pub fn graph_text(
 ) -> Result<Vec<u8>, AllocError>
     ensures { IfOk result (λ text. text.items ≡ graph_text topology.now configuration.now routes.now) }
 {
+    let seats = seats_of(alloc, topology, configuration)?;
+    text_by(alloc, topology, configuration, routes, seats.as_slice())
+}
+
+#[tactic(auto, unfolding(crate::specs::Graph::text_by))]
+fn text_by(
+    alloc: Global,
+    topology: &Topology,
+    configuration: &Configuration,
+    routes: &Routes,
+    seats: &[Option<Seat>],
+) -> Result<Vec<u8>, AllocError>
+    ensures { IfOk result (λ text. text.items ≡ text_by topology.now configuration.now routes.now seats.now) }
+{
     let mut text = Vec::new(alloc);
     text.extend_from_slice(head())?;
-    push_nodes(alloc, &mut text, topology, configuration)?;
+    text.extend_from_slice(spacing(seats))?;
+    push_nodes(alloc, &mut text, topology, configuration, seats)?;
     push_ranks(&mut text, routes, topology.nodes())?;
-    push_cables(&mut text, routes, topology.nodes(), topology.cables())?;
+    push_cables(&mut text, topology, routes, seats)?;
     text.extend_from_slice(b"}\n")?;
     Ok(text)
+}
+
+/// How far apart nodes stand where there are lists.
+fn spacing(seats: &[Option<Seat>]) -> &'static [u8]
+    ensures { result.now ≡ spacing seats.now }
+{
+    if has_lists(seats) {
+        b"  nodesep=0.1;\n  ranksep=2;\n"
+    } else {
+        b""
+    }
 }
 
 /// How all nodes and edges look.
@@ -51,12 +78,13 @@ fn push_nodes(
     text: &mut Vec<u8>,
     topology: &Topology,
     configuration: &Configuration,
+    seats: &[Option<Seat>],
 ) -> Result<(), AllocError>
     ensures { OnOk result (text.new.items
-        ≡ text.old.items ++ flat_map (node_line topology.now configuration.now) topology.now.nodes) }
+        ≡ text.old.items ++ flat_map (place_text topology.now configuration.now seats.now) (places seats.now)) }
 {
-    for node in topology.nodes() {
-        push_node_line(alloc, text, topology, configuration, node)?;
+    for place in 0..seats.len() {
+        push_place_text(alloc, text, topology, configuration, seats, place)?;
     }
     Ok(())
 }
@@ -74,14 +102,32 @@ fn push_ranks(text: &mut Vec<u8>, routes: &Routes, nodes: &[Node]) -> Result<(),
 
 fn push_cables(
     text: &mut Vec<u8>,
+    topology: &Topology,
     routes: &Routes,
-    nodes: &[Node],
-    cables: &[Cable],
+    seats: &[Option<Seat>],
 ) -> Result<(), AllocError>
-    ensures { OnOk result (text.new.items ≡ text.old.items ++ flat_map (cable_line routes.now nodes.now) cables.now) }
+    ensures { OnOk result (text.new.items
+        ≡ text.old.items ++ flat_map (edge_of topology.now routes.now seats.now) topology.now.cables) }
 {
-    for cable in cables {
-        push_cable_line(text, routes, nodes, cable)?;
+    for cable in topology.cables() {
+        push_edge_of(text, topology, routes, seats, cable)?;
     }
     Ok(())
+}
+
+/// Adds the edge of a cable, unless a list shows it.
+fn push_edge_of(
+    text: &mut Vec<u8>,
+    topology: &Topology,
+    routes: &Routes,
+    seats: &[Option<Seat>],
+    cable: &Cable,
+) -> Result<(), AllocError>
+    ensures { OnOk result (text.new.items ≡ text.old.items ++ edge_of topology.now routes.now seats.now cable.now) }
+{
+    if is_in_list(seats, cable) {
+        Ok(())
+    } else {
+        push_cable_line(text, routes, topology.nodes(), cable)
+    }
 }

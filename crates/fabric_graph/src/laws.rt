@@ -1,9 +1,19 @@
-//! What holds of every drawing. The function's contract is its law; it does nothing.
+//! What holds of every drawing. Each function's contract is its law; it does nothing.
 
-ghost use Rattle.fabric_graph.specs.Laws.{EachRankHasARow};
+ghost use Rattle.fabric_graph.specs.Laws.{EachCableIsDrawnOnce, EachNodeIsDrawnOnce, EachRankHasARow};
 
 /// Each switch that has a rank stands in a row: its rank is less than the number of switches, since a shortest way to a root
 /// passes no switch twice.
 pub fn each_rank_has_a_row()
     ensures { EachRankHasARow }
+{}
+
+/// Each node is drawn once: by itself, or in the one list that has it.
+pub fn each_node_is_drawn_once()
+    ensures { EachNodeIsDrawnOnce }
+{}
+
+/// Each cable is drawn once: as an edge, or as the line of the adapter in a list at which it ends.
+pub fn each_cable_is_drawn_once()
+    ensures { EachCableIsDrawnOnce }
 {}

@@ -7,9 +7,11 @@
 mod cables;
 mod drawing;
 mod laws;
+mod list_lines;
+mod lists;
 mod nodes;
 mod partitions;
 mod ranks;
 
 pub use crate::drawing::graph_text;
-pub use crate::laws::each_rank_has_a_row;
+pub use crate::laws::{each_cable_is_drawn_once, each_node_is_drawn_once, each_rank_has_a_row};

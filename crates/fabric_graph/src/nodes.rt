@@ -1,7 +1,8 @@
 //! The nodes of a topology, as lines.
 
 ghost use Rattle.std.specs.Prelude.{◌≡◌, ◌++◌, OnOk, flat_map};
-ghost use Rattle.fabric_graph.specs.Nodes.{attributes, guid_line, is_manager, label, lid_line, lid_line_of, manager_line, mark, node_line, port_words, quoted, shape};
+ghost use Rattle.fabric_graph.specs.Nodes.{attributes, guid_words, is_manager, label, lid_line, lid_line_of, manager_line, mark};
+ghost use Rattle.fabric_graph.specs.Nodes.{node_line, port_words, quoted, shape, tooltip};
 
 use crate::partitions::{is_of, push_fill_of};
 use line_parts::{push_decimal, push_hex};
@@ -48,6 +49,7 @@ fn push_attributes(
     text.extend_from_slice(b"shape=")?;
     text.extend_from_slice(shape(node))?;
     push_label(text, topology, configuration, node)?;
+    push_tooltip(text, node)?;
     text.extend_from_slice(mark(topology, node))?;
     push_fill_of(alloc, text, configuration, node)
 }
@@ -69,7 +71,7 @@ fn mark(topology: &Topology, node: &Node) -> &'static [u8]
 }
 
 /// Whether the subnet manager runs on a port of the node.
-fn is_manager(topology: &Topology, node: &Node) -> bool
+pub(crate) fn is_manager(topology: &Topology, node: &Node) -> bool
     ensures { result ≡ is_manager topology.now node.now }
 {
     match topology.nodes().get(topology.sm().node) {
@@ -90,21 +92,30 @@ fn push_label(
 {
     text.extend_from_slice(b", label=\"")?;
     text.extend_from_slice(node.name.as_bytes())?;
-    push_guid_line(text, node)?;
     push_lid_lines(text, configuration.ports(), node)?;
     text.extend_from_slice(manager_line(topology, node))?;
     text.extend_from_slice(b"\"")
 }
 
 /// Adds the GUID of a switch.
-fn push_guid_line(text: &mut Vec<u8>, node: &Node) -> Result<(), AllocError>
-    ensures { OnOk result (text.new.items ≡ text.old.items ++ guid_line node.now) }
+fn push_tooltip(text: &mut Vec<u8>, node: &Node) -> Result<(), AllocError>
+    ensures { OnOk result (text.new.items ≡ text.old.items ++ tooltip node.now) }
 {
-    if !node.is_switch() {
-        return Ok(());
+    if node.is_switch() {
+        push_guid(text, node.guid)
+    } else {
+        Ok(())
     }
-    text.extend_from_slice(b"\\n")?;
-    push_hex(text, &node.guid.to_be_bytes())
+}
+
+#[tactic(auto, unfolding(crate::specs::Nodes::guid_words))]
+fn push_guid(text: &mut Vec<u8>, guid: u64) -> Result<(), AllocError>
+    ensures { OnOk result (text.new.items ≡ text.old.items ++ guid_words guid) }
+{
+    text.extend_from_slice(b", tooltip=\"")?;
+    push_hex(text, &guid.to_be_bytes())?;
+    text.push(b'"')?;
+    Ok(())
 }
 
 /// Adds the LIDs of those of these end ports that are the node's.

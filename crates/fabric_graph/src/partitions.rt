@@ -1,7 +1,8 @@
 //! The colours of channel adapters, by their partitions.
 
 ghost use Rattle.std.specs.Prelude.{◌≡◌, ◌∷◌, ◌++◌, OnOk, IfOk, flat_map};
-ghost use Rattle.fabric_graph.specs.Partitions.{colour, colours, fill, fill_of, further_colour, holds_base, is_in, is_of, partitions_of, style};
+ghost use Rattle.fabric_graph.specs.Partitions.{colour, colour_words, colours, fill, fill_of, further_colour, holds_base, is_in, is_of};
+ghost use Rattle.fabric_graph.specs.Partitions.{partitions_of, style, style_words, styled_fill};
 
 use line_parts::push_decimal;
 use std::alloc::{AllocError, Global};
@@ -20,12 +21,18 @@ pub(crate) fn push_fill_of(
     if node.is_switch() {
         return Ok(());
     }
-    push_fill(text, &partitions_of(alloc, configuration, node)?)
+    push_styled_fill(text, &partitions_of(alloc, configuration, node)?)
+}
+
+fn push_styled_fill(text: &mut Vec<u8>, numbers: &[usize]) -> Result<(), AllocError>
+    ensures { OnOk result (text.new.items ≡ text.old.items ++ styled_fill numbers.now) }
+{
+    push_fill(text, style(numbers), numbers)
 }
 
 /// The partitions that a node is in, by number, but for the default one. Memory alone can be refused.
 #[tactic(auto, unfolding(crate::specs::Partitions::partitions_of))]
-fn partitions_of(
+pub(crate) fn partitions_of(
     alloc: Global,
     configuration: &Configuration,
     node: &Node,
@@ -62,13 +69,17 @@ pub(crate) fn is_of(node: &Node, port: &SubnetPort) -> bool
     port.node_guid == node.guid
 }
 
-/// Adds the attributes of a node in these partitions.
+/// Adds the attributes of a node in these partitions, which is filled in this style.
 #[tactic(auto, unfolding(crate::specs::Partitions::fill))]
-fn push_fill(text: &mut Vec<u8>, numbers: &[usize]) -> Result<(), AllocError>
-    ensures { OnOk result (text.new.items ≡ text.old.items ++ fill numbers.now) }
+pub(crate) fn push_fill(
+    text: &mut Vec<u8>,
+    filled: &[u8],
+    numbers: &[usize],
+) -> Result<(), AllocError>
+    ensures { OnOk result (text.new.items ≡ text.old.items ++ fill filled.now numbers.now) }
 {
     match numbers.split_first() {
-        Some((first, others)) => push_style_and_colours(text, *first, others),
+        Some((first, others)) => push_style_and_colours(text, filled, *first, others),
         None => Ok(()),
     }
 }
@@ -76,15 +87,29 @@ fn push_fill(text: &mut Vec<u8>, numbers: &[usize]) -> Result<(), AllocError>
 #[tactic(auto, unfolding(crate::specs::Partitions::fill))]
 fn push_style_and_colours(
     text: &mut Vec<u8>,
+    filled: &[u8],
     first: usize,
     others: &[usize],
 ) -> Result<(), AllocError>
-    ensures { OnOk result (text.new.items ≡ text.old.items ++ fill (first ∷ others.now)) }
+    ensures { OnOk result (text.new.items ≡ text.old.items ++ fill filled.now (first ∷ others.now)) }
+{
+    push_style(text, filled)?;
+    push_colours(text, first, others)
+}
+
+fn push_style(text: &mut Vec<u8>, filled: &[u8]) -> Result<(), AllocError>
+    ensures { OnOk result (text.new.items ≡ text.old.items ++ style_words filled.now) }
 {
     text.extend_from_slice(b", style=")?;
-    text.extend_from_slice(style(others))?;
-    text.extend_from_slice(b", fillcolor=")?;
-    push_colours(text, first, others)
+    text.extend_from_slice(filled)?;
+    text.extend_from_slice(colour_words())
+}
+
+#[tactic(auto, unfolding(crate::specs::Partitions::colour_words))]
+fn colour_words() -> &'static [u8]
+    ensures { result.now ≡ colour_words }
+{
+    b", fillcolor="
 }
 
 fn push_colours(text: &mut Vec<u8>, first: usize, others: &[usize]) -> Result<(), AllocError>
@@ -96,14 +121,13 @@ fn push_colours(text: &mut Vec<u8>, first: usize, others: &[usize]) -> Result<()
     text.extend_from_slice(b"\"")
 }
 
-/// How a node is filled that has these colours beside its first.
-fn style(others: &[usize]) -> &'static [u8]
-    ensures { result.now ≡ style others.now }
+/// How a node in these partitions is filled.
+fn style(numbers: &[usize]) -> &'static [u8]
+    ensures { result.now ≡ style numbers.now }
 {
-    if others.is_empty() {
-        b"filled"
-    } else {
-        b"wedged"
+    match numbers {
+        [_, _, ..] => b"wedged",
+        _ => b"filled",
     }
 }
 

@@ -3,7 +3,6 @@
 ghost use Rattle.std.specs.Prelude.{◌≡◌, ◌++◌, OnOk, flat_map};
 ghost use Rattle.std.specs.List.{list_any};
 ghost use Rattle.fabric_graph.specs.Ranks.{has_rank, member, rank_line, rank_of, row, row_words};
-ghost use Rattle.updn_routes.specs.Subnet.{place_of};
 
 use crate::nodes::push_quoted;
 use std::alloc::AllocError;
@@ -17,19 +16,8 @@ pub(crate) fn rank_of(routes: &Routes, node: &Node) -> Option<usize>
     if !node.is_switch() {
         return None;
     }
-    let place = place_of(routes, node.guid)?;
+    let place = routes.graph().place_of(node.guid)?;
     Some(routes.between().rank_of(place))
-}
-
-/// The place of the switch of that GUID.
-fn place_of(routes: &Routes, guid: u64) -> Option<usize>
-    ensures { result ≡ place_of routes.now.graph.switches guid }
-{
-    routes
-        .graph()
-        .switches()
-        .iter()
-        .position(|switch| switch.guid == guid)
 }
 
 fn has_rank(routes: &Routes, rank: usize, node: &Node) -> bool

@@ -1,7 +1,6 @@
 //! Linear forwarding tables, as lines.
 
-ghost use Rattle.std.specs.Prelude.{◌≡◌, ◌==◌, ◌++◌, OnOk, IfOk, filter, find, flat_map, length};
-ghost use Rattle.std.specs.Option.{option_copied};
+ghost use Rattle.std.specs.Prelude.{◌≡◌, ◌==◌, ◌++◌, OnOk, IfOk, filter, flat_map, length};
 ghost use Rattle.fabric_tables.specs.Tables.{count_line, entry_line, head_line, hop_text, is_led_to, line_towards, path_to, port_table, port_text, port_towards, range_text, route_text, switch_text, table_of, table_text, tables_text, titles, type_text};
 
 use crate::digits::{push_short_hex, push_three_digits};
@@ -12,7 +11,7 @@ use fabric_wire::{Fabric, Node};
 use line_parts::{push_decimal, push_hex};
 use std::alloc::{AllocError, Global};
 use subnet_model::SubnetPort;
-use sweep::GraphSwitch;
+use sweep::Graph;
 use switch_model::Switch;
 use topo_file::Topology;
 
@@ -26,14 +25,14 @@ pub fn tables_text(
     alloc: Global,
     topology: &Topology,
     ports: &[SubnetPort],
-    switches: &[GraphSwitch],
+    graph: &Graph,
     fabric: &Fabric,
 ) -> Result<Vec<u8>, AllocError>
-    ensures { IfOk result (λ text. text.items ≡ tables_text topology.now.nodes ports.now switches.now fabric.now) }
+    ensures { IfOk result (λ text. text.items ≡ tables_text topology.now.nodes ports.now graph.now.switches fabric.now) }
 {
     let mut text = Vec::new(alloc);
     for port in ports {
-        push_port_table(&mut text, topology, fabric, switches, ports, port)?;
+        push_port_table(&mut text, topology, fabric, graph, ports, port)?;
     }
     Ok(text)
 }
@@ -43,44 +42,44 @@ fn push_port_table(
     text: &mut Vec<u8>,
     topology: &Topology,
     fabric: &Fabric,
-    switches: &[GraphSwitch],
+    graph: &Graph,
     ports: &[SubnetPort],
     port: &SubnetPort,
 ) -> Result<(), AllocError>
     ensures { OnOk result (text.new.items
-        ≡ text.old.items ++ port_table topology.now.nodes fabric.now switches.now ports.now port.now) }
+        ≡ text.old.items ++ port_table topology.now.nodes fabric.now graph.now.switches ports.now port.now) }
 {
     match node_of(topology, fabric, port) {
-        Some((_, node)) => push_table_of(text, switches, ports, port, node),
+        Some((_, node)) => push_table_of(text, graph, ports, port, node),
         None => Ok(()),
     }
 }
 
 fn push_table_of(
     text: &mut Vec<u8>,
-    switches: &[GraphSwitch],
+    graph: &Graph,
     ports: &[SubnetPort],
     port: &SubnetPort,
     node: &Node,
 ) -> Result<(), AllocError>
-    ensures { OnOk result (text.new.items ≡ text.old.items ++ table_of switches.now ports.now port.now node.now) }
+    ensures { OnOk result (text.new.items ≡ text.old.items ++ table_of graph.now.switches ports.now port.now node.now) }
 {
     match node {
-        Node::Switch(held) => push_table(text, switches, ports, port, held),
+        Node::Switch(held) => push_table(text, graph, ports, port, held),
         Node::Adapter(_) => Ok(()),
     }
 }
 
 fn push_table(
     text: &mut Vec<u8>,
-    switches: &[GraphSwitch],
+    graph: &Graph,
     ports: &[SubnetPort],
     switch: &SubnetPort,
     held: &Switch<LINEAR_TABLE, MULTICAST_TABLE>,
 ) -> Result<(), AllocError>
-    ensures { OnOk result (text.new.items ≡ text.old.items ++ table_text switches.now ports.now switch.now held.now) }
+    ensures { OnOk result (text.new.items ≡ text.old.items ++ table_text graph.now.switches ports.now switch.now held.now) }
 {
-    push_head_line(text, path_to(switches, switch.guid), switch, held)?;
+    push_head_line(text, path_to(graph, switch.guid), switch, held)?;
     push_titles(text)?;
     push_lines_towards(text, held, ports)?;
     push_count_line(text, count_of(held, ports))
@@ -105,19 +104,13 @@ fn push_titles(text: &mut Vec<u8>) -> Result<(), AllocError>
 }
 
 /// The path by which a sweep found the switch of that GUID.
-fn path_to(switches: &[GraphSwitch], guid: u64) -> &[u8]
-    ensures { result.now ≡ path_to switches.now guid }
+fn path_to(graph: &Graph, guid: u64) -> &[u8]
+    ensures { result.now ≡ path_to graph.now.switches guid }
 {
-    match switch_with_guid(switches, guid) {
+    match graph.switch(guid) {
         Some(switch) => switch.path.as_slice(),
         None => &[],
     }
-}
-
-fn switch_with_guid(switches: &[GraphSwitch], guid: u64) -> Option<&GraphSwitch>
-    ensures { option_copied result ≡ find (λ switch. switch.guid == guid) switches.now }
-{
-    switches.iter().find(|switch| switch.guid == guid)
 }
 
 /// Adds the line that tells LinearFDBTop and the path to a switch.

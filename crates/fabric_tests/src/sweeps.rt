@@ -11,7 +11,7 @@ use fabric_wire::{CountingWire, SilencedWire};
 use lid_assign::assign;
 use std::process::Abort;
 use std::test::Fail;
-use sweep::{Graph, Link, SweepFault, sweep};
+use sweep::{Graph, GraphLink, SweepFault, sweep};
 use test_fabrics::two_switch_wire;
 
 /// The switches of the two-switch fabric as they are found from h0: GUID, ports, and the path.
@@ -21,12 +21,12 @@ const SWITCHES: [(u64, u8, &[u8]); 2] = [(0x10, 4, &[1]), (0x20, 4, &[1, 3])];
 const PORTS: [(u64, usize, u8); 4] = [(0x101, 0, 1), (0x111, 0, 2), (0x121, 1, 1), (0x131, 1, 2)];
 
 /// One cable joins the switches, port 3 to port 3; each has it in its row, by the place of the other.
-const LINKS: [Link; 2] = [
-    Link {
+const LINKS: [GraphLink; 2] = [
+    GraphLink {
         port: 3,
         to: PortRef { node: 1, port: 3 },
     },
-    Link {
+    GraphLink {
         port: 3,
         to: PortRef { node: 0, port: 3 },
     },

@@ -28,6 +28,7 @@ use Rattle.smp_wire.proofs.KeptLemmas.{IsSame, after_found, stays_good, switch_s
 use Rattle.smp_wire.proofs.ArrivalLemmas.{arrived_carries, put_below, walks_right}
 use Rattle.smp_wire.proofs.WalkLemmas.{path_length, sent_parts}
 use Rattle.result_words.proofs.DistinctLemmas.{differ}
+use Rattle.smp_wire.proofs.PresentLemmas.{present_once, present_right}
 
 pub record IsReady (nodes : List Node) (cables : List Cable) (manager agent : PortRef) (smp : List ℕ) : Type 0 where
   pub right : list_all (is_right nodes) cables ≡ true
@@ -91,14 +92,14 @@ ready_before fabric sent reply ends good is low long walked low_reply long_reply
     let pointer_is : pointer turned ≡ count sent + 1 = byte 6 (omega arith) (omega arith, refl) ∙ pointer_set noted (count sent + 1) noted_long in
     let led : leads_home fabric.nodes fabric.cables fabric.manager.node noted (0 + length ends) agent.node ≡ true =
     walk_leads_home fabric.nodes fabric.cables fabric.manager.node true fabric.manager 0 (path_of sent) sent ends
-    (differ is_same_port _ good.once) refl (omega (arith, path_long, few)) long
+    (differ is_same_port _ (present_once good)) refl (omega (arith, path_long, few)) long
     (eq-eqb fabric.manager.node fabric.manager.node refl) walked in
     let hops_are : 0 + length ends ≡ count sent = omega (arith, hops) in
     let home : leads_home fabric.nodes fabric.cables fabric.manager.node turned (count sent) agent.node ≡ true =
     leads_alike fabric.nodes fabric.cables fabric.manager.node turned noted (count sent) agent.node
     (λ k from to. byte (192 + k) (omega (arith, to, few)) (return_kept k (omega (arith, to, few))) ∙ byte_kept noted (count sent + 1) (192 + k) (λ e. omega (arith, e)))
     ∙ rw (← hops_are) led in
-    record { right = good.cables; few = rw count_is few; pointer_is = rw count_is pointer_is; home = rw count_is home }
+    record { right = (present_right good); few = rw count_is few; pointer_is = rw count_is pointer_is; home = rw count_is home }
 
 -- and as they are then
 ready_at : (fabric : FabricState) (sent reply : List ℕ) (new : List Node) (ends : List PortRef) → IsGood fabric
@@ -114,7 +115,7 @@ ready_at fabric sent reply new ends good is low long walked low_reply long_reply
     let same : IsSame fabric (record fabric { nodes = new }) = rw new_is (after_found fabric agent (arrived ends sent) (slice_get fabric.nodes agent.node) refl) in
     let still = stays_good fabric (record fabric { nodes = new }) same good in
     record {
-      right = still.cables;
+      right = present_right still;
       few = before.few;
       pointer_is = before.pointer_is;
       home = same_way fabric.nodes new fabric.cables fabric.manager.node turned (count turned) agent.node

@@ -30,6 +30,7 @@ use Rattle.mad_layout.specs.Bits.{field}
 use Rattle.std.proofs.lemmas.Option.{same_Some}
 use Rattle.std.proofs.lemmas.List.{length-set}
 use Rattle.std.specs.Int.Digits.{AllBelowBase}
+use Rattle.smp_wire.proofs.PresentLemmas.{present_right}
 
 abbrev visit : PortRef → ℕ → List ℕ → Visit
 visit at entered smp = record { node = at.node; entered = entered; smp = smp }
@@ -124,12 +125,12 @@ goes_out fabric sent hops at entered smp next port good way to cable as_left =
     let there : PortRef = record { node = next.node; port = next.entered } in
     let on = way.on in
     record {
-      on = rw as_left (goes fabric.nodes fabric.cables fabric.manager sent hops at there entered smp port good.cables on to cable);
+      on = rw as_left (goes fabric.nodes fabric.cables fabric.manager sent hops at there entered smp port (present_right good) on to cable);
       out = rw as_left (passes_out fabric.nodes fabric.cables sent hops at smp _ port
-          (leaves fabric.nodes fabric.cables fabric.manager sent hops at entered smp good.cables on) to way.out
+          (leaves fabric.nodes fabric.cables fabric.manager sent hops at entered smp (present_right good) on) to way.out
           on.long on.few way.small);
       small = end_small fabric (record { node = at.node; port = port }) there good cable;
-      agent = entered_by fabric (record { node = at.node; port = port }) next good.cables cable;
+      agent = entered_by fabric (record { node = at.node; port = port }) next (present_right good) cable;
     }
 
 -- ---- every way out to an agent ends where the walk does
@@ -140,7 +141,7 @@ follows fabric sent [] hops at entered smp last good here is to =
     let rules = rules_out fabric.nodes (visit at entered smp) here.out.out in
     let given : (out_from fabric.nodes (visit at entered smp)).hop ≡ ToAgent = sym (ap (λ (s : Step). s.hop) rules) ∙ ap (λ (v : Visit). (hop_rules fabric.nodes v).hop) is ∙ to in
     subst (λ (v : Visit). Some (arrival_at fabric v) ≡ walk_ends fabric sent) is
-    (rw (here.agent, ap (λ (s : Step). s.smp) rules) (arrived fabric.nodes fabric.cables fabric.manager sent hops at entered smp good.cables here.on given))
+    (rw (here.agent, ap (λ (s : Step). s.smp) rules) (arrived fabric.nodes fabric.cables fabric.manager sent hops at entered smp (present_right good) here.on given))
 follows fabric sent (next ∷ later) hops at entered smp last good here way to =
     let pass = way.0 in
     let rules = rules_out fabric.nodes (visit at entered smp) here.out.out in
@@ -169,7 +170,7 @@ found_by : (fabric : FabricState) (sent : List ℕ) (arrival : Arrival) (hops : 
     → Found fabric arrival (visit at entered smp)
 found_by fabric sent arrival hops at entered smp ToAgent good here ends to later =
     let rules = rules_out fabric.nodes (visit at entered smp) here.out.out in
-    let given = arrived fabric.nodes fabric.cables fabric.manager sent hops at entered smp good.cables here.on to in
+    let given = arrived fabric.nodes fabric.cables fabric.manager sent hops at entered smp (present_right good) here.on to in
     record {
       way = [];
       last = visit at entered smp;
@@ -178,17 +179,17 @@ found_by fabric sent arrival hops at entered smp ToAgent good here ends to later
       arrival_is = same_Some _ _ (sym (given ∙ ends)) ∙ rw (here.agent, ap (λ (s : Step). s.smp) rules) refl;
     }
 found_by fabric sent arrival hops at entered smp ToManager good here ends to later =
-    let none = lost fabric.nodes fabric.cables fabric.manager sent hops at entered smp good.cables here.on ToManager (sym to) (inl refl) in
+    let none = lost fabric.nodes fabric.cables fabric.manager sent hops at entered smp (present_right good) here.on ToManager (sym to) (inl refl) in
     cc
 found_by fabric sent arrival hops at entered smp Discard good here ends to later =
-    let none = lost fabric.nodes fabric.cables fabric.manager sent hops at entered smp good.cables here.on Discard (sym to) (inr refl) in
+    let none = lost fabric.nodes fabric.cables fabric.manager sent hops at entered smp (present_right good) here.on Discard (sym to) (inr refl) in
     cc
 found_by fabric sent arrival hops at entered smp (Forward port) good here ends to later = by_cable (far_end fabric.cables (record { node = at.node; port = port })) refl
   where
     by_cable : (end : Option PortRef) → far_end fabric.cables (record { node = at.node; port = port }) ≡ end
         → Found fabric arrival (visit at entered smp)
     by_cable None is =
-        let none = bare_port fabric.nodes fabric.cables fabric.manager sent hops at entered smp port good.cables here.on to is in
+        let none = bare_port fabric.nodes fabric.cables fabric.manager sent hops at entered smp port (present_right good) here.on to is in
         cc
     by_cable (Some there) is =
         let rules = rules_out fabric.nodes (visit at entered smp) here.out.out in

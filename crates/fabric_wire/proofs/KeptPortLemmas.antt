@@ -1,5 +1,5 @@
 -- No exchange changes the GUIDs of ports, so what finds a port by its GUID finds it afterwards.
-use Rattle.std.proofs.Common.{ℕ, ◌-◌, ◌≡◌, ◌==◌, ◌∙◌, refl, subst, sym, Bool, true, false, List, map, slice_get, Option, Some, None, option_map, if◌then◌else◌}
+use Rattle.std.proofs.Common.{ℕ, ◌-◌, ◌≡◌, ◌==◌, ◌∙◌, refl, subst, sym, Bool, true, false, List, [], ◌∷◌, map, slice_get, Option, Some, None, option_map, if◌then◌else◌}
 use Rattle.std.specs.Option.{option_and_then}
 use Rattle.std.proofs.lemmas.Option.{same_Some}
 use Rattle.fabric_parts.specs.declared.cable.PortRef.{PortRef}
@@ -13,7 +13,8 @@ use Rattle.smp_wire.specs.Shape.{IsSameShape}
 use Rattle.smp_wire.specs.Walk.{exchange_after}
 use Rattle.smp_wire.specs.declared.node.Node.{Node}
 use Rattle.smp_wire.specs.declared.node.Node.TheVariants.{Switch, Adapter}
-use Rattle.packet_ways.specs.Deliveries.{IsDelivered, Numbers, Reaches, adapter_ports, guid_at}
+use Rattle.packet_ways.specs.Deliveries.{AreDeliveries, IsDelivered, IsOwn, Reaches, adapter_ports, guid_at, numbers_of}
+use Rattle.packet_ways.proofs.DeliveryLemmas.{no_delivery, one_delivery}
 use Rattle.fabric_wire.specs.AdapterPorts.{Finds}
 
 abbrev Guid : Option Node → ℕ → Option ℕ
@@ -49,12 +50,30 @@ still_finds fabric smp place_of finds guid at =
     let same = same_guids fabric (exchange_after fabric smp) at (shape fabric smp) in
     (λ found. same ∙ (finds guid at).0 found, λ is. (finds guid at).1 (sym same ∙ is))
 
--- the port that is found is the one that sends
-pub reaches_nobody : (fabric : FabricState) (place_of : ℕ → Option PortRef) (sender : ℕ) (packet : Packet) (from : PortRef) (receiver : Numbers)
-    → Finds fabric.nodes place_of → place_of sender ≡ Some from
+-- no two ports have one GUID
+own : (nodes : List Node) (place_of : ℕ → Option PortRef) (guid : ℕ) → Finds nodes place_of → IsOwn nodes guid
+own nodes place_of guid finds a b first second =
+    same_Some a b (sym ((finds guid a).1 first) ∙ (finds guid b).1 second)
+
+-- so what leaves by the port of a GUID is what that port sends
+pub is_delivered : (fabric : FabricState) (place_of : ℕ → Option PortRef) (sender : ℕ) (packet : Packet) (from : PortRef) (port : AdapterState)
+    → Finds fabric.nodes place_of → guid_at fabric.nodes from ≡ Some sender
+    → (at : PortRef) × IsDelivered fabric.nodes fabric.cables from packet at port
+    → AreDeliveries fabric sender packet (record { port = port.port_guid; packet = packet } ∷ [])
+is_delivered fabric place_of sender packet from port finds sends delivered =
+    one_delivery fabric sender packet (numbers_of port) (own fabric.nodes place_of sender finds)
+    (record { from = from; sends = sends; at = delivered.0; port = port; delivered = delivered.1; receives = refl })
+
+pub reaches_nobody : (fabric : FabricState) (place_of : ℕ → Option PortRef) (sender : ℕ) (packet : Packet) (from : PortRef)
+    → Finds fabric.nodes place_of → guid_at fabric.nodes from ≡ Some sender
     → ((at : PortRef) (port : AdapterState) → IsDelivered fabric.nodes fabric.cables from packet at port → ⊥)
-    → Reaches fabric sender packet receiver → ⊥
-reaches_nobody fabric place_of sender packet from receiver finds found none reaches =
-    let same : reaches.from ≡ from = same_Some reaches.from from (sym ((finds sender reaches.from).1 reaches.sends) ∙ found) in
+    → AreDeliveries fabric sender packet []
+reaches_nobody fabric place_of sender packet from finds sends none =
+    no_delivery fabric sender packet (λ receiver reaches.
     none reaches.at reaches.port
-    (subst (λ (p : PortRef). IsDelivered fabric.nodes fabric.cables p packet reaches.at reaches.port) same reaches.delivered)
+    (subst (λ (p : PortRef). IsDelivered fabric.nodes fabric.cables p packet reaches.at reaches.port)
+    (own fabric.nodes place_of sender finds reaches.from from reaches.sends sends) reaches.delivered))
+
+pub nobody_sends : (fabric : FabricState) (sender : ℕ) (packet : Packet) → ((at : PortRef) → guid_at fabric.nodes at ≡ Some sender → ⊥)
+    → AreDeliveries fabric sender packet []
+nobody_sends fabric sender packet none = no_delivery fabric sender packet (λ receiver reaches. none reaches.from reaches.sends)

@@ -1,4 +1,5 @@
 pub mod CablingLemmas
+pub mod CutLemmas
 pub mod HomeLemmas
 pub mod HopLemmas
 pub mod OutwardLemmas

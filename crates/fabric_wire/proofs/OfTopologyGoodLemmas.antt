@@ -2,6 +2,7 @@
 use Rattle.std.proofs.Common.{ℕ, zero, suc, ◌≡◌, ◌≤◌, ◌+◌, ◌==◌, ◌∙◌, refl, sym, true, false, not, List, [], ◌∷◌, map, flat_map, ◌&&◌, arith}
 use Rattle.std.specs.List.{All, list_all, list_any, range_with_len, IsDistinct}
 use Rattle.std.specs.Str.{bytes_eq}
+use Rattle.std.proofs.lemmas.List.{append-nil}
 use Rattle.std.proofs.lemmas.Bool.{and_from, and_left, and_parts, eq-eqb, not_from_false, not-true, or_from}
 use Rattle.std.proofs.Math.Bool.{or_assoc}
 use Rattle.std.proofs.lemmas.List.FromFn.{length-map-range_with_len}
@@ -140,8 +141,9 @@ good plan sound =
       counts = all_made has_a_right_count is_sized plan.cables 0 plan.nodes (λ place node sized. right_count plan.cables place node sized) lines.sizes;
       order = all_made is_in_order is_sized plan.cables 0 plan.nodes (λ place node sized. in_order plan.cables place node sized) lines.sizes;
       holdings = all_hold plan.cables 0 plan.nodes lines.names lines.sizes;
-      cables = all_right plan.cables plan.nodes plan.cables lines.ends lines.joins;
-      once = distinct is_same_port (flat_map ends_of plan.cables) (all_once plan.nodes plan.cables lines.joins lines.own_ports);
+      cables = rw (append-nil plan.cables) (all_right plan.cables plan.nodes plan.cables lines.ends lines.joins);
+      once = rw (append-nil plan.cables)
+          (distinct is_same_port (flat_map ends_of plan.cables) (all_once plan.nodes plan.cables lines.joins lines.own_ports));
       manager_port = port_there plan.cables plan.nodes plan.sm ∙ manager.1;
       manager_adapter = switch_there plan.cables plan.nodes plan.sm.node ∙ not-true _ manager.0;
       manager_cabled = sound.manager_cabled;

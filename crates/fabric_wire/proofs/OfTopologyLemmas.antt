@@ -5,7 +5,7 @@ use Rattle.std.specs.List.{enumerate_from, list_all, list_any, IsDistinct}
 use Rattle.std.specs.Option.{option_map_or}
 use Rattle.std.proofs.lemmas.Bool.{and_from, and_parts, or_from, or_parts}
 use Rattle.std.proofs.lemmas.List.FromFn.{length-map-range_with_len}
-use Rattle.agent_rules.specs.declared.link.Link.TheVariants.{Internal}
+use Rattle.agent_rules.specs.declared.link.PortLink.TheVariants.{Internal}
 use Rattle.switch_model.proofs.PortLemmas.{length-ports_from}
 use Rattle.fabric_parts.specs.declared.cable.Cable.{Cable}
 use Rattle.fabric_parts.specs.declared.cable.PortRef.{PortRef}

@@ -1,4 +1,5 @@
 pub mod Rows
+pub mod Cabling
 pub mod AdapterPorts
 pub mod Hopping
 pub mod HopByHop

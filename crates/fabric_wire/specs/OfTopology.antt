@@ -1,8 +1,8 @@
 -- The fabric that a topology describes, at power-up.
-use Rattle.std.specs.Prelude.{ℕ, ◌-◌, ◌++◌, if◌then◌else◌, List, map, length, replicate}
+use Rattle.std.specs.Prelude.{ℕ, ◌-◌, ◌++◌, if◌then◌else◌, List, [], map, length, replicate}
 use Rattle.std.specs.List.{enumerate_from, range_with_len}
-use Rattle.agent_rules.specs.declared.link.Link.{Link}
-use Rattle.agent_rules.specs.declared.link.Link.TheVariants.{Cabled, Uncabled}
+use Rattle.agent_rules.specs.declared.link.PortLink.{PortLink}
+use Rattle.agent_rules.specs.declared.link.PortLink.TheVariants.{Cabled, Uncabled}
 use Rattle.agent_rules.specs.declared.power_up.TheConstants.{LINEAR_TABLE, MULTICAST_TABLE}
 use Rattle.port_model.specs.AdapterState.{AdapterState, at_power_up as adapter_at_power_up}
 use Rattle.switch_model.specs.SwitchState.{at_power_up as switch_at_power_up}
@@ -18,11 +18,11 @@ use Rattle.smp_wire.specs.declared.node.Node.TheVariants.{Switch, Adapter}
 use Rattle.smp_wire.specs.FabricState.{FabricState}
 
 -- a port has a link where a cable ends at it
-abbrev pub link_of : List Cable → ℕ → ℕ → Link
+abbrev pub link_of : List Cable → ℕ → ℕ → PortLink
 link_of cables place number = if is_cabled cables (record { node = place; port = number }) then Cabled else Uncabled
 
 -- the links of the ports of the node there, from port 1 on
-abbrev pub links_of : List Cable → ℕ → ℕ → List Link
+abbrev pub links_of : List Cable → ℕ → ℕ → List PortLink
 links_of cables place count = map (λ number. link_of cables place number) (range_with_len 1 count)
 
 -- a name in the 64 bytes of NodeDescription
@@ -49,5 +49,6 @@ abbrev pub fabric_of : TopologyState → FabricState
 fabric_of plan = record {
   nodes = map (λ p. node_of plan.cables p.0 p.1) (enumerate_from 0 plan.nodes);
   cables = plan.cables;
+  cut = [];
   manager = plan.sm;
 }

@@ -15,7 +15,7 @@ use smp_wire::Node;
 
 /// Where a unicast packet that came in here comes in next, if it goes on.
 fn next_port(nodes: &[Node], cabling: &Cabling, packet: &Packet, here: PortRef) -> Option<PortRef>
-    ensures { result ≡ next_port nodes.now cabling.now packet.now here }
+    ensures { result ≡ next_port nodes.now cabling.now.cables packet.now here }
 {
     let out = match nodes.get(here.node) {
         Some(Node::Switch(switch)) => switch.unicast_out(here.port, packet),
@@ -35,8 +35,8 @@ pub(crate) fn end_of_way(
     packet: &Packet,
     first: PortRef,
 ) -> Option<PortRef>
-    ensures some { IfSome result (λ last. IsEnd nodes.now cabling.now packet.now first last) }
-    ensures none { result ≡ None → (last : PortRef) → IsEnd nodes.now cabling.now packet.now first last → ⊥ }
+    ensures some { IfSome result (λ last. IsEnd nodes.now cabling.now.cables packet.now first last) }
+    ensures none { result ≡ None → (last : PortRef) → IsEnd nodes.now cabling.now.cables packet.now first last → ⊥ }
 {
     let mut here = first;
     for _hops in 0..cabling.count_ends() + 1 {
@@ -55,8 +55,8 @@ pub(crate) fn receiver<'a>(
     packet: &Packet,
     from: PortRef,
 ) -> Option<&'a AdapterPort>
-    ensures some { IfSome result (λ port. (at : PortRef) × IsDelivered nodes.now cabling.now from packet.now at port.now) }
-    ensures none { result ≡ None → (at : PortRef) (port : AdapterState) → IsDelivered nodes.now cabling.now from packet.now at port → ⊥ }
+    ensures some { IfSome result (λ port. (at : PortRef) × IsDelivered nodes.now cabling.now.cables from packet.now at port.now) }
+    ensures none { result ≡ None → (at : PortRef) (port : AdapterState) → IsDelivered nodes.now cabling.now.cables from packet.now at port → ⊥ }
 {
     let first = cabling.far_end(from)?;
     let last = end_of_way(nodes, cabling, packet, first)?;

@@ -1,15 +1,16 @@
 //! The simulated fabric.
 
-ghost use Rattle.std.specs.Prelude.{◌≡◌, ◌≤◌, ◌↔◌, true, length, Some, None, IfOk, IfSome};
+ghost use Rattle.std.specs.Prelude.{ℕ, ◌≡◌, ◌*◌, ◌≤◌, ◌↔◌, true, length, is_some, Some, IfOk};
+ghost use Rattle.std.specs.Option.{ForSome};
 ghost use Rattle.data_packet.specs.declared.payload.TheConstants.{PAYLOAD_BYTES};
 ghost use Rattle.fabric_parts.specs.Cable.{far_end};
 ghost use Rattle.fabric_parts.specs.declared.cable.PortRef.{PortRef};
-ghost use Rattle.packet_ways.specs.Deliveries.{AreDeliveries, HasPort, IsOwn, Numbers, Reaches, adapter_at, guid_at, numbers_of};
+ghost use Rattle.packet_ways.specs.Deliveries.{AreDeliveries, HasPort, adapter_at, guid_at};
 ghost use Rattle.port_model.specs.AdapterState.{AdapterState};
 ghost use Rattle.port_model.specs.Packets.{stamped};
-ghost use Rattle.smp_wire.specs.FabricState.{fabric_with};
 ghost use Rattle.smp_wire.specs.Good.{IsGood, ShowsLinks, SwitchesJoined};
 ghost use Rattle.smp_wire.specs.Walk.{exchange_after, exchange_reply};
+ghost use Rattle.fabric_wire.specs.Cabling.{fabric_over};
 ghost use Rattle.fabric_wire.specs.OfTopology.{fabric_of};
 
 use crate::adapter_ports::{adapter_at, places_by_guid};
@@ -19,7 +20,7 @@ use crate::delivery::Delivery;
 use crate::hopping::{come_home, go_out};
 use crate::power_up::nodes_of;
 use data_packet::{Packet, QueuePair, Refusal};
-use fabric_parts::{Cable, PortRef};
+use fabric_parts::PortRef;
 use indexmap::IndexMap;
 use mad_layout::{Mad, known_bytes};
 use port_model::AdapterPort;
@@ -48,13 +49,15 @@ impl Model for Fabric {
 
     ghost view = { λ fabric. record {
       nodes = fabric.nodes.items;
-      cables = fabric.cabling;
+      cables = fabric.cabling.cables;
+      cut = fabric.cabling.cut;
       manager = fabric.manager;
     } };
 
     ghost invariant = { λ fabric. IsKept (record {
       nodes = fabric.nodes.items;
-      cables = fabric.cabling;
+      cables = fabric.cabling.cables;
+      cut = fabric.cabling.cut;
       manager = fabric.manager;
     }) (get nat_eq fabric.adapter_ports) };
 }
@@ -87,11 +90,11 @@ impl Fabric {
         &self.nodes
     }
 
-    /// Its cables.
-    pub fn cables(&self) -> &[Cable]
-        ensures { result.now ≡ self.now.cables }
+    /// How many ends its cables have, those that are cut left out.
+    pub fn cable_ends(&self) -> usize
+        ensures { result ≡ 2 * length self.now.cables }
     {
-        self.cabling.as_slice()
+        self.cabling.count_ends()
     }
 
     /// The other end of the cable at a port, if it has one.
@@ -118,6 +121,25 @@ impl Fabric {
         }
     }
 
+    /// What the port there makes of a packet: its own [`AdapterPort::stamp`].
+    pub fn stamp_at(
+        &self,
+        at: PortRef,
+        dlid: u16,
+        p_key: u16,
+        destination_qp: QueuePair,
+        payload: &[u8],
+    ) -> Result<Packet, Refusal>
+        requires there { is_some (adapter_at self.now.nodes at) ≡ true }
+        requires fits { length payload.now ≤ PAYLOAD_BYTES }
+        ensures { ForSome (adapter_at self.now.nodes at) (λ sender. result ≡ stamped sender dlid p_key destination_qp payload.now) }
+    {
+        let Some(sender) = adapter_at(&self.nodes, at) else {
+            unreachable!()
+        };
+        sender.stamp(dlid, p_key, destination_qp, payload)
+    }
+
     /// What the port of that GUID makes of a packet: its own [`AdapterPort::stamp`].
     pub fn stamp(
         &self,
@@ -132,27 +154,34 @@ impl Fabric {
         ensures { (at : PortRef) (sender : AdapterState) → adapter_at self.now.nodes at ≡ Some sender → sender.port_guid ≡ port
             → result ≡ stamped sender dlid p_key destination_qp payload.now }
     {
-        self.sender(port)
-            .stamp(dlid, p_key, destination_qp, payload)
-    }
-
-    /// The port of that GUID.
-    fn sender(&self, guid: u64) -> &AdapterPort
-        requires { HasPort self.now.nodes guid }
-        ensures { (at : PortRef) → guid_at self.now.nodes at ≡ Some guid → adapter_at self.now.nodes at ≡ Some result.now }
-    {
-        let found = self.adapter_ports.get(&guid);
-        let Some(at) = found else { unreachable!() };
-        let Some(port) = adapter_at(&self.nodes, *at) else {
+        let Some(at) = self.place_of(port) else {
             unreachable!()
         };
-        port
+        self.stamp_at(at, dlid, p_key, destination_qp, payload)
     }
 
-    /// What becomes of a packet that the port of that GUID sends: who gets it, in order of LID, then of GUID. Where
-    /// no port with a cable has that GUID, nobody does. Memory alone can be refused.
+    /// What becomes of a packet that the port there sends: who gets it, in order of LID, then of GUID. Memory alone
+    /// can be refused.
     ///
     /// Source: IBA volume 1, chapter 14.
+    pub fn carry_from(
+        &self,
+        alloc: Global,
+        from: PortRef,
+        packet: &Packet,
+    ) -> Result<Vec<Delivery>, AllocError>
+        ensures { IfOk result (λ deliveries. (port : ℕ) → guid_at self.now.nodes from ≡ Some port
+            → AreDeliveries self.now port packet.now deliveries.items) }
+    {
+        let mut deliveries = Vec::new(alloc);
+        if let Some(receiver) = receiver(&self.nodes, &self.cabling, packet, from) {
+            deliveries.push(Delivery::at(receiver.port_guid(), packet)?)?;
+        }
+        Ok(deliveries)
+    }
+
+    /// What becomes of a packet that the port of that GUID sends. Where no port with a cable has that GUID, nobody
+    /// gets it.
     pub fn carry(
         &self,
         alloc: Global,
@@ -161,30 +190,19 @@ impl Fabric {
     ) -> Result<Vec<Delivery>, AllocError>
         ensures { IfOk result (λ deliveries. AreDeliveries self.now port packet.now deliveries.items) }
     {
-        let mut deliveries = Vec::new(alloc);
-        if let Some(receiver) = self.receiver(port, packet) {
-            deliveries.push(Delivery::at(receiver.port_guid(), packet)?)?;
+        match self.place_of(port) {
+            Some(from) => self.carry_from(alloc, from, packet),
+            None => Ok(Vec::new(alloc)),
         }
-        Ok(deliveries)
-    }
-
-    /// The port that gets what the port of that GUID sends, if one does.
-    fn receiver(&self, sender: u64, packet: &Packet) -> Option<&AdapterPort>
-        ensures some { IfSome result (λ port. Reaches self.now sender packet.now (numbers_of port.now)) }
-        ensures none { result ≡ None → (receiver : Numbers) → Reaches self.now sender packet.now receiver → ⊥ }
-        ensures own { IsOwn self.now.nodes sender }
-    {
-        let from = *self.adapter_ports.get(&sender)?;
-        receiver(&self.nodes, &self.cabling, packet, from)
     }
 }
 
 /// Takes an SMP out, has it answered, and takes its reply home.
 #[tactic(auto, unfolding(smp_wire::specs::Walk::exchange_reply, smp_wire::specs::Walk::exchange_after))]
 fn exchange(nodes: &mut [Node], cabling: &Cabling, manager: PortRef, sent: &Mad) -> Option<Mad>
-    requires { IsGood (fabric_with nodes.old cabling.now manager) }
-    ensures answer { result ≡ exchange_reply (fabric_with nodes.old cabling.now manager) sent.now }
-    ensures change { fabric_with nodes.new cabling.now manager ≡ exchange_after (fabric_with nodes.old cabling.now manager) sent.now }
+    requires { IsGood (fabric_over nodes.old cabling.now manager) }
+    ensures answer { result ≡ exchange_reply (fabric_over nodes.old cabling.now manager) sent.now }
+    ensures change { fabric_over nodes.new cabling.now manager ≡ exchange_after (fabric_over nodes.old cabling.now manager) sent.now }
 {
     if !is_sent(sent) {
         return None;

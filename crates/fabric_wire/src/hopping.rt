@@ -29,9 +29,9 @@ fn node_type_at(nodes: &[Node], place: usize) -> NodeType
 
 /// Takes an SMP from the subnet manager's port along its path, to the agent at its end.
 pub fn go_out(nodes: &[Node], cabling: &Cabling, manager: PortRef, sent: &Mad) -> Option<Arrival>
-    requires cables { list_all (is_right nodes.now) cabling.now ≡ true }
+    requires cables { list_all (is_right nodes.now) cabling.now.cables ≡ true }
     requires sent { is_sent sent.now ≡ true }
-    ensures { result ≡ option_map (arrival_of manager sent.now) (walk nodes.now cabling.now true manager (path_of sent.now)) }
+    ensures { result ≡ option_map (arrival_of manager sent.now) (walk nodes.now cabling.now.cables true manager (path_of sent.now)) }
 {
     let mut at = manager;
     // The node itself, and from the first hop on the port by which the SMP comes in.
@@ -64,10 +64,10 @@ pub fn come_home(
     agent: PortRef,
     smp: &mut Mad,
 ) -> bool
-    requires cables { list_all (is_right nodes.now) cabling.now ≡ true }
+    requires cables { list_all (is_right nodes.now) cabling.now.cables ≡ true }
     requires count { count smp.old ≤ 63 }
     requires pointer { pointer smp.old ≡ count smp.old + 1 }
-    ensures home { result ≡ leads_home nodes.now cabling.now manager.node smp.old (count smp.old) agent.node }
+    ensures home { result ≡ leads_home nodes.now cabling.now.cables manager.node smp.old (count smp.old) agent.node }
     ensures smp { result ≡ true → smp.new ≡ with_pointer 0 smp.old }
 {
     let mut at = agent;

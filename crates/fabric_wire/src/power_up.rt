@@ -8,7 +8,7 @@ ghost use Rattle.topo_file.specs.Node.{HasGuids, port_guid};
 ghost use Rattle.topo_file.specs.Sound.{is_sized};
 ghost use Rattle.fabric_wire.specs.OfTopology.{adapter_port_of, fabric_of, link_of, links_of, node_of, node_of_type};
 
-use agent_rules::{LINEAR_TABLE, Link, MULTICAST_TABLE};
+use agent_rules::{LINEAR_TABLE, MULTICAST_TABLE, PortLink};
 use fabric_parts::{NodeType, PortRef};
 use port_model::AdapterPort;
 use smp_wire::{AdapterPorts, Node};
@@ -118,7 +118,7 @@ fn links_of(
     topology: &Topology,
     place: usize,
     count: u8,
-) -> Result<Vec<Link>, AllocError>
+) -> Result<Vec<PortLink>, AllocError>
     requires { count ≤ most_ports node_type.Switch }
     ensures { IfOk result (λ links. links.items ≡ links_of topology.now.cables place count) }
 {
@@ -127,7 +127,7 @@ fn links_of(
         .collect(alloc)
 }
 
-fn link_of(topology: &Topology, place: usize, number: u8) -> Link
+fn link_of(topology: &Topology, place: usize, number: u8) -> PortLink
     ensures { result ≡ link_of topology.now.cables place number }
 {
     let port = PortRef {
@@ -135,8 +135,8 @@ fn link_of(topology: &Topology, place: usize, number: u8) -> Link
         port: number,
     };
     if topology.is_cabled(port) {
-        Link::Cabled
+        PortLink::Cabled
     } else {
-        Link::Uncabled
+        PortLink::Uncabled
     }
 }

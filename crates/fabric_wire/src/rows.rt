@@ -1,8 +1,9 @@
 //! What is told of ports, in a row for each node and a place in it for each port.
 
-ghost use Rattle.std.specs.Prelude.{◌≡◌, ◌==◌, ◌<◌, [], cond, length, Some, OnOk, ℕ};
+ghost use Rattle.std.specs.Prelude.{◌≡◌, ◌==◌, ◌<◌, ◌≤◌, true, [], cond, length, Some, OnOk, ℕ};
 ghost use Rattle.fabric_parts.specs.declared.cable.PortRef.{PortRef};
 ghost use Rattle.fabric_parts.specs.Cable.{is_same_port};
+ghost use Rattle.fabric_wire.specs.Cabling.{has_place};
 ghost use Rattle.fabric_wire.specs.Rows.{far_in, far_in_row};
 
 use fabric_parts::PortRef;
@@ -11,11 +12,11 @@ use std::marker::Model;
 
 /// The far ends of the ports of one node, by their numbers.
 #[derive(Debug, Drop)]
-struct Row {
+struct FarEnds {
     far_ends: Vec<Option<PortRef>>,
 }
 
-impl Model for Row {
+impl Model for FarEnds {
     ghost use Rattle.std.specs.Prelude.{List, Option};
     ghost use Rattle.fabric_parts.specs.declared.cable.PortRef.{PortRef};
 
@@ -24,7 +25,7 @@ impl Model for Row {
     ghost view = { λ row. row.far_ends.items };
 }
 
-impl Row {
+impl FarEnds {
     fn get(&self, number: u8) -> Option<PortRef>
         ensures { result ≡ far_in_row self.now number }
     {
@@ -35,16 +36,27 @@ impl Row {
     }
 
     fn put(&mut self, number: u8, far: PortRef) -> Result<(), AllocError>
-        ensures { OnOk result ((k : ℕ) → far_in_row self.new k ≡ cond (number == k) (Some far) (far_in_row self.old k)) }
+        ensures far { OnOk result ((k : ℕ) → far_in_row self.new k ≡ cond (number == k) (Some far) (far_in_row self.old k)) }
+        ensures here { OnOk result (number < length self.new) }
+        ensures long { OnOk result (length self.old ≤ length self.new) }
     {
         self.grow(number)?;
-        self.far_ends[usize::from(number)] = Some(far);
+        self.set(number, Some(far));
         Ok(())
+    }
+
+    fn set(&mut self, number: u8, far: Option<PortRef>)
+        requires { number < length self.old }
+        ensures far { (k : ℕ) → far_in_row self.new k ≡ cond (number == k) far (far_in_row self.old k) }
+        ensures long { length self.new ≡ length self.old }
+    {
+        self.far_ends[usize::from(number)] = far;
     }
 
     /// Makes a place for the port of that number.
     fn grow(&mut self, number: u8) -> Result<(), AllocError>
-        ensures long { OnOk result (number < length self.new) }
+        ensures here { OnOk result (number < length self.new) }
+        ensures long { OnOk result (length self.old ≤ length self.new) }
         ensures same { OnOk result ((k : ℕ) → far_in_row self.new k ≡ far_in_row self.old k) }
     {
         while self.far_ends.len() <= usize::from(number) {
@@ -58,7 +70,7 @@ impl Row {
 #[derive(Debug, Drop)]
 pub(crate) struct Rows {
     alloc: Global,
-    rows: Vec<Row>,
+    rows: Vec<FarEnds>,
 }
 
 impl Model for Rows {
@@ -93,19 +105,31 @@ impl Rows {
 
     /// Notes the far end of a port. Memory alone can be refused.
     pub(crate) fn put(&mut self, here: PortRef, far: PortRef) -> Result<(), AllocError>
-        ensures { OnOk result ((port : PortRef) → far_in self.new port ≡ cond (is_same_port here port) (Some far) (far_in self.old port)) }
+        ensures far { OnOk result ((port : PortRef) → far_in self.new port ≡ cond (is_same_port here port) (Some far) (far_in self.old port)) }
+        ensures here { OnOk result (has_place self.new here ≡ true) }
+        ensures places { OnOk result ((port : PortRef) → has_place self.old port ≡ true → has_place self.new port ≡ true) }
     {
         self.grow(here.node)?;
         self.rows[here.node].put(here.port, far)
+    }
+
+    /// Writes the far end of a port that has a place already, or that it has none.
+    pub(crate) fn set(&mut self, here: PortRef, far: Option<PortRef>)
+        requires { has_place self.old here ≡ true }
+        ensures far { (port : PortRef) → far_in self.new port ≡ cond (is_same_port here port) far (far_in self.old port) }
+        ensures places { (port : PortRef) → has_place self.new port ≡ has_place self.old port }
+    {
+        self.rows[here.node].set(here.port, far);
     }
 
     /// Makes a row for the node there.
     fn grow(&mut self, node: usize) -> Result<(), AllocError>
         ensures long { OnOk result (node < length self.new) }
         ensures same { OnOk result ((port : PortRef) → far_in self.new port ≡ far_in self.old port) }
+        ensures places { OnOk result ((port : PortRef) → has_place self.new port ≡ has_place self.old port) }
     {
         while self.rows.len() <= node {
-            self.rows.push(Row {
+            self.rows.push(FarEnds {
                 far_ends: Vec::new(self.alloc),
             })?;
         }

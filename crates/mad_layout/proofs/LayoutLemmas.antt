@@ -216,3 +216,14 @@ pub sets_mad : (ps : List Field) (old new : List ℕ) → length old ≡ 256 →
 sets_mad ps old new long layout e fits =
     let P : List ℕ → Type 0 = λ bytes. Sets old bytes ps in
     subst P (sym e) (sets_put_all ps old (ap (λ (n : ℕ). is_layout (8 * n) ps) long ∙ layout) fits)
+
+-- ---- parts of bytes are bytes
+pub below_taken : (n : ℕ) (xs : List ℕ) → AllBelowBase 256 xs → AllBelowBase 256 (take n xs)
+below_taken zero xs h = tt
+below_taken (suc n) [] h = tt
+below_taken (suc n) (x ∷ xs) h = (h.0, below_taken n xs h.1)
+
+pub below_dropped : (n : ℕ) (xs : List ℕ) → AllBelowBase 256 xs → AllBelowBase 256 (drop n xs)
+below_dropped zero xs h = h
+below_dropped (suc n) [] h = tt
+below_dropped (suc n) (x ∷ xs) h = below_dropped n xs h.1

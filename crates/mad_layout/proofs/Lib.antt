@@ -4,3 +4,4 @@ pub mod AlignedLemmas
 pub mod LayoutLemmas
 pub mod PutLemmas
 pub mod ReadLemmas
+pub mod StatusLemmas

@@ -2,7 +2,7 @@
 
 use crate::agents::fixtures::{TestSwitch, adapter_port_info, attribute_with, set};
 use crate::sending::packet;
-use agent_rules::Link;
+use agent_rules::PortLink;
 use attr_tables::SmpAttribute;
 use data_packet::Packet;
 use fabric_parts::SWITCH_PORTS;
@@ -19,7 +19,7 @@ const ENTRIES: [u8; 8] = [5, 0, 1, 36, 37, 0xff, 2, 3];
 
 /// A switch of 36 ports, all Down, that SMPs gave these entries and LinearFDBTop 6.
 fn switch_with_entries() -> TestSwitch {
-    let mut node: TestSwitch = Switch::new(0x10, b"A", &[Link::Uncabled; SWITCH_PORTS]);
+    let mut node: TestSwitch = Switch::new(0x10, b"A", &[PortLink::Uncabled; SWITCH_PORTS]);
     let mut top = set(SmpAttribute::SwitchInfo, 0, attribute_with(6, &[0, 6]));
     node.agent(1, &mut top);
     let mut block = [0xff; 64];
@@ -65,7 +65,7 @@ fn a_packet_leaves_by_the_entry_of_its_lid(rt: HostRuntime) -> Result<(), Fail> 
 
 #[test]
 fn a_new_switch_forwards_nothing(rt: HostRuntime) -> Result<(), Fail> {
-    let node: TestSwitch = Switch::new(0x10, b"A", &[Link::Cabled; SWITCH_PORTS]);
+    let node: TestSwitch = Switch::new(0x10, b"A", &[PortLink::Cabled; SWITCH_PORTS]);
     for (dlid, _) in FORWARDED {
         assert_eq!(rt; node.unicast_out(1, &packet_to(dlid, 0xffff)?), None);
     }

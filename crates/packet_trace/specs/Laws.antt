@@ -12,7 +12,8 @@ use Rattle.packet_ways.specs.Deliveries.{IsDelivered, adapter_at}
 use Rattle.port_model.specs.AdapterState.{AdapterState}
 use Rattle.smp_wire.specs.FabricState.{FabricState}
 
--- a unicast packet that leaves by the port `from`, whose cable leads to `first`, is delivered at a port exactly where that accepts it in the
+-- a unicast packet that leaves by the port `from`, whose cable leads to `first`, is delivered at a port exactly
+-- where that accepts it in the
 -- trace
 abbrev pub TracesTellDeliveries : Type 0
 TracesTellDeliveries =

@@ -1,3 +1,4 @@
 pub mod Trace
 pub mod Lines
 pub mod Laws
+pub mod Whole

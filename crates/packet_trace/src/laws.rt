@@ -3,6 +3,7 @@
 
 ghost use Rattle.std.specs.Prelude.{◌≡◌};
 ghost use Rattle.packet_trace.specs.Laws.{AdaptersAccept, TracesHaveAnEnd, TracesTellDeliveries};
+ghost use Rattle.packet_trace.specs.Whole.{TraceLinesAreWhole};
 ghost use Rattle.packet_trace.specs.declared.lines.TheConstants.{DATA_QP};
 
 /// A port accepts a packet in its trace exactly where the packet is delivered there. So a trace tells the ports to which
@@ -20,6 +21,11 @@ pub fn adapters_accept()
 /// the packet goes in a circle either.
 pub fn traces_have_an_end()
     ensures { TracesHaveAnEnd }
+{}
+
+/// Each form of a line of a trace, once as a whole text.
+pub fn trace_lines_are_whole()
+    ensures { TraceLinesAreWhole }
 {}
 
 /// The queue pair of a packet that is traced, written out.

@@ -11,7 +11,9 @@ mod lines;
 mod trace;
 mod turn;
 
-pub use crate::laws::{the_numbers, traces_have_an_end, traces_tell_deliveries};
+pub use crate::laws::{
+    adapters_accept, the_numbers, trace_lines_are_whole, traces_have_an_end, traces_tell_deliveries,
+};
 pub use crate::lines::trace_text;
 pub use crate::trace::steps;
 pub use crate::turn::{Step, Turn};

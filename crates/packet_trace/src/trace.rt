@@ -25,7 +25,7 @@ pub fn steps(
 {
     let mut steps = Vec::new(alloc);
     let mut here = first;
-    for _hop in 0..2 * fabric.cables().len() + 1 {
+    for _hop in 0..fabric.cable_ends() + 1 {
         let turn = turn_after(&steps, fabric, packet, here);
         steps.push(Step { at: here, turn })?;
         match next_after(fabric, here, turn) {

@@ -61,7 +61,8 @@ Goes nodes cables packet here (next ∷ later) last =
 
 -- ---- deliveries
 -- what leaves by the port `from` comes to the port of a channel adapter there, some way or other, and that accepts it
-pub record IsDelivered (nodes : List Node) (cables : List Cable) (from : PortRef) (packet : Packet) (at : PortRef) (port : AdapterState) : Type 0 where
+pub record IsDelivered (nodes : List Node) (cables : List Cable) (from : PortRef) (packet : Packet) (at : PortRef)
+    (port : AdapterState) : Type 0 where
   pub first : PortRef
   pub cable : far_end cables from ≡ Some first
   pub way : List PortRef

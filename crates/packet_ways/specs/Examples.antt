@@ -1,7 +1,7 @@
 -- The two-switch fabric of our examples, as a subnet manager leaves it.
 use Rattle.std.specs.Prelude.{ℕ, ◌+◌, ◌-◌, Bool, true, false, List, [], ◌∷◌, ◌++◌, replicate}
-use Rattle.agent_rules.specs.declared.link.Link.{Link}
-use Rattle.agent_rules.specs.declared.link.Link.TheVariants.{Cabled, Uncabled, Internal}
+use Rattle.agent_rules.specs.declared.link.PortLink.{PortLink}
+use Rattle.agent_rules.specs.declared.link.PortLink.TheVariants.{Cabled, Uncabled, Internal}
 use Rattle.agent_rules.specs.declared.power_up.TheConstants.{LINEAR_TABLE, MULTICAST_TABLE}
 use Rattle.agent_rules.specs.PowerUp.{keys_at_power_up, port_info_at_power_up, switch_info_at_power_up}
 use Rattle.fabric_parts.specs.declared.cable.Cable.{Cable}
@@ -12,7 +12,7 @@ use Rattle.smp_wire.specs.declared.node.Node.TheVariants.{Switch, Adapter}
 use Rattle.smp_wire.specs.FabricState.{FabricState}
 
 -- the port of a switch of that number, and whether it enforces partitions, both ways
-abbrev pub switch_port : ℕ → Link → Bool → SwitchPort
+abbrev pub switch_port : ℕ → PortLink → Bool → SwitchPort
 switch_port number link enforces =
     record {
       info = record (port_info_at_power_up node_type.Switch number link) {
@@ -41,7 +41,7 @@ switch_with guid entries =
     })
 
 -- an adapter of one port, of that LID
-abbrev pub adapter_with : ℕ → ℕ → Link → Node
+abbrev pub adapter_with : ℕ → ℕ → PortLink → Node
 adapter_with guid lid link =
     Adapter (record {
       node_guid = guid;
@@ -70,5 +70,6 @@ two_switches = record {
       ∷ adapter_with 0x140 0 Uncabled
       ∷ [];
   cables = cable 0 1 2 1 ∷ cable 0 2 3 1 ∷ cable 0 3 1 3 ∷ cable 1 1 4 1 ∷ cable 1 2 5 1 ∷ [];
+  cut = [];
   manager = record { node = 2; port = 1 };
 }

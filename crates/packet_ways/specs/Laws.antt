@@ -36,14 +36,16 @@ pub record IsMeant (fabric : FabricState) (dlid p_key : ℕ) (at : PortRef) (por
 -- nowhere else
 abbrev pub PacketsGoByLid : Type 0
 PacketsGoByLid =
-    (fabric : FabricState) (from at : PortRef) (sender port : AdapterState) (dlid p_key destination_qp : ℕ) (payload : List ℕ) (packet : Packet)
+    (fabric : FabricState) (from at : PortRef) (sender port : AdapterState) (dlid p_key destination_qp : ℕ) (payload : List ℕ)
+    (packet : Packet)
     → ForwardsByLid fabric → IsCabledPort fabric from sender → stamped sender dlid p_key destination_qp payload ≡ Ok packet
     → is_multicast dlid ≡ false → IsDelivered fabric.nodes fabric.cables from packet at port ↔ IsMeant fabric dlid p_key at port
 
 -- so to nobody, where that LID is a switch's or nobody's
 abbrev pub OtherLidsReachNobody : Type 0
 OtherLidsReachNobody =
-    (fabric : FabricState) (from at : PortRef) (sender port : AdapterState) (dlid p_key destination_qp : ℕ) (payload : List ℕ) (packet : Packet)
+    (fabric : FabricState) (from at : PortRef) (sender port : AdapterState) (dlid p_key destination_qp : ℕ) (payload : List ℕ)
+    (packet : Packet)
     → ForwardsByLid fabric → IsCabledPort fabric from sender → stamped sender dlid p_key destination_qp payload ≡ Ok packet
     → is_multicast dlid ≡ false → ((other : PortRef) (held : AdapterState) → IsCabledPort fabric other held → held.info.lid ≡ dlid → ⊥)
     → IsDelivered fabric.nodes fabric.cables from packet at port → ⊥

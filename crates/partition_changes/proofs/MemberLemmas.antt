@@ -5,12 +5,13 @@ use Rattle.std.proofs.lemmas.Bool.{and_from, and_parts, cases_Bool, eq-eqb, eqb-
 use Rattle.std.proofs.lemmas.Bool.Decides.{nat_tests}
 use Rattle.pkey_rules.specs.KeyTable.{find_base}
 use Rattle.pkey_rules.specs.PKey.{base_of}
-use Rattle.port_shares.proofs.NearLemmas.{any_flat, same_any}
+use Rattle.port_shares.proofs.NearLemmas.{same_any}
 use Rattle.subnet_model.specs.declared.subnet_port.SubnetPort.{SubnetPort}
 use Rattle.partition_changes.specs.Changes.{bases_named, member_changes_at, member_of, same_member}
 use Rattle.partition_changes.specs.Laws.{AreSamePorts, MembersAreTold, comes, goes, has_member, is_of, same_guid, says}
 use Rattle.partition_changes.proofs.BaseLemmas.{rising_rises}
 use Rattle.partition_changes.proofs.ToldLemmas.{Apart, apart_by_base, one_comes, one_goes, only_one, told_apart}
+use Rattle.result_words.proofs.ListLemmas.{any_flat}
 
 abbrev Member : Type 0
 Member = SubnetPort × ℕ

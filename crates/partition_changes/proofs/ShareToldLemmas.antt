@@ -5,7 +5,7 @@ use Rattle.std.proofs.lemmas.Bool.{and_from, and_parts, cases_Bool, eq-eqb, eqb-
 use Rattle.std.proofs.lemmas.List.Folds.{list_any-append}
 use Rattle.result_words.proofs.RisingLemmas.{Rises, rises}
 use Rattle.pkey_rules.specs.KeyTable.{shares_base}
-use Rattle.port_shares.proofs.NearLemmas.{any_flat, same_any}
+use Rattle.port_shares.proofs.NearLemmas.{same_any}
 use Rattle.port_shares.proofs.ShareLemmas.{range_rises}
 use Rattle.port_shares.specs.Found.{share_of as share_between}
 use Rattle.port_shares.specs.Shares.{Share, pair_shares, shared_bases, shares}
@@ -14,6 +14,7 @@ use Rattle.partition_changes.specs.Changes.{pair_changes, same_share, share_chan
 use Rattle.partition_changes.specs.Laws.{SharesAreTold, comes, goes, has_share, same_guid, says}
 use Rattle.partition_changes.proofs.MemberLemmas.{any_first, any_second, first_same, guids, none_after, own}
 use Rattle.partition_changes.proofs.ToldLemmas.{Apart, alone, apart_by_base, one_comes, one_goes, told_apart, weaker_none}
+use Rattle.result_words.proofs.ListLemmas.{any_flat}
 
 abbrev pub Alike : Share → Share → Type 0
 Alike a b = (a.first.guid ≡ b.first.guid) × ((a.second.guid ≡ b.second.guid) × (a.base ≡ b.base))

@@ -6,7 +6,8 @@ use Rattle.std.proofs.lemmas.Bool.Decides.{nat_tests}
 use Rattle.result_words.proofs.RisingLemmas.{Rises}
 use Rattle.partition_changes.specs.Changes.{changes_of, coming, going}
 use Rattle.partition_changes.specs.Laws.{TellWhatChanges, comes, goes, says}
-use Rattle.port_shares.proofs.NearLemmas.{any_flat, same_any}
+use Rattle.port_shares.proofs.NearLemmas.{same_any}
+use Rattle.result_words.proofs.ListLemmas.{any_flat}
 
 -- ---- one thing
 

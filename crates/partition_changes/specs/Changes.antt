@@ -62,7 +62,8 @@ bases_named before after = rising_bases (before ++ after)
 -- the partition of this base: its place is its number
 abbrev pub partition_of : List Heading → ℕ → Option (ℕ × Heading)
 partition_of headings base =
-    option_and_then (λ number. option_map (λ heading. (number, heading)) (slice_get headings number)) (position (λ heading. heading.base == base) headings)
+    option_and_then (λ number. option_map (λ heading. (number, heading)) (slice_get headings number))
+    (position (λ heading. heading.base == base) headings)
 
 abbrev pub same_partition : ℕ × Heading → ℕ × Heading → Bool
 same_partition a b = (a.0 == b.0) && ((a.1.base == b.1.base) && bytes_eq a.1.name b.1.name)

@@ -33,7 +33,8 @@ has_partition headings x = says same_partition x (partition_of headings x.1.base
 
 abbrev pub PartitionsAreTold : Type 0
 PartitionsAreTold =
-    (before after : List Heading) → TellWhatChanges same_partition (has_partition before) (has_partition after) (partition_changes before after)
+    (before after : List Heading) → TellWhatChanges same_partition (has_partition before) (has_partition after)
+    (partition_changes before after)
 
 -- ---- groups, by base and all that their lines tell
 abbrev pub has_group : List Heading → Heading → Bool
@@ -80,13 +81,15 @@ SharesAreTold =
 pub record SayTheSame (before after : ConfigurationState) : Type 0 where
   pub partitions : (x : ℕ × Heading) → has_partition before.partitions x ≡ has_partition after.partitions x
   pub groups : (x : Heading) → has_group before.partitions x ≡ has_group after.partitions x
-  pub members : (x : SubnetPort × ℕ) → is_of (bases_named before.partitions after.partitions) x ≡ true → has_member before.ports x ≡ has_member after.ports x
+  pub members : (x : SubnetPort × ℕ) → is_of (bases_named before.partitions after.partitions) x ≡ true
+      → has_member before.ports x ≡ has_member after.ports x
   pub shares : (x : Share) → has_share before.ports x ≡ has_share after.ports x
 
 -- the text of changes is empty exactly where they do
 abbrev pub NothingIsToldOfTheSame : Type 0
 NothingIsToldOfTheSame =
-    (before after : ConfigurationState) → AreSamePorts before.ports after.ports → text_of_changes before after ≡ [] ↔ SayTheSame before after
+    (before after : ConfigurationState) → AreSamePorts before.ports after.ports
+    → text_of_changes before after ≡ [] ↔ SayTheSame before after
 
 -- where no share is told, whoever was near a port is near it still, and nobody else is
 abbrev pub NearStaysWhereNoShareIsTold : Type 0
@@ -104,7 +107,8 @@ pub record SameIsWhatIsShown : Type 0 where
   pub partitions : (a b : ℕ × Heading) → same_partition a b ≡ true ↔ ((a.0 ≡ b.0) × ((a.1.base ≡ b.1.base) × (a.1.name ≡ b.1.name)))
   pub groups : (a b : Heading) → same_group a b ≡ true ↔ ((a.base ≡ b.base) × IsShownAlike a.group b.group)
   pub members : (a b : SubnetPort × ℕ) → same_member a b ≡ true ↔ ((a.0.guid ≡ b.0.guid) × (a.1 ≡ b.1))
-  pub shares : (a b : Share) → same_share a b ≡ true ↔ ((a.first.guid ≡ b.first.guid) × ((a.second.guid ≡ b.second.guid) × (a.base ≡ b.base)))
+  pub shares : (a b : Share) → same_share a b ≡ true ↔
+      ((a.first.guid ≡ b.first.guid) × ((a.second.guid ≡ b.second.guid) × (a.base ≡ b.base)))
 
 -- the line of what comes begins with a plus sign, and the line of what goes with a minus sign, each with a space behind it
 abbrev pub AreSigned : (X : Type 0) → (X → List ℕ) → Type 0

@@ -26,18 +26,18 @@ use Rattle.partition_file.specs.declared.piece.Delimiter.TheVariants.{Equals, Co
 use Rattle.partition_file.specs.declared.token.MembershipWord.{MembershipWord}
 use Rattle.partition_file.specs.declared.token.MembershipWord.TheVariants as membership
 use Rattle.partition_file.specs.declared.token.Token.{Token}
-use Rattle.partition_file.specs.declared.token.Token.TheVariants.{Name, Key, NoFlag, FlagWord, FlagValue, NoPorts, Mgid, ListWord, Membership}
+use Rattle.partition_file.specs.declared.token.Token.TheVariants.{Name, Base, NoFlag, FlagWord, FlagValue, NoPorts, Mgid, ListWord, Membership}
 use Rattle.partition_file.specs.declared.token.Value.{Value}
 use Rattle.partition_file.specs.declared.token.Value.TheVariants.{Taken, Empty, Misspelt, Both, Refused}
 use Rattle.partition_file.specs.Pieces.{is_equals, is_semicolon}
 use Rattle.partition_file.specs.Numbers.{is_number, number_up_to}
 use Rattle.partition_file.specs.Flags.{flag_of, greatest, setting_of, with_flag, with_setting}
 use Rattle.partition_file.specs.Ports.{ports_named}
-use Rattle.partition_file.specs.Counting.{keys_of, partition_count}
-use Rattle.partition_file.specs.Cases.{fault_of, has_fault, in_turn, is_one_too_many, is_reserved_key, is_unfinished, key_here}
+use Rattle.partition_file.specs.Counting.{bases_given, partition_count}
+use Rattle.partition_file.specs.Cases.{fault_of, has_fault, in_turn, is_one_too_many, is_reserved_key, is_unfinished, base_here}
 use Rattle.partition_file.specs.Definitions.{after_equals, part_after, with_piece}
 use Rattle.partition_file.specs.ScanState.{ScanState, is_in_list}
-use Rattle.partition_file.specs.Sound.{IsSoundSoFar, are_within, is_sound_key, is_within}
+use Rattle.partition_file.specs.Sound.{IsSoundSoFar, are_within, is_sound_base, is_within}
 use Rattle.partition_file.specs.Tokens.{is_empty, membership_in, membership_value, number_value, taken_if, token_of, value_of}
 
 -- ---- where no fault is told, none is there
@@ -75,7 +75,7 @@ unfolding has_fault
 reserved_there s delimiter token = refl
 
 too_many_there : (s : ScanState) (delimiter : Delimiter) (token : Token)
-    → has_fault s delimiter token TooManyPartitions ≡ is_one_too_many s.at delimiter (keys_of s.done) (key_here token s.current.key)
+    → has_fault s delimiter token TooManyPartitions ≡ is_one_too_many s.at delimiter (bases_given s.done) (base_here token s.current.base)
 unfolding has_fault
 too_many_there s delimiter token = refl
 
@@ -97,7 +97,7 @@ is_fit_value (Taken setting) = is_fit_setting setting
 is_fit_value _ = true
 
 abbrev is_fit : Token → Bool
-is_fit (Key (Some base)) = nat_lt base 32768
+is_fit (Base (Some base)) = nat_lt base 32768
 is_fit (FlagValue value) = is_fit_value value
 is_fit _ = true
 
@@ -157,8 +157,8 @@ any_value_fits Scope piece = value_fits Scope piece
 any_value_fits QKey piece = value_fits QKey piece
 any_value_fits DefaultMembership piece = membership_fits (membership_in piece)
 
-base_fits : (o : Option ℕ) → is_fit (Key (option_map base_of o)) ≡ true
-base_fits (Some key) = lt-ltb (base_of key) 32768 (mod-lt key (omega arith))
+base_fits : (o : Option ℕ) → is_fit (Base (option_map base_of o)) ≡ true
+base_fits (Some given) = lt-ltb (base_of given) 32768 (mod-lt given (omega arith))
 base_fits None = refl
 
 flag_fits : (b : Bool) (o : Option Flag) → is_fit (cond b NoFlag (FlagWord o)) ≡ true
@@ -172,7 +172,7 @@ list_fits false false o = refl
 
 fits : (at : Part) (piece : List ℕ) → is_fit (token_of at piece) ≡ true
 fits part.Name piece = refl
-fits part.Key piece = base_fits (number_up_to 65535 piece)
+fits part.Base piece = base_fits (number_up_to 65535 piece)
 fits part.FlagWord piece = flag_fits (is_empty piece) (flag_of piece)
 fits (part.FlagValue flag) piece = any_value_fits flag piece
 fits part.ListWord piece = list_fits (is_empty piece) (bytes_eq piece (codes "mgid")) (ports_named piece)
@@ -197,48 +197,48 @@ word_of_list false false o = refl
 
 same_list : (at : Part) (piece : List ℕ) → is_of_list (token_of at piece) ≡ is_in_list at
 same_list part.Name piece = refl
-same_list part.Key piece = refl
+same_list part.Base piece = refl
 same_list part.FlagWord piece = flag_of_list (is_empty piece) (flag_of piece)
 same_list (part.FlagValue flag) piece = refl
 same_list part.ListWord piece = word_of_list (is_empty piece) (bytes_eq piece (codes "mgid")) (ports_named piece)
 same_list (part.Membership ports) piece = refl
 
--- ---- the key of a definition with one more piece
-key_by : (d e : Definition) (b : Bool) → d.key ≡ e.key → (cond b d e).key ≡ d.key
-key_by d e true h = refl
-key_by d e false h = sym h
+-- ---- the base of a definition with one more piece
+base_by : (d e : Definition) (b : Bool) → d.base ≡ e.base → (cond b d e).base ≡ d.base
+base_by d e true h = refl
+base_by d e false h = sym h
 
-pub key_after : (d : Definition) (token : Token) (delimiter : Delimiter) (piece : List ℕ) → (with_piece d token delimiter piece).key ≡ key_here token d.key
-key_after d (Name word) delimiter piece = refl
-key_after d (Key base) delimiter piece = refl
-key_after d NoFlag delimiter piece = refl
-key_after d (FlagWord flag) delimiter piece = key_by d _ (is_equals delimiter) refl
-key_after d (FlagValue (Taken setting)) delimiter piece = refl
-key_after d (FlagValue Empty) delimiter piece = refl
-key_after d (FlagValue Misspelt) delimiter piece = refl
-key_after d (FlagValue Both) delimiter piece = refl
-key_after d (FlagValue Refused) delimiter piece = refl
-key_after d NoPorts delimiter piece = refl
-key_after d Mgid delimiter piece = refl
-key_after d (ListWord (Some ports)) delimiter piece = key_by d _ (is_equals delimiter) refl
-key_after d (ListWord None) delimiter piece = refl
-key_after d (Membership ports word) delimiter piece = refl
+pub base_after : (d : Definition) (token : Token) (delimiter : Delimiter) (piece : List ℕ) → (with_piece d token delimiter piece).base ≡ base_here token d.base
+base_after d (Name word) delimiter piece = refl
+base_after d (Base base) delimiter piece = refl
+base_after d NoFlag delimiter piece = refl
+base_after d (FlagWord flag) delimiter piece = base_by d _ (is_equals delimiter) refl
+base_after d (FlagValue (Taken setting)) delimiter piece = refl
+base_after d (FlagValue Empty) delimiter piece = refl
+base_after d (FlagValue Misspelt) delimiter piece = refl
+base_after d (FlagValue Both) delimiter piece = refl
+base_after d (FlagValue Refused) delimiter piece = refl
+base_after d NoPorts delimiter piece = refl
+base_after d Mgid delimiter piece = refl
+base_after d (ListWord (Some ports)) delimiter piece = base_by d _ (is_equals delimiter) refl
+base_after d (ListWord None) delimiter piece = refl
+base_after d (Membership ports word) delimiter piece = refl
 
 other_than_zero : (n : ℕ) → nat_lt n 32768 ≡ true → (n == 0) ≡ false → is_base n ≡ true
 other_than_zero n below h = grind (arith, nat_tests)
 
-sound_key : (token : Token) (delimiter : Delimiter) (key : Option ℕ) → is_sound_key key ≡ true → is_fit token ≡ true → is_reserved_key token delimiter ≡ false
-    → is_sound_key (key_here token key) ≡ true
-sound_key (Name word) delimiter key h fit other = h
-sound_key (Key (Some base)) delimiter key h fit other = other_than_zero base fit other
-sound_key (Key None) delimiter key h fit other = refl
-sound_key NoFlag delimiter key h fit other = h
-sound_key (FlagWord flag) delimiter key h fit other = h
-sound_key (FlagValue value) delimiter key h fit other = h
-sound_key NoPorts delimiter key h fit other = h
-sound_key Mgid delimiter key h fit other = h
-sound_key (ListWord ports) delimiter key h fit other = h
-sound_key (Membership ports word) delimiter key h fit other = h
+sound_base : (token : Token) (delimiter : Delimiter) (given : Option ℕ) → is_sound_base given ≡ true → is_fit token ≡ true → is_reserved_key token delimiter ≡ false
+    → is_sound_base (base_here token given) ≡ true
+sound_base (Name word) delimiter given h fit other = h
+sound_base (Base (Some base)) delimiter given h fit other = other_than_zero base fit other
+sound_base (Base None) delimiter given h fit other = refl
+sound_base NoFlag delimiter given h fit other = h
+sound_base (FlagWord flag) delimiter given h fit other = h
+sound_base (FlagValue value) delimiter given h fit other = h
+sound_base NoPorts delimiter given h fit other = h
+sound_base Mgid delimiter given h fit other = h
+sound_base (ListWord ports) delimiter given h fit other = h
+sound_base (Membership ports word) delimiter given h fit other = h
 
 -- ---- the flags of a definition with one more piece
 flag_within : (o : Option Flag) (flags : Flags) → are_within flags ≡ true → are_within (with_flag o flags) ≡ true
@@ -278,7 +278,7 @@ flags_by d e false h k = k
 pub flags_after : (d : Definition) (token : Token) (delimiter : Delimiter) (piece : List ℕ) → is_fit token ≡ true → are_within d.flags ≡ true
     → are_within (with_piece d token delimiter piece).flags ≡ true
 flags_after d (Name word) delimiter piece fit h = h
-flags_after d (Key base) delimiter piece fit h = h
+flags_after d (Base base) delimiter piece fit h = h
 flags_after d NoFlag delimiter piece fit h = h
 flags_after d (FlagWord flag) delimiter piece fit h = flags_by d _ (is_equals delimiter) h (flag_within flag d.flags h)
 flags_after d (FlagValue (Taken setting)) delimiter piece fit h = setting_within setting d.flags fit h
@@ -293,27 +293,27 @@ flags_after d (ListWord None) delimiter piece fit h = h
 flags_after d (Membership ports word) delimiter piece fit h = h
 
 -- ---- the room that a list leaves
-same_in_list : (token : Token) (key : Option ℕ) → is_of_list token ≡ true → key_here token key ≡ key
-same_in_list (Name word) key h = refl
-same_in_list (Key base) key h = absurd cc
-same_in_list NoFlag key h = refl
-same_in_list (FlagWord flag) key h = refl
-same_in_list (FlagValue value) key h = refl
-same_in_list NoPorts key h = refl
-same_in_list Mgid key h = refl
-same_in_list (ListWord ports) key h = refl
-same_in_list (Membership ports word) key h = refl
+same_in_list : (token : Token) (given : Option ℕ) → is_of_list token ≡ true → base_here token given ≡ given
+same_in_list (Name word) given h = refl
+same_in_list (Base base) given h = absurd cc
+same_in_list NoFlag given h = refl
+same_in_list (FlagWord flag) given h = refl
+same_in_list (FlagValue value) given h = refl
+same_in_list NoPorts given h = refl
+same_in_list Mgid given h = refl
+same_in_list (ListWord ports) given h = refl
+same_in_list (Membership ports word) given h = refl
 
 -- the definition with this piece is one of those that there is room for
 abbrev pub HasRoom : ScanState → Token → Type 0
-HasRoom s token = partition_count (keys_of s.done ++ key_here token s.current.key ∷ []) ≤ PARTITIONS
+HasRoom s token = partition_count (bases_given s.done ++ base_here token s.current.base ∷ []) ≤ PARTITIONS
 
 kept_room : (s : ScanState) (piece : List ℕ) → IsSoundSoFar s → is_in_list s.at ≡ true → HasRoom s (token_of s.at piece)
-kept_room s piece sound inside = rw (same_in_list (token_of s.at piece) s.current.key (same_list s.at piece ∙ inside)) (sound.room inside)
+kept_room s piece sound inside = rw (same_in_list (token_of s.at piece) s.current.base (same_list s.at piece ∙ inside)) (sound.room inside)
 
 in_list_by_equals : (token : Token) → is_in_list (after_equals token) ≡ true → is_of_list token ≡ true
 in_list_by_equals (Name word) h = h
-in_list_by_equals (Key base) h = h
+in_list_by_equals (Base base) h = h
 in_list_by_equals NoFlag h = h
 in_list_by_equals (FlagWord (Some flag)) h = h
 in_list_by_equals (FlagWord None) h = h
@@ -332,7 +332,7 @@ few_enough true n e h = absurd cc
 few_enough false n e h = ltb-false PARTITIONS n h
 
 room_after_colon : (s : ScanState) (piece : List ℕ) (b : Bool) → is_in_list s.at ≡ b → IsSoundSoFar s
-    → is_one_too_many s.at Colon (keys_of s.done) (key_here (token_of s.at piece) s.current.key) ≡ false → HasRoom s (token_of s.at piece)
+    → is_one_too_many s.at Colon (bases_given s.done) (base_here (token_of s.at piece) s.current.base) ≡ false → HasRoom s (token_of s.at piece)
 room_after_colon s piece true e sound h = kept_room s piece sound e
 room_after_colon s piece false e sound h = few_enough (is_in_list s.at) _ e h
 
@@ -348,11 +348,11 @@ has_room s Semicolon piece sound none h =
     let token = token_of s.at piece in
     kept_room s piece sound (not-false (is_in_list s.at) (sym (unfinished_there s Semicolon token) ∙ none_there s Semicolon token none Unfinished))
 
-pub has_key : (s : ScanState) (delimiter : Delimiter) (piece : List ℕ) → IsSoundSoFar s → fault_of s delimiter (token_of s.at piece) ≡ None
-    → is_sound_key (key_here (token_of s.at piece) s.current.key) ≡ true
-has_key s delimiter piece sound none =
+pub has_sound_base : (s : ScanState) (delimiter : Delimiter) (piece : List ℕ) → IsSoundSoFar s → fault_of s delimiter (token_of s.at piece) ≡ None
+    → is_sound_base (base_here (token_of s.at piece) s.current.base) ≡ true
+has_sound_base s delimiter piece sound none =
     let token = token_of s.at piece in
-    sound_key token delimiter s.current.key sound.valid (fits s.at piece) (sym (reserved_there s delimiter token) ∙ none_there s delimiter token none ReservedKey)
+    sound_base token delimiter s.current.base sound.valid (fits s.at piece) (sym (reserved_there s delimiter token) ∙ none_there s delimiter token none ReservedKey)
 
 -- the definition d is the current one with one more piece
 pub still_sound : (s : ScanState) (delimiter : Delimiter) (token : Token) (piece : List ℕ) (d : Definition) → IsSoundSoFar s
@@ -365,18 +365,18 @@ still_sound s delimiter token piece d sound says none h =
     by : fault_of s delimiter (token_of s.at piece) ≡ None → d ≡ with_piece s.current (token_of s.at piece) delimiter piece
         → IsSoundSoFar (record { at = part_after s.at delimiter (token_of s.at piece); current = d; done = s.done })
     by clean same =
-        let key : d.key ≡ key_here (token_of s.at piece) s.current.key = ap (λ (e : Definition). e.key) same ∙ key_after s.current (token_of s.at piece) delimiter piece in
+        let given : d.base ≡ base_here (token_of s.at piece) s.current.base = ap (λ (e : Definition). e.base) same ∙ base_after s.current (token_of s.at piece) delimiter piece in
         record {
-          valid = rw key (has_key s delimiter piece sound clean);
+          valid = rw given (has_sound_base s delimiter piece sound clean);
           flags = rw same (flags_after s.current (token_of s.at piece) delimiter piece (fits s.at piece) sound.flags);
-          room = λ inside. rw key (has_room s delimiter piece sound clean (or_right (is_semicolon delimiter) _ inside));
+          room = λ inside. rw given (has_room s delimiter piece sound clean (or_right (is_semicolon delimiter) _ inside));
         }
 
 -- what adding a definition asks for
 pub record MayEnd (before : List Definition) (d : Definition) : Type 0 where
-  pub valid : is_sound_key d.key ≡ true
+  pub valid : is_sound_base d.base ≡ true
   pub flags : are_within d.flags ≡ true
-  pub room : partition_count (keys_of before ++ d.key ∷ []) ≤ PARTITIONS
+  pub room : partition_count (bases_given before ++ d.base ∷ []) ≤ PARTITIONS
 
 pub may_end : (s : ScanState) (delimiter : Delimiter) (token : Token) (piece : List ℕ) (d : Definition) → IsSoundSoFar s → token ≡ token_of s.at piece
     → fault_of s delimiter token ≡ None
@@ -386,14 +386,14 @@ may_end s delimiter token piece d sound says none h ended =
   where
     by : fault_of s delimiter (token_of s.at piece) ≡ None → d ≡ with_piece s.current (token_of s.at piece) delimiter piece → MayEnd s.done d
     by clean same =
-        let key : d.key ≡ key_here (token_of s.at piece) s.current.key = ap (λ (e : Definition). e.key) same ∙ key_after s.current (token_of s.at piece) delimiter piece in
+        let given : d.base ≡ base_here (token_of s.at piece) s.current.base = ap (λ (e : Definition). e.base) same ∙ base_after s.current (token_of s.at piece) delimiter piece in
         record {
-          valid = rw key (has_key s delimiter piece sound clean);
+          valid = rw given (has_sound_base s delimiter piece sound clean);
           flags = rw same (flags_after s.current (token_of s.at piece) delimiter piece (fits s.at piece) sound.flags);
-          room = rw key (has_room s delimiter piece sound clean (or_left (is_semicolon delimiter) _ ended));
+          room = rw given (has_room s delimiter piece sound clean (or_left (is_semicolon delimiter) _ ended));
         }
 
--- a piece that was not taken leaves the definition's key
-pub as_before : (s : ScanState) (d : Definition) → IsSoundSoFar s → d.key ≡ s.current.key → d.flags ≡ s.current.flags
+-- a piece that was not taken leaves the definition's base
+pub as_before : (s : ScanState) (d : Definition) → IsSoundSoFar s → d.base ≡ s.current.base → d.flags ≡ s.current.flags
     → IsSoundSoFar (record { at = s.at; current = d; done = s.done })
 as_before s d sound h k = record { valid = rw h sound.valid; flags = rw k sound.flags; room = λ inside. rw h (sound.room inside) }

@@ -18,7 +18,7 @@ use Rattle.partition_file.specs.declared.piece.Delimiter.TheVariants.{Equals, Co
 use Rattle.partition_file.specs.declared.token.Token.{Token}
 use Rattle.partition_file.specs.declared.token.Value.{Value}
 use Rattle.partition_file.specs.declared.token.Value.TheVariants.{Taken, Empty, Misspelt, Both, Refused}
-use Rattle.partition_file.specs.declared.token.Token.TheVariants.{FlagWord, FlagValue, Key, ListWord, Membership, Mgid, Name, NoFlag, NoPorts}
+use Rattle.partition_file.specs.declared.token.Token.TheVariants.{FlagWord, FlagValue, Base, ListWord, Membership, Mgid, Name, NoFlag, NoPorts}
 use Rattle.partition_file.specs.Cases.{has_fault, is_bad_character, is_bad_number, is_mgid_item, is_unfinished, is_unknown_flag}
 use Rattle.partition_file.specs.Cut.{at_colon, at_comma, at_equals, definition_in, item_of, items_of, value_behind, with_flag_part, with_flag_value}
 use Rattle.partition_file.specs.Cut.{with_items, with_value, word_of, has_value}
@@ -39,9 +39,9 @@ abbrev listed : List ℕ → List (List ℕ)
 listed piece = slice_split at_comma (after_first at_colon piece)
 
 -- ---- what becomes of the definition so far, if the rest of its piece is cut
-abbrev with_key : Definition → List (List ℕ) → Definition
-with_key d [] = d
-with_key d (first ∷ flags) = record d { key = base_in (folded first); flags = fold with_flag_part d.flags flags }
+abbrev with_named : Definition → List (List ℕ) → Definition
+with_named d [] = d
+with_named d (first ∷ flags) = record d { base = base_in (folded first); flags = fold with_flag_part d.flags flags }
 
 abbrev with_flags : Definition → List (List ℕ) → Definition
 with_flags d flags = record d { flags = fold with_flag_part d.flags flags }
@@ -56,7 +56,7 @@ with_member ports d (first ∷ items) = with_items (with_item d ports (is_full (
 
 abbrev pub finished : Part → Definition → List ℕ → Definition
 finished part.Name d piece = definition_in piece
-finished part.Key d piece = with_items (with_key d (heads piece)) (listed piece)
+finished part.Base d piece = with_items (with_named d (heads piece)) (listed piece)
 finished part.FlagWord d piece = with_items (with_flags d (heads piece)) (listed piece)
 finished (part.FlagValue flag) d piece = with_items (with_given flag d (heads piece)) (listed piece)
 finished part.ListWord d piece = with_items d (slice_split at_comma piece)
@@ -121,7 +121,7 @@ item_given : (default : Bool) (raw p : List ℕ) → IsOpen raw → items_of def
 item_given default raw p free = rw (has_value_there raw p free, word_there raw p free, value_there raw p free) refl
 
 -- ---- a name
-name_equals : (raw p : List ℕ) → IsOpen raw → finished part.Name blank (raw ++ 61 ∷ p) ≡ finished part.Key (record blank { name = folded raw }) p
+name_equals : (raw p : List ℕ) → IsOpen raw → finished part.Name blank (raw ++ 61 ∷ p) ≡ finished part.Base (record blank { name = folded raw }) p
 name_equals raw p free =
     let parts = parts_of at_comma (before_first at_colon p) in
     rw (heads_equals raw p parts.first parts.later free parts.all, listed_behind raw p 61 free refl, parts.all, has_value_there raw parts.first free, word_there raw parts.first free, value_there raw parts.first free) refl
@@ -133,11 +133,11 @@ name_colon : (raw p : List ℕ) → IsOpen raw → finished part.Name blank (raw
 name_colon raw p free = rw (heads_colon raw p free, listed_colon raw p free, has_none raw free, word_alone raw free) refl
 
 -- ---- its PKey
-key_comma : (d : Definition) (raw p : List ℕ) → IsOpen raw → finished part.Key d (raw ++ 44 ∷ p) ≡ finished part.FlagWord (record d { key = base_in (folded raw) }) p
-key_comma d raw p free = rw (heads_comma raw p free, listed_behind raw p 44 free refl) refl
+base_comma : (d : Definition) (raw p : List ℕ) → IsOpen raw → finished part.Base d (raw ++ 44 ∷ p) ≡ finished part.FlagWord (record d { base = base_in (folded raw) }) p
+base_comma d raw p free = rw (heads_comma raw p free, listed_behind raw p 44 free refl) refl
 
-key_colon : (d : Definition) (raw p : List ℕ) → IsOpen raw → finished part.Key d (raw ++ 58 ∷ p) ≡ finished part.ListWord (record d { key = base_in (folded raw) }) p
-key_colon d raw p free = rw (heads_colon raw p free, listed_colon raw p free) refl
+base_colon : (d : Definition) (raw p : List ℕ) → IsOpen raw → finished part.Base d (raw ++ 58 ∷ p) ≡ finished part.ListWord (record d { base = base_in (folded raw) }) p
+base_colon d raw p free = rw (heads_colon raw p free, listed_colon raw p free) refl
 
 -- ---- a flag
 flag_comma : (d : Definition) (raw p : List ℕ) → IsOpen raw
@@ -287,7 +287,7 @@ no_colon_in_list piece h = by (is_empty piece) (bytes_eq piece (codes "mgid")) h
 -- a definition that begins says nothing yet
 abbrev pub IsBegun : Part → Definition → Type 0
 IsBegun part.Name d = d ≡ blank
-IsBegun part.Key d = Unit {0}
+IsBegun part.Base d = Unit {0}
 IsBegun part.FlagWord d = Unit {0}
 IsBegun (part.FlagValue flag) d = Unit {0}
 IsBegun part.ListWord d = Unit {0}
@@ -301,9 +301,9 @@ stays at d done Semicolon raw p free begun goes none = absurd cc
 stays part.Name d done Equals raw p free begun goes none = rw begun (name_equals raw p free)
 stays part.Name d done Comma raw p free begun goes none = rw begun (name_comma raw p free)
 stays part.Name d done Colon raw p free begun goes none = rw begun (name_colon raw p free)
-stays part.Key d done Equals raw p free begun goes none = absurd (let there = none.character in cc)
-stays part.Key d done Comma raw p free begun goes none = key_comma d raw p free
-stays part.Key d done Colon raw p free begun goes none = key_colon d raw p free
+stays part.Base d done Equals raw p free begun goes none = absurd (let there = none.character in cc)
+stays part.Base d done Comma raw p free begun goes none = base_comma d raw p free
+stays part.Base d done Colon raw p free begun goes none = base_colon d raw p free
 stays part.FlagWord d done Equals raw p free begun goes none = flag_value d raw p free none.flag
 stays part.FlagWord d done Comma raw p free begun goes none =
     flag_comma d raw p free ∙ ap (λ (e : Definition). finished part.FlagWord e p) (sym (flag_piece d Comma (folded raw) refl))
@@ -327,7 +327,7 @@ pub ends : (at : Part) (d : Definition) (done : List Definition) (raw : List ℕ
     → IsFaultless (record { at = at; current = d; done = done }) Semicolon (token_of at (folded raw))
     → finished at d raw ≡ with_piece d (token_of at (folded raw)) Semicolon (folded raw)
 ends part.Name d done raw free none = absurd (let there = none.finished in cc)
-ends part.Key d done raw free none = absurd (let there = none.finished in cc)
+ends part.Base d done raw free none = absurd (let there = none.finished in cc)
 ends part.FlagWord d done raw free none = absurd (let there = none.finished in cc)
 ends (part.FlagValue flag) d done raw free none = absurd (let there = none.finished in cc)
 ends part.ListWord d done raw free none = item_ends d raw free ∙ sym (item_piece d Semicolon (folded raw) refl none.mgid)
@@ -336,7 +336,7 @@ ends (part.Membership ports) d done raw free none = member_ends ports d raw free
 -- ---- no definition begins but behind a `;`
 begun_equals : (token : Token) (d : Definition) → IsBegun (after_equals token) d
 begun_equals (Name word) d = tt
-begun_equals (Key base) d = tt
+begun_equals (Base base) d = tt
 begun_equals NoFlag d = tt
 begun_equals (FlagWord None) d = tt
 begun_equals (FlagWord (Some flag)) d = tt

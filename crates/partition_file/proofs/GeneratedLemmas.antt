@@ -9,7 +9,7 @@ use Rattle.std.proofs.lemmas.List.Sums.{fold-append, sum_by-cons}
 use Rattle.pkey_rules.specs.declared.key_table.TheConstants.{PARTITIONS}
 use Rattle.pkey_rules.specs.PKey.{default_base}
 use Rattle.partition_file.specs.declared.definition.Definition.{Definition}
-use Rattle.partition_file.specs.Counting.{has_base, keys_of, named, partition_count, with_base}
+use Rattle.partition_file.specs.Counting.{has_base, bases_given, named, partition_count, with_base}
 use Rattle.partition_file.specs.Partitions.{first_free, least_free, taken_after}
 use Rattle.partition_file.specs.Generated.{AllGetFree, IsLeastFree}
 use Rattle.partition_file.specs.Laws.{GeneratedBasesAreFree}
@@ -146,31 +146,31 @@ least taken few =
     record { valid = least_free_base taken; free = free.0; least = free.1 }
 
 -- ---- each definition in turn
-rest_some : (base : ℕ) (keys : List (Option ℕ)) → count_by is_none (Some base ∷ keys) ≡ count_by is_none keys
-rest_some base keys = omega (arith, sum_by-cons (λ k. cond (is_none k) 1 0) (Some base) keys)
+rest_some : (base : ℕ) (all : List (Option ℕ)) → count_by is_none (Some base ∷ all) ≡ count_by is_none all
+rest_some base all = omega (arith, sum_by-cons (λ k. cond (is_none k) 1 0) (Some base) all)
 
-rest_none : (keys : List (Option ℕ)) → count_by is_none (None ∷ keys) ≡ 1 + count_by is_none keys
-rest_none keys = sum_by-cons (λ k. cond (is_none k) 1 0) None keys
+rest_none : (all : List (Option ℕ)) → count_by is_none (None ∷ all) ≡ 1 + count_by is_none all
+rest_none all = sum_by-cons (λ k. cond (is_none k) 1 0) None all
 
-next_few : (taken : List ℕ) (key : Option ℕ) (keys : List (Option ℕ)) → length (seen_of taken) + count_by is_none (key ∷ keys) ≤ PARTITIONS
-    → length (seen_of (taken_after taken key)) + count_by is_none keys ≤ PARTITIONS
-next_few taken (Some base) keys few = omega (arith, few, rest_some base keys)
-next_few taken None keys few = omega (arith, few, rest_none keys, seen_more taken (least_free taken))
+next_few : (taken : List ℕ) (given : Option ℕ) (all : List (Option ℕ)) → length (seen_of taken) + count_by is_none (given ∷ all) ≤ PARTITIONS
+    → length (seen_of (taken_after taken given)) + count_by is_none all ≤ PARTITIONS
+next_few taken (Some base) all few = omega (arith, few, rest_some base all)
+next_few taken None all few = omega (arith, few, rest_none all, seen_more taken (least_free taken))
 
-all_free : (definitions : List Definition) (taken : List ℕ) → length (seen_of taken) + count_by is_none (keys_of definitions) ≤ PARTITIONS → AllGetFree taken definitions
+all_free : (definitions : List Definition) (taken : List ℕ) → length (seen_of taken) + count_by is_none (bases_given definitions) ≤ PARTITIONS → AllGetFree taken definitions
 all_free [] taken few = tt
 all_free (definition ∷ rest) taken few =
-    ((λ none. least taken (omega (arith, few))), all_free rest (taken_after taken definition.key) (next_few taken definition.key (keys_of rest) few))
+    ((λ none. least taken (omega (arith, few))), all_free rest (taken_after taken definition.base) (next_few taken definition.base (bases_given rest) few))
 
 cons_same : (o : Option ℕ) (xs ys : List ℕ) → xs ≡ ys → cons_option o xs ≡ cons_option o ys
 cons_same o xs ys h = ap (cons_option o) h
 
-named_by_key : (definitions : List Definition) → named (keys_of definitions) ≡ filter_map (λ definition. definition.key) definitions
+named_by_key : (definitions : List Definition) → named (bases_given definitions) ≡ filter_map (λ definition. definition.base) definitions
 named_by_key [] = refl
-named_by_key (definition ∷ rest) = cons_same definition.key (named (keys_of rest)) (filter_map (λ d. d.key) rest) (named_by_key rest)
+named_by_key (definition ∷ rest) = cons_same definition.base (named (bases_given rest)) (filter_map (λ d. d.base) rest) (named_by_key rest)
 
 pub generated_bases_are_free : GeneratedBasesAreFree
 generated_bases_are_free definitions sound =
-    let room : partition_count (keys_of definitions) ≤ PARTITIONS = sound.room in
-    all_free definitions (filter_map (λ definition. definition.key) definitions)
-    (subst (λ (taken : List ℕ). length (seen_of taken) + count_by is_none (keys_of definitions) ≤ PARTITIONS) (named_by_key definitions) room)
+    let room : partition_count (bases_given definitions) ≤ PARTITIONS = sound.room in
+    all_free definitions (filter_map (λ definition. definition.base) definitions)
+    (subst (λ (taken : List ℕ). length (seen_of taken) + count_by is_none (bases_given definitions) ≤ PARTITIONS) (named_by_key definitions) room)

@@ -14,23 +14,23 @@ use Rattle.result_words.proofs.TestLemmas.{same_either_way}
 use Rattle.pkey_rules.specs.PKey.{default_base, is_base}
 use Rattle.partition_file.specs.declared.definition.Definition.{Definition}
 use Rattle.partition_file.specs.declared.partition.Partition.{Partition}
-use Rattle.partition_file.specs.Counting.{has_base, keys_of, named, partition_count, with_base}
+use Rattle.partition_file.specs.Counting.{has_base, bases_given, named, partition_count, with_base}
 use Rattle.partition_file.specs.Partitions.{RuleState, group_by, group_of, makes_group, base_for, bases_of, first_free, least_free, partition_of}
 use Rattle.partition_file.specs.Partitions.{partitions_in, rules_after, rules_of, taken_after}
 use Rattle.pkey_rules.specs.declared.key_table.TheConstants.{PARTITIONS}
 use Rattle.partition_file.specs.declared.flag.Flag.TheVariants.{Rate, Mtu, ServiceLevel, Scope}
 use Rattle.partition_file.specs.declared.flag.Flags.{Flags}
 use Rattle.partition_file.specs.Flags.{greatest}
-use Rattle.partition_file.specs.Sound.{AreSound, AreSoundBases, IsSound, are_within, fits, has_fit_group, is_within, all_bases, is_sound_key}
+use Rattle.partition_file.specs.Sound.{AreSound, AreSoundBases, IsSound, are_within, fits, has_fit_group, is_within, all_bases, is_sound_base}
 
 -- ---- bases alone
 abbrev pub bases_after : List ℕ → List (Option ℕ) → List ℕ
 bases_after taken [] = []
-bases_after taken (key ∷ rest) = base_for taken key ∷ bases_after (taken_after taken key) rest
+bases_after taken (given ∷ rest) = base_for taken given ∷ bases_after (taken_after taken given) rest
 
-bases_of_rules : (taken : List ℕ) (definitions : List Definition) → map (λ rule. rule.base) (rules_after taken definitions) ≡ bases_after taken (keys_of definitions)
+bases_of_rules : (taken : List ℕ) (definitions : List Definition) → map (λ rule. rule.base) (rules_after taken definitions) ≡ bases_after taken (bases_given definitions)
 bases_of_rules taken [] = refl
-bases_of_rules taken (definition ∷ rest) = ap (λ (bases : List ℕ). base_for taken definition.key ∷ bases) (bases_of_rules (taken_after taken definition.key) rest)
+bases_of_rules taken (definition ∷ rest) = ap (λ (bases : List ℕ). base_for taken definition.base ∷ bases) (bases_of_rules (taken_after taken definition.base) rest)
 
 bases_of_partitions : (rules : List RuleState) (bases : List ℕ) → all_bases (map (partition_of rules) bases) ≡ bases
 bases_of_partitions rules [] = refl
@@ -101,17 +101,17 @@ valid_by : (seen : List ℕ) (base : ℕ) (b : Bool) → list_all is_base seen �
 valid_by seen base true h one = h
 valid_by seen base false h one = list_all-append is_base seen (base ∷ []) ∙ and_from (list_all is_base seen) _ h (and_from (is_base base) true one refl)
 
-valid_key : (taken : List ℕ) (key : Option ℕ) → is_sound_key key ≡ true → is_base (base_for taken key) ≡ true
-valid_key taken (Some base) h = h
-valid_key taken None h = least_free_base taken
+valid_base : (taken : List ℕ) (given : Option ℕ) → is_sound_base given ≡ true → is_base (base_for taken given) ≡ true
+valid_base taken (Some base) h = h
+valid_base taken None h = least_free_base taken
 
-valid_all : (keys : List (Option ℕ)) (taken seen : List ℕ) → list_all is_base seen ≡ true → list_all is_sound_key keys ≡ true
-    → list_all is_base (fold with_base seen (bases_after taken keys)) ≡ true
+valid_all : (all : List (Option ℕ)) (taken seen : List ℕ) → list_all is_base seen ≡ true → list_all is_sound_base all ≡ true
+    → list_all is_base (fold with_base seen (bases_after taken all)) ≡ true
 valid_all [] taken seen h sound = h
-valid_all (key ∷ keys) taken seen h sound =
-    let parts = and_parts (is_sound_key key) (list_all is_sound_key keys) sound in
-    let base = base_for taken key in
-    valid_all keys (taken_after taken key) (with_base seen base) (valid_by seen base (has_base base seen) h (valid_key taken key parts.0)) parts.1
+valid_all (given ∷ all) taken seen h sound =
+    let parts = and_parts (is_sound_base given) (list_all is_sound_base all) sound in
+    let base = base_for taken given in
+    valid_all all (taken_after taken given) (with_base seen base) (valid_by seen base (has_base base seen) h (valid_base taken given parts.0)) parts.1
 
 -- ---- no more of them than are counted: bases that are generated may be new, and those that are named are counted
 pub record Covers (many few : List ℕ) (others : ℕ) : Type 0 where
@@ -169,38 +169,38 @@ more_both many few others base false false e f h = record {
   count = omega (arith, h.count, length-append many (base ∷ []), length-append few (base ∷ []));
 }
 
-rest_some : (base : ℕ) (keys : List (Option ℕ)) → count_by is_none (Some base ∷ keys) ≡ count_by is_none keys
-rest_some base keys = omega (arith, sum_by-cons (λ k. cond (is_none k) 1 0) (Some base) keys)
+rest_some : (base : ℕ) (all : List (Option ℕ)) → count_by is_none (Some base ∷ all) ≡ count_by is_none all
+rest_some base all = omega (arith, sum_by-cons (λ k. cond (is_none k) 1 0) (Some base) all)
 
-rest_none : (keys : List (Option ℕ)) → count_by is_none (None ∷ keys) ≡ 1 + count_by is_none keys
-rest_none keys = sum_by-cons (λ k. cond (is_none k) 1 0) None keys
+rest_none : (all : List (Option ℕ)) → count_by is_none (None ∷ all) ≡ 1 + count_by is_none all
+rest_none all = sum_by-cons (λ k. cond (is_none k) 1 0) None all
 
-count_all : (keys : List (Option ℕ)) (taken many few : List ℕ) (others : ℕ) → Covers many few others
-    → length (fold with_base many (bases_after taken keys)) ≤ length (fold with_base few (named keys)) + (others + count_by is_none keys)
+count_all : (all : List (Option ℕ)) (taken many few : List ℕ) (others : ℕ) → Covers many few others
+    → length (fold with_base many (bases_after taken all)) ≤ length (fold with_base few (named all)) + (others + count_by is_none all)
 count_all [] taken many few others h = omega (arith, h.count)
-count_all (Some base ∷ keys) taken many few others h =
-    let later = count_all keys taken (with_base many base) (with_base few base) others (more_both many few others base (has_base base many) (has_base base few) refl refl h) in
-    omega (arith, later, rest_some base keys)
-count_all (None ∷ keys) taken many few others h =
+count_all (Some base ∷ all) taken many few others h =
+    let later = count_all all taken (with_base many base) (with_base few base) others (more_both many few others base (has_base base many) (has_base base few) refl refl h) in
+    omega (arith, later, rest_some base all)
+count_all (None ∷ all) taken many few others h =
     let base = least_free taken in
-    let later = count_all keys (taken ++ base ∷ []) (with_base many base) few (others + 1) (more_many many few others base (has_base base many) h) in
-    omega (arith, later, rest_none keys)
+    let later = count_all all (taken ++ base ∷ []) (with_base many base) few (others + 1) (more_many many few others base (has_base base many) h) in
+    omega (arith, later, rest_none all)
 
 -- ---- what definitions make is sound
 sound_bases : (definitions : List Definition) → AreSound definitions → AreSoundBases (all_bases (partitions_in definitions))
 sound_bases definitions sound =
-    let keys = keys_of definitions in
-    let taken = filter_map (λ d. d.key) definitions in
+    let all = bases_given definitions in
+    let taken = filter_map (λ d. d.base) definitions in
     let rules = rules_of definitions in
-    let bases : bases_of rules ≡ fold with_base (default_base ∷ []) (bases_after taken keys) = ap (fold with_base (default_base ∷ [])) (bases_of_rules taken definitions) in
-    let same : all_bases (partitions_in definitions) ≡ fold with_base (default_base ∷ []) (bases_after taken keys) = bases_of_partitions rules (bases_of rules) ∙ bases in
-    let count : length (fold with_base (default_base ∷ []) (bases_after taken keys)) ≤ partition_count keys =
-    (let counted = count_all keys taken (default_base ∷ []) (default_base ∷ []) 0 (record { all = λ base found. found; count = omega arith }) in omega (arith, counted)) in
+    let bases : bases_of rules ≡ fold with_base (default_base ∷ []) (bases_after taken all) = ap (fold with_base (default_base ∷ [])) (bases_of_rules taken definitions) in
+    let same : all_bases (partitions_in definitions) ≡ fold with_base (default_base ∷ []) (bases_after taken all) = bases_of_partitions rules (bases_of rules) ∙ bases in
+    let count : length (fold with_base (default_base ∷ []) (bases_after taken all)) ≤ partition_count all =
+    (let counted = count_all all taken (default_base ∷ []) (default_base ∷ []) 0 (record { all = λ base found. found; count = omega arith }) in omega (arith, counted)) in
     rw same (record {
       room = omega (arith, count, sound.room);
-      distinct = distinct_all (bases_after taken keys) (default_base ∷ []) (distinct_one default_base);
-      valid = valid_all keys taken (default_base ∷ []) refl sound.valid;
-      first = first_all default_base (bases_after taken keys) (default_base ∷ []) refl;
+      distinct = distinct_all (bases_after taken all) (default_base ∷ []) (distinct_one default_base);
+      valid = valid_all all taken (default_base ∷ []) refl sound.valid;
+      first = first_all default_base (bases_after taken all) (default_base ∷ []) refl;
     })
 
 -- ---- the groups of partitions
@@ -237,12 +237,12 @@ rules_within : (taken : List ℕ) (definitions : List Definition) → list_all (
 rules_within taken [] h = refl
 rules_within taken (definition ∷ rest) h =
     let parts = and_parts (are_within definition.flags) (list_all (λ definition. are_within definition.flags) rest) h in
-    and_from (are_within definition.flags) _ parts.0 (rules_within (taken_after taken definition.key) rest parts.1)
+    and_from (are_within definition.flags) _ parts.0 (rules_within (taken_after taken definition.base) rest parts.1)
 
 pub sound_partitions : (definitions : List Definition) → AreSound definitions → IsSound (partitions_in definitions)
 sound_partitions definitions sound = record {
   bases = sound_bases definitions sound;
-  groups = groups_fit (rules_of definitions) (bases_of (rules_of definitions)) (rules_within (filter_map (λ d. d.key) definitions) definitions sound.flags);
+  groups = groups_fit (rules_of definitions) (bases_of (rules_of definitions)) (rules_within (filter_map (λ d. d.base) definitions) definitions sound.flags);
 }
 
 pub few_partitions : (partitions : List Partition) → IsSound partitions → length partitions ≤ PARTITIONS

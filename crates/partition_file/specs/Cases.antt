@@ -11,18 +11,18 @@ use Rattle.partition_file.specs.declared.flag.Flags.{Flags}
 use Rattle.partition_file.specs.declared.token.MembershipWord.TheVariants as membership
 use Rattle.partition_file.specs.declared.token.NameWord.TheVariants as name
 use Rattle.partition_file.specs.declared.token.Token.{Token}
-use Rattle.partition_file.specs.declared.token.Token.TheVariants.{Name, Key, NoFlag, FlagWord, FlagValue, NoPorts, Mgid, ListWord, Membership}
+use Rattle.partition_file.specs.declared.token.Token.TheVariants.{Name, Base, NoFlag, FlagWord, FlagValue, NoPorts, Mgid, ListWord, Membership}
 use Rattle.partition_file.specs.declared.token.Value.TheVariants.{Empty, Misspelt, Both, Refused}
 use Rattle.partition_file.specs.Pieces.{is_equals, is_colon, is_semicolon}
 use Rattle.partition_file.specs.Flags.{takes_value, is_given}
-use Rattle.partition_file.specs.Counting.{keys_of, partition_count}
+use Rattle.partition_file.specs.Counting.{bases_given, partition_count}
 use Rattle.partition_file.specs.ScanState.{ScanState, is_in_list}
 
 -- a name that begins with a digit, a second `=` in a piece or an item, a `:` in a list
 abbrev pub is_bad_character : Token → Delimiter → Bool
 is_bad_character (Name name.DigitFirst) delimiter = true
 is_bad_character (Name _) delimiter = false
-is_bad_character (Key base) delimiter = is_equals delimiter
+is_bad_character (Base base) delimiter = is_equals delimiter
 is_bad_character NoFlag delimiter = false
 is_bad_character (FlagWord flag) delimiter = false
 is_bad_character (FlagValue value) delimiter = is_equals delimiter
@@ -34,7 +34,7 @@ is_bad_character (Membership ports word) delimiter = is_equals delimiter || is_c
 -- a PKey that is no number of 16 bits, a value that is no number where one is wanted, a list word that names no ports; none
 -- before `=`
 abbrev pub is_bad_number : Token → Delimiter → Bool
-is_bad_number (Key base) delimiter = is_none base
+is_bad_number (Base base) delimiter = is_none base
 is_bad_number (FlagValue Misspelt) delimiter = true
 is_bad_number NoPorts delimiter = is_equals delimiter
 is_bad_number Mgid delimiter = true
@@ -48,7 +48,7 @@ is_zero None = false
 -- base 0, which names no partition, or the name `Default` without a PKey
 abbrev pub is_reserved_key : Token → Delimiter → Bool
 is_reserved_key (Name name.Default) delimiter = not (is_equals delimiter)
-is_reserved_key (Key base) delimiter = is_zero base
+is_reserved_key (Base base) delimiter = is_zero base
 is_reserved_key _ delimiter = false
 
 -- a flag that there is not; an empty piece is none, but before `=`
@@ -69,15 +69,15 @@ is_mgid_item Mgid = true
 is_mgid_item _ = false
 
 -- the base that the definition names, if its list begins here
-abbrev pub key_here : Token → Option ℕ → Option ℕ
-key_here (Key base) key = base
-key_here _ key = key
+abbrev pub base_here : Token → Option ℕ → Option ℕ
+base_here (Base base) before = base
+base_here _ before = before
 
 -- the `:` of a definition that names this base, if it makes one partition more than there may be; `before` are the bases
 -- that the definitions before it name
 abbrev pub is_one_too_many : Part → Delimiter → List (Option ℕ) → Option ℕ → Bool
-is_one_too_many at delimiter before key =
-    (is_colon delimiter && not (is_in_list at)) && nat_lt PARTITIONS (partition_count (before ++ key ∷ []))
+is_one_too_many at delimiter before base =
+    (is_colon delimiter && not (is_in_list at)) && nat_lt PARTITIONS (partition_count (before ++ base ∷ []))
 
 -- a definition that ends before its list
 abbrev pub is_unfinished : Part → Delimiter → Bool
@@ -105,7 +105,7 @@ has_fault s delimiter token ReservedKey = is_reserved_key token delimiter
 has_fault s delimiter token UnknownFlag = is_unknown_flag token delimiter
 has_fault s delimiter token BothMembership = is_both_membership token
 has_fault s delimiter token MgidItem = is_mgid_item token
-has_fault s delimiter token TooManyPartitions = is_one_too_many s.at delimiter (keys_of s.done) (key_here token s.current.key)
+has_fault s delimiter token TooManyPartitions = is_one_too_many s.at delimiter (bases_given s.done) (base_here token s.current.base)
 has_fault s delimiter token Unfinished = is_unfinished s.at delimiter
 has_fault s delimiter token BadFlagValue = is_bad_flag_value token delimiter s.current.flags
 

@@ -13,21 +13,21 @@ with_base seen base = if has_base base seen then seen else seen ++ base ∷ []
 
 -- the bases that are named
 abbrev pub named : List (Option ℕ) → List ℕ
-named keys = filter_map (λ key. key) keys
+named bases = filter_map (λ base. base) bases
 
 -- the default partition, which is there whether a definition names it or not, one for each further base that is named,
 -- and one for each definition that names none
 abbrev pub partition_count : List (Option ℕ) → ℕ
-partition_count keys = length (fold with_base (default_base ∷ []) (named keys)) + count_by is_none keys
+partition_count bases = length (fold with_base (default_base ∷ []) (named bases)) + count_by is_none bases
 
 -- the bases that definitions name, in order
-abbrev pub keys_of : List Definition → List (Option ℕ)
-keys_of definitions = map (λ definition. definition.key) definitions
+abbrev pub bases_given : List Definition → List (Option ℕ)
+bases_given definitions = map (λ definition. definition.base) definitions
 
 -- the bases seen with one more that may be named
-abbrev pub with_key : List ℕ → Option ℕ → List ℕ
-with_key seen (Some base) = with_base seen base
-with_key seen None = seen
+abbrev pub with_given : List ℕ → Option ℕ → List ℕ
+with_given seen (Some base) = with_base seen base
+with_given seen None = seen
 
 abbrev pub one_if_none : Option ℕ → ℕ
 one_if_none (Some base) = 0

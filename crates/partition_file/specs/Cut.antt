@@ -39,8 +39,8 @@ abbrev pub value_behind : List ℕ → List ℕ
 value_behind part = folded (after_first at_equals part)
 
 -- ---- before the `:`: a name, perhaps with a PKey, and then flags
-abbrev pub key_of_part : List ℕ → Option ℕ
-key_of_part part = if has_value part then base_in (value_behind part) else None
+abbrev pub base_of_part : List ℕ → Option ℕ
+base_of_part part = if has_value part then base_in (value_behind part) else None
 
 abbrev pub with_value : Value → Flags → Flags
 with_value (Taken setting) flags = with_setting setting flags
@@ -56,8 +56,8 @@ with_flag_part flags part =
     if has_value part then with_flag_value (flag_of (word_of part)) (value_behind part) flags else with_flag (flag_of (word_of part)) flags
 
 abbrev pub headed : List (List ℕ) → Definition
-headed [] = record { name = []; key = None; flags = no_flags; items = [] }
-headed (first ∷ flags) = record { name = word_of first; key = key_of_part first; flags = fold with_flag_part no_flags flags; items = [] }
+headed [] = record { name = []; base = None; flags = no_flags; items = [] }
+headed (first ∷ flags) = record { name = word_of first; base = base_of_part first; flags = fold with_flag_part no_flags flags; items = [] }
 
 -- ---- behind it: ports, perhaps with their membership
 abbrev pub item_of : Option Ports → Bool → List Item
@@ -66,7 +66,8 @@ item_of None full = []
 
 -- the item of a part, where items that say nothing of their membership are full by default or are not; a blank part has none
 abbrev pub items_of : Bool → List ℕ → List Item
-items_of default part = item_of (ports_named (word_of part)) (if has_value part then is_full (membership_in (value_behind part)) else default)
+items_of default part = item_of (ports_named (word_of part))
+    (if has_value part then is_full (membership_in (value_behind part)) else default)
 
 abbrev pub with_items : Definition → List (List ℕ) → Definition
 with_items definition parts =

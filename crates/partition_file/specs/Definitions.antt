@@ -13,7 +13,7 @@ use Rattle.result_words.specs.Steps.{◌>>=◌, unless}
 use Rattle.partition_file.specs.Pieces.{without_comments, is_allowed, delimiter_of, is_equals, is_semicolon, piece_after, line_after}
 use Rattle.partition_file.specs.Flags.{with_flag, with_setting, is_full_by_default}
 use Rattle.partition_file.specs.declared.token.Token.{Token}
-use Rattle.partition_file.specs.declared.token.Token.TheVariants.{Name, Key, FlagWord, FlagValue, ListWord, Membership}
+use Rattle.partition_file.specs.declared.token.Token.TheVariants.{Name, Base, FlagWord, FlagValue, ListWord, Membership}
 use Rattle.partition_file.specs.declared.token.Value.TheVariants.{Taken}
 use Rattle.partition_file.specs.Cases.{fault_of}
 use Rattle.partition_file.specs.ScanState.{ScanState, blank, start, is_in_list}
@@ -23,7 +23,7 @@ use Rattle.partition_file.specs.Tokens.{is_empty, is_full, token_of}
 abbrev pub after_equals : Token → Part
 after_equals (FlagWord (Some flag)) = part.FlagValue flag
 after_equals (ListWord (Some ports)) = part.Membership ports
-after_equals _ = part.Key
+after_equals _ = part.Base
 
 abbrev pub part_after : Part → Delimiter → Token → Part
 part_after at Equals token = after_equals token
@@ -38,7 +38,7 @@ with_item d ports full = record d { items = d.items ++ record { ports = ports; f
 -- what stands before `=` is a flag or a list word that its value ends
 abbrev pub with_piece : Definition → Token → Delimiter → List ℕ → Definition
 with_piece d (Name word) delimiter piece = record d { name = piece }
-with_piece d (Key base) delimiter piece = record d { key = base }
+with_piece d (Base base) delimiter piece = record d { base = base }
 with_piece d (FlagWord flag) delimiter piece = if is_equals delimiter then d else record d { flags = with_flag flag d.flags }
 with_piece d (FlagValue (Taken setting)) delimiter piece = record d { flags = with_setting setting d.flags }
 with_piece d (ListWord (Some ports)) delimiter piece = if is_equals delimiter then d else with_item d ports (is_full_by_default d.flags)

@@ -15,4 +15,4 @@ pub record IsLeastFree (base : ℕ) (taken : List ℕ) : Type 0 where
 abbrev pub AllGetFree : List ℕ → List Definition → Type 0
 AllGetFree taken [] = Unit {0}
 AllGetFree taken (definition ∷ rest) =
-    (definition.key ≡ None → IsLeastFree (least_free taken) taken) × AllGetFree (taken_after taken definition.key) rest
+    (definition.base ≡ None → IsLeastFree (least_free taken) taken) × AllGetFree (taken_after taken definition.base) rest

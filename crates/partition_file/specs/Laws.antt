@@ -48,7 +48,7 @@ TextsAreCut = (text : List ℕ) (partitions : List Partition) → partitions_of 
 -- each definition that names no base gets the least that is free; what the whole file names is taken from the start
 abbrev pub GeneratedBasesAreFree : Type 0
 GeneratedBasesAreFree = (definitions : List Definition) → AreSound definitions
-    → AllGetFree (filter_map (λ definition. definition.key) definitions) definitions
+    → AllGetFree (filter_map (λ definition. definition.base) definitions) definitions
 
 -- among all its keys a port has of each partition's base the key that it has in that partition, and none of it where it is
 -- no member: so its keys tell of which partitions it is a member, and how

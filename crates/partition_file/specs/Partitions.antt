@@ -41,10 +41,10 @@ taken_after taken None = taken ++ least_free taken ∷ []
 abbrev pub rules_after : List ℕ → List Definition → List RuleState
 rules_after taken [] = []
 rules_after taken (definition ∷ rest) =
-    record { base = base_for taken definition.key; definition = definition } ∷ rules_after (taken_after taken definition.key) rest
+    record { base = base_for taken definition.base; definition = definition } ∷ rules_after (taken_after taken definition.base) rest
 
 abbrev pub rules_of : List Definition → List RuleState
-rules_of definitions = rules_after (filter_map (λ definition. definition.key) definitions) definitions
+rules_of definitions = rules_after (filter_map (λ definition. definition.base) definitions) definitions
 
 -- the default partition first, then each other base as it first appears
 abbrev pub bases_of : List RuleState → List ℕ

@@ -13,7 +13,7 @@ pub record ScanState : Type 0 where
   pub done : List Definition
 
 abbrev pub blank : Definition
-blank = record { name = []; key = None; flags = no_flags; items = [] }
+blank = record { name = []; base = None; flags = no_flags; items = [] }
 
 abbrev pub start : ScanState
 start = record { at = part.Name; current = blank; done = [] }

@@ -9,12 +9,12 @@ use Rattle.partition_file.specs.declared.flag.Flags.{Flags}
 use Rattle.partition_file.specs.declared.broadcast_group.BroadcastGroup.{BroadcastGroup}
 use Rattle.partition_file.specs.declared.partition.Partition.{Partition}
 use Rattle.partition_file.specs.Flags.{greatest}
-use Rattle.partition_file.specs.Counting.{keys_of, named, partition_count, with_base}
+use Rattle.partition_file.specs.Counting.{bases_given, named, partition_count, with_base}
 use Rattle.partition_file.specs.ScanState.{ScanState, is_in_list}
 
-abbrev pub is_sound_key : Option ℕ → Bool
-is_sound_key (Some base) = is_base base
-is_sound_key None = true
+abbrev pub is_sound_base : Option ℕ → Bool
+is_sound_base (Some base) = is_base base
+is_sound_base None = true
 
 -- a value, if there is one, is not above this one
 abbrev pub is_within : ℕ → Option ℕ → Bool
@@ -29,21 +29,21 @@ are_within flags =
 
 -- the definitions name bases, their flags' values are in range, and they make no more partitions than there may be
 pub record AreSound (definitions : List Definition) : Type 0 where
-  pub valid : list_all is_sound_key (keys_of definitions) ≡ true
+  pub valid : list_all is_sound_base (bases_given definitions) ≡ true
   pub flags : list_all (λ definition. are_within definition.flags) definitions ≡ true
-  pub room : partition_count (keys_of definitions) ≤ PARTITIONS
+  pub room : partition_count (bases_given definitions) ≤ PARTITIONS
 
 -- what is counted of them is kept beside them
 pub record AreCounted (definitions : List Definition) (seen : List ℕ) (others : ℕ) : Type 0 where
   pub sound : AreSound definitions
-  pub distinct : seen ≡ fold with_base (default_base ∷ []) (named (keys_of definitions))
-  pub rest : others ≡ count_by is_none (keys_of definitions)
+  pub distinct : seen ≡ fold with_base (default_base ∷ []) (named (bases_given definitions))
+  pub rest : others ≡ count_by is_none (bases_given definitions)
 
 -- so it is in the middle of a text, and a definition whose list has begun is counted too
 pub record IsSoundSoFar (s : ScanState) : Type 0 where
-  pub valid : is_sound_key s.current.key ≡ true
+  pub valid : is_sound_base s.current.base ≡ true
   pub flags : are_within s.current.flags ≡ true
-  pub room : is_in_list s.at ≡ true → partition_count (keys_of s.done ++ s.current.key ∷ []) ≤ PARTITIONS
+  pub room : is_in_list s.at ≡ true → partition_count (bases_given s.done ++ s.current.base ∷ []) ≤ PARTITIONS
 
 abbrev pub all_bases : List Partition → List ℕ
 all_bases partitions = map (λ partition. partition.base) partitions

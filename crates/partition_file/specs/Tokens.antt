@@ -15,7 +15,7 @@ use Rattle.partition_file.specs.declared.token.MembershipWord.TheVariants as mem
 use Rattle.partition_file.specs.declared.token.NameWord.{NameWord}
 use Rattle.partition_file.specs.declared.token.NameWord.TheVariants as name
 use Rattle.partition_file.specs.declared.token.Token.{Token}
-use Rattle.partition_file.specs.declared.token.Token.TheVariants.{Name, Key, NoFlag, FlagWord, FlagValue, NoPorts, Mgid, ListWord, Membership}
+use Rattle.partition_file.specs.declared.token.Token.TheVariants.{Name, Base, NoFlag, FlagWord, FlagValue, NoPorts, Mgid, ListWord, Membership}
 use Rattle.partition_file.specs.declared.token.Value.{Value}
 use Rattle.partition_file.specs.declared.token.Value.TheVariants.{Taken, Empty, Misspelt, Both, Refused}
 use Rattle.partition_file.specs.Numbers.{is_number, number_up_to}
@@ -80,7 +80,7 @@ value_of flag piece = number_value flag piece
 -- ---- each piece is read once
 abbrev pub token_of : Part → List ℕ → Token
 token_of part.Name piece = Name (name_in piece)
-token_of part.Key piece = Key (base_in piece)
+token_of part.Base piece = Base (base_in piece)
 token_of part.FlagWord piece = flag_token piece
 token_of (part.FlagValue flag) piece = FlagValue (value_of flag piece)
 token_of part.ListWord piece = list_token piece

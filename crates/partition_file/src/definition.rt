@@ -2,9 +2,9 @@
 
 ghost use Rattle.std.specs.Prelude.{◌≡◌, ◌≤◌, ◌++◌, ◌∷◌, [], true, OnOk, OnErr, IfOk};
 ghost use Rattle.pkey_rules.specs.declared.key_table.TheConstants.{PARTITIONS};
-ghost use Rattle.partition_file.specs.Counting.{further, has_base, keys_of, one_if_none, partition_count, with_base, with_key};
+ghost use Rattle.partition_file.specs.Counting.{further, has_base, bases_given, one_if_none, partition_count, with_base, with_given};
 ghost use Rattle.partition_file.specs.ScanState.{blank};
-ghost use Rattle.partition_file.specs.Sound.{AreSound, are_within, is_sound_key};
+ghost use Rattle.partition_file.specs.Sound.{AreSound, are_within, is_sound_base};
 
 use crate::flag::Flags;
 use crate::item::ItemList;
@@ -14,11 +14,11 @@ use std::marker::Model;
 
 /// The name of a partition, which may be empty.
 #[derive(Debug, Drop)]
-pub struct Name {
+pub struct PartitionName {
     bytes: Vec<u8>,
 }
 
-impl Model for Name {
+impl Model for PartitionName {
     ghost use Rattle.std.specs.Prelude.{ℕ, List};
 
     ghost Value = { List ℕ };
@@ -26,26 +26,39 @@ impl Model for Name {
     ghost view = { λ name. name.bytes.items };
 }
 
-impl Name {
-    pub(crate) fn empty(alloc: Global) -> Name
+impl Clone for PartitionName {
+    ghost use Rattle.std.specs.Prelude.{◌≡◌};
+
+    ghost is_clone = { λ name copy. copy ≡ name };
+
+    ghost is_infallible = { λ _. ⊥ };
+
+    fn clone(&self) -> Result<Self, AllocError> {
+        let bytes = self.bytes.clone()?;
+        Ok(PartitionName { bytes })
+    }
+}
+
+impl PartitionName {
+    pub(crate) fn empty(alloc: Global) -> PartitionName
         ensures { result ≡ [] }
     {
-        Name {
+        PartitionName {
             bytes: Vec::new(alloc),
         }
     }
 
-    pub(crate) fn from_vec(bytes: Vec<u8>) -> Name
+    pub(crate) fn from_vec(bytes: Vec<u8>) -> PartitionName
         ensures { result ≡ bytes.items }
     {
-        Name { bytes }
+        PartitionName { bytes }
     }
 
-    pub(crate) fn from_slice(alloc: Global, bytes: &[u8]) -> Result<Name, AllocError>
+    pub(crate) fn from_slice(alloc: Global, bytes: &[u8]) -> Result<PartitionName, AllocError>
         ensures { IfOk result (λ name. name ≡ bytes.now) }
     {
         let bytes = Vec::from_slice(alloc, bytes)?;
-        Ok(Name { bytes })
+        Ok(PartitionName { bytes })
     }
 
     /// The name as it is written, with one blank for each run of white space.
@@ -59,9 +72,9 @@ impl Name {
 /// What a definition says.
 #[derive(Debug, Drop)]
 pub(crate) struct Definition {
-    pub(crate) name: Name,
+    pub(crate) name: PartitionName,
     /// The base that it names.
-    pub(crate) key: Option<u16>,
+    pub(crate) base: Option<u16>,
     pub(crate) flags: Flags,
     pub(crate) items: ItemList,
 }
@@ -71,8 +84,8 @@ impl Definition {
         ensures { result ≡ blank }
     {
         Definition {
-            name: Name::empty(alloc),
-            key: None,
+            name: PartitionName::empty(alloc),
+            base: None,
             flags: Flags::new(),
             items: ItemList::new(alloc),
         }
@@ -122,54 +135,54 @@ impl DefinitionList {
     }
 
     /// How many partitions there are with one more definition, which names this base.
-    pub(crate) fn count_with(&self, key: Option<u16>) -> usize
-        ensures { result ≡ partition_count (keys_of self.now ++ key ∷ []) }
+    pub(crate) fn count_with(&self, base: Option<u16>) -> usize
+        ensures { result ≡ partition_count (bases_given self.now ++ base ∷ []) }
     {
-        self.bases.len() + self.unnamed + further(&self.bases, key)
+        self.bases.len() + self.unnamed + further(&self.bases, base)
     }
 
     /// Adds a definition at the end. Memory alone can be refused, and then the list stays as it was.
     pub(crate) fn push(&mut self, definition: Definition) -> Result<(), AllocError>
-        requires valid { is_sound_key definition.key ≡ true }
+        requires valid { is_sound_base definition.base ≡ true }
         requires flags { are_within definition.flags ≡ true }
-        requires room { partition_count (keys_of self.old ++ definition.key ∷ []) ≤ PARTITIONS }
+        requires room { partition_count (bases_given self.old ++ definition.base ∷ []) ≤ PARTITIONS }
         ensures ok { OnOk result (self.new ≡ self.old ++ definition ∷ []) }
         ensures err { OnErr result (self.new ≡ self.old) }
     {
         self.definitions.reserve(1)?;
-        add_key(&mut self.bases, definition.key)?;
-        self.unnamed += one_if_none(definition.key);
+        note_base(&mut self.bases, definition.base)?;
+        self.unnamed += one_if_none(definition.base);
         self.definitions.push(definition)?;
         Ok(())
     }
 }
 
 /// How many partitions one more definition makes beside those of these bases, if it names this one.
-fn further(seen: &[u16], key: Option<u16>) -> usize
-    ensures value { result ≡ further seen.now key }
+fn further(seen: &[u16], base: Option<u16>) -> usize
+    ensures value { result ≡ further seen.now base }
     ensures within { result ≤ 1 }
 {
-    match key {
+    match base {
         Some(base) if has_base(base, seen) => 0,
         _ => 1,
     }
 }
 
-fn one_if_none(key: Option<u16>) -> usize
-    ensures value { result ≡ one_if_none key }
+fn one_if_none(base: Option<u16>) -> usize
+    ensures value { result ≡ one_if_none base }
     ensures within { result ≤ 1 }
 {
-    match key {
+    match base {
         Some(_) => 0,
         None => 1,
     }
 }
 
-fn add_key(seen: &mut Vec<u16>, key: Option<u16>) -> Result<(), AllocError>
-    ensures ok { OnOk result (seen.new.items ≡ with_key seen.old.items key) }
+fn note_base(seen: &mut Vec<u16>, base: Option<u16>) -> Result<(), AllocError>
+    ensures ok { OnOk result (seen.new.items ≡ with_given seen.old.items base) }
     ensures err { OnErr result (seen.new.items ≡ seen.old.items) }
 {
-    match key {
+    match base {
         Some(base) => add_base(seen, base),
         None => Ok(()),
     }

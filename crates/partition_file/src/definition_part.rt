@@ -13,7 +13,7 @@ use crate::token::Token;
 #[derive(Clone, Copy, Debug, PartialEq, Eq)]
 pub(crate) enum Part {
     Name,
-    Key,
+    Base,
     /// A flag, or the word before its value.
     FlagWord,
     FlagValue(Flag),
@@ -29,7 +29,7 @@ impl Part {
     {
         match self {
             Part::ListWord | Part::Membership(_) => true,
-            Part::Name | Part::Key | Part::FlagWord | Part::FlagValue(_) => false,
+            Part::Name | Part::Base | Part::FlagWord | Part::FlagValue(_) => false,
         }
     }
 
@@ -66,6 +66,6 @@ fn after_equals(token: Token) -> Part
     match token {
         Token::FlagWord(Some(flag)) => Part::FlagValue(flag),
         Token::ListWord(Some(ports)) => Part::Membership(ports),
-        _ => Part::Key,
+        _ => Part::Base,
     }
 }

@@ -29,7 +29,7 @@ mod scan;
 mod token;
 
 pub use crate::broadcast_group::BroadcastGroup;
-pub use crate::definition::Name;
+pub use crate::definition::PartitionName;
 pub use crate::fault::{PartFault, PartitionCause};
 pub use crate::heading::Heading;
 pub use crate::item::{Item, ItemList, Ports};

@@ -6,7 +6,7 @@ ghost use Rattle.partition_file.specs.Members.{no_file};
 ghost use Rattle.partition_file.specs.Sound.{AreSound};
 
 use crate::broadcast_group::BroadcastGroup;
-use crate::definition::{Definition, Name, add_base};
+use crate::definition::{Definition, PartitionName, add_base};
 use crate::item::{Item, ItemList, Ports};
 use crate::partition::{Partition, Partitions};
 use crate::rules::{Rule, rules_of};
@@ -46,12 +46,12 @@ fn is_ruled(rules: &[Rule], base: u16) -> bool
     rules.iter().any(|rule| rule.is_of(base))
 }
 
-fn name_of(alloc: Global, rules: &[Rule], base: u16) -> Result<Name, AllocError>
+fn name_of(alloc: Global, rules: &[Rule], base: u16) -> Result<PartitionName, AllocError>
     ensures { IfOk result (λ name. name ≡ name_of rules.now base) }
 {
     match first_name(rules, base) {
-        Some(name) => Name::from_slice(alloc, name),
-        None => Name::from_slice(alloc, b"Default"),
+        Some(name) => PartitionName::from_slice(alloc, name),
+        None => PartitionName::from_slice(alloc, b"Default"),
     }
 }
 
@@ -142,7 +142,7 @@ pub(crate) fn partitions_in(
 pub fn no_file(alloc: Global) -> Result<Partitions, AllocError>
     ensures { IfOk result (λ partitions. partitions ≡ no_file) }
 {
-    let name = Name::from_slice(alloc, b"Default")?;
+    let name = PartitionName::from_slice(alloc, b"Default")?;
     let mut items = ItemList::new(alloc);
     items.push(ALL_FULL)?;
     items.push(MANAGER_FULL)?;

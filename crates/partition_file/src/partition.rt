@@ -5,7 +5,7 @@ ghost use Rattle.pkey_rules.specs.declared.key_table.TheConstants.{PARTITIONS};
 ghost use Rattle.partition_file.specs.Sound.{IsSound};
 
 use crate::broadcast_group::BroadcastGroup;
-use crate::definition::Name;
+use crate::definition::PartitionName;
 use crate::item::ItemList;
 use std::marker::Model;
 
@@ -15,7 +15,7 @@ pub struct Partition {
     /// The low 15 bits of its keys, from 1 to 0x7fff.
     pub base: u16,
     /// The name of its first definition.
-    pub name: Name,
+    pub name: PartitionName,
     /// The group that a definition with `ipoib` makes.
     pub group: Option<BroadcastGroup>,
     /// What all its definitions list, in order; in the default partition also what belongs there

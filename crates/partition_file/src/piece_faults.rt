@@ -1,7 +1,7 @@
 //! The faults of a piece, one by one, asked of what it says.
 
 ghost use Rattle.std.specs.Prelude.{◌≡◌};
-ghost use Rattle.partition_file.specs.Cases.{is_bad_character, is_bad_flag_value, is_bad_number, is_both_membership, is_mgid_item, is_misused, is_reserved_key, is_unfinished, is_unknown_flag, is_zero, key_here};
+ghost use Rattle.partition_file.specs.Cases.{is_bad_character, is_bad_flag_value, is_bad_number, is_both_membership, is_mgid_item, is_misused, is_reserved_key, is_unfinished, is_unknown_flag, is_zero, base_here};
 
 use crate::definition_part::Part;
 use crate::flag::{Flag, Flags};
@@ -14,7 +14,7 @@ impl Token {
     {
         match self {
             Token::Name(word) => word == NameWord::DigitFirst,
-            Token::Key(_) | Token::FlagValue(_) => delimiter.is_equals(),
+            Token::Base(_) | Token::FlagValue(_) => delimiter.is_equals(),
             Token::NoFlag | Token::FlagWord(_) => false,
             Token::NoPorts | Token::Mgid | Token::ListWord(_) => delimiter.is_colon(),
             Token::Membership(_, _) => delimiter.is_equals() || delimiter.is_colon(),
@@ -25,7 +25,7 @@ impl Token {
         ensures { result ≡ is_bad_number self delimiter }
     {
         match self {
-            Token::Key(base) => base.is_none(),
+            Token::Base(base) => base.is_none(),
             Token::FlagValue(value) => value == Value::Misspelt,
             Token::NoPorts => delimiter.is_equals(),
             Token::Mgid => true,
@@ -39,7 +39,7 @@ impl Token {
     {
         match self {
             Token::Name(NameWord::Default) => !delimiter.is_equals(),
-            Token::Key(base) => is_zero(base),
+            Token::Base(base) => is_zero(base),
             _ => false,
         }
     }
@@ -80,12 +80,12 @@ impl Token {
     }
 
     /// The base that the definition names, if its list begins at the end of this piece.
-    pub(crate) fn key_here(self, key: Option<u16>) -> Option<u16>
-        ensures { result ≡ key_here self key }
+    pub(crate) fn base_here(self, before: Option<u16>) -> Option<u16>
+        ensures { result ≡ base_here self before }
     {
         match self {
-            Token::Key(base) => base,
-            _ => key,
+            Token::Base(base) => base,
+            _ => before,
         }
     }
 }

@@ -84,11 +84,11 @@ fn first_free(taken: &[u16]) -> Option<u16>
 }
 
 /// The base of a definition, which is taken from then on.
-fn take_base(taken: &mut Vec<u16>, key: Option<u16>) -> Result<u16, AllocError>
-    ensures base { IfOk result (λ base. base ≡ base_for taken.old.items key) }
-    ensures taken { OnOk result (taken.new.items ≡ taken_after taken.old.items key) }
+fn take_base(taken: &mut Vec<u16>, named: Option<u16>) -> Result<u16, AllocError>
+    ensures base { IfOk result (λ base. base ≡ base_for taken.old.items named) }
+    ensures taken { OnOk result (taken.new.items ≡ taken_after taken.old.items named) }
 {
-    match key {
+    match named {
         Some(base) => Ok(base),
         None => {
             let base = least_free(taken);
@@ -100,11 +100,11 @@ fn take_base(taken: &mut Vec<u16>, key: Option<u16>) -> Result<u16, AllocError>
 
 /// The bases that definitions name.
 fn named(alloc: Global, definitions: &[Definition]) -> Result<Vec<u16>, AllocError>
-    ensures { IfOk result (λ bases. bases.items ≡ filter_map (λ definition. definition.key) definitions.now) }
+    ensures { IfOk result (λ bases. bases.items ≡ filter_map (λ definition. definition.base) definitions.now) }
 {
     definitions
         .iter()
-        .filter_map(|definition| definition.key)
+        .filter_map(|definition| definition.base)
         .collect(alloc)
 }
 
@@ -118,7 +118,7 @@ pub(crate) fn rules_of(
     let mut taken = named(alloc, definitions)?;
     let mut rules = Vec::new(alloc);
     for definition in definitions {
-        let base = take_base(&mut taken, definition.key)?;
+        let base = take_base(&mut taken, definition.base)?;
         rules.push(Rule { base, definition })?;
     }
     Ok(rules)

@@ -4,14 +4,14 @@ ghost use Rattle.std.specs.Prelude.{◌≡◌, ◌≤◌, ◌<◌, true, None, I
 ghost use Rattle.partition_file.specs.Fault.{fault_in};
 ghost use Rattle.result_words.specs.AtLine.{on_line};
 ghost use Rattle.partition_file.specs.Pieces.{folded};
-ghost use Rattle.partition_file.specs.Cases.{fault_of, is_one_too_many, key_here};
-ghost use Rattle.partition_file.specs.Counting.{keys_of};
+ghost use Rattle.partition_file.specs.Cases.{fault_of, is_one_too_many, base_here};
+ghost use Rattle.partition_file.specs.Counting.{bases_given};
 ghost use Rattle.partition_file.specs.Definitions.{after_byte, at_end, next, with_item, with_piece};
 ghost use Rattle.partition_file.specs.ScanState.{start};
 ghost use Rattle.partition_file.specs.Tokens.{token_of};
 ghost use Rattle.result_words.specs.Gives.{Gives};
 
-use crate::definition::{Definition, DefinitionList, Name};
+use crate::definition::{Definition, DefinitionList, PartitionName};
 use crate::definition_part::Part;
 use crate::fault::{PartFault, PartitionCause};
 use crate::item::{Item, Ports};
@@ -31,16 +31,16 @@ impl Definition {
         piece: Vec<u8>,
     ) -> Result<(), AllocError>
         ensures ok { OnOk result (self.new ≡ with_piece self.old token delimiter piece.items) }
-        ensures err_key { OnErr result (self.new.key ≡ self.old.key) }
+        ensures err_base { OnErr result (self.new.base ≡ self.old.base) }
         ensures err_flags { OnErr result (self.new.flags ≡ self.old.flags) }
     {
         match token {
             Token::Name(_) => {
-                self.name = Name::from_vec(piece);
+                self.name = PartitionName::from_vec(piece);
                 Ok(())
             }
-            Token::Key(base) => {
-                self.key = base;
+            Token::Base(base) => {
+                self.base = base;
                 Ok(())
             }
             Token::FlagWord(flag) if !delimiter.is_equals() => {
@@ -61,7 +61,7 @@ impl Definition {
 
     fn push_item(&mut self, ports: Ports, full: bool) -> Result<(), AllocError>
         ensures ok { OnOk result (self.new ≡ with_item self.old ports full) }
-        ensures key { self.new.key ≡ self.old.key }
+        ensures base { self.new.base ≡ self.old.base }
         ensures flags { self.new.flags ≡ self.old.flags }
     {
         self.items.push(Item { ports, full })
@@ -102,10 +102,10 @@ impl Scan {
 
     /// Whether the list that this delimiter begins is that of one partition too many.
     fn is_one_too_many(&self, delimiter: Delimiter, token: Token) -> bool
-        ensures { result ≡ is_one_too_many self.now.at delimiter (keys_of self.now.done) (key_here token self.now.current.key) }
+        ensures { result ≡ is_one_too_many self.now.at delimiter (bases_given self.now.done) (base_here token self.now.current.base) }
     {
-        let key = token.key_here(self.current.key);
-        delimiter.is_colon() && !self.part.is_in_list() && self.done.count_with(key) > PARTITIONS
+        let base = token.base_here(self.current.base);
+        delimiter.is_colon() && !self.part.is_in_list() && self.done.count_with(base) > PARTITIONS
     }
 
     /// The first fault in turn of a piece that says this and ends at this delimiter.

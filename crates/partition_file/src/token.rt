@@ -59,7 +59,7 @@ pub(crate) enum Value {
 pub(crate) enum Token {
     Name(NameWord),
     /// The base that a PKey names; none where the piece is no PKey.
-    Key(Option<u16>),
+    Base(Option<u16>),
     /// Nothing, where a flag may stand.
     NoFlag,
     /// A flag; none where there is no such flag.
@@ -82,7 +82,7 @@ impl Part {
     {
         match self {
             Part::Name => Token::Name(name_in(piece)),
-            Part::Key => Token::Key(base_in(piece)),
+            Part::Base => Token::Base(base_in(piece)),
             Part::FlagWord => flag_token(piece),
             Part::FlagValue(flag) => Token::FlagValue(value_of(flag, piece)),
             Part::ListWord => list_token(piece),
@@ -118,7 +118,7 @@ fn base_in(piece: &[u8]) -> Option<u16>
     ensures within { IfSome result (λ base. base < 32768) }
 {
     match number_up_to(0xffff, piece) {
-        Some(key) => Some(base_of(key as u16)),
+        Some(number) => Some(base_of(number as u16)),
         None => None,
     }
 }

@@ -1,6 +1,6 @@
 -- What one port of a channel adapter holds.
 use Rattle.std.specs.Prelude.{ℕ, List}
-use Rattle.agent_rules.specs.declared.link.Link.{Link}
+use Rattle.agent_rules.specs.declared.link.PortLink.{PortLink}
 use Rattle.fabric_parts.specs.declared.node_type.NodeType.TheVariants.{ChannelAdapter}
 use Rattle.attr_tables.specs.declared.port_info.PortInfo.{PortInfo}
 use Rattle.agent_rules.specs.PowerUp.{keys_at_power_up, port_info_at_power_up}
@@ -17,7 +17,7 @@ pub record AdapterState : Type 0 where
   -- the words of the key table as they were written
   pub keys : List ℕ
 
-abbrev pub at_power_up : (node_guid num_ports number port_guid : ℕ) → List ℕ → Link → AdapterState
+abbrev pub at_power_up : (node_guid num_ports number port_guid : ℕ) → List ℕ → PortLink → AdapterState
 at_power_up node_guid num_ports number port_guid description link =
     record {
       node_guid = node_guid;

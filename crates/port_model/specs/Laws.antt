@@ -6,7 +6,7 @@ use Rattle.attr_tables.specs.Attribute.{IsAttribute}
 use Rattle.attr_tables.specs.PortInfo.{port_info_bytes}
 use Rattle.attr_tables.specs.declared.smp_attribute.SmpAttribute.{SmpAttribute}
 use Rattle.attr_tables.specs.declared.smp_attribute.SmpAttribute.TheVariants.{PortInfo}
-use Rattle.agent_rules.specs.declared.link.Link.{Link}
+use Rattle.agent_rules.specs.declared.link.PortLink.{PortLink}
 use Rattle.agent_rules.specs.Agent.{answer, shown_at}
 use Rattle.agent_rules.specs.Laws.{IsSettled, IsUnseenPut, ReadsAlike}
 use Rattle.port_model.specs.AdapterState.{AdapterState, at_power_up}
@@ -21,7 +21,7 @@ SmpsChangeWhatTheyName = (held : AdapterState) (smp : List ℕ) → ChangesAtMos
 -- a port at power-up is good
 abbrev pub NewPortsAreGood : Type 0
 NewPortsAreGood =
-    (node_guid num_ports number port_guid : ℕ) (description : List ℕ) (link : Link) → number < 256 → IsAttribute description
+    (node_guid num_ports number port_guid : ℕ) (description : List ℕ) (link : PortLink) → number < 256 → IsAttribute description
     → IsGoodPort (at_power_up node_guid num_ports number port_guid description link)
 
 -- whatever SMP comes, a good port stays good

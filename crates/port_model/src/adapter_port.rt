@@ -13,9 +13,9 @@ ghost use Rattle.port_model.specs.Agent.{agent_after, agent_reply, get, is_own, 
 ghost use Rattle.port_model.specs.Packets.{accepts_packet, is_active, refusal_of, stamped};
 
 use agent_rules::{
-    Link, PortSetting, attribute_asked, data_of, is_request, is_set, keys_at_power_up, modifier_of,
-    node_info_of, port_info_after, port_info_at_power_up, put_reply, set_word_block, shown_at,
-    whole, word_block_at,
+    PortLink, PortSetting, attribute_asked, data_of, is_request, is_set, keys_at_power_up,
+    modifier_of, node_info_of, port_info_after, port_info_at_power_up, put_reply, set_word_block,
+    shown_at, whole, word_block_at,
 };
 use attr_tables::{NodeDescription, PortInfo, PortState, SmpAttribute};
 use data_packet::{Packet, Payload, QueuePair, Refusal};
@@ -64,7 +64,7 @@ impl AdapterPort {
         number: u8,
         port_guid: u64,
         name: &[u8],
-        link: Link,
+        link: PortLink,
     ) -> AdapterPort
         requires { length name.now ≤ 64 }
         ensures { result ≡ at_power_up node_guid num_ports number port_guid (name.now ++ replicate (64 - length name.now) 0) link }

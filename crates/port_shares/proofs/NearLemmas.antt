@@ -15,15 +15,12 @@ use Rattle.port_shares.proofs.ShareLemmas.{any_kept, in_range, is_shared_base}
 use Rattle.port_shares.specs.Found.{share_of}
 use Rattle.port_shares.specs.Laws.{NearIsToShare, is_of_both}
 use Rattle.port_shares.specs.Shares.{pair_shares, shared_bases, shares}
+use Rattle.result_words.proofs.ListLemmas.{any_none, any_flat}
 
 -- ---- some of a list
 pub same_any : {X : Type 0} (f g : X → Bool) → ((x : X) → f x ≡ g x) → (xs : List X) → list_any f xs ≡ list_any g xs
 same_any f g same [] = refl
 same_any f g same (x ∷ xs) = rw (same x, same_any f g same xs) refl
-
-any_none : {X : Type 0} (xs : List X) → list_any (λ x. false) xs ≡ false
-any_none [] = refl
-any_none (x ∷ xs) = any_none xs
 
 four : (a b c d : Bool) → ((a || b) || (c || d)) ≡ ((a || c) || (b || d))
 four true b true d = refl
@@ -43,10 +40,6 @@ any_turned : {X Y : Type 0} (r : X → Y → Bool) (xs : List X) (ys : List Y)
 any_turned r [] ys = sym (any_none ys)
 any_turned r (x ∷ xs) ys =
     rw (any_turned r xs ys) (sym (any_or (λ y. r x y) (λ y. list_any (λ x. r x y) xs) ys))
-
-pub any_flat : {X Y : Type 0} (p : Y → Bool) (f : X → List Y) (xs : List X) → list_any p (flat_map f xs) ≡ list_any (λ x. list_any p (f x)) xs
-any_flat p f [] = refl
-any_flat p f (x ∷ xs) = list_any-append p (f x) (flat_map f xs) ∙ ap (λ b. list_any p (f x) || b) (any_flat p f xs)
 
 -- ---- two ports and their shares
 keys_turned : (ps qs : List ℕ) → keys_share ps qs ≡ keys_share qs ps

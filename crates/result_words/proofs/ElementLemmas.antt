@@ -1,7 +1,7 @@
 -- Lists, and what is read of them at one place: of any elements.
-use Rattle.std.proofs.Common.{ℕ, zero, suc, ◌≡◌, ◌≢◌, ◌<◌, ◌≤◌, ◌⊎◌, inl, inr, ◌∙◌, ap, refl, sym, Bool, true, false, if◌then◌else◌, List, [], ◌∷◌}
+use Rattle.std.proofs.Common.{ℕ, zero, suc, ◌≡◌, ◌≢◌, ◌<◌, ◌≤◌, ◌⊎◌, inl, inr, ◌∙◌, ap, refl, sym, Bool, true, false, if◌then◌else◌, List, [], ◌∷◌, ◌++◌}
 use Rattle.std.proofs.Common.{length, map, find, get_or, slice_get, slice_set, Option, Some, None, option_map, unwrap_or}
-use Rattle.std.specs.List.{list_all}
+use Rattle.std.specs.List.{AllByRecursion, list_all}
 use Rattle.std.specs.Option.{option_map_or}
 use Rattle.std.proofs.lemmas.Bool.{and_parts}
 use Rattle.std.proofs.lemmas.List.{set-get_or}
@@ -73,3 +73,16 @@ alike_at X f xs ys i same each = by_place (slice_get_cases xs i).1
         → option_map f (slice_get ys i) ≡ option_map f (slice_get xs i)
     by_place (inl there) = rw (there.2, slice_get-get_or ys i there.0 (rw same there.1)) (ap (λ (b : Bool). Some b) (each there.0 ∙ ap f there.3))
     by_place (inr past) = rw (past.1, slice_get_past ys i (rw same past.0)) refl
+
+-- ---- of each element
+pub each_always : {X : Type 0} (P : X → Type 0) → ((x : X) → P x) → (xs : List X) → AllByRecursion P xs
+each_always P so [] = tt
+each_always P so (x ∷ xs) = (so x, each_always P so xs)
+
+pub each_weaker : {X : Type 0} (P Q : X → Type 0) → ((x : X) → P x → Q x) → (xs : List X) → AllByRecursion P xs → AllByRecursion Q xs
+each_weaker P Q more [] all = tt
+each_weaker P Q more (x ∷ xs) all = (more x all.0, each_weaker P Q more xs all.1)
+
+pub each_joined : {X : Type 0} (P : X → Type 0) (xs ys : List X) → AllByRecursion P xs → AllByRecursion P ys → AllByRecursion P (xs ++ ys)
+each_joined P [] ys first second = second
+each_joined P (x ∷ xs) ys first second = (first.0, each_joined P xs ys first.1 second)

@@ -9,7 +9,7 @@ use Rattle.mad_layout.specs.declared.sa_mad.SaMad.{SaMad}
 use Rattle.mad_layout.specs.Bits.{bit_of}
 use Rattle.mad_layout.specs.Layout.{Holds}
 use Rattle.mad_layout.proofs.AlignedLemmas.{bytes_stand}
-use Rattle.mad_layout.proofs.LayoutLemmas.{length-put_all, spelled_below, zeros_below}
+use Rattle.mad_layout.proofs.LayoutLemmas.{length-put_all, spelled_below, zeros_below, below_taken, below_dropped}
 use Rattle.mad_layout.proofs.NumberLemmas.{below_append, number_below}
 use Rattle.rmpp_core.specs.Laws.{IsTransfer}
 use Rattle.mad_layout.specs.RmppHeader.{rmpp_in}
@@ -38,7 +38,7 @@ data_held mad header rmpp fields long below size narrow h =
     let r = h.1.1.1.1.1.1.1.1.1 in
     bytes_stand mad fields.«data» 56 200 below narrow (omega (arith, long)) size r.1.1.1.1.1.1.1.1.1.1.0
 
-reply_below : (header : Header) (rmpp : RmppHeader) (fields : SaMad) → AllBelowBase 256 (reply_bytes header rmpp fields)
+pub reply_below : (header : Header) (rmpp : RmppHeader) (fields : SaMad) → AllBelowBase 256 (reply_bytes header rmpp fields)
 unfolding reply_bytes
 reply_below header rmpp fields = spelled_below (reply_fields header rmpp fields) 256
 
@@ -57,16 +57,6 @@ chosen_narrow : (a b : Bool) (x y z : ℕ) → x < 2 ^ 32 → y < 2 ^ 32 → z <
 chosen_narrow true b x y z f g h = f
 chosen_narrow false true x y z f g h = g
 chosen_narrow false false x y z f g h = h
-
-below_taken : (n : ℕ) (xs : List ℕ) → AllBelowBase 256 xs → AllBelowBase 256 (take n xs)
-below_taken zero xs h = tt
-below_taken (suc n) [] h = tt
-below_taken (suc n) (x ∷ xs) h = (h.0, below_taken n xs h.1)
-
-below_dropped : (n : ℕ) (xs : List ℕ) → AllBelowBase 256 xs → AllBelowBase 256 (drop n xs)
-below_dropped zero xs h = h
-below_dropped (suc n) [] h = tt
-below_dropped (suc n) (x ∷ xs) h = below_dropped n xs h.1
 
 segment_below : (bytes : List ℕ) (number : ℕ) → 1 ≤ number → number ≤ segment_count bytes → AllBelowBase 256 bytes → AllBelowBase 256 (segment_of bytes number)
 segment_below bytes number first last below =

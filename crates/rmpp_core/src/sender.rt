@@ -71,6 +71,13 @@ impl Sender {
         })
     }
 
+    /// What each of its MADs begins with.
+    pub fn header(&self) -> &ReplyHeader
+        ensures { result.now ≡ self.now.header }
+    {
+        &self.header
+    }
+
     /// How many segments the table has.
     pub fn segment_count(&self) -> u32
         ensures { result ≡ segment_count self.now.bytes }

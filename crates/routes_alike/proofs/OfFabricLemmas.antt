@@ -19,7 +19,7 @@ use Rattle.sweep.specs.OfFabric.{Found, IsLayoutOf, guid_at, link_to, node_at, n
 use Rattle.sweep.specs.Seen.{name_at, seen_at}
 use Rattle.sweep.specs.declared.graph.GraphPort.{GraphPort}
 use Rattle.sweep.specs.declared.graph.GraphSwitch.{GraphSwitch}
-use Rattle.sweep.specs.declared.graph.Link.{Link as GraphLink}
+use Rattle.sweep.specs.declared.graph.GraphLink.{GraphLink}
 use Rattle.sweep.specs.declared.seen.Seen.{Seen}
 use Rattle.sweep.proofs.CabledLemmas.{any_found}
 use Rattle.sweep.proofs.EndPortLemmas.{of_one, one_of, there_is}

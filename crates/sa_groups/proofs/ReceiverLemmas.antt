@@ -4,7 +4,7 @@ use Rattle.std.specs.List.{flat_map, list_all, list_any, range_with_len}
 use Rattle.std.proofs.lemmas.Bool.{and_from, and_parts, both_ways, cases_Bool, eq-eqb, eqb-true, le-leb, leb-true, lt-ltb, not_from_false, or_parts}
 use Rattle.std.proofs.lemmas.Bool.Decides.{nat_tests}
 use Rattle.std.proofs.lemmas.List.Folds.{list_any-append}
-use Rattle.result_words.proofs.ListLemmas.{all_joined, list_all_weaker, list_any_weaker}
+use Rattle.result_words.proofs.ListLemmas.{all_joined, list_all_weaker, list_any_weaker, any_none, any_flat, any_map}
 use Rattle.fabric_parts.specs.NodeType.{is_switch_type}
 use Rattle.subnet_model.specs.Configured.{HaveLidsInOrder}
 use Rattle.subnet_model.specs.Delivery.{port_with_guid}
@@ -20,21 +20,9 @@ use Rattle.sa_groups.proofs.ListLemmas.{pairwise_append}
 use Rattle.sa_groups.proofs.SoundLemmas.{partition_parts, sound_parts}
 
 -- ---- lists
-pub any_flat : {X Y : Type 0} (p : Y → Bool) (f : X → List Y) (xs : List X) → list_any p (flat_map f xs) ≡ list_any (λ x. list_any p (f x)) xs
-any_flat p f [] = refl
-any_flat p f (x ∷ xs) = list_any-append p (f x) (flat_map f xs) ∙ ap (λ rest. list_any p (f x) || rest) (any_flat p f xs)
-
-any_mapped : {X Y : Type 0} (p : Y → Bool) (f : X → Y) (xs : List X) → list_any p (map f xs) ≡ list_any (λ x. p (f x)) xs
-any_mapped p f [] = refl
-any_mapped p f (x ∷ xs) = ap (λ rest. p (f x) || rest) (any_mapped p f xs)
-
 pub any_alike : {X : Type 0} (p q : X → Bool) → ((x : X) → p x ≡ q x) → (xs : List X) → list_any p xs ≡ list_any q xs
 any_alike p q same [] = refl
 any_alike p q same (x ∷ xs) = λ place. same x place || any_alike p q same xs place
-
-none_at_all : {X : Type 0} (xs : List X) → list_any (λ x. false) xs ≡ false
-none_at_all [] = refl
-none_at_all (x ∷ xs) = none_at_all xs
 
 all_flat : {X Y : Type 0} (p : Y → Bool) (f : X → List Y) (q : X → Bool) → ((x : X) → q x ≡ true → list_all p (f x) ≡ true) → (xs : List X)
     → list_all q xs ≡ true → list_all p (flat_map f xs) ≡ true
@@ -148,14 +136,14 @@ group_reached : (ports : List SubnetPort) (mlid : ℕ) (port : SubnetPort) (grou
     → port_with_guid ports port.guid ≡ Some port → is_switch_type port.node_type ≡ false
     → is_among (group_receivers ports group) (record { mlid = mlid; lid = port.lid }) ≡ ((group.mlid == mlid) && list_any (receives port.guid) group.memberships)
 group_reached ports mlid port group lids found adapter =
-    any_mapped (is_same_receiver (record { mlid = mlid; lid = port.lid })) (λ one. record { mlid = group.mlid; lid = one.lid }) (filter (receives_group group) ports)
+    any_map (is_same_receiver (record { mlid = mlid; lid = port.lid })) (λ one. record { mlid = group.mlid; lid = one.lid }) (filter (receives_group group) ports)
     ∙ elim (cases_Bool (mlid == group.mlid)) [
       | inl same ↦
           let back : (group.mlid == mlid) ≡ true = turned group.mlid mlid ∙ same in
           rw (same, back) (one_of_lid 1 ports port (receives_group group) lids found ∙ rw adapter refl)
       | inr other ↦
           let back : (group.mlid == mlid) ≡ false = turned group.mlid mlid ∙ other in
-          rw (other, back) (none_at_all (filter (receives_group group) ports))
+          rw (other, back) (any_none (filter (receives_group group) ports))
     ]
 
 pub receivers_are_reached : ReceiversAreReached

@@ -23,7 +23,8 @@ pub record WhichMlids : Type 0 where
   -- no 33rd group is made
   pub more : joined ports (join_of 0x111 7) many ≡ many
   -- the MLID of a group that ended is free again
-  pub again : mlids (joined ports (join_of 0x111 7) (left ports (leave_of 0x111 0xff12000000000000000000000000000f) many)) ≡ range_with_len 0xc020 32
+  pub again : mlids (joined ports (join_of 0x111 7) (left ports (leave_of 0x111 0xff12000000000000000000000000000f) many))
+      ≡ range_with_len 0xc020 32
 
 -- a packet of a limited member reaches the full member alone: two limited members' keys do not match
 pub record WhoReceives : Type 0 where

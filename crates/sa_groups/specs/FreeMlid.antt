@@ -27,5 +27,6 @@ other_number partition other = not (partition.number == other.number)
 
 abbrev pub TheLeastFreeIsGiven : Type 0
 TheLeastFreeIsGiven =
-    (ports : List SubnetPort) (before after : List PartitionGroups) (partition : PartitionGroups) → is_sound ports (before ++ partition ∷ after) ≡ true
+    (ports : List SubnetPort) (before after : List PartitionGroups) (partition : PartitionGroups)
+    → is_sound ports (before ++ partition ∷ after) ≡ true
     → list_all (other_number partition) (before ++ after) ≡ true → IsFreeMlid (before ++ partition ∷ after) partition (free_mlid partition)

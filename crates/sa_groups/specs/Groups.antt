@@ -80,7 +80,8 @@ file_groups number base (Some group) = record {
 abbrev pub start_from : ℕ → List Heading → List PartitionGroups
 start_from number [] = []
 start_from number (heading ∷ headings) =
-    record { number = number; base = heading.base; groups = file_groups number heading.base heading.group } ∷ start_from (number + 1) headings
+    record { number = number; base = heading.base; groups = file_groups number heading.base heading.group }
+    ∷ start_from (number + 1) headings
 
 -- at the start there are the groups of the partition file, and nothing else
 abbrev pub start_of : ConfigurationState → List PartitionGroups

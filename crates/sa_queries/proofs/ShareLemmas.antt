@@ -12,12 +12,13 @@ use Rattle.pkey_rules.specs.PKey.{base_of, matches}
 use Rattle.subnet_model.specs.Configured.{HoldsKnownKeys, same_guid}
 use Rattle.subnet_model.specs.Delivery.{port_with_guid}
 use Rattle.subnet_model.specs.declared.subnet_port.SubnetPort.{SubnetPort}
-use Rattle.sa_groups.proofs.ReceiverLemmas.{any_alike, any_flat, turned}
+use Rattle.sa_groups.proofs.ReceiverLemmas.{any_alike, turned}
 use Rattle.sa_services.specs.KeyOrder.{by_base}
 use Rattle.sa_services.specs.ServiceSight.{shares_base_with}
 use Rattle.sa_services.proofs.KeyOrderLemmas.{stand_by_base}
 use Rattle.sa_queries.specs.Shares.{SharingIsOneThing, is_path_to}
 use Rattle.sa_queries.specs.Visible.{keys_to, may_know, paths_to, paths_under, visible_nodes}
+use Rattle.result_words.proofs.ListLemmas.{any_flat}
 
 -- ---- tests of some element
 any_filter : {X : Type 0} (p t : X → Bool) (xs : List X) → list_any p (filter t xs) ≡ list_any (λ x. p x && t x) xs

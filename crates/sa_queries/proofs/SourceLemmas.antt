@@ -14,23 +14,12 @@ use Rattle.sa_queries.specs.NamedSources.{ComesFrom, SelectedSayTheirSource, is_
 use Rattle.sa_queries.specs.Selected.{Query, few_paths}
 use Rattle.sa_queries.specs.Shown.{Entry, group_entry, group_record_of, node_entry, node_record_of, path_entry, service_entry, service_record_of}
 use Rattle.sa_queries.specs.Visible.{GroupOfBase, Path, ServiceOfPort, groups_of, visible_groups, visible_nodes, visible_services}
+use Rattle.result_words.proofs.ElementLemmas.{each_always, each_weaker, each_joined}
 
 -- ---- of each element
-all_always : {X : Type 0} (P : X → Type 0) → ((x : X) → P x) → (xs : List X) → AllByRecursion P xs
-all_always P so [] = tt
-all_always P so (x ∷ xs) = (so x, all_always P so xs)
-
 pub all_mapped : {X Y : Type 0} (P : Y → Type 0) (f : X → Y) (xs : List X) → AllByRecursion (λ x. P (f x)) xs → AllByRecursion P (map f xs)
 all_mapped P f [] all = tt
 all_mapped P f (x ∷ xs) all = (all.0, all_mapped P f xs all.1)
-
-all_more : {X : Type 0} (P Q : X → Type 0) → ((x : X) → P x → Q x) → (xs : List X) → AllByRecursion P xs → AllByRecursion Q xs
-all_more P Q more [] all = tt
-all_more P Q more (x ∷ xs) all = (more x all.0, all_more P Q more xs all.1)
-
-pub all_joined : {X : Type 0} (P : X → Type 0) (xs ys : List X) → AllByRecursion P xs → AllByRecursion P ys → AllByRecursion P (xs ++ ys)
-all_joined P [] ys first second = second
-all_joined P (x ∷ xs) ys first second = (first.0, all_joined P xs ys first.1 second)
 
 pub all_filtered : {X : Type 0} (P : X → Type 0) (keep : X → Bool) (xs : List X) → AllByRecursion P xs → AllByRecursion P (filter keep xs)
 all_filtered P keep [] all = tt
@@ -60,7 +49,7 @@ each_made : (base : ℕ) (groups : List MulticastGroup) → AllByRecursion (λ o
 each_made base [] = tt
 each_made base (group ∷ groups) = (
   or_left _ _ (made_itself base group),
-  all_more (λ one. made_in base groups one ≡ true) (λ one. made_in base (group ∷ groups) one ≡ true) (λ one is. or_right _ (made_in base groups one) is) groups (each_made base groups),
+  each_weaker (λ one. made_in base groups one ≡ true) (λ one. made_in base (group ∷ groups) one ≡ true) (λ one is. or_right _ (made_in base groups one) is) groups (each_made base groups),
 )
 
 abbrev IsMade : List PartitionGroups → GroupOfBase → Type 0
@@ -69,11 +58,11 @@ IsMade partitions one = is_made_by partitions (group_record_of one) one.group.cr
 groups_made : (own : SubnetPort) (partitions : List PartitionGroups) → AllByRecursion (IsMade partitions) (visible_groups own partitions)
 groups_made own [] = tt
 groups_made own (x ∷ xs) =
-    let rest = all_more (IsMade xs) (IsMade (x ∷ xs)) (λ one is. or_right _ (is_made_by xs (group_record_of one) one.group.creator) is) (visible_groups own xs) (groups_made own xs) in
+    let rest = each_weaker (IsMade xs) (IsMade (x ∷ xs)) (λ one is. or_right _ (is_made_by xs (group_record_of one) one.group.creator) is) (visible_groups own xs) (groups_made own xs) in
     elim (cases_Bool (is_in own x.base)) [
-      | inl shown ↦ rw shown (all_joined (IsMade (x ∷ xs)) (groups_of x) (visible_groups own xs)
+      | inl shown ↦ rw shown (each_joined (IsMade (x ∷ xs)) (groups_of x) (visible_groups own xs)
           (all_mapped (IsMade (x ∷ xs)) (λ group. record { base = x.base; group = group }) x.groups
-          (all_more (λ one. made_in x.base x.groups one ≡ true) (λ one. IsMade (x ∷ xs) (record { base = x.base; group = one }))
+          (each_weaker (λ one. made_in x.base x.groups one ≡ true) (λ one. IsMade (x ∷ xs) (record { base = x.base; group = one }))
           (λ one is. or_left (made_in x.base x.groups one) (is_made_by xs (group_record_of (record { base = x.base; group = one })) one.creator) is) x.groups (each_made x.base x.groups)))
           rest)
       | inr hidden ↦ rw hidden rest
@@ -83,10 +72,10 @@ groups_made own (x ∷ xs) =
 pub selected_say_their_source : SelectedSayTheirSource
 selected_say_their_source most ports own state (Query.for_nodes mask asked) =
     all_mapped (λ (entry : Entry). ComesFrom state entry.shown entry.source) node_entry (filter (λ node. node_record_selected mask (node_record_of node) asked) (visible_nodes ports own))
-    (all_always (λ node. ComesFrom state (node_entry node).shown (node_entry node).source) (λ node. refl) _)
+    (each_always (λ node. ComesFrom state (node_entry node).shown (node_entry node).source) (λ node. refl) _)
 selected_say_their_source most ports own state (Query.for_paths mask asked) =
     all_mapped (λ (entry : Entry). ComesFrom state entry.shown entry.source) path_entry (flat_map (few_paths most mask asked own) ports)
-    (all_always (λ (path : Path). ComesFrom state (path_entry path).shown (path_entry path).source) (λ path. (path.destination.guid, refl, refl)) _)
+    (each_always (λ (path : Path). ComesFrom state (path_entry path).shown (path_entry path).source) (λ path. (path.destination.guid, refl, refl)) _)
 selected_say_their_source most ports own state (Query.for_groups mask asked) =
     all_mapped (λ (entry : Entry). ComesFrom state entry.shown entry.source) group_entry
     (filter (λ one. mc_member_record_selected mask (group_record_of one) asked) (visible_groups own state.partitions))
@@ -95,4 +84,4 @@ selected_say_their_source most ports own state (Query.for_groups mask asked) =
 selected_say_their_source most ports own state (Query.for_services mask asked) =
     all_mapped (λ (entry : Entry). ComesFrom state entry.shown entry.source) service_entry
     (filter (λ one. service_record_selected mask (service_record_of one) asked) (visible_services ports own state.services))
-    (all_always (λ (one : ServiceOfPort). ComesFrom state (service_entry one).shown (service_entry one).source) (λ one. (one.port, refl, refl)) _)
+    (each_always (λ (one : ServiceOfPort). ComesFrom state (service_entry one).shown (service_entry one).source) (λ one. (one.port, refl, refl)) _)

@@ -7,6 +7,7 @@ use Rattle.sa_records.specs.NodeRecord.{node_record_selected}
 use Rattle.sa_queries.specs.Shown.{Entry}
 use Rattle.sa_queries.specs.Examples.{all_nodes, manager, limited, nothing}
 use Rattle.sa_queries.specs.WrongRules.{PathsByBaseTell, GroupsOfAllTell, AllOfFileIsWrong}
+use Rattle.sa_groups.specs.Anchor.{is_by_file}
 
 pub paths_by_base_tell : PathsByBaseTell
 paths_by_base_tell law = let told : false ≡ true = law ports limited refl in absurd (cc)
@@ -19,11 +20,7 @@ pub groups_of_all_tell : GroupsOfAllTell
 groups_of_all_tell law =
     let told : false ≡ true = ap is_some (law ports manager nobody both refl refl) in absurd (cc)
 
-abbrev is_file : Creator → Bool
-is_file (Creator.Port guid) = false
-is_file Creator.PartitionFile = true
-
 pub all_of_file_is_wrong : AllOfFileIsWrong
 unfolding node_record_selected
 all_of_file_is_wrong law =
-    let told : true ≡ false = ap is_file (law ports manager nothing all_nodes).0 in absurd (cc)
+    let told : true ≡ false = ap is_by_file (law ports manager nothing all_nodes).0 in absurd (cc)

@@ -32,7 +32,8 @@ pub record WhichPaths : Type 0 where
   pub several : got ports limited nothing (paths_from 0x121) ≡ Err TooManyRecords
   -- a full member has paths to all, each under the key that both have
   pub all : table ports full nothing (paths_from 0x111)
-      ≡ Ok (map path_entry (under full manager 0x7fff ∷ under full full 0x8001 ∷ under full limited 0x8001 ∷ under full other_limited 0x8001 ∷ []))
+      ≡ Ok (map path_entry (under full manager 0x7fff ∷ under full full 0x8001 ∷ under full limited 0x8001
+      ∷ under full other_limited 0x8001 ∷ []))
   -- a full member has a path to itself, and a limited member has none
   pub to_itself : got ports full nothing (path_between 0x111 0x111) ≡ Ok (path_entry (under full full 0x8001))
   pub not_to_itself : got ports limited nothing (path_between 0x121 0x121) ≡ Err NoRecords

@@ -66,7 +66,8 @@ ServiceRule = List SubnetPort → SubnetPort → List PortServices → List Serv
 abbrev pub ShowsInOrder : ServiceRule → Type 0
 ShowsInOrder rule =
     (configuration : ConfigurationState) (own : SubnetPort) (services : List PortServices) → IsConfigured configuration
-    → map port_and_base services ≡ map port_and_base (no_services configuration.ports) → are_sound_services configuration.ports services ≡ true
+    → map port_and_base services ≡ map port_and_base (no_services configuration.ports)
+    → are_sound_services configuration.ports services ≡ true
     → pairwise (is_offered_before configuration.ports) (rule configuration.ports own services) ≡ true
 
 -- ours keeps it

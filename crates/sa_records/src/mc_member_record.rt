@@ -158,7 +158,8 @@ impl McMemberRecord {
     /// nothing is set, where groups have no such field or the value is wider than it.
     pub fn ask_by(&mut self, field: &[u8], value: u128) -> Option<u64>
         ensures bits { result ≡ bits_of (asked_by field.now value mc_member_record_asked) }
-        ensures set { mc_member_record self.new ≡ with_value value (asked_by field.now value mc_member_record_asked) (mc_member_record self.old) }
+        ensures set { mc_member_record self.new ≡ with_value value (asked_by field.now value mc_member_record_asked)
+            (mc_member_record self.old) }
         ensures fits { Fits (mc_member_record self.old) → Fits (mc_member_record self.new) }
     {
         self.set_by(field, value)
@@ -167,7 +168,8 @@ impl McMemberRecord {
     #[tactic(auto, unfolding(crate::specs::Asked::asked_by))]
     fn set_by(&mut self, field: &[u8], value: u128) -> Option<u64>
         ensures bits { result ≡ bits_of (asked_by field.now value mc_member_record_asked) }
-        ensures set { mc_member_record self.new ≡ with_value value (asked_by field.now value mc_member_record_asked) (mc_member_record self.old) }
+        ensures set { mc_member_record self.new ≡ with_value value (asked_by field.now value mc_member_record_asked)
+            (mc_member_record self.old) }
     {
         mc_member_record_components!(set_asked!(self field value))
     }

@@ -159,8 +159,10 @@ impl ServiceRecord {
     /// ComponentMask that name it. None, and nothing is set, where services have no such field or number or the value is
     /// wider than it. ServiceName is no number: see `ask_by_name`.
     pub fn ask_by(&mut self, field: &[u8], value: u128) -> Option<u64>
-        ensures bits { result ≡ option_or (bits_of (asked_by field.now value service_record_asked)) (bits_of (asked_by field.now value service_data_asked)) }
-        ensures fields { service_fields self.new ≡ with_value value (asked_by field.now value service_record_asked) (service_fields self.old) }
+        ensures bits { result ≡ option_or (bits_of (asked_by field.now value service_record_asked))
+            (bits_of (asked_by field.now value service_data_asked)) }
+        ensures fields { service_fields self.new ≡ with_value value (asked_by field.now value service_record_asked)
+            (service_fields self.old) }
         ensures name { self.new.service_name ≡ self.old.service_name }
         ensures data { self.new.service_data ≡ with_number value (asked_by field.now value service_data_asked) self.old.service_data }
     {
@@ -182,7 +184,8 @@ impl ServiceRecord {
     #[tactic(auto, unfolding(crate::specs::Asked::asked_by))]
     fn ask_by_field(&mut self, field: &[u8], value: u128) -> Option<u64>
         ensures bits { result ≡ bits_of (asked_by field.now value service_record_asked) }
-        ensures fields { service_fields self.new ≡ with_value value (asked_by field.now value service_record_asked) (service_fields self.old) }
+        ensures fields { service_fields self.new ≡ with_value value (asked_by field.now value service_record_asked)
+            (service_fields self.old) }
         ensures name { self.new.service_name ≡ self.old.service_name }
         ensures data { self.new.service_data ≡ self.old.service_data }
     {

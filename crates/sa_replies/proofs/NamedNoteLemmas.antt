@@ -18,10 +18,7 @@ use Rattle.sa_replies.specs.NamedNotes.{AreNamed, AreOfNamed, IsReplyOf, IsSegme
 use Rattle.sa_replies.specs.Notes.{NotedMad, Notes, is_request, noted_bytes, noted_get, noted_if_got, noted_if_ok, noted_record, noted_reply, noted_request, noted_table, notes_after, with_notes}
 use Rattle.sa_replies.specs.Request.{Request, request_in}
 use Rattle.sa_replies.specs.Success.{Success}
-
-all_of : {X : Type 0} (P : X → Type 0) → ((x : X) → P x) → (xs : List X) → AllByRecursion P xs
-all_of P each [] = tt
-all_of P each (x ∷ xs) = (each x, all_of P each xs)
+use Rattle.result_words.proofs.ElementLemmas.{each_always}
 
 module _ (ports : List SubnetPort) (own : SubnetPort) (state : SaState) (notes : Notes) where
   abbrev StaysOrNamed : (ℕ → List Entry) → ℕ → Type 0
@@ -96,9 +93,9 @@ pub notes_name_sources : NotesNameSources
 notes_name_sources ports own payload state notes = record {
   noted_for = for_each ports own payload state notes;
   segments = all_mapped (IsSegmentOf (notes_after ports own payload state notes own.guid)) (with_bytes ports own payload state notes) (answer ports own payload state).0
-      (all_of (λ mad. IsSegmentOf (notes_after ports own payload state notes own.guid) (with_bytes ports own payload state notes mad))
+      (each_always (λ mad. IsSegmentOf (notes_after ports own payload state notes own.guid) (with_bytes ports own payload state notes mad))
       (is_segment ports own payload state notes) (answer ports own payload state).0);
   got = λ get. all_mapped (IsReplyOf state.remembered) (with_bytes ports own payload state notes) (answer ports own payload state).0
-      (all_of (λ mad. IsReplyOf state.remembered (with_bytes ports own payload state notes mad))
+      (each_always (λ mad. IsReplyOf state.remembered (with_bytes ports own payload state notes mad))
       (is_reply ports own payload state notes get) (answer ports own payload state).0);
 }

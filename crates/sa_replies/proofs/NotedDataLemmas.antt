@@ -24,7 +24,7 @@ use Rattle.mad_layout.specs.declared.sa_mad.SaMad.{SaMad}
 use Rattle.mad_layout.specs.declared.status.MadStatus.{MadStatus}
 use Rattle.mad_layout.specs.declared.status.MadStatus.TheVariants.{AttributeNotSupported, BadVersion, MethodNotSupported, NoRecords, NoResources}
 use Rattle.rmpp_core.proofs.CutLemmas.{segment_is}
-use Rattle.rmpp_core.proofs.ReadBackLemmas.{reads_back, reply_long, rmpp_held}
+use Rattle.rmpp_core.proofs.ReadBackLemmas.{reads_back, reply_long, rmpp_held, reply_below}
 use Rattle.rmpp_core.proofs.ReplyLemmas.{reply_fits, reply_spelled}
 use Rattle.rmpp_core.proofs.WholeLemmas.{active_set}
 use Rattle.rmpp_core.specs.Acks.{abort_mad, abort_rmpp, abort_sa, after_ack}
@@ -88,10 +88,6 @@ pub record Reads (header : Header) (rmpp : RmppHeader) (fields : SaMad) : Type 0
   pub kind : rmpp_in (reply_bytes header rmpp fields) ≡ rmpp
   pub content : data_in (reply_bytes header rmpp fields) ≡ fields.«data»
 
-pub mad_below : (header : Header) (rmpp : RmppHeader) (fields : SaMad) → AllBelowBase 256 (reply_bytes header rmpp fields)
-unfolding reply_bytes
-mad_below header rmpp fields = spelled_below (reply_fields header rmpp fields) 256
-
 reads : (header : Header) (rmpp : RmppHeader) (fields : SaMad) → Fits (mad_header header) → Fits (rmpp_header rmpp) → Fits (sa_mad fields)
     → length fields.«data» ≡ 200 → AllBelowBase 256 fields.«data» → Reads header rmpp fields
 reads header rmpp fields f g h size below =
@@ -101,7 +97,7 @@ reads header rmpp fields f g h size below =
     let long = reply_long header rmpp fields in
     record {
       kind = rmpp_held mad header rmpp fields held;
-      content = bytes_stand mad fields.«data» 56 200 (mad_below header rmpp fields) below (omega (arith, long)) size r.1.1.1.1.1.1.1.1.1.1.0;
+      content = bytes_stand mad fields.«data» 56 200 (reply_below header rmpp fields) below (omega (arith, long)) size r.1.1.1.1.1.1.1.1.1.1.0;
     }
 
 filled_long : (bytes : List ℕ) → AreData bytes → length (filled bytes) ≡ 200

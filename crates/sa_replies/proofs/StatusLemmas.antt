@@ -10,7 +10,7 @@ use Rattle.mad_layout.specs.Layout.{Fits}
 use Rattle.mad_layout.specs.MadHeader.{mad_header}
 use Rattle.mad_layout.specs.Method.{method_code}
 use Rattle.mad_layout.specs.declared.method.Method.TheVariants.{Set}
-use Rattle.mad_layout.proofs.LayoutLemmas.{field_narrow, length-put_all, spelled_below, zeros_below}
+use Rattle.mad_layout.proofs.LayoutLemmas.{field_narrow, length-put_all, spelled_below, zeros_below, below_taken, below_dropped}
 use Rattle.mad_layout.proofs.NumberLemmas.{below_append, number_below}
 use Rattle.mad_layout.specs.declared.status.MadStatus.{MadStatus}
 use Rattle.mad_layout.specs.declared.status.MadStatus.TheVariants.{BadVersion, MethodNotSupported, AttributeNotSupported, InvalidField, NoResources}
@@ -31,6 +31,7 @@ use Rattle.sa_queries.specs.Shown.{Entry}
 use Rattle.sa_replies.specs.Request.{Request, request_in, is_response}
 use Rattle.sa_replies.specs.Reply.{reply_header, reply_method, no_rmpp, with_content, reply, refusal_reply, table_header}
 use Rattle.sa_records.specs.SaRecord.{record_bytes}
+use Rattle.mad_layout.proofs.StatusLemmas.{never_0}
 
 -- ---- bytes that fill the data of a MAD at most
 pub record AreData (bytes : List ℕ) : Type 0 where
@@ -39,16 +40,6 @@ pub record AreData (bytes : List ℕ) : Type 0 where
 
 pub no_data : AreData []
 no_data = record { below = tt; short = omega arith }
-
-below_taken : (n : ℕ) (xs : List ℕ) → AllBelowBase 256 xs → AllBelowBase 256 (take n xs)
-below_taken zero xs h = tt
-below_taken (suc n) [] h = tt
-below_taken (suc n) (x ∷ xs) h = (h.0, below_taken n xs h.1)
-
-below_dropped : (n : ℕ) (xs : List ℕ) → AllBelowBase 256 xs → AllBelowBase 256 (drop n xs)
-below_dropped zero xs h = h
-below_dropped (suc n) [] h = tt
-below_dropped (suc n) (x ∷ xs) h = below_dropped n xs h.1
 
 -- those of a request are
 pub content_is_data : (payload : List ℕ) → AllBelowBase 256 payload → AreData (request_in payload).content
@@ -141,18 +132,6 @@ code_low TooManyRecords = omega arith
 code_low InvalidGid = omega arith
 code_low InsufficientComponents = omega arith
 
-code_is_some : (status : MadStatus) → (mad_status_code status == 0) ≡ false
-code_is_some BadVersion = refl
-code_is_some MethodNotSupported = refl
-code_is_some AttributeNotSupported = refl
-code_is_some InvalidField = refl
-code_is_some NoResources = refl
-code_is_some RequestInvalid = refl
-code_is_some NoRecords = refl
-code_is_some TooManyRecords = refl
-code_is_some InvalidGid = refl
-code_is_some InsufficientComponents = refl
-
 pub refusal_status : (request : Request) (status : MadStatus) → IsCopied request → not (field (refusal_reply request status) 32 16 == 0) ≡ true
 refusal_status request status copied =
-    ap (λ (n : ℕ). not (n == 0)) (status_reads request (mad_status_code status) [] copied (code_low status) no_data) ∙ ap not (code_is_some status)
+    ap (λ (n : ℕ). not (n == 0)) (status_reads request (mad_status_code status) [] copied (code_low status) no_data) ∙ ap not (never_0 status)

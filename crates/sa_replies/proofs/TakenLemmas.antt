@@ -1,7 +1,7 @@
 -- What is found first where the greater stands first is the greatest.
 use Rattle.std.proofs.Common.{◌≡◌, ℕ, Bool, true, false, ◌==◌, ◌||◌, nat_le, List, [], ◌∷◌, find, Option, Some, None, refl, sym, subst, ◌∙◌, inl, inr}
 use Rattle.std.specs.List.{list_all}
-use Rattle.std.proofs.lemmas.Bool.{and_parts, both_ways, cases_Bool, eq-eqb, eqb-true}
+use Rattle.std.proofs.lemmas.Bool.{and_parts, both_ways, cases_Bool, eq-eqb, eqb-true, or_right}
 use Rattle.sa_records.specs.Speed.{speed_of}
 use Rattle.sa_groups.specs.Sound.{pairwise}
 use Rattle.sa_replies.specs.Joins.{mtu_taken, rate_taken}
@@ -41,17 +41,13 @@ greatest_found (one ∷ codes) passes at_most falls =
       ];
     }
 
-    or_second : (a b : Bool) → b ≡ true → (a || b) ≡ true
-    or_second true b e = refl
-    or_second false b e = e
-
     later : (found : Option ℕ) → passes one ≡ false → IsGreatest codes passes at_most found → IsGreatest (one ∷ codes) passes at_most found
     later None is_not none = λ code there. elim (cases_Bool (one == code)) [
       | inl this ↦ subst (λ (n : ℕ). passes n ≡ false) (eqb-true one code this) is_not
       | inr other ↦ none code (rw other at there)
     ]
     later (Some taken) is_not is = record {
-      ours = or_second (one == taken) _ is.ours;
+      ours = or_right (one == taken) _ is.ours;
       fits = is.fits;
       greatest = λ code there pass. elim (cases_Bool (one == code)) [
         | inl this ↦ absurd (both_ways (passes one) is_not (subst (λ (n : ℕ). passes n ≡ true) (sym (eqb-true one code this)) pass))

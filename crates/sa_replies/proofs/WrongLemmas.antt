@@ -14,7 +14,7 @@ use Rattle.sa_queries.specs.Shown.{Entry}
 use Rattle.sa_replies.specs.Request.{request_in}
 use Rattle.sa_replies.specs.Transfers.{table_at}
 use Rattle.sa_replies.specs.Examples.{at_first, nodes_wanted, path_wanted}
-use Rattle.sa_replies.proofs.NotedDataLemmas.{mad_below}
+use Rattle.rmpp_core.proofs.ReadBackLemmas.{reply_below}
 use Rattle.sa_replies.specs.Notes.{no_notes}
 use Rattle.sa_replies.specs.WrongRules.{AllNodesTell, NothingNotedIsLess, OneTableTells, TheFileIsNoSource}
 
@@ -36,7 +36,7 @@ all_nodes_tell law =
 
 -- the path that a limited member is shown is data
 path_is_below : AllBelowBase 256 path_wanted
-path_is_below = mad_below _ _ _
+path_is_below = reply_below _ _ _
 
 pub nothing_noted_is_less : NothingNotedIsLess
 unfolding field put_field reply_bytes request_in path_in path_record_bytes path_record_selected speed_of

@@ -17,7 +17,7 @@ use Rattle.sa_replies.specs.Reply.{no_rmpp}
 use Rattle.sa_replies.specs.Request.{request_in}
 use Rattle.sa_replies.specs.State.{at_start}
 use Rattle.sa_replies.specs.WrongRules.{LostPlacesAreMissed, OthersAreAnswered, RefusalsKeepNoData, TwiceIsNotOnce}
-use Rattle.sa_replies.proofs.NotedDataLemmas.{mad_below}
+use Rattle.rmpp_core.proofs.ReadBackLemmas.{reply_below}
 use Rattle.sa_replies.proofs.OpenTableLemmas.{starts_are_states}
 
 abbrev pub alone : ConfigurationState
@@ -48,7 +48,7 @@ unknown_wanted = asking (header_of 0x13 6 0) no_rmpp 0 (1 ∷ [])
 
 unknown_below : AllBelowBase 256 unknown_wanted
 unfolding unknown_wanted
-unknown_below = mad_below _ _ _
+unknown_below = reply_below _ _ _
 
 pub twice_is_not_once : TwiceIsNotOnce
 unfolding unknown_wanted field put_field reply_bytes request_in

@@ -29,7 +29,8 @@ pub record WhoIsInGroups : Type 0 where
   -- the full member's leave ends the group, so that the limited member has none to leave
   pub left : fronts (by full (making 0x111 0x8001) ∷ []) full (leaving 0x111)
       ≡ (0x010302950000000000000000000000030038000000000000 * 2 ^ 256 + 0x10003) ∷ []
-  pub ended : fronts (by full (making 0x111 0x8001) ∷ by limited (joining 0x121 0x8001) ∷ by full (leaving 0x111) ∷ []) limited (leaving 0x121)
+  pub ended : fronts (by full (making 0x111 0x8001) ∷ by limited (joining 0x121 0x8001) ∷ by full (leaving 0x111) ∷ []) limited
+      (leaving 0x121)
       ≡ (0x010302950200000000000000000000030038000000000000 * 2 ^ 256 + 0x10003) ∷ []
 
 -- what is asked in a version, by a method or of an attribute that is not ours is refused; to a response, to another

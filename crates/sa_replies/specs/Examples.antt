@@ -74,7 +74,8 @@ group_asked guid q_key p_key = record {
 
 abbrev pub making_mask : ℕ
 making_mask =
-    member_mask.mgid + member_mask.port_gid + member_mask.q_key + member_mask.t_class + member_mask.p_key + member_mask.sl + member_mask.flow_label + member_mask.join_state
+    member_mask.mgid + member_mask.port_gid + member_mask.q_key + member_mask.t_class + member_mask.p_key + member_mask.sl
+    + member_mask.flow_label + member_mask.join_state
 
 -- the first port makes a group, by all that this takes; another joins it; and each may leave it
 abbrev pub making : ℕ → ℕ → List ℕ
@@ -83,13 +84,16 @@ making guid p_key = asking (header_of 2 1 0x38) no_rmpp making_mask (mc_member_r
 -- one group more than a partition has MLIDs for
 abbrev pub making_another : List ℕ
 making_another =
-    asking (header_of 2 1 0x38) no_rmpp making_mask (mc_member_record_bytes (record (group_asked 0x111 0x1234 0x8001) { mgid = group_mgid + 32 }))
+    asking (header_of 2 1 0x38) no_rmpp making_mask
+    (mc_member_record_bytes (record (group_asked 0x111 0x1234 0x8001) { mgid = group_mgid + 32 }))
 
 abbrev pub joining : ℕ → ℕ → List ℕ
-joining guid p_key = asking (header_of 2 2 0x38) no_rmpp (member_mask.mgid + member_mask.port_gid + member_mask.p_key + member_mask.join_state) (mc_member_record_bytes (group_asked guid 0 p_key))
+joining guid p_key = asking (header_of 2 2 0x38) no_rmpp
+    (member_mask.mgid + member_mask.port_gid + member_mask.p_key + member_mask.join_state) (mc_member_record_bytes (group_asked guid 0 p_key))
 
 abbrev pub leaving : ℕ → List ℕ
-leaving guid = asking (header_of 0x15 3 0x38) no_rmpp (member_mask.mgid + member_mask.port_gid + member_mask.join_state) (mc_member_record_bytes (group_asked guid 0 0))
+leaving guid = asking (header_of 0x15 3 0x38) no_rmpp (member_mask.mgid + member_mask.port_gid + member_mask.join_state)
+    (mc_member_record_bytes (group_asked guid 0 0))
 
 -- a Get of a path, and a GetTable of all nodes
 abbrev pub path_wanted : List ℕ

@@ -66,7 +66,8 @@ is_join_state bits = nat_le 1 bits && nat_lt bits 8
 
 abbrev pub join_questions : SubnetPort → ℕ → McMemberRecord → List Question
 join_questions own mask asked =
-    refused_if (not (asks mask (member_mask.mgid + member_mask.port_gid + member_mask.p_key + member_mask.join_state))) InsufficientComponents
+    refused_if (not (asks mask (member_mask.mgid + member_mask.port_gid + member_mask.p_key + member_mask.join_state)))
+    InsufficientComponents
     ∷ refused_if (not (asked.port_gid == gid_of own.guid)) InvalidGid
     ∷ refused_if (not (is_multicast asked.mgid)) RequestInvalid
     ∷ refused_if (not (is_in own (base_of asked.p_key))) RequestInvalid
@@ -79,7 +80,8 @@ join_questions own mask asked =
 -- to a group that is there: all else that is asked agrees with it, but for MLID and ProxyJoin
 abbrev pub compared : ℕ
 compared =
-    member_mask.q_key + member_mask.mtu + member_mask.t_class + member_mask.rate + member_mask.packet_life_time + member_mask.sl + member_mask.flow_label + member_mask.hop_limit
+    member_mask.q_key + member_mask.mtu + member_mask.t_class + member_mask.rate + member_mask.packet_life_time
+    + member_mask.sl + member_mask.flow_label + member_mask.hop_limit
     + member_mask.scope
 
 abbrev pub agrees_with : ℕ → McMemberRecord → ℕ → MulticastGroup → Bool
@@ -97,7 +99,8 @@ rate_taken mask asked =
 
 abbrev pub life_taken : ℕ → McMemberRecord → Option ℕ
 life_taken mask asked =
-    find (λ life. not (asks mask member_mask.packet_life_time) || satisfies asked.packet_life_time_selector life asked.packet_life_time) (18 ∷ [])
+    find (λ life. not (asks mask member_mask.packet_life_time)
+    || satisfies asked.packet_life_time_selector life asked.packet_life_time) (18 ∷ [])
 
 abbrev pub or_zero : Option ℕ → ℕ
 or_zero (Some n) = n
@@ -133,7 +136,8 @@ has_free_mlid base partitions = list_any (λ partition. (partition.base == base)
 abbrev pub founding_by : List SubnetPort → SubnetPort → ℕ → McMemberRecord → Bool → List Question
 founding_by ports own mask asked has_free =
     refused_if (not (may_create ports (join_asked own mask asked))) RequestInvalid
-    ∷ refused_if (not (asks mask (member_mask.q_key + member_mask.t_class + member_mask.sl + member_mask.flow_label))) InsufficientComponents
+    ∷ refused_if (not (asks mask (member_mask.q_key + member_mask.t_class + member_mask.sl + member_mask.flow_label)))
+    InsufficientComponents
     ∷ refused_if (is_none (mtu_taken mask asked)) RequestInvalid
     ∷ refused_if (is_none (rate_taken mask asked)) RequestInvalid
     ∷ refused_if (is_none (life_taken mask asked)) RequestInvalid
@@ -184,7 +188,8 @@ is_taken_from leave base group membership = is_left leave base group membership 
 
 abbrev pub takes_some : Leave → List PartitionGroups → Bool
 takes_some leave partitions =
-    list_any (λ partition. list_any (λ group. list_any (is_taken_from leave partition.base group) group.memberships) partition.groups) partitions
+    list_any (λ partition. list_any (λ group. list_any (is_taken_from leave partition.base group) group.memberships)
+    partition.groups) partitions
 
 -- MGID, PortGID and JoinState are required, and some bit has to be taken
 abbrev pub leaving_by : SubnetPort → ℕ → McMemberRecord → Bool → List Question

@@ -83,14 +83,16 @@ base_wanted request = base_of (service_in request.content).service_p_key
 
 -- the service that is asked is there, once; all other services, and all groups, are as before
 pub record IsServiceSet (own : SubnetPort) (request : Request) (state next : SaState) : Type 0 where
-  pub services : IsSet own.guid (base_wanted request) (service_asked request.component_mask (service_in request.content)) state.services next.services
+  pub services : IsSet own.guid (base_wanted request)
+      (service_asked request.component_mask (service_in request.content)) state.services next.services
   pub groups : next.partitions ≡ state.partitions
 
 -- so it is after a Set that is not refused, where the port has one place in this base
 abbrev pub ServicesSetAreThere : Type 0
 ServicesSetAreThere =
     (ports : List SubnetPort) (own : SubnetPort) (payload : List ℕ) (state : Administration) (place : PortServices)
-    → asks_for_service Set payload ≡ true → filter (is_of own.guid (base_wanted (request_in payload))) state.remembered.services ≡ place ∷ []
+    → asks_for_service Set payload ≡ true
+    → filter (is_of own.guid (base_wanted (request_in payload))) state.remembered.services ≡ place ∷ []
     → are_refusals (answer ports own payload state).0 ≡ false
     → IsServiceSet own (request_in payload) state.remembered (answer ports own payload state).1.remembered
 

@@ -22,14 +22,14 @@ use Rattle.subnet_model.specs.declared.command.AskCommand.{AskCommand}
 use Rattle.subnet_model.specs.declared.command.SendCommand.{SendCommand}
 use Rattle.subnet_model.specs.declared.event.Outcome.TheVariants.{Received}
 use Rattle.subnet_model.specs.declared.subnet_port.SubnetPort.{SubnetPort}
-use Rattle.sa_queries.proofs.SourceLemmas.{all_joined}
 use Rattle.sa_groups.specs.Delivery.{is_receiver_of}
 use Rattle.sa_queries.specs.Outcome.{unless_status}
 use Rattle.sa_queries.specs.Refusals.{refusal}
 use Rattle.sa_queries.specs.Selected.{Query, paths_wanted, selected}
 use Rattle.sa_queries.specs.Shown.{Entry}
 use Rattle.sa_replies.proofs.NoteLemmas.{notes_spell_tables}
-use Rattle.sa_replies.proofs.NotedDataLemmas.{data_is_noted, mad_below}
+use Rattle.rmpp_core.proofs.ReadBackLemmas.{reply_below}
+use Rattle.sa_replies.proofs.NotedDataLemmas.{data_is_noted}
 use Rattle.sa_replies.proofs.OpenTableLemmas.{answers_keep_states, found_can, most_entries, selected_most, size_low, starts_are_states}
 use Rattle.sa_replies.specs.Answer.{query_of}
 use Rattle.sa_replies.specs.Notes.{NotedMad, Notes, is_request, noted_if_ok, noted_request, noted_table, notes_after, with_notes}
@@ -42,6 +42,7 @@ use Rattle.sa_runs.specs.Asking.{ack_header, ack_mad, ack_rmpp, ack_sa, acknowle
 use Rattle.sa_runs.specs.RunData.{CarriesBytes, DataOfRunsIsNoted, HasItsData}
 use Rattle.sa_runs.specs.Sources.{NotedEvents, NotedMads, NotedState, acknowledging, noted_after, noted_asked, noted_conversation, noted_delivered}
 use Rattle.sa_runs.specs.Sources.{noted_in_turn, noted_mad, noted_replied, noted_reply_to, noted_sent, noted_start, noted_step, noted_unless_refused, noted_whole, without_record}
+use Rattle.result_words.proofs.ElementLemmas.{each_joined}
 
 -- ---- not many records are noted for a port
 abbrev AreFew : Notes → Type 0
@@ -90,7 +91,7 @@ acks_below (mad ∷ mads) = elim (cases_Bool (is_first_segment (rmpp_in mad))) [
   where
     each : (count : ℕ) (numbers : List ℕ) → AllByRecursion AreBytes (map (ack_mad (header_in mad) count) numbers)
     each count [] = tt
-    each count (number ∷ numbers) = (mad_below (ack_header (header_in mad)) (ack_rmpp count number) ack_sa, each count numbers)
+    each count (number ∷ numbers) = (reply_below (ack_header (header_in mad)) (ack_rmpp count number) ack_sa, each count numbers)
 
 module _ (configuration : ConfigurationState) (configured : IsConfigured configuration) where
   notes_few : (own : SubnetPort) (mad : List ℕ) (noted : NotedState) → port_with_guid configuration.ports own.guid ≡ Some own → IsReady configuration noted
@@ -131,7 +132,7 @@ module _ (configuration : ConfigurationState) (configured : IsConfigured configu
         let told = noted_mad configuration.ports own mad noted in
         let next = turns_held mads told.1 first.state in
         record {
-          mads = λ below. all_joined HoldsNoted told.0 (noted_in_turn configuration.ports own mads told.1).0 (first.mads below.0) (next.mads below.1);
+          mads = λ below. each_joined HoldsNoted told.0 (noted_in_turn configuration.ports own mads told.1).0 (first.mads below.0) (next.mads below.1);
           state = next.state;
         }
 
@@ -143,7 +144,7 @@ module _ (configuration : ConfigurationState) (configured : IsConfigured configu
         let acks = acknowledging told.0 in
         let next = turns_held acks told.1 first.state in
         record {
-          mads = λ below. all_joined HoldsNoted told.0 (noted_in_turn configuration.ports own acks told.1).0 (first.mads below)
+          mads = λ below. each_joined HoldsNoted told.0 (noted_in_turn configuration.ports own acks told.1).0 (first.mads below)
               (next.mads (acks_below (map (λ one. one.mad) told.0)));
           state = next.state;
         }

@@ -13,7 +13,7 @@ use Rattle.subnet_model.specs.Report.{answered_in_turn, answered_whole, asked, c
 use Rattle.subnet_model.specs.declared.command.Command.{Command}
 use Rattle.subnet_model.specs.declared.command.Command.TheVariants.{Ask, Send}
 use Rattle.subnet_model.specs.declared.command.SendCommand.{SendCommand}
-use Rattle.subnet_model.specs.declared.event.Event.{Event}
+use Rattle.subnet_model.specs.declared.event.PortEvent.{PortEvent}
 use Rattle.subnet_model.specs.declared.subnet_port.SubnetPort.{SubnetPort}
 use Rattle.sa_groups.specs.Delivery.{is_receiver_of}
 use Rattle.sa_replies.proofs.NoteLemmas.{answers_tell_from_near, notes_spell_tables, notes_stand_beside}
@@ -36,7 +36,7 @@ record AreBeside (told : NotedMads) (answered : Answered) : Type 0 where
   mads : map (λ one. one.mad) told.0 ≡ answered.0
   state : told.1.state ≡ answered.1
 
-record Beside (told : NotedEvents) (happens : List Event × Administration) : Type 0 where
+record Beside (told : NotedEvents) (happens : List PortEvent × Administration) : Type 0 where
   events : map (λ one. one.event) told.0 ≡ happens.0
   state : told.1.state ≡ happens.1
 
@@ -85,15 +85,15 @@ replied_beside own (Some key) noted told answered are =
     record { events = replies_beside own key told.0 ∙ ap (map (reply_to own key)) are.mads; state = are.state }
 replied_beside own None noted told answered are = record { events = refl; state = refl }
 
-packets_beside : (events : List Event) → map (λ one. one.event) (map without_record events) ≡ events
+packets_beside : (events : List PortEvent) → map (λ one. one.event) (map without_record events) ≡ events
 packets_beside [] = refl
 packets_beside (event ∷ events) = ap (λ rest. event ∷ rest) (packets_beside events)
 
-beside_if : (test : Bool) (a b : NotedEvents) (x y : List Event × Administration) → Beside a x → Beside b y → Beside (if test then a else b) (if test then x else y)
+beside_if : (test : Bool) (a b : NotedEvents) (x y : List PortEvent × Administration) → Beside a x → Beside b y → Beside (if test then a else b) (if test then x else y)
 beside_if true a b x y first second = first
 beside_if false a b x y first second = second
 
-unless_beside : (refusal : Option Refusal) (guid : ℕ) (noted : NotedState) (told : NotedEvents) (happens : List Event × Administration) → Beside told happens
+unless_beside : (refusal : Option Refusal) (guid : ℕ) (noted : NotedState) (told : NotedEvents) (happens : List PortEvent × Administration) → Beside told happens
     → Beside (noted_unless_refused refusal guid noted told) (unless_refused refusal guid noted.state happens)
 unless_beside (Some refusal) guid noted told happens are = record { events = refl; state = refl }
 unless_beside None guid noted told happens are = are
@@ -135,7 +135,7 @@ module _ (configuration : ConfigurationState) where
   events_beside (command ∷ commands) noted state same =
       let one = step_beside noted command in
       let told = noted_step configuration noted command in
-      let step : Administration → List Event × Administration = λ s. step_by subnet_administration configuration s command in
+      let step : Administration → List PortEvent × Administration = λ s. step_by subnet_administration configuration s command in
       map-append (λ one. one.event) told.0 (events_from (noted_step configuration) told.1 commands)
       ∙ (ap (λ first. first ++ map (λ one. one.event) (events_from (noted_step configuration) told.1 commands)) (one.events ∙ ap (λ s. (step s).0) same)
       ∙ ap (λ rest. (step state).0 ++ rest) (events_beside commands told.1 (step state).1 (one.state ∙ ap (λ s. (step s).1) same)))
@@ -220,7 +220,7 @@ module _ (ports : List SubnetPort) (own : SubnetPort) (found : port_with_guid po
   replied_good (Some key) noted told before are = record { events = replies_near key told.0 are.mads; state = are.state }
   replied_good None noted told before are = record { events = refl; state = before }
 
-packets_near : (ports : List SubnetPort) (events : List Event) → near_events ports (map without_record events) ≡ true
+packets_near : (ports : List SubnetPort) (events : List PortEvent) → near_events ports (map without_record events) ≡ true
 packets_near ports [] = refl
 packets_near ports (event ∷ events) = packets_near ports events
 

@@ -6,7 +6,7 @@ use Rattle.mad_layout.specs.Bits.{field, number, put_field}
 use Rattle.rmpp_core.specs.Reply.{reply_bytes}
 use Rattle.rmpp_core.specs.Segments.{segment_of}
 use Rattle.sa_records.specs.NodeRecord.{node_record_bytes, node_record_selected, node_in}
-use Rattle.sa_replies.proofs.NotedDataLemmas.{mad_below}
+use Rattle.rmpp_core.proofs.ReadBackLemmas.{reply_below}
 use Rattle.sa_replies.proofs.WrongStateLemmas.{alone, is_configured}
 use Rattle.sa_replies.specs.Examples.{nodes_wanted}
 use Rattle.sa_replies.specs.Request.{request_in}
@@ -14,7 +14,7 @@ use Rattle.sa_runs.specs.Examples.{ask}
 use Rattle.sa_runs.specs.WrongRules.{AnswersAreNoted, NoBytesAreLess}
 
 wanted_below : AllBelowBase 256 (nodes_wanted 4)
-wanted_below = mad_below _ _ _
+wanted_below = reply_below _ _ _
 
 pub no_bytes_are_less : NoBytesAreLess
 unfolding field put_field reply_bytes segment_of request_in node_in node_record_bytes node_record_selected

@@ -13,7 +13,8 @@ pub record WhoHearsAGroup : Type 0 where
   -- a sender does not hear itself
   pub by_full : heard (ask 0x111 (making 0x111 0x8001) ∷ ask 0x121 (joining 0x121 0x8001) ∷ []) (send_to_group 0x111 0x8001)
       ≡ (0x121 ∷ 4 ∷ 0xc020 ∷ 0x8001 ∷ 1 ∷ []) ∷ []
-  pub ended : heard (ask 0x111 (making 0x111 0x8001) ∷ ask 0x121 (joining 0x121 0x8001) ∷ ask 0x111 (leaving 0x111) ∷ []) (send_to_group 0x111 0x8001)
+  pub ended : heard (ask 0x111 (making 0x111 0x8001) ∷ ask 0x121 (joining 0x121 0x8001) ∷ ask 0x111 (leaving 0x111) ∷ [])
+      (send_to_group 0x111 0x8001)
       ≡ []
 
 -- ---- what asking brings

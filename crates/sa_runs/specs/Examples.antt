@@ -66,7 +66,8 @@ heard_as guid (Refused refusal) = (guid ∷ []) ∷ []
 abbrev pub heard_in : ConfigurationState → List Command → Command → List (List ℕ)
 heard_in subnet before command =
     flat_map (λ event. heard_as event.port_guid event.what)
-    (events_from (step_by subnet_administration subnet) (state_from (step_by subnet_administration subnet) (at_start subnet) before) (command ∷ []))
+    (events_from (step_by subnet_administration subnet)
+    (state_from (step_by subnet_administration subnet) (at_start subnet) before) (command ∷ []))
 
 abbrev pub heard : List Command → Command → List (List ℕ)
 heard before command = heard_in configuration before command

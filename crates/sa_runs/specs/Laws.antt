@@ -15,7 +15,8 @@ use Rattle.sa_runs.specs.Sight.{is_sound_state, sees}
 -- subnet administration keeps ports apart
 abbrev pub AdministrationKeepsApart : Type 0
 AdministrationKeepsApart =
-    (configuration : ConfigurationState) → KeepsApart configuration subnet_administration (is_sound_state configuration) (sees configuration)
+    (configuration : ConfigurationState) → KeepsApart configuration subnet_administration (is_sound_state configuration)
+    (sees configuration)
 
 -- so that whatever ports send and ask, what a port receives depends only on the ports near it
 abbrev pub RunsAreIsolated : Type 0

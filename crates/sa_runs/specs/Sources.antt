@@ -9,7 +9,7 @@ use Rattle.subnet_model.specs.Report.{events_from, received_by, reply_to, report
 use Rattle.subnet_model.specs.declared.command.Command.{Command}
 use Rattle.subnet_model.specs.declared.command.Command.TheVariants.{Ask, Send}
 use Rattle.subnet_model.specs.declared.command.SendCommand.{SendCommand}
-use Rattle.subnet_model.specs.declared.event.Event.{Event}
+use Rattle.subnet_model.specs.declared.event.PortEvent.{PortEvent}
 use Rattle.subnet_model.specs.declared.event.Outcome.TheVariants.{Refused}
 use Rattle.subnet_model.specs.declared.subnet_port.SubnetPort.{SubnetPort}
 use Rattle.sa_groups.specs.Delivery.{is_receiver_of}
@@ -29,7 +29,7 @@ pub record NotedState : Type 0 where
 -- an event, and what is noted of it: of a MAD that answers, the bytes of records that it brings its port; of a packet
 -- between two ports, and of a refusal, nothing
 pub record NotedEvent : Type 0 where
-  pub event : Event
+  pub event : PortEvent
   pub noted : Option (List NotedByte)
 
 abbrev pub noted_in : Option (List NotedByte) → List NotedByte
@@ -73,7 +73,7 @@ NotedEvents = List NotedEvent × NotedState
 abbrev pub noted_reply_to : SubnetPort → ℕ → NotedMad → NotedEvent
 noted_reply_to own key one = record { event = reply_to own key one.mad; noted = Some one.bytes }
 
-abbrev pub without_record : Event → NotedEvent
+abbrev pub without_record : PortEvent → NotedEvent
 without_record event = record { event = event; noted = None }
 
 abbrev pub noted_replied : SubnetPort → Option ℕ → NotedState → NotedMads → NotedEvents

@@ -26,6 +26,7 @@ use Rattle.smp_wire.specs.Good.{IsGood, has_a_right_count, is_right}
 use Rattle.smp_wire.specs.Walk.{arrived, hands_on, hop, walk, with_return_ports}
 use Rattle.result_words.proofs.ElementLemmas.{find_all}
 use Rattle.result_words.proofs.ListLemmas.{all_there}
+use Rattle.smp_wire.proofs.PresentLemmas.{present_right}
 
 -- ---- bytes that agents do not look at
 pub record IsCarrier (sent smp : List ℕ) : Type 0 where
@@ -160,7 +161,7 @@ far_small fabric here there (Some cable) good right is =
 pub end_small : (fabric : FabricState) (out there : PortRef) → IsGood fabric → far_end fabric.cables out ≡ Some there → there.port < 256
 end_small fabric out there good is =
     far_small fabric out there (find (λ cable. ends_at out cable) fabric.cables) good
-    (λ cable found. find_all (is_right fabric.nodes) (λ one. ends_at out one) fabric.cables cable good.cables
+    (λ cable found. find_all (is_right fabric.nodes) (λ one. ends_at out one) fabric.cables cable (present_right good)
     found) is
 
 hop_small : (fabric : FabricState) (starts : Bool) (here there : PortRef) (number : ℕ) → IsGood fabric

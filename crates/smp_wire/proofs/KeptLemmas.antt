@@ -12,7 +12,7 @@ use Rattle.fabric_parts.specs.Cable.{is_cabled}
 use Rattle.smp_wire.specs.Laws.{ExchangesKeepGood, ExchangesKeepLinks, ExchangesKeepJoined, ExchangesKeepShape}
 use Rattle.smp_wire.specs.Shape.{IsSameShape}
 use Rattle.smp_wire.specs.declared.node.Node.{Node}
-use Rattle.smp_wire.specs.FabricState.{FabricState, is_port, is_switch, is_switch_at, nodes_after, port_count}
+use Rattle.smp_wire.specs.FabricState.{FabricState, all_cables, is_port, is_switch, is_switch_at, nodes_after, port_count}
 use Rattle.smp_wire.specs.Walk.{after_walk, exchange_after, hop, walk, walk_of}
 use Rattle.smp_wire.specs.Good.{IsGood, ShowsLinks, SwitchesJoined, end_port_guids, IsGoodNode, has_a_right_count, info_at, is_in_order, is_right, node_guid, port_info_at}
 use Rattle.smp_wire.proofs.GoodLemmas.{IsSameNode, down_at, same_node}
@@ -22,6 +22,7 @@ use Rattle.std.proofs.lemmas.List.Elements.{All-set}
 
 pub record IsSame (old new : FabricState) : Type 0 where
   pub cables : new.cables ≡ old.cables
+  pub cut : new.cut ≡ old.cut
   pub manager : new.manager ≡ old.manager
   pub guids : map node_guid new.nodes ≡ map node_guid old.nodes
   pub ends : map end_port_guids new.nodes ≡ map end_port_guids old.nodes
@@ -34,12 +35,13 @@ pub record IsSame (old new : FabricState) : Type 0 where
 
 itself : (fabric : FabricState) → IsSame fabric fabric
 itself fabric =
-    record { cables = refl; manager = refl; guids = refl; ends = refl; counts = refl; right = refl; order = refl; switches = refl; holdings = λ all. all; downs = λ number. refl }
+    record { cables = refl; cut = refl; manager = refl; guids = refl; ends = refl; counts = refl; right = refl; order = refl; switches = refl; holdings = λ all. all; downs = λ number. refl }
 
 with_node : (fabric : FabricState) (place : ℕ) (node next : Node) → slice_get fabric.nodes place ≡ Some node → IsSameNode node next
     → IsSame fabric (record fabric { nodes = slice_set fabric.nodes place next })
 with_node fabric place node next there same = record {
   cables = refl;
+  cut = refl;
   manager = refl;
   guids = read_same node_guid fabric.nodes place node next there same.guid;
   ends = read_same end_port_guids fabric.nodes place node next there same.guids;
@@ -86,8 +88,8 @@ stays_good old new same good = record {
   counts = all_same has_a_right_count old.nodes new.nodes same.right ∙ good.counts;
   order = all_same is_in_order old.nodes new.nodes same.order ∙ good.order;
   holdings = same.holdings good.holdings;
-  cables = rw same.cables ((λ place. list_all (λ cable. right_same old new same cable place) old.cables) ∙ good.cables);
-  once = rw same.cables good.once;
+  cables = rw (same.cables, same.cut) ((λ place. list_all (λ cable. right_same old new same cable place) (all_cables old)) ∙ good.cables);
+  once = rw (same.cables, same.cut) good.once;
   manager_port = rw same.manager (port_same old new same old.manager ∙ good.manager_port);
   manager_adapter = rw same.manager (switch_same old new same old.manager.node ∙ good.manager_adapter);
   manager_cabled = rw (same.manager, same.cables) good.manager_cabled;
@@ -150,6 +152,7 @@ joins fabric smp was = stays_joined fabric (exchange_after fabric smp) (after_ex
 shape_of : (old new : FabricState) → IsSame old new → IsSameShape old new
 shape_of old new same = record {
   cables = same.cables;
+  cut = same.cut;
   manager = same.manager;
   switches = same.switches;
   node_guids = same.guids;

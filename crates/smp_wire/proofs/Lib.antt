@@ -3,6 +3,7 @@ pub mod RequestLemmas
 pub mod WalkLemmas
 pub mod GivenLemmas
 pub mod GoodLemmas
+pub mod PresentLemmas
 pub mod KeptLemmas
 pub mod ArrivalLemmas
 pub mod ReplyLemmas

@@ -39,6 +39,7 @@ use Rattle.smp_wire.proofs.GivenLemmas.{AreAttributes, attributes_given, nothing
 use Rattle.smp_wire.proofs.ReplyLemmas.{reply_below, reply_long, returned_field}
 use Rattle.smp_wire.proofs.ReplyToLemmas.{answers_true, replies_answer}
 use Rattle.smp_wire.proofs.WalkedLemmas.{carried, no_walk_after, no_walk_reply, walk_after, walk_reply}
+use Rattle.mad_layout.proofs.StatusLemmas.{never_0}
 
 -- ---- one agent: a Get changes nothing, and is answered by what is given
 pub record IsGetOf (attribute : SmpAttribute) (modifier : ℕ) (smp : List ℕ) : Type 0 where
@@ -133,18 +134,6 @@ unfolding told_by
 read_given sent smp bytes long is answering =
     let given = given_is smp bytes long is in
     rw (given.status, answering) (ap (λ (xs : List ℕ). Ok xs) given.data_is)
-
-never_0 : (status : MadStatus) → (mad_status_code status == 0) ≡ false
-never_0 BadVersion = refl
-never_0 MethodNotSupported = refl
-never_0 AttributeNotSupported = refl
-never_0 InvalidField = refl
-never_0 NoResources = refl
-never_0 RequestInvalid = refl
-never_0 NoRecords = refl
-never_0 TooManyRecords = refl
-never_0 InvalidGid = refl
-never_0 InsufficientComponents = refl
 
 read_refused : (sent smp : List ℕ) (status : MadStatus) → length smp ≡ 256
     → told_by sent (returned (reply_to smp (Err status))) ≡ told_for (Some (Err status))

@@ -1,5 +1,5 @@
--- What a fabric is: its nodes, with what their agents hold, its cables, and the subnet manager's port.
-use Rattle.std.specs.Prelude.{ℕ, ◌-◌, ◌==◌, ◌&&◌, nat_le, Bool, true, false, if◌then◌else◌, List, length, slice_get, slice_set, Option, Some, None}
+-- What a fabric is: its nodes, with what their agents hold, its cables, those that are cut, and the subnet manager's port.
+use Rattle.std.specs.Prelude.{ℕ, ◌-◌, ◌==◌, ◌&&◌, nat_le, Bool, true, false, if◌then◌else◌, List, [], ◌++◌, length, slice_get, slice_set, Option, Some, None}
 use Rattle.std.specs.Option.{option_and_then, option_map_or}
 use Rattle.port_model.specs.AdapterState.{AdapterState}
 use Rattle.port_model.specs.Agent.{agent_after as adapter_after, agent_reply as adapter_reply}
@@ -13,11 +13,17 @@ use Rattle.smp_wire.specs.declared.node.Node.TheVariants.{Switch, Adapter}
 pub record FabricState : Type 0 where
   pub nodes : List Node
   pub cables : List Cable
+  -- cables that were cut, and can be mended: nothing goes over them
+  pub cut : List Cable
   pub manager : PortRef
 
--- the fabric of these parts
+-- the fabric of these parts, of which no cable is cut
 abbrev pub fabric_with : List Node → List Cable → PortRef → FabricState
-fabric_with nodes cables manager = record { nodes = nodes; cables = cables; manager = manager }
+fabric_with nodes cables manager = record { nodes = nodes; cables = cables; cut = []; manager = manager }
+
+-- those that are cut too
+abbrev pub all_cables : FabricState → List Cable
+all_cables fabric = fabric.cables ++ fabric.cut
 
 -- ---- nodes
 abbrev pub is_switch : Node → Bool

@@ -19,7 +19,7 @@ use Rattle.fabric_parts.specs.Cable.{is_cabled, is_same_port}
 use Rattle.fabric_parts.specs.NodeType.{most_ports}
 use Rattle.smp_wire.specs.declared.node.Node.{Node}
 use Rattle.smp_wire.specs.declared.node.Node.TheVariants.{Switch, Adapter}
-use Rattle.smp_wire.specs.FabricState.{FabricState, adapter_port, is_port, is_switch_at, port_count}
+use Rattle.smp_wire.specs.FabricState.{FabricState, adapter_port, all_cables, is_port, is_switch_at, port_count}
 use Rattle.smp_wire.specs.Walk.{last_of, walk}
 
 -- ---- GUIDs
@@ -85,9 +85,9 @@ pub record IsGood (fabric : FabricState) : Type 0 where
   pub counts : list_all has_a_right_count fabric.nodes ≡ true
   pub order : list_all is_in_order fabric.nodes ≡ true
   pub holdings : All IsGoodNode fabric.nodes
-  pub cables : list_all (is_right fabric.nodes) fabric.cables ≡ true
-  -- no port has two cables
-  pub once : IsDistinct is_same_port (flat_map ends_of fabric.cables)
+  pub cables : list_all (is_right fabric.nodes) (all_cables fabric) ≡ true
+  -- no port has two cables, one that is cut or not
+  pub once : IsDistinct is_same_port (flat_map ends_of (all_cables fabric))
   -- the subnet manager's port is a port of an adapter, and has a cable
   pub manager_port : is_port fabric.nodes fabric.manager ≡ true
   pub manager_adapter : is_switch_at fabric.nodes fabric.manager.node ≡ false

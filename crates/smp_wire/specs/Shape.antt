@@ -8,6 +8,7 @@ use Rattle.smp_wire.specs.Walk.{walk}
 
 pub record IsSameShape (old new : FabricState) : Type 0 where
   pub cables : new.cables ≡ old.cables
+  pub cut : new.cut ≡ old.cut
   pub manager : new.manager ≡ old.manager
   pub switches : map is_switch new.nodes ≡ map is_switch old.nodes
   pub node_guids : map node_guid new.nodes ≡ map node_guid old.nodes

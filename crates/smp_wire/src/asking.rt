@@ -29,7 +29,8 @@ pub fn get_attribute<W: SmpWire>(
     path: &[u8],
 ) -> Result<[u8; 64], ReplyFault>
     requires { length path.now ≤ 63 }
-    ensures told { ForSome (W.fabric wire.old) (λ fabric. IsGood fabric → result ≡ told_for (gives_along fabric path.now attribute modifier)) }
+    ensures told { ForSome (W.fabric wire.old)
+        (λ fabric. IsGood fabric → result ≡ told_for (gives_along fabric path.now attribute modifier)) }
     ensures left { ForSome (W.fabric wire.old) (λ fabric. IsGood fabric → W.fabric wire.new ≡ Some fabric) }
 {
     let request = get_request(transaction_id, attribute, modifier, path);
@@ -52,8 +53,10 @@ pub fn set_attribute<W: SmpWire>(
     wanted: &[u8; 64],
 ) -> Result<[u8; 64], ReplyFault>
     requires { length path.now ≤ 63 }
-    ensures told { ForSome (W.fabric wire.old) (λ fabric. IsGood fabric → result ≡ told_for (set_gives_along fabric path.now attribute modifier wanted.now)) }
-    ensures left { ForSome (W.fabric wire.old) (λ fabric. IsGood fabric → W.fabric wire.new ≡ Some (set_along fabric path.now attribute modifier wanted.now)) }
+    ensures told { ForSome (W.fabric wire.old)
+        (λ fabric. IsGood fabric → result ≡ told_for (set_gives_along fabric path.now attribute modifier wanted.now)) }
+    ensures left { ForSome (W.fabric wire.old)
+        (λ fabric. IsGood fabric → W.fabric wire.new ≡ Some (set_along fabric path.now attribute modifier wanted.now)) }
     ensures taken { ForSome (W.fabric wire.old) (λ fabric. (next : FabricState) → IsGood fabric
         → takes_along fabric path.now attribute modifier wanted.now ≡ Some (Ok next) → IsOk result) }
     ensures good { (fabric : FabricState) → IsGood fabric → IsGood (set_along fabric path.now attribute modifier wanted.now) }

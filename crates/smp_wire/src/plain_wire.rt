@@ -1,6 +1,7 @@
 //! A wire that walks: what all wires that stand for a fabric do, in the fewest words.
 
 ghost use Rattle.std.specs.Prelude.{◌≡◌, Some};
+ghost use Rattle.smp_wire.specs.FabricState.{fabric_with};
 
 use crate::node::Node;
 use crate::walking::{agent_at, arrive, is_sent, put_returned};
@@ -19,6 +20,7 @@ pub struct PlainWire {
 }
 
 impl Model for PlainWire {
+    ghost use Rattle.std.specs.Prelude.{[]};
     ghost use Rattle.smp_wire.specs.FabricState.{FabricState};
 
     ghost Value = { FabricState };
@@ -26,14 +28,15 @@ impl Model for PlainWire {
     ghost view = { λ wire. record {
       nodes = wire.nodes.items;
       cables = wire.cables.items;
+      cut = [];
       manager = wire.manager;
     } };
 }
 
 impl PlainWire {
-    /// The wire of a fabric with these nodes and cables, and the subnet manager at that port.
+    /// The wire of a fabric with these nodes and cables, none of which is cut, and the subnet manager at that port.
     pub fn new(nodes: Vec<Node>, cables: Vec<Cable>, manager: PortRef) -> PlainWire
-        ensures { result ≡ record { nodes = nodes.items; cables = cables.items; manager = manager } }
+        ensures { result ≡ fabric_with nodes.items cables.items manager }
     {
         PlainWire {
             nodes,

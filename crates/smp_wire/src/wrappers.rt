@@ -45,7 +45,8 @@ impl<W: SmpWire + Drop> SmpWire for SilencedWire<W> {
         ensures left { self.new.left ≡ self.old.left - 1 }
         ensures silent { self.old.left ≡ 0 → (result ≡ None) × (self.new ≡ self.old) }
         ensures answer { 1 ≤ self.old.left → ForSome (W.fabric self.old.wire) (λ state. result ≡ exchange_reply state smp.now) }
-        ensures change { 1 ≤ self.old.left → ForSome (W.fabric self.old.wire) (λ state. W.fabric self.new.wire ≡ Some (exchange_after state smp.now)) }
+        ensures change { 1 ≤ self.old.left → ForSome (W.fabric self.old.wire)
+            (λ state. W.fabric self.new.wire ≡ Some (exchange_after state smp.now)) }
     {
         if self.left == 0 {
             return None;

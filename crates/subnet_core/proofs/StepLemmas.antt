@@ -17,7 +17,7 @@ use Rattle.subnet_model.specs.declared.command.AskCommand.{AskCommand}
 use Rattle.subnet_model.specs.declared.command.Command.{Command}
 use Rattle.subnet_model.specs.declared.command.Command.TheVariants.{Ask, Send}
 use Rattle.subnet_model.specs.declared.command.SendCommand.{SendCommand}
-use Rattle.subnet_model.specs.declared.event.Event.{Event as SubnetEvent}
+use Rattle.subnet_model.specs.declared.event.PortEvent.{PortEvent}
 use Rattle.subnet_model.specs.declared.state.State.{State}
 use Rattle.subnet_ports.specs.Ports.{ports_of}
 use Rattle.subnet_sends.specs.Sends.{AreAsListed, AskIsAsListed, event_of}
@@ -37,7 +37,7 @@ told_as_listed roster up state command events is by told names =
     let sender = names.0 in
     told roster.configuration.ports sender (fabric_of_roster roster up is by) names.1
     ∙ ap (λ from. sent_from from roster.configuration.ports command) (sym names.1.named)
-    ∙ sym (ap (λ (after : List SubnetEvent × State). after.0) (steps_while_silent.sending roster.configuration state command))
+    ∙ sym (ap (λ (after : List PortEvent × State). after.0) (steps_while_silent.sending roster.configuration state command))
 
 pub told_if_ok : (roster : RosterState) (up : BroughtUpState) (state : State) (command : SendCommand) (result : Result (Vec Event Global) AllocError)
     → IsRostered roster → IsUp roster up → IfOk result (λ events. AreAsListed up.fabric command events.items)
@@ -51,7 +51,7 @@ ask_told_as_listed : (roster : RosterState) (up : BroughtUpState) (state : State
 ask_told_as_listed roster up state command events is by told names =
     told roster.configuration.ports names.0 (fabric_of_roster roster up is by) names.1
     ∙ ap asked_from (sym names.1.named)
-    ∙ sym (ap (λ (after : List SubnetEvent × State). after.0) (steps_while_silent.asking roster.configuration state command))
+    ∙ sym (ap (λ (after : List PortEvent × State). after.0) (steps_while_silent.asking roster.configuration state command))
 
 pub ask_told_if_ok : (roster : RosterState) (up : BroughtUpState) (state : State) (command : AskCommand) (result : Result (Vec Event Global) AllocError)
     → IsRostered roster → IsUp roster up → IfOk result (λ events. AskIsAsListed up.fabric command events.items)
@@ -60,12 +60,12 @@ ask_told_if_ok roster up state command (Ok events) is by told = ask_told_as_list
 ask_told_if_ok roster up state command (Err refused) is by told = tt
 
 -- one command more
-pub carried_more : (configuration : ConfigurationState) (so_far more : List Event) (state next : State) (command : Command) (rest : List Command) (all : List SubnetEvent)
+pub carried_more : (configuration : ConfigurationState) (so_far more : List Event) (state next : State) (command : Command) (rest : List Command) (all : List PortEvent)
     → map event_of more ≡ (step configuration state command).0 → next ≡ (step configuration state command).1
     → map event_of so_far ++ events_from (step configuration) state (command ∷ rest) ≡ all
     → map event_of (so_far ++ more) ++ events_from (step configuration) next rest ≡ all
 carried_more configuration so_far more state next command rest all told after before =
-    ap (λ (events : List SubnetEvent). events ++ events_from (step configuration) next rest) (map-append event_of so_far more)
+    ap (λ (events : List PortEvent). events ++ events_from (step configuration) next rest) (map-append event_of so_far more)
     ∙ append_assoc (map event_of so_far) (map event_of more) (events_from (step configuration) next rest)
     ∙ rw (told, after) before
 

@@ -7,7 +7,7 @@ use Rattle.line_parts.specs.Parts.{hex_text, port_text}
 use Rattle.data_packet.specs.declared.packet.Packet.{Packet}
 use Rattle.data_packet.specs.Refusal.{code_of}
 use Rattle.subnet_model.specs.declared.subnet_port.SubnetPort.{SubnetPort}
-use Rattle.subnet_model.specs.declared.event.Event.{Event}
+use Rattle.subnet_model.specs.declared.event.PortEvent.{PortEvent}
 use Rattle.subnet_model.specs.declared.event.Outcome.{Outcome}
 use Rattle.subnet_model.specs.declared.event.Outcome.TheVariants.{Received, Refused}
 use Rattle.subnet_model.specs.Delivery.{port_with_guid}
@@ -40,9 +40,9 @@ outcome_text (Received packet) = packet_text packet
 outcome_text (Refused refusal) = codes " refused " ++ code_of refusal
 
 -- the port, what happens there, and LF
-abbrev pub line_text : List SubnetPort → Event → List ℕ
+abbrev pub line_text : List SubnetPort → PortEvent → List ℕ
 line_text ports event = name_text (port_with_guid ports event.port_guid) ++ outcome_text event.what ++ 10 ∷ []
 
 -- a line for each event, in order
-abbrev pub report_text : List SubnetPort → List Event → List ℕ
+abbrev pub report_text : List SubnetPort → List PortEvent → List ℕ
 report_text ports events = flat_map (line_text ports) events

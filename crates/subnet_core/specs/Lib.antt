@@ -9,5 +9,6 @@ pub mod Run
 pub mod Senders
 pub mod Laws
 pub mod EventLines
+pub mod WholeLines
 pub mod Listing
 pub mod Headline

@@ -10,14 +10,14 @@ use Rattle.subnet_core.specs.declared.fault.RunFault.TheVariants.{Script}
 use Rattle.subnet_model.specs.Configuration.{ConfigurationState}
 use Rattle.subnet_model.specs.Report.{report}
 use Rattle.subnet_model.specs.declared.command.Command.{Command}
-use Rattle.subnet_model.specs.declared.event.Event.{Event}
+use Rattle.subnet_model.specs.declared.event.PortEvent.{PortEvent}
 use Rattle.subnet_model.specs.declared.subnet_port.SubnetPort.{SubnetPort}
 use Rattle.topo_file.specs.Topology.{TopologyState}
 
 -- a report, and the ports whose names it prints
 pub record ReportState : Type 0 where
   pub ports : List SubnetPort
-  pub events : List Event
+  pub events : List PortEvent
 
 -- the command of one line of a script
 abbrev pub parsed : TopologyState → ℕ → List ℕ → Result (Option Command) RunFault

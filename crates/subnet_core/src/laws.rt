@@ -2,6 +2,7 @@
 //! does nothing.
 
 ghost use Rattle.subnet_core.specs.Laws.{EachCommandNamesASender, OneThingBecomesOfAFabric, TextsHaveOneAnswer};
+ghost use Rattle.subnet_core.specs.WholeLines.{ReportLinesAreWhole};
 
 /// Each command that a script gives names a port of a channel adapter that the roster lists.
 pub fn each_command_names_a_sender()
@@ -12,6 +13,11 @@ pub fn each_command_names_a_sender()
 /// depends on the texts alone, and not on the order in which a sweep finds switches.
 pub fn one_thing_becomes_of_a_fabric()
     ensures { OneThingBecomesOfAFabric }
+{}
+
+/// Each form of a line of a report, once as a whole text.
+pub fn report_lines_are_whole()
+    ensures { ReportLinesAreWhole }
 {}
 
 /// What a run answers by `report_of` depends on its three texts alone.

@@ -25,7 +25,8 @@ mod subnet;
 pub use crate::bringing_up::bring_up;
 pub use crate::fault::{RunFault, ScriptCause, StepFault};
 pub use crate::laws::{
-    each_command_names_a_sender, one_thing_becomes_of_a_fabric, texts_have_one_answer,
+    each_command_names_a_sender, one_thing_becomes_of_a_fabric, report_lines_are_whole,
+    texts_have_one_answer,
 };
 pub use crate::report::Report;
 pub use crate::roster::{Roster, read_roster};

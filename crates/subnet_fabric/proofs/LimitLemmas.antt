@@ -3,7 +3,7 @@ use Rattle.std.proofs.Common.{ℕ, zero, suc, ◌+◌, ◌≡◌, ◌≤◌, ◌
 use Rattle.std.proofs.Common.{List, [], ◌∷◌, ◌++◌, length, map, if◌then◌else◌, arith}
 use Rattle.std.specs.Cmp.{IsEquivalence}
 use Rattle.std.specs.List.{IsDistinct, count_by, list_all, list_any, range_with_len}
-use Rattle.std.proofs.lemmas.Bool.{and_parts, eq-eqb, eqb-true, false≢true, leb-true, not-true}
+use Rattle.std.proofs.lemmas.Bool.{and_parts, eq-eqb, eqb-true, false≢true, leb-true, not-true, or_right}
 use Rattle.std.proofs.lemmas.Bool.Decides.{nat_tests}
 use Rattle.std.proofs.lemmas.Cmp.{nat_eq_equiv}
 use Rattle.std.proofs.lemmas.List.{length-append}
@@ -30,10 +30,7 @@ use Rattle.topo_file.specs.Node.{adapter_ports, is_switch, is_switch_at, port_gu
 use Rattle.topo_file.specs.Sound.{IsSound}
 use Rattle.topo_file.specs.Topology.{TopologyState}
 use Rattle.topo_file.specs.declared.node.Node.{Node}
-
-either : (a b : Bool) → b ≡ true → (a || b) ≡ true
-either true b is = refl
-either false b is = is
+use Rattle.smp_wire.proofs.PresentLemmas.{present_right}
 
 -- ---- the places of switches
 switch_places : ℕ → List Node → List ℕ
@@ -69,7 +66,7 @@ switch_place first (node ∷ nodes) (suc k) place is switch =
   where
     by : (b : Bool) → is_switch node ≡ b → list_any (nat_eq place) (switch_places (first + 1) nodes) ≡ true
         → list_any (nat_eq place) (switch_places first (node ∷ nodes)) ≡ true
-    by true is rest = rw is (either (nat_eq place first) _ rest)
+    by true is rest = rw is (or_right (nat_eq place first) _ rest)
     by false is rest = rw is rest
 
 few_switches : (plan : TopologyState) (some : List ℕ) → IsDistinct nat_eq some → list_all (is_switch_in (fabric_of plan).nodes) some ≡ true
@@ -118,7 +115,7 @@ in_range at place a (suc n) is low high = by (at.port == a) refl (λ more. in_ra
     by true here later = rw (node, here) refl
     by false apart later =
         let more : a + 1 ≤ at.port = grind (arith, nat_tests, low, apart) in
-        either (is_same_port at (port place a)) _ (later more)
+        or_right (is_same_port at (port place a)) _ (later more)
 
 port_place : (first : ℕ) (nodes : List Node) (k : ℕ) (at : PortRef) → first + k ≡ at.node → is_switch_at nodes k ≡ false → 1 ≤ at.port
     → at.port ≤ ports_at nodes k → list_any (is_same_port at) (port_places first nodes) ≡ true
@@ -133,7 +130,7 @@ port_place first (node ∷ nodes) zero at is adapter low high =
     of ChannelAdapter is adapter = omega (arith, high)
 port_place first (node ∷ nodes) (suc k) at is adapter low high =
     list_any-append (is_same_port at) (ports_there first node) (port_places (first + 1) nodes)
-    ∙ either (list_any (is_same_port at) (ports_there first node)) _ (port_place (first + 1) nodes k at (omega (arith, is)) adapter low high)
+    ∙ or_right (list_any (is_same_port at) (ports_there first node)) _ (port_place (first + 1) nodes k at (omega (arith, is)) adapter low high)
 
 same_ports : IsEquivalence is_same_port
 same_ports = record {
@@ -155,7 +152,7 @@ few_ports plan some sound once are =
         let kind = ap (is_adapter_port (fabric_of plan)) same ∙ all_there (is_adapter_port (fabric_of plan)) some one.place one.one are one.there in
         let parts = and_parts (not (is_switch_in (fabric_of plan).nodes at.node)) _ kind in
         let far = far_of plan.cables at parts.1 in
-        let is = cabled_is_port (fabric_of plan).nodes plan.cables at far.0 (good plan sound).cables far.1 in
+        let is = cabled_is_port (fabric_of plan).nodes plan.cables at far.0 (present_right (good plan sound)) far.1 in
         let bounds = and_parts (nat_le 1 at.port) _ (sym (port_there plan.cables plan.nodes at) ∙ is) in
         port_place 0 plan.nodes at.node at (omega arith) (sym (switch_there plan.cables plan.nodes at.node) ∙ not-true _ parts.0)
         (leb-true 1 at.port bounds.0) (leb-true at.port (ports_at plan.nodes at.node) bounds.1)

@@ -55,6 +55,7 @@ use Rattle.subnet_fabric.proofs.KeyLemmas.{stored}
 use Rattle.subnet_fabric.specs.BringUp.{root_guids}
 use Rattle.subnet_fabric.specs.SetUp.{AreRoutesOver}
 use Rattle.subnet_fabric.specs.Laws.{AFabricIsBroughtUpAsListed, all_keys}
+use Rattle.smp_wire.proofs.PresentLemmas.{present_right}
 
 -- ---- places in lists
 counted_at : (first : ℕ) (xs : List ℕ) (k : ℕ) → slice_get (enumerate_from first xs) k ≡ option_map (λ x. (first + k, x)) (slice_get xs k)
@@ -235,7 +236,7 @@ module _ (plan : TopologyState) (partitions : List Partition) (sound : IsSound p
       is_there : end_port_in fabric at ≡ Some (port_held at.port one)
       is_there =
           let kind = is_no_switch fabric.nodes at one cabled.there in
-          let port = cabled_is_port fabric.nodes fabric.cables at cabled.far up.good.cables cabled.cable in
+          let port = cabled_is_port fabric.nodes fabric.cables at cabled.far (present_right up.good) cabled.cable in
           let cable = cabled_of fabric.cables at cabled.far cabled.cable in
           rw (kind, port, cable) (found (slice_get fabric.nodes at.node) refl)
 

@@ -1,8 +1,5 @@
 //! Why a fabric is not brought up.
 
-ghost use Rattle.std.specs.Prelude.{◌≡◌, option_map};
-ghost use Rattle.subnet_fabric.specs.Fault.{code_of};
-
 use std::alloc::AllocError;
 use sweep::SweepFault;
 use table_push::PushFault;
@@ -30,20 +27,6 @@ pub enum FabricFault {
     /// A push stopped.
     #[error("an agent was not set up")]
     Push(PushFault),
-}
-
-impl FabricFault {
-    /// The code that is printed for the fault; want of memory has none.
-    pub fn code(self) -> Option<&'static str>
-        ensures { option_map (λ code. code.now) result ≡ code_of self }
-    {
-        match self {
-            FabricFault::NoMemory => None,
-            FabricFault::Sweep(fault) => fault.code(),
-            FabricFault::NoLegalPath { .. } => Some("UR1"),
-            FabricFault::Push(fault) => Some(fault.code()),
-        }
-    }
 }
 
 impl From<AllocError> for FabricFault {

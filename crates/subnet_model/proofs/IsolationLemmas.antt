@@ -16,7 +16,7 @@ use Rattle.subnet_model.specs.declared.subnet_port.SubnetPort.{SubnetPort}
 use Rattle.subnet_model.specs.declared.command.Command.{Command}
 use Rattle.subnet_model.specs.declared.command.Command.TheVariants.{Ask, Send}
 use Rattle.subnet_model.specs.declared.command.SendCommand.{SendCommand}
-use Rattle.subnet_model.specs.declared.event.Event.{Event}
+use Rattle.subnet_model.specs.declared.event.PortEvent.{PortEvent}
 use Rattle.subnet_model.specs.declared.event.Outcome.{Outcome}
 use Rattle.subnet_model.specs.declared.event.Outcome.TheVariants.{Received, Refused}
 use Rattle.subnet_model.specs.declared.state.State.{State}
@@ -232,11 +232,11 @@ whole_far {configuration = configuration} {administrator = administrator} law p 
     ∙ law.far_unseen p own mad s far alike.left_sound)
 
 -- ---- what a command brings to p, and what it leaves
-record Unmoved {S V : Type 0} (is_sound : S → Bool) (sees : ℕ → S → V) (p : ℕ) (t : S) (x : List Event × S) : Type 0 where
+record Unmoved {S V : Type 0} (is_sound : S → Bool) (sees : ℕ → S → V) (p : ℕ) (t : S) (x : List PortEvent × S) : Type 0 where
   events : events_at p x.0 ≡ []
   after : Alike is_sound sees p x.1 t
 
-record SameAt {S V : Type 0} (is_sound : S → Bool) (sees : ℕ → S → V) (p : ℕ) (x y : List Event × S) : Type 0 where
+record SameAt {S V : Type 0} (is_sound : S → Bool) (sees : ℕ → S → V) (p : ℕ) (x y : List PortEvent × S) : Type 0 where
   events : events_at p x.0 ≡ events_at p y.0
   after : Alike is_sound sees p x.1 y.1
 
@@ -349,7 +349,7 @@ delivered_alike {configuration = configuration} {administrator = administrator} 
       })
     ]
 
-refused_alike : {S V : Type 0} {is_sound : S → Bool} {sees : ℕ → S → V} (p guid : ℕ) (s t : S) (refusal : Option Refusal) (x y : List Event × S)
+refused_alike : {S V : Type 0} {is_sound : S → Bool} {sees : ℕ → S → V} (p guid : ℕ) (s t : S) (refusal : Option Refusal) (x y : List PortEvent × S)
     → Alike is_sound sees p s t → SameAt is_sound sees p x y → SameAt is_sound sees p (unless_refused refusal guid s x) (unless_refused refusal guid t y)
 refused_alike p guid s t (Some refusal) x y alike same = record { events = refl; after = alike }
 refused_alike p guid s t None x y alike same = same
@@ -399,7 +399,7 @@ steps_isolate law p = record {
 }
 
 -- ---- whose LIDs stand in what p receives
-abbrev AllSlidsNear : List SubnetPort → ℕ → List Event → Type 0
+abbrev AllSlidsNear : List SubnetPort → ℕ → List PortEvent → Type 0
 AllSlidsNear ports p events = All (λ event. HasSlidNear ports p event.what) events
 
 -- the sender of a packet is near whomever its command is near
@@ -425,7 +425,7 @@ received_slids ports p has_joined command sender found held = elim (cases_Bool (
       (All-nil (λ event. HasSlidNear ports p event.what))
 ]
   where
-    arrived : List Event
+    arrived : List PortEvent
     arrived = received_by (reaches_joined has_joined command) ports sender command
 
 -- the subnet manager's port is near whomever it answers
@@ -608,7 +608,7 @@ steps_while_silent = record {
 }
 
 -- what is the report of the commands is isolated
-pub report_is_isolated : (configuration : ConfigurationState) (commands : List Command) (events : List Event) → events ≡ report configuration commands
+pub report_is_isolated : (configuration : ConfigurationState) (commands : List Command) (events : List PortEvent) → events ≡ report configuration commands
     → IsIsolated configuration commands events
 report_is_isolated configuration commands events same =
     rw same ((keepers_isolate configuration silent (λ state. true) (λ p state. state) (silence_keeps_apart configuration)).runs commands)
@@ -658,7 +658,7 @@ from_near ports p distinct (Received packet) h =
     source_near ports p packet.slid ports each there
 from_near ports p distinct (Refused refusal) h = tt
 
-pub slids_name_their_ports : (ports : List SubnetPort) (p : ℕ) (events : List Event) → IsDistinct same_lid ports → HaveSlidsNear ports p events
+pub slids_name_their_ports : (ports : List SubnetPort) (p : ℕ) (events : List PortEvent) → IsDistinct same_lid ports → HaveSlidsNear ports p events
     → ComesFromNear ports p events
 slids_name_their_ports ports p events distinct h =
     All-weaker (λ event. HasSlidNear ports p event.what) (λ event. IsFromNear ports p event.what) (λ event e. from_near ports p distinct event.what e) (events_at p events) h

@@ -9,7 +9,7 @@ use Rattle.subnet_model.specs.Report.{answered_in_turn, answered_whole, asked, c
 use Rattle.subnet_model.specs.declared.command.Command.{Command}
 use Rattle.subnet_model.specs.declared.command.Command.TheVariants.{Ask, Send}
 use Rattle.subnet_model.specs.declared.command.SendCommand.{SendCommand}
-use Rattle.subnet_model.specs.declared.event.Event.{Event}
+use Rattle.subnet_model.specs.declared.event.PortEvent.{PortEvent}
 use Rattle.subnet_model.specs.declared.subnet_port.SubnetPort.{SubnetPort}
 
 module _ {S : Type 0} (P : S → Type 0) (administrator : Administrator S) (configuration : ConfigurationState)
@@ -30,11 +30,11 @@ module _ {S : Type 0} (P : S → Type 0) (administrator : Administrator S) (conf
   replied_keeps own (Some key) s answered before after = after
   replied_keeps own None s answered before after = before
 
-  one_of : (test : Bool) (a b : List Event × S) → P a.1 → P b.1 → P (if test then a else b).1
+  one_of : (test : Bool) (a b : List PortEvent × S) → P a.1 → P b.1 → P (if test then a else b).1
   one_of true a b first second = first
   one_of false a b first second = second
 
-  unless_keeps : (refusal : Option Refusal) (guid : ℕ) (s : S) (happens : List Event × S) → P s → P happens.1 → P (unless_refused refusal guid s happens).1
+  unless_keeps : (refusal : Option Refusal) (guid : ℕ) (s : S) (happens : List PortEvent × S) → P s → P happens.1 → P (unless_refused refusal guid s happens).1
   unless_keeps (Some refusal) guid s happens before after = before
   unless_keeps None guid s happens before after = after
 

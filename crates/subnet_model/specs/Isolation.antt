@@ -2,7 +2,7 @@
 use Rattle.std.specs.Prelude.{ℕ, ◌≡◌, ◌==◌, Bool, true, false, List, [], ◌++◌, Some}
 use Rattle.subnet_model.specs.declared.subnet_port.SubnetPort.{SubnetPort}
 use Rattle.subnet_model.specs.declared.command.Command.{Command}
-use Rattle.subnet_model.specs.declared.event.Event.{Event}
+use Rattle.subnet_model.specs.declared.event.PortEvent.{PortEvent}
 use Rattle.subnet_model.specs.Administrator.{Administrator, silent}
 use Rattle.subnet_model.specs.Configuration.{ConfigurationState}
 use Rattle.subnet_model.specs.Delivery.{port_with_guid}
@@ -50,18 +50,18 @@ pub record Isolates {S C E : Type 0} (start : S) (step : S → C → List E × S
   pub nothing : own_events [] ≡ []
 
 -- the events at p are those that the commands of the ports near p alone would bring it
-abbrev pub DependsOnNearBy : {S : Type 0} → Administrator S → ConfigurationState → ℕ → List Command → List Event → Type 0
+abbrev pub DependsOnNearBy : {S : Type 0} → Administrator S → ConfigurationState → ℕ → List Command → List PortEvent → Type 0
 DependsOnNearBy administrator configuration p commands events =
     events_at p events ≡ events_at p (report_by administrator configuration (commands_of (is_near configuration.ports p) commands))
 
 -- so it is at every port, and what each receives has the SLID of a port near it
-abbrev pub IsIsolatedBy : {S : Type 0} → Administrator S → ConfigurationState → List Command → List Event → Type 0
+abbrev pub IsIsolatedBy : {S : Type 0} → Administrator S → ConfigurationState → List Command → List PortEvent → Type 0
 IsIsolatedBy administrator configuration commands events =
     (p : ℕ) → DependsOnNearBy administrator configuration p commands events × HaveSlidsNear configuration.ports p events
 
 -- as long as nobody answers what is asked of subnet administration
-abbrev pub DependsOnNear : ConfigurationState → ℕ → List Command → List Event → Type 0
+abbrev pub DependsOnNear : ConfigurationState → ℕ → List Command → List PortEvent → Type 0
 DependsOnNear configuration p commands events = DependsOnNearBy silent configuration p commands events
 
-abbrev pub IsIsolated : ConfigurationState → List Command → List Event → Type 0
+abbrev pub IsIsolated : ConfigurationState → List Command → List PortEvent → Type 0
 IsIsolated configuration commands events = IsIsolatedBy silent configuration commands events

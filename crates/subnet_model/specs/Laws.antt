@@ -3,7 +3,7 @@ use Rattle.std.specs.Prelude.{ℕ, ◌≡◌, Bool, true, List, All}
 use Rattle.std.specs.List.{IsDistinct}
 use Rattle.subnet_model.specs.declared.subnet_port.SubnetPort.{SubnetPort}
 use Rattle.subnet_model.specs.declared.command.Command.{Command}
-use Rattle.subnet_model.specs.declared.event.Event.{Event}
+use Rattle.subnet_model.specs.declared.event.PortEvent.{PortEvent}
 use Rattle.subnet_model.specs.Administrator.{Administrator, silent}
 use Rattle.subnet_model.specs.Configuration.{ConfigurationState}
 use Rattle.subnet_model.specs.State.{Alike}
@@ -52,5 +52,5 @@ ThePortOfALidIsNear =
 -- so that each packet that p receives comes from a port near p
 abbrev pub SlidsNameTheirPorts : Type 0
 SlidsNameTheirPorts =
-    (ports : List SubnetPort) (p : ℕ) (events : List Event) → IsDistinct same_lid ports → HaveSlidsNear ports p events
+    (ports : List SubnetPort) (p : ℕ) (events : List PortEvent) → IsDistinct same_lid ports → HaveSlidsNear ports p events
     → ComesFromNear ports p events

@@ -9,7 +9,7 @@ use Rattle.subnet_model.specs.declared.subnet_port.SubnetPort.{SubnetPort}
 use Rattle.subnet_model.specs.declared.command.Command.{Command}
 use Rattle.subnet_model.specs.declared.command.Command.TheVariants.{Ask, Send}
 use Rattle.subnet_model.specs.declared.command.SendCommand.{SendCommand}
-use Rattle.subnet_model.specs.declared.event.Event.{Event}
+use Rattle.subnet_model.specs.declared.event.PortEvent.{PortEvent}
 use Rattle.subnet_model.specs.declared.event.Outcome.TheVariants.{Received, Refused}
 use Rattle.subnet_model.specs.declared.state.State.{State}
 use Rattle.subnet_model.specs.Administrator.{Administrator, silent}
@@ -27,11 +27,11 @@ packet_of sender command = record {
 }
 
 -- each port that the packet reaches receives it
-abbrev pub received_by : (SubnetPort → Bool) → List SubnetPort → SubnetPort → SendCommand → List Event
+abbrev pub received_by : (SubnetPort → Bool) → List SubnetPort → SubnetPort → SendCommand → List PortEvent
 received_by is_reached ports sender command =
     map (λ port. record { port_guid = port.guid; what = Received (packet_of sender command) }) (filter is_reached ports)
 
-abbrev pub unless_refused : {S : Type 0} → Option Refusal → ℕ → S → List Event × S → List Event × S
+abbrev pub unless_refused : {S : Type 0} → Option Refusal → ℕ → S → List PortEvent × S → List PortEvent × S
 unless_refused (Some refusal) guid state happens = (record { port_guid = guid; what = Refused refusal } ∷ [], state)
 unless_refused None guid state happens = happens
 
@@ -51,45 +51,45 @@ answered_whole answer acknowledgements mad state = (
 )
 
 -- a MAD as the port that asked receives it
-abbrev pub reply_to : SubnetPort → ℕ → List ℕ → Event
+abbrev pub reply_to : SubnetPort → ℕ → List ℕ → PortEvent
 reply_to own key mad = record {
   port_guid = own.guid;
   what = Received (record { slid = manager_lid; dlid = own.lid; p_key = key; destination_qp = general_services_qp; payload = mad });
 }
 
 -- where no key of the subnet manager's port matches the packet's, it does not come to subnet administration
-abbrev pub replied : {S : Type 0} → SubnetPort → Option ℕ → S → List (List ℕ) × S → List Event × S
+abbrev pub replied : {S : Type 0} → SubnetPort → Option ℕ → S → List (List ℕ) × S → List PortEvent × S
 replied own (Some key) state answered = (map (reply_to own key) answered.0, answered.1)
 replied own None state answered = ([], state)
 
 -- ---- one command
-abbrev pub delivered : {S : Type 0} → Administrator S → ConfigurationState → SubnetPort → SendCommand → S → List Event × S
+abbrev pub delivered : {S : Type 0} → Administrator S → ConfigurationState → SubnetPort → SendCommand → S → List PortEvent × S
 delivered administrator configuration sender command state =
     if is_for_sa command
     then replied sender (manager_key configuration.ports command.p_key) state
     (administrator.answer configuration sender command.payload state)
     else (received_by (reaches_joined (administrator.receives state command.dlid) command) configuration.ports sender command, state)
 
-abbrev pub sent : {S : Type 0} → Administrator S → ConfigurationState → Option SubnetPort → SendCommand → S → List Event × S
+abbrev pub sent : {S : Type 0} → Administrator S → ConfigurationState → Option SubnetPort → SendCommand → S → List PortEvent × S
 sent administrator configuration (Some sender) command state =
     unless_refused (refusal_of sender command) command.port_guid state (delivered administrator configuration sender command state)
 sent administrator configuration None command state = ([], state)
 
 -- a port that asks acknowledges what answers it
-abbrev pub conversation : {S : Type 0} → Administrator S → ConfigurationState → SubnetPort → Option ℕ → List ℕ → S → List Event × S
+abbrev pub conversation : {S : Type 0} → Administrator S → ConfigurationState → SubnetPort → Option ℕ → List ℕ → S → List PortEvent × S
 conversation administrator configuration own (Some key) mad state =
     replied own (manager_key configuration.ports key) state
     (answered_whole (administrator.answer configuration own) administrator.acknowledgements mad state)
 conversation administrator configuration own None mad state =
     (record { port_guid = own.guid; what = Refused KeyNotHeld } ∷ [], state)
 
-abbrev pub asked : {S : Type 0} → Administrator S → ConfigurationState → Option SubnetPort → List ℕ → S → List Event × S
+abbrev pub asked : {S : Type 0} → Administrator S → ConfigurationState → Option SubnetPort → List ℕ → S → List PortEvent × S
 asked administrator configuration (Some own) mad state =
     conversation administrator configuration own (asking_key own.keys) mad state
 asked administrator configuration None mad state = ([], state)
 
 -- the events of one command, and the state after it
-abbrev pub step_by : {S : Type 0} → Administrator S → ConfigurationState → S → Command → List Event × S
+abbrev pub step_by : {S : Type 0} → Administrator S → ConfigurationState → S → Command → List PortEvent × S
 step_by administrator configuration state (Send command) =
     sent administrator configuration (port_with_guid configuration.ports command.port_guid) command state
 step_by administrator configuration state (Ask command) =
@@ -107,13 +107,13 @@ abbrev pub state_from : {S C E : Type 0} → (S → C → List E × S) → S →
 state_from step state commands = fold (λ before command. (step before command).1) state commands
 
 -- the report of a list of commands
-abbrev pub report_by : {S : Type 0} → Administrator S → ConfigurationState → List Command → List Event
+abbrev pub report_by : {S : Type 0} → Administrator S → ConfigurationState → List Command → List PortEvent
 report_by administrator configuration commands =
     events_from (step_by administrator configuration) (administrator.begins configuration) commands
 
 -- ---- as long as nobody answers
-abbrev pub step : ConfigurationState → State → Command → List Event × State
+abbrev pub step : ConfigurationState → State → Command → List PortEvent × State
 step configuration state command = step_by silent configuration state command
 
-abbrev pub report : ConfigurationState → List Command → List Event
+abbrev pub report : ConfigurationState → List Command → List PortEvent
 report configuration commands = report_by silent configuration commands

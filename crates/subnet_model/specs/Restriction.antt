@@ -2,7 +2,7 @@
 use Rattle.std.specs.Prelude.{ℕ, Bool, ◌==◌, List, filter}
 use Rattle.subnet_model.specs.declared.command.Command.{Command}
 use Rattle.subnet_model.specs.declared.command.Command.TheVariants.{Ask, Send}
-use Rattle.subnet_model.specs.declared.event.Event.{Event}
+use Rattle.subnet_model.specs.declared.event.PortEvent.{PortEvent}
 
 -- the port that acts, by its GUID
 abbrev pub actor : Command → ℕ
@@ -14,5 +14,5 @@ abbrev pub commands_of : (ℕ → Bool) → List Command → List Command
 commands_of in_set commands = filter (λ command. in_set (actor command)) commands
 
 -- the events at the port of this GUID, in order
-abbrev pub events_at : ℕ → List Event → List Event
+abbrev pub events_at : ℕ → List PortEvent → List PortEvent
 events_at guid events = filter (λ event. event.port_guid == guid) events

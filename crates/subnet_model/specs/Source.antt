@@ -4,7 +4,7 @@ use Rattle.std.specs.List.{list_any}
 use Rattle.std.specs.Option.{option_map_or}
 use Rattle.data_packet.specs.declared.packet.Packet.{Packet}
 use Rattle.subnet_model.specs.declared.subnet_port.SubnetPort.{SubnetPort}
-use Rattle.subnet_model.specs.declared.event.Event.{Event}
+use Rattle.subnet_model.specs.declared.event.PortEvent.{PortEvent}
 use Rattle.subnet_model.specs.declared.event.Outcome.{Outcome}
 use Rattle.subnet_model.specs.declared.event.Outcome.TheVariants.{Received, Refused}
 use Rattle.subnet_model.specs.Near.{is_near}
@@ -20,7 +20,7 @@ HasSlidNear ports p (Received packet) = is_lid_near ports p packet.slid ≡ true
 HasSlidNear ports p (Refused refusal) = Unit {0}
 
 -- so it is with each packet that p receives
-abbrev pub HaveSlidsNear : List SubnetPort → ℕ → List Event → Type 0
+abbrev pub HaveSlidsNear : List SubnetPort → ℕ → List PortEvent → Type 0
 HaveSlidsNear ports p events = All (λ event. HasSlidNear ports p event.what) (events_at p events)
 
 -- ---- where no two ports have one LID, a SLID names one port
@@ -40,5 +40,5 @@ IsFromNear ports p (Received packet) = is_from_near ports p packet ≡ true
 IsFromNear ports p (Refused refusal) = Unit {0}
 
 -- each packet that p receives comes from a port near p
-abbrev pub ComesFromNear : List SubnetPort → ℕ → List Event → Type 0
+abbrev pub ComesFromNear : List SubnetPort → ℕ → List PortEvent → Type 0
 ComesFromNear ports p events = All (λ event. IsFromNear ports p event.what) (events_at p events)

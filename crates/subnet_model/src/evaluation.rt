@@ -10,7 +10,7 @@ ghost use Rattle.subnet_model.specs.Silent.{asked_from, received, sent_from};
 
 use crate::command::{AskCommand, Command, SendCommand};
 use crate::configuration::Configuration;
-use crate::event::{Event, Outcome};
+use crate::event::{Outcome, PortEvent};
 use crate::state::State;
 use crate::subnet_port::SubnetPort;
 use data_packet::{Packet, Payload, Refusal};
@@ -24,7 +24,7 @@ pub fn report(
     alloc: Global,
     configuration: &Configuration,
     commands: &[Command],
-) -> Result<Vec<Event>, AllocError>
+) -> Result<Vec<PortEvent>, AllocError>
     ensures exact { IfOk result (λ events. events.items ≡ report configuration.now commands.now) }
     ensures private { IfOk result (λ events. IsIsolated configuration.now commands.now events.items) }
 {
@@ -36,7 +36,7 @@ pub fn report(
 
 /// Carries out commands one after another, and adds their events to those before.
 pub fn carry_out(
-    events: &mut Vec<Event>,
+    events: &mut Vec<PortEvent>,
     configuration: &Configuration,
     state: &mut State,
     commands: &[Command],
@@ -51,7 +51,7 @@ pub fn carry_out(
 
 /// Carries out one command: adds its events to those before, and leaves the state after it.
 pub fn step(
-    events: &mut Vec<Event>,
+    events: &mut Vec<PortEvent>,
     configuration: &Configuration,
     state: &mut State,
     command: &Command,
@@ -66,7 +66,7 @@ pub fn step(
 }
 
 fn push_sent(
-    events: &mut Vec<Event>,
+    events: &mut Vec<PortEvent>,
     ports: &[SubnetPort],
     command: &SendCommand,
 ) -> Result<(), AllocError>
@@ -85,7 +85,7 @@ fn push_sent(
 
 /// As long as nobody answers, a port that asks has only a refusal to tell.
 fn push_asked(
-    events: &mut Vec<Event>,
+    events: &mut Vec<PortEvent>,
     ports: &[SubnetPort],
     command: &AskCommand,
 ) -> Result<(), AllocError>
@@ -135,11 +135,15 @@ fn key_to_send(sender: &SubnetPort, command: &SendCommand) -> Result<PKey, Refus
     Ok(key)
 }
 
-fn push_refused(events: &mut Vec<Event>, port_guid: u64, refusal: Refusal) -> Result<(), AllocError>
+fn push_refused(
+    events: &mut Vec<PortEvent>,
+    port_guid: u64,
+    refusal: Refusal,
+) -> Result<(), AllocError>
     ensures { OnOk result (events.new.items
         ≡ events.old.items ++ record { port_guid = port_guid; what = Refused refusal } ∷ []) }
 {
-    events.push(Event {
+    events.push(PortEvent {
         port_guid,
         what: Outcome::Refused(refusal),
     })?;
@@ -148,7 +152,7 @@ fn push_refused(events: &mut Vec<Event>, port_guid: u64, refusal: Refusal) -> Re
 
 /// The packet at each port that it reaches.
 fn push_received(
-    events: &mut Vec<Event>,
+    events: &mut Vec<PortEvent>,
     ports: &[SubnetPort],
     sender: &SubnetPort,
     key: PKey,
@@ -165,7 +169,7 @@ fn push_received(
 }
 
 fn push_if_reached(
-    events: &mut Vec<Event>,
+    events: &mut Vec<PortEvent>,
     port: &SubnetPort,
     sender: &SubnetPort,
     key: PKey,
@@ -181,11 +185,11 @@ fn push_if_reached(
     Ok(())
 }
 
-fn arrival(port: &SubnetPort, sender: &SubnetPort, key: PKey, command: &SendCommand) -> Event
+fn arrival(port: &SubnetPort, sender: &SubnetPort, key: PKey, command: &SendCommand) -> PortEvent
     requires { key ≡ command.now.p_key }
     ensures { result ≡ record { port_guid = port.now.guid; what = Received (packet_of sender.now command.now) } }
 {
-    Event {
+    PortEvent {
         port_guid: port.guid,
         what: Outcome::Received(Packet {
             slid: sender.lid,

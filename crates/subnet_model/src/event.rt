@@ -4,7 +4,7 @@ use data_packet::{Packet, Refusal};
 
 /// Something that happens at a port.
 #[derive(Debug, Drop, PartialEq, Eq)]
-pub struct Event {
+pub struct PortEvent {
     /// The GUID of the port.
     pub port_guid: u64,
     /// What happens there.

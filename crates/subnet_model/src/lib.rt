@@ -24,7 +24,7 @@ mod subnet_port;
 pub use crate::command::{AskCommand, Command, SendCommand};
 pub use crate::configuration::Configuration;
 pub use crate::evaluation::{carry_out, port_with_guid, report, step};
-pub use crate::event::{Event, Outcome};
+pub use crate::event::{Outcome, PortEvent};
 pub use crate::group_receiver::GroupReceiver;
 pub use crate::laws::{
     every_keeper_isolates, every_run_is_isolated, groups_reach_others, silence_keeps_apart,

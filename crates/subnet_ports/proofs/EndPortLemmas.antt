@@ -29,7 +29,8 @@ use Rattle.subnet_ports.specs.EndPorts.{AreEndPorts, IsEndPort, is_end_port}
 use Rattle.subnet_model.specs.Configured.{same_guid}
 use Rattle.subnet_ports.specs.Ports.{end_ports, keyed, ports_of, seated, seats, type_of, with_port, with_seat}
 use Rattle.subnet_ports.proofs.PortLemmas.{insert_in_order}
-use Rattle.subnet_ports.proofs.SeatLemmas.{IsSeat, all_are_seats, any_so, each_weaker, one_guid, place_of, seat_there, seats_are_distinct}
+use Rattle.subnet_ports.proofs.SeatLemmas.{IsSeat, all_are_seats, any_so, one_guid, place_of, seat_there, seats_are_distinct}
+use Rattle.result_words.proofs.ElementLemmas.{each_weaker}
 
 -- ---- counts
 count_none : {X : Type 0} (p : X → Bool) (xs : List X) → AllByRecursion (λ x. p x ≡ false) xs → count_by p xs ≡ 0

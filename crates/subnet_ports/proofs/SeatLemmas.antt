@@ -15,21 +15,14 @@ use Rattle.topo_file.specs.Topology.{TopologyState}
 use Rattle.subnet_ports.specs.declared.end_ports.Seat.{Seat}
 use Rattle.subnet_ports.specs.EndPorts.{end_port_at, is_end_port}
 use Rattle.subnet_ports.specs.Ports.{adapter_seat, adapter_seats, seat_if_cabled, seats, seats_at, seats_of_type, switch_seat}
+use Rattle.result_words.proofs.ElementLemmas.{each_weaker, each_joined}
 
 -- ---- lists
-pub each_both : {X : Type 0} (P : X → Type 0) (xs ys : List X) → AllByRecursion P xs → AllByRecursion P ys → AllByRecursion P (xs ++ ys)
-each_both P [] ys h k = k
-each_both P (x ∷ xs) ys h k = (h.0, each_both P xs ys h.1 k)
-
-pub each_weaker : {X : Type 0} (P Q : X → Type 0) → ((x : X) → P x → Q x) → (xs : List X) → AllByRecursion P xs → AllByRecursion Q xs
-each_weaker P Q so [] h = tt
-each_weaker P Q so (x ∷ xs) h = (so x h.0, each_weaker P Q so xs h.1)
-
 distinct_both : {X : Type 0} (same : X → X → Bool) (xs ys : List X) → IsDistinct same xs → IsDistinct same ys
     → AllByRecursion (λ x. AllByRecursion (λ y. same x y ≡ false) ys) xs → IsDistinct same (xs ++ ys)
 unfolding IsDistinct
 distinct_both same [] ys d e h = e
-distinct_both same (x ∷ xs) ys d e h = (each_both (λ y. same x y ≡ false) xs ys d.0 h.0, distinct_both same xs ys d.1 e h.1)
+distinct_both same (x ∷ xs) ys d e h = (each_joined (λ y. same x y ≡ false) xs ys d.0 h.0, distinct_both same xs ys d.1 e h.1)
 
 -- where each has P, what passes one test and so another is there
 pub any_so : {X : Type 0} (P : X → Type 0) (p q : X → Bool) → ((x : X) → P x → p x ≡ true → q x ≡ true) → (xs : List X) → AllByRecursion P xs
@@ -92,7 +85,7 @@ are_seats : (plan : TopologyState) (m : ℕ) (some : List Node) → AreFrom plan
     → AllByRecursion (IsSeat plan) (flat_map (seats_at plan) (enumerate_from m some))
 are_seats plan m [] from sm = tt
 are_seats plan m (node ∷ some) from sm =
-    each_both (IsSeat plan) (seats_at plan (m, node)) (flat_map (seats_at plan) (enumerate_from (m + 1) some))
+    each_joined (IsSeat plan) (seats_at plan (m, node)) (flat_map (seats_at plan) (enumerate_from (m + 1) some))
     (node_are_seats node.node_type plan m node refl (from_here plan.nodes m node some from) sm)
     (are_seats plan (m + 1) some (from_next plan.nodes m node some from) sm)
 
@@ -227,7 +220,7 @@ seats_outside : (plan : TopologyState) (one : Node) (m : ℕ) (some : List Node)
     → AllByRecursion (Outside one.guid (last_guid one)) (flat_map (seats_at plan) (enumerate_from m some))
 seats_outside plan one m [] h = tt
 seats_outside plan one m (node ∷ some) h =
-    each_both (Outside one.guid (last_guid one)) (seats_at plan (m, node)) (flat_map (seats_at plan) (enumerate_from (m + 1) some))
+    each_joined (Outside one.guid (last_guid one)) (seats_at plan (m, node)) (flat_map (seats_at plan) (enumerate_from (m + 1) some))
     (each_weaker (Within node.guid (last_guid node)) (Outside one.guid (last_guid one)) (λ seat k. outside_by one.guid (last_guid one) node.guid (last_guid node) seat.port.guid h.0 k.0 k.1)
     (seats_at plan (m, node)) (node_within node.node_type plan m node))
     (seats_outside plan one (m + 1) some h.1)

@@ -18,7 +18,7 @@ use Rattle.subnet_model.specs.Silent.{asked_from, sent_from}
 use Rattle.subnet_model.proofs.IsolationLemmas.{found_guid}
 use Rattle.subnet_model.specs.declared.command.AskCommand.{AskCommand}
 use Rattle.subnet_model.specs.declared.command.SendCommand.{SendCommand}
-use Rattle.subnet_model.specs.declared.event.Event.{Event as SubnetEvent}
+use Rattle.subnet_model.specs.declared.event.PortEvent.{PortEvent}
 use Rattle.subnet_model.specs.declared.subnet_port.SubnetPort.{SubnetPort}
 use Rattle.subnet_sends.specs.Laws.{IsSender, told}
 use Rattle.subnet_sends.specs.OfFabric.{IsFabricOf, IsThere}
@@ -30,7 +30,7 @@ use Rattle.subnet_sends.specs.declared.event.Event.TheVariants.{Received}
 
 told_events : (deliveries : List DeliveryState) → map event_of (map Received deliveries) ≡ map told deliveries
 told_events [] = refl
-told_events (delivered ∷ deliveries) = ap (λ (rest : List SubnetEvent). told delivered ∷ rest) (told_events deliveries)
+told_events (delivered ∷ deliveries) = ap (λ (rest : List PortEvent). told delivered ∷ rest) (told_events deliveries)
 
 module _ (ports : List SubnetPort) (fabric : FabricState) (command : SendCommand) (sender : SubnetPort) (of : IsFabricOf ports fabric)
     (sends : IsSender ports command sender) where

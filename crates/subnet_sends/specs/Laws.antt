@@ -11,7 +11,7 @@ use Rattle.subnet_model.specs.Delivery.{port_with_guid, refusal_of}
 use Rattle.subnet_model.specs.Report.{packet_of}
 use Rattle.subnet_model.specs.Silent.{received}
 use Rattle.subnet_model.specs.declared.command.SendCommand.{SendCommand}
-use Rattle.subnet_model.specs.declared.event.Event.{Event}
+use Rattle.subnet_model.specs.declared.event.PortEvent.{PortEvent}
 use Rattle.subnet_model.specs.declared.event.Outcome.TheVariants.{Received}
 use Rattle.subnet_model.specs.declared.subnet_port.SubnetPort.{SubnetPort}
 use Rattle.subnet_sends.specs.OfFabric.{IsFabricOf}
@@ -30,7 +30,7 @@ PortsStampAsTold =
     × (packet_from one command.dlid command.p_key command.destination_qp command.payload ≡ packet_of sender command)
 
 -- a delivery, as it is told
-abbrev pub told : DeliveryState → Event
+abbrev pub told : DeliveryState → PortEvent
 told delivered = record { port_guid = delivered.port; what = Received delivered.packet }
 
 -- what the fabric delivers of a unicast packet is what the subnet tells

@@ -14,7 +14,7 @@ use Rattle.subnet_model.specs.Delivery.{is_for_sa, sent_to_ask}
 use Rattle.subnet_model.specs.Silent.{asked_from, sent_from}
 use Rattle.subnet_model.specs.declared.command.AskCommand.{AskCommand}
 use Rattle.subnet_model.specs.declared.command.SendCommand.{SendCommand}
-use Rattle.subnet_model.specs.declared.event.Event.{Event as SubnetEvent}
+use Rattle.subnet_model.specs.declared.event.PortEvent.{PortEvent}
 use Rattle.subnet_model.specs.declared.event.Outcome.TheVariants.{Refused as RefusedToSend}
 use Rattle.subnet_model.specs.declared.subnet_port.SubnetPort.{SubnetPort}
 use Rattle.subnet_sends.specs.Laws.{IsSender, told}
@@ -23,7 +23,7 @@ use Rattle.subnet_sends.specs.declared.event.Event.{Event}
 use Rattle.subnet_sends.specs.declared.event.Event.TheVariants.{Received, Refused}
 
 -- an event of a fabric's port, as a subnet tells it
-abbrev pub event_of : Event → SubnetEvent
+abbrev pub event_of : Event → PortEvent
 event_of (Received delivered) = told delivered
 event_of (Refused port_guid refusal) = record { port_guid = port_guid; what = RefusedToSend refusal }
 

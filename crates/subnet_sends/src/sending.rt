@@ -1,17 +1,16 @@
 //! Sending, from the stamp to the deliveries.
 
-ghost use Rattle.std.specs.Prelude.{◌≡◌, [], ◌∷◌, IfOk, map, Some};
-ghost use Rattle.packet_ways.specs.Deliveries.{HasPort, adapter_at};
+ghost use Rattle.std.specs.Prelude.{ℕ, ◌≡◌, [], ◌∷◌, IfOk, is_some, map, Some, true};
+ghost use Rattle.std.specs.Option.{ForSome};
+ghost use Rattle.packet_ways.specs.Deliveries.{adapter_at, guid_at};
 ghost use Rattle.port_model.specs.Packets.{stamped};
-ghost use Rattle.port_model.specs.AdapterState.{AdapterState};
 ghost use Rattle.data_packet.specs.QueuePair.{general_services_qp};
 ghost use Rattle.fabric_parts.specs.Lid.{manager_lid};
-ghost use Rattle.fabric_parts.specs.declared.cable.PortRef.{PortRef};
 ghost use Rattle.subnet_sends.specs.Sends.{AreAsListed, AreReceived, AskIsAsListed, ComesOf, ComesOfAsk, given_to_ask};
 
 use crate::event::Event;
 use data_packet::{Packet, QueuePair, Refusal};
-use fabric_parts::MANAGER_LID;
+use fabric_parts::{MANAGER_LID, PortRef};
 use fabric_wire::{Delivery, Fabric};
 use pkey_rules::{DEFAULT_BASE, key_of};
 use std::alloc::{AllocError, Global};
@@ -22,11 +21,11 @@ pub fn send(alloc: Global, fabric: &Fabric, command: &SendCommand) -> Result<Vec
     ensures comes { IfOk result (λ events. ComesOf fabric.now command.now events.items) }
     ensures told { IfOk result (λ events. AreAsListed fabric.now command.now events.items) }
 {
-    if !fabric.has_port(command.port_guid) {
+    let Some(from) = fabric.place_of(command.port_guid) else {
         return Ok(Vec::new(alloc));
-    }
-    let stamped = fabric.stamp(
-        command.port_guid,
+    };
+    let stamped = fabric.stamp_at(
+        from,
         command.dlid,
         command.p_key,
         command.destination_qp,
@@ -34,7 +33,7 @@ pub fn send(alloc: Global, fabric: &Fabric, command: &SendCommand) -> Result<Vec
     );
     match stamped {
         Ok(_) if command.is_for_sa() => Ok(Vec::new(alloc)),
-        Ok(packet) => received(alloc, fabric, command.port_guid, &packet),
+        Ok(packet) => received(alloc, fabric, from, &packet),
         Err(refusal) => refused(alloc, command.port_guid, refusal),
     }
 }
@@ -44,10 +43,10 @@ pub fn ask(alloc: Global, fabric: &Fabric, command: &AskCommand) -> Result<Vec<E
     ensures comes { IfOk result (λ events. ComesOfAsk fabric.now command.now events.items) }
     ensures told { IfOk result (λ events. AskIsAsListed fabric.now command.now events.items) }
 {
-    if !fabric.has_port(command.port_guid) {
+    let Some(from) = fabric.place_of(command.port_guid) else {
         return Ok(Vec::new(alloc));
-    }
-    match asked(fabric, command) {
+    };
+    match asked(fabric, from, command) {
         Ok(_) => Ok(Vec::new(alloc)),
         Err(refusal) => refused(alloc, command.port_guid, refusal),
     }
@@ -55,25 +54,29 @@ pub fn ask(alloc: Global, fabric: &Fabric, command: &AskCommand) -> Result<Vec<E
 
 /// The packet by which the port asks: under the key of a full member of the default partition where it holds that, else
 /// of a limited one.
-fn asked(fabric: &Fabric, command: &AskCommand) -> Result<Packet, Refusal>
-    requires { HasPort fabric.now.nodes command.now.port_guid }
-    ensures { (at : PortRef) (own : AdapterState) → adapter_at fabric.now.nodes at ≡ Some own → own.port_guid ≡ command.now.port_guid
-        → result ≡ given_to_ask own command.now }
+fn asked(fabric: &Fabric, from: PortRef, command: &AskCommand) -> Result<Packet, Refusal>
+    requires { is_some (adapter_at fabric.now.nodes from) ≡ true }
+    ensures { ForSome (adapter_at fabric.now.nodes from) (λ own. result ≡ given_to_ask own command.now) }
 {
-    match asked_under(fabric, command, key_of(DEFAULT_BASE, true)) {
-        Err(Refusal::KeyNotHeld) => asked_under(fabric, command, key_of(DEFAULT_BASE, false)),
+    match asked_under(fabric, from, command, key_of(DEFAULT_BASE, true)) {
+        Err(Refusal::KeyNotHeld) => asked_under(fabric, from, command, key_of(DEFAULT_BASE, false)),
         given => given,
     }
 }
 
 /// What the port makes of it under this key.
-fn asked_under(fabric: &Fabric, command: &AskCommand, p_key: u16) -> Result<Packet, Refusal>
-    requires { HasPort fabric.now.nodes command.now.port_guid }
-    ensures { (at : PortRef) (own : AdapterState) → adapter_at fabric.now.nodes at ≡ Some own → own.port_guid ≡ command.now.port_guid
-        → result ≡ stamped own manager_lid p_key general_services_qp command.now.mad }
+fn asked_under(
+    fabric: &Fabric,
+    from: PortRef,
+    command: &AskCommand,
+    p_key: u16,
+) -> Result<Packet, Refusal>
+    requires { is_some (adapter_at fabric.now.nodes from) ≡ true }
+    ensures { ForSome (adapter_at fabric.now.nodes from) (λ own.
+        result ≡ stamped own manager_lid p_key general_services_qp command.now.mad) }
 {
-    fabric.stamp(
-        command.port_guid,
+    fabric.stamp_at(
+        from,
         MANAGER_LID,
         p_key,
         QueuePair::general_services(),
@@ -94,12 +97,13 @@ fn refused(alloc: Global, port_guid: u64, refusal: Refusal) -> Result<Vec<Event>
 fn received(
     alloc: Global,
     fabric: &Fabric,
-    port_guid: u64,
+    from: PortRef,
     packet: &Packet,
 ) -> Result<Vec<Event>, AllocError>
-    ensures { IfOk result (λ events. AreReceived fabric.now port_guid packet.now events.items) }
+    ensures { IfOk result (λ events. (port_guid : ℕ) → guid_at fabric.now.nodes from ≡ Some port_guid
+        → AreReceived fabric.now port_guid packet.now events.items) }
 {
-    let deliveries = fabric.carry(alloc, port_guid, packet)?;
+    let deliveries = fabric.carry_from(alloc, from, packet)?;
     events_of(alloc, deliveries)
 }
 

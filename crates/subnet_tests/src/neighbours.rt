@@ -1,3 +1,5 @@
+//! Worked examples of near and of delivery.
+
 use crate::fixtures::{ALL_FULL, GUIDS, ONE_PARTITION, two_switches};
 use data_packet::{Payload, QueuePair};
 use pkey_rules::EndPort;

@@ -1,3 +1,5 @@
+//! The end ports of a worked topology under a partition file, and their listing.
+
 use crate::fixtures::{GUIDS, ONE_PARTITION};
 use example_texts::{ONE_PARTITION_FILE, TWO_SWITCHES};
 use std::alloc::Global;

@@ -1,3 +1,5 @@
+//! Steps and whole runs, carried out or refused for want of memory.
+
 use example_texts::TWO_SWITCHES;
 use std::alloc::Global;
 use std::process::Abort;

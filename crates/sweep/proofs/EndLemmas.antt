@@ -11,6 +11,7 @@ use Rattle.smp_wire.specs.FabricState.{FabricState, is_port}
 use Rattle.smp_wire.specs.Good.{IsGood, is_right}
 use Rattle.smp_wire.specs.Walk.{end_of, hands_on, hop, last_of, walk}
 use Rattle.smp_wire.specs.declared.node.Node.{Node}
+use Rattle.smp_wire.proofs.PresentLemmas.{present_right}
 
 -- ---- the end of a walk
 hop_port : (nodes : List Node) (cables : List Cable) (starts : Bool) (here there : PortRef) (number : ℕ)
@@ -60,4 +61,4 @@ pub end_port : (fabric : FabricState) (path : List ℕ) (at : PortRef) → IsGoo
     → is_port fabric.nodes at ≡ true
 end_port fabric path at good is =
     ended fabric.nodes fabric.manager at (walk fabric.nodes fabric.cables true fabric.manager path)
-    (λ ends walked. walk_port fabric.nodes fabric.cables true fabric.manager path ends good.cables good.manager_port walked) is
+    (λ ends walked. walk_port fabric.nodes fabric.cables true fabric.manager path ends (present_right good) good.manager_port walked) is

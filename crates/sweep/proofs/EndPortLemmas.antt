@@ -34,6 +34,7 @@ use Rattle.sweep.proofs.ProgressLemmas.{node_of}
 use Rattle.sweep.proofs.VisitLemmas.{port_is}
 use Rattle.sweep.proofs.WholeLemmas.{found_there}
 use Rattle.sweep.proofs.OwnLemmas.{seen_of}
+use Rattle.smp_wire.proofs.PresentLemmas.{present_right}
 
 -- ---- elements of lists
 pub there_is : {X : Type 0} (xs : List X) (k : ℕ) (x : X) → slice_get xs k ≡ Some x → Contains xs x
@@ -174,7 +175,7 @@ pub is_an_end : (fabric : FabricState) (near there : PortRef) → IsGood fabric 
     → far_end fabric.cables near ≡ Some there → is_end_port_of fabric there ≡ true
 is_an_end fabric near there good adapter far =
     ap (λ (b : Bool). if b then there.port == 0 else is_port fabric.nodes there && is_cabled fabric.cables there) adapter
-    ∙ and_from _ _ (far_is_port fabric.nodes fabric.cables near there good.cables far) (cabled_of fabric.cables there near (good_once fabric near there good far))
+    ∙ and_from _ _ (far_is_port fabric.nodes fabric.cables near there (present_right good) far) (cabled_of fabric.cables there near (good_once fabric near there good far))
 
 port_there : (fabric : FabricState) (at near : PortRef) (one : GraphPort) → IsGood fabric
     → Contains (option_map_or (port_to fabric at) (far_end fabric.cables near) []) one → Held fabric (end_of_adapter one)
@@ -232,7 +233,7 @@ pub to_switch : (fabric : FabricState) (at back : PortRef) → IsGood fabric →
     → is_switch_at fabric.nodes back.node ≡ true
 to_switch fabric at back good adapter far =
     ap (λ (b : Bool). b || is_switch_at fabric.nodes back.node) (sym adapter)
-    ∙ far_ends_meet (λ a b. is_switch_at fabric.nodes a.node || is_switch_at fabric.nodes b.node ≡ true) (is_right fabric.nodes) either fabric.cables at back good.cables far
+    ∙ far_ends_meet (λ a b. is_switch_at fabric.nodes a.node || is_switch_at fabric.nodes b.node ≡ true) (is_right fabric.nodes) either fabric.cables at back (present_right good) far
   where
     turned : (a b : Bool) → a || b ≡ true → b || a ≡ true
     turned true b h = or-true b
@@ -256,7 +257,7 @@ port_has fabric found at end good all adapter is_end cabled is there =
     let far = far_of fabric.cables at cabled in
     let back = far.0 in
     let home : far_end fabric.cables (port back.node back.port) ≡ Some at = good_once fabric at back good far.1 in
-    let range = in_range fabric back.node back.port (far_is_port fabric.nodes fabric.cables at back good.cables far.1) in
+    let range = in_range fabric back.node back.port (far_is_port fabric.nodes fabric.cables at back (present_right good) far.1) in
     let place = among_place (nodes_of found) back.node (all back.node ∙ to_switch fabric at back good adapter far.1) in
     let one = found_there found place.0 back.node place.1 in
     let node : node_at found place.0 ≡ back.node = node_of found place.0 one.0 one.1 ∙ one.2 in

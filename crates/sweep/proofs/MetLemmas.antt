@@ -19,6 +19,7 @@ use Rattle.sweep.specs.declared.graph.GraphPort.{GraphPort}
 use Rattle.sweep.specs.declared.seen.Seen.{Seen}
 use Rattle.sweep.proofs.FoundLemmas.{any_at, distinct_push, node_there, one_place}
 use Rattle.sweep.proofs.ProgressLemmas.{node_of}
+use Rattle.smp_wire.proofs.PresentLemmas.{present_once, present_right}
 
 -- a port more was asked
 asked_on : (found : List Found) (i count : ℕ) (at : PortRef) → WasAsked found i count at → WasAsked found i (suc count) at
@@ -44,7 +45,7 @@ met_on fabric found i count ports are = record {
 
 -- ---- no port hangs on two ports of switches
 pub good_once : (fabric : FabricState) (a b : PortRef) → IsGood fabric → far_end fabric.cables a ≡ Some b → far_end fabric.cables b ≡ Some a
-good_once fabric a b good is = both_ways fabric.cables a b (differ is_same_port _ good.once) is
+good_once fabric a b good is = both_ways fabric.cables a b (differ is_same_port _ (present_once good)) is
 
 pub one_near_end : (fabric : FabricState) (a b there : PortRef) → IsGood fabric → far_end fabric.cables a ≡ Some there
     → far_end fabric.cables b ≡ Some there → a ≡ b
@@ -118,7 +119,7 @@ met_more fabric found i count one there seen name ports good so_far stands cable
             number = refl;
             count = refl;
             adapter = adapter;
-            there = far_is_port fabric.nodes fabric.cables (port one.node (suc count)) there good.cables cable;
+            there = far_is_port fabric.nodes fabric.cables (port one.node (suc count)) there (present_right good) cable;
           });
       asked = All-push (WasMet fabric found i (suc count)) are.met new (λ k d before. was_met_on fabric found i count _ (are.asked k d before))
           (record {

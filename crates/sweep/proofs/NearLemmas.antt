@@ -29,6 +29,7 @@ use Rattle.sweep.proofs.EndedLemmas.{each_found, graph_is}
 use Rattle.sweep.proofs.FoundLemmas.{among_place}
 use Rattle.sweep.proofs.LeastLemmas.{in_range}
 use Rattle.sweep.proofs.WholeLemmas.{graph_is_whole, rows_joined}
+use Rattle.smp_wire.proofs.PresentLemmas.{present_once, present_right}
 
 -- ---- the far ends of a cable
 ends_in : (p : PortRef → Bool) (cables : List Cable) (k : ℕ) (cable : Cable) → slice_get cables k ≡ Some cable
@@ -114,7 +115,7 @@ near_end fabric found survey a b sweepable progress cable switch =
         })
     by k one there node true long =
         let known = progress.asked.before k one (slice_get_within found k one there) there in
-        let range = in_range fabric a.node a.port (cabled_is_port fabric.nodes fabric.cables a b sweepable.good.cables cable) in
+        let range = in_range fabric a.node a.port (cabled_is_port fabric.nodes fabric.cables a b (present_right sweepable.good) cable) in
         inr (known.near_behind a.port b range.0 (rw node range.1) (ap (λ (n : ℕ). far_end fabric.cables (port n a.port)) node ∙ cable) (reach (length one.path) long))
 
 pub each_near : (fabric : FabricState) (found : List Found) (survey : SurveyState) → IsSweepable fabric
@@ -123,8 +124,8 @@ each_near fabric found survey sweepable progress far =
     let k = far.there.0 in
     let stands : slice_get fabric.cables k ≡ Some far.cable =
     Rattle.std.proofs.lemmas.Option.slice_get_read fabric.cables (length fabric.cables) k far.cable refl far.there.1 (sym far.there.2) in
-    let ends = far_ends fabric.cables k far.cable stands (differ is_same_port _ sweepable.good.once) in
-    let right = all_there (is_right fabric.nodes) fabric.cables k far.cable sweepable.good.cables stands in
+    let ends = far_ends fabric.cables k far.cable stands (differ is_same_port _ (present_once sweepable.good)) in
+    let right = all_there (is_right fabric.nodes) fabric.cables k far.cable (present_right sweepable.good) stands in
     let one = and_parts (is_port fabric.nodes far.cable.first) _ right in
     let two = and_parts (is_port fabric.nodes far.cable.second) _ one.1 in
     let three = and_parts _ (is_switch_at fabric.nodes far.cable.first.node || is_switch_at fabric.nodes far.cable.second.node) two.1 in

@@ -1,13 +1,14 @@
 -- A switch that is seen, among those that were found.
 use Rattle.std.proofs.Common.{ℕ, ◌<◌, ◌≤◌, ◌≡◌, ◌⊎◌, inl, inr, ◌∙◌, ◌==◌, ap, refl, sym, Bool, true, false, nat_lt, List, map, length, position}
-use Rattle.std.proofs.Common.{slice_get, get_or, Option, Some, None, option_map, arith}
+use Rattle.std.proofs.Common.{find, slice_get, get_or, Option, Some, None, option_map, arith}
 use Rattle.std.specs.List.{list_any, position_or_len}
 use Rattle.std.specs.Option.{option_and_then, option_map_or}
 use Rattle.std.proofs.lemmas.Bool.{false≢true}
 use Rattle.std.proofs.lemmas.Bool.Decides.{Decides-eqb, nat_tests}
+use Rattle.std.proofs.lemmas.List.Folds.{find_at}
 use Rattle.std.proofs.lemmas.List.Sums.{passes_at_first}
-use Rattle.std.proofs.lemmas.Option.{cond_some, same_Some, slice_get_cases, slice_get-map}
-use Rattle.result_words.proofs.PlaceLemmas.{not_there, place-found}
+use Rattle.std.proofs.lemmas.Option.{cond_some, same_Some, slice_get_cases, slice_get_past, slice_get-map}
+use Rattle.result_words.proofs.PlaceLemmas.{not_there, place-found, place-none}
 use Rattle.fabric_parts.specs.declared.cable.PortRef.{PortRef}
 use Rattle.smp_wire.specs.FabricState.{FabricState, is_switch, is_switch_at}
 use Rattle.smp_wire.specs.Good.{IsGood, node_guid}
@@ -126,3 +127,10 @@ count_found fabric found switches place one are there =
     ap (λ (some : List GraphSwitch). count_at some place) are
     ∙ ap (λ (o : Option GraphSwitch). option_map_or (λ (switch : GraphSwitch). switch.num_ports) o 0)
     (slice_get-map (switch_of fabric) found place ∙ ap (option_map (switch_of fabric)) there)
+
+-- ---- what a search finds stands at the place that it finds
+pub found_at_place : {X : Type 0} (p : X → Bool) (xs : List X) (k : ℕ) → position p xs ≡ Some k → find p xs ≡ slice_get xs k
+found_at_place p xs k is = find_at p xs ∙ ap (slice_get xs) (sym (place-found p xs k is))
+
+pub found_nowhere : {X : Type 0} (p : X → Bool) (xs : List X) → position p xs ≡ None → find p xs ≡ None
+found_nowhere p xs is = find_at p xs ∙ slice_get_past xs (position_or_len p xs) (let end = place-none p xs is in omega (arith, end))

@@ -16,7 +16,7 @@ use Rattle.sweep.specs.Progress.{AreMet, HasNeighbour, IsAsked, IsDiscovery, IsK
 use Rattle.sweep.specs.Survey.{SurveyState}
 use Rattle.sweep.specs.declared.graph.GraphPort.{GraphPort}
 use Rattle.sweep.specs.declared.graph.GraphSwitch.{GraphSwitch}
-use Rattle.sweep.specs.declared.graph.Link.{Link}
+use Rattle.sweep.specs.declared.graph.GraphLink.{GraphLink}
 use Rattle.fabric_parts.specs.declared.limits.TheConstants.{ADAPTER_PORTS, SWITCHES}
 use Rattle.sweep.specs.declared.path.TheConstants.{PATH_HOPS}
 use Rattle.sweep.proofs.FoundLemmas.{distinct_push, found_among, found_kept, place_kept}
@@ -68,13 +68,13 @@ asked_more fabric found i count one there asked next = record {
 }
 
 -- what is noted at a port
-abbrev pub links_here : FabricState → List Found → ℕ → ℕ → List Link
+abbrev pub links_here : FabricState → List Found → ℕ → ℕ → List GraphLink
 links_here fabric found i number = option_map_or (link_to fabric (nodes_of found) number) (far_end fabric.cables (port (node_at found i) number)) []
 
 abbrev pub ports_here : FabricState → List Found → ℕ → ℕ → List GraphPort
 ports_here fabric found i number = option_map_or (port_to fabric (port i number)) (far_end fabric.cables (port (node_at found i) number)) []
 
-pub record NotesAt (fabric : FabricState) (found : List Found) (i number : ℕ) (old new : SurveyState) (row next : List Link) : Type 0 where
+pub record NotesAt (fabric : FabricState) (found : List Found) (i number : ℕ) (old new : SurveyState) (row next : List GraphLink) : Type 0 where
   pub switches : new.switches ≡ old.switches
   pub rows : new.rows ≡ old.rows
   pub ports : new.ports ≡ old.ports ++ ports_here fabric found i number
@@ -82,7 +82,7 @@ pub record NotesAt (fabric : FabricState) (found : List Found) (i number : ℕ) 
   pub few : length new.ports ≤ ADAPTER_PORTS
   pub met : AreMet fabric found i number new.ports
 
-noted_more : (fabric : FabricState) (found : List Found) (i count : ℕ) (old new : SurveyState) (row next : List Link)
+noted_more : (fabric : FabricState) (found : List Found) (i count : ℕ) (old new : SurveyState) (row next : List GraphLink)
     → IsNoted fabric found i count old row → NotesAt fabric found i (suc count) old new row next
     → IsNoted fabric found i (suc count) new next
 noted_more fabric found i count old new row next noted here =
@@ -91,7 +91,7 @@ noted_more fabric found i count old new row next noted here =
     record {
       switches = here.switches ∙ noted.switches;
       rows = here.rows ∙ noted.rows;
-      links = here.links ∙ ap (λ (links : List Link). links ++ links_here fabric found i (suc count)) noted.links ∙ sym links;
+      links = here.links ∙ ap (λ (links : List GraphLink). links ++ links_here fabric found i (suc count)) noted.links ∙ sym links;
       ports = here.ports ∙ ap (λ (ports : List GraphPort). ports ++ ports_here fabric found i (suc count)) noted.ports
           ∙ append_assoc (ports_before fabric found i) (ports_up_to fabric i (node_at found i) count) (ports_here fabric found i (suc count))
           ∙ ap (λ (last : List GraphPort). ports_before fabric found i ++ last) (sym ports);
@@ -99,7 +99,7 @@ noted_more fabric found i count old new row next noted here =
       met = here.met;
     }
 
-pub port_more : (fabric : FabricState) (found : List Found) (i count : ℕ) (one : Found) (old new : SurveyState) (row next : List Link)
+pub port_more : (fabric : FabricState) (found : List Found) (i count : ℕ) (one : Found) (old new : SurveyState) (row next : List GraphLink)
     → StandsAt found i one → IsProgress fabric found i count old row → IsKnownNext fabric found one (suc count)
     → NotesAt fabric found i (suc count) old new row next → IsProgress fabric found i (suc count) new next
 port_more fabric found i count one old new row next there so_far known here = record {
@@ -261,7 +261,7 @@ met_next fabric found i count ports are = record {
     earlier (inl before) = inl (omega (arith, before))
     earlier (inr here) = inl (omega (arith, here.0))
 
-noted_still : (fabric : FabricState) (found : List Found) (i count : ℕ) (one new : Found) (old next : SurveyState) (row : List Link)
+noted_still : (fabric : FabricState) (found : List Found) (i count : ℕ) (one new : Found) (old next : SurveyState) (row : List GraphLink)
     → StandsAt found i one → i ≤ length found → IsAsked fabric found i count → IsNoted fabric found i count old row
     → next ≡ record old { switches = old.switches ++ switch_of fabric new ∷ [] }
     → IsNoted fabric (found ++ new ∷ []) i count next row
@@ -296,7 +296,7 @@ noted_still fabric found i count one new old next row there within asked noted i
         flat_same _ _ 0 i (λ k from to. ap (λ (node : ℕ). ports_up_to fabric k node (ports_at fabric node)) (sym (at_place k (omega (arith, to))))) in
         rw (earlier, node_kept found new one i there) refl
 
-pub switch_more : (fabric : FabricState) (found : List Found) (i count : ℕ) (one new : Found) (old next : SurveyState) (row : List Link)
+pub switch_more : (fabric : FabricState) (found : List Found) (i count : ℕ) (one new : Found) (old next : SurveyState) (row : List GraphLink)
     → StandsAt found i one → IsProgress fabric found i count old row → IsNew fabric found one new
     → next ≡ record old { switches = old.switches ++ switch_of fabric new ∷ [] }
     → IsProgress fabric (found ++ new ∷ []) i count next row
@@ -308,7 +308,7 @@ switch_more fabric found i count one new old next row there so_far is noted = re
 }
 
 -- ---- the next switch
-row_done : (fabric : FabricState) (found : List Found) (i : ℕ) (one : Found) (old : SurveyState) (row : List Link) → StandsAt found i one
+row_done : (fabric : FabricState) (found : List Found) (i : ℕ) (one : Found) (old : SurveyState) (row : List GraphLink) → StandsAt found i one
     → IsNoted fabric found i (ports_at fabric one.node) old row → IsNoted fabric found (suc i) 0 (record old { rows = old.rows ++ row ∷ [] }) []
 row_done fabric found i one old row there noted =
     let node = node_of found i one there in
@@ -350,7 +350,7 @@ asked_next fabric found i one there so_far asked = record {
             let same : one ≡ some = same_Some one some (sym there ∙ ap (slice_get found) (sym same_place) ∙ at) in
             rw (sym same) (asked.here one there)
 
-pub next_switch : (fabric : FabricState) (found : List Found) (i : ℕ) (one : Found) (old : SurveyState) (row : List Link) → StandsAt found i one
+pub next_switch : (fabric : FabricState) (found : List Found) (i : ℕ) (one : Found) (old : SurveyState) (row : List GraphLink) → StandsAt found i one
     → IsProgress fabric found i (ports_at fabric one.node) old row
     → IsProgress fabric found (suc i) 0 (record old { rows = old.rows ++ row ∷ [] }) []
 next_switch fabric found i one old row there so_far = record {

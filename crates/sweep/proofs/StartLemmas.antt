@@ -28,6 +28,7 @@ use Rattle.sweep.specs.declared.seen.Seen.{Seen}
 use Rattle.sweep.proofs.CabledLemmas.{any_found}
 use Rattle.sweep.proofs.EndLemmas.{end_port}
 use Rattle.sweep.proofs.ShownLemmas.{gives_info, gives_name}
+use Rattle.smp_wire.proofs.PresentLemmas.{present_right}
 
 -- a Get leaves the fabric, and the next does
 pub left_again : (a b c : Option FabricState) → ForSome a (λ fabric. IsGood fabric → b ≡ Some fabric)
@@ -113,7 +114,7 @@ pub begins : (fabric : FabricState) → IsGood fabric → Begins fabric
 begins fabric good =
     let found = any_found (λ cable. ends_at fabric.manager cable) fabric.cables good.manager_cabled in
     let cable = found.0 in
-    let right = find_all (is_right fabric.nodes) (λ one. ends_at fabric.manager one) fabric.cables cable good.cables found.1 in
+    let right = find_all (is_right fabric.nodes) (λ one. ends_at fabric.manager one) fabric.cables cable (present_right good) found.1 in
     let one = and_parts (is_port fabric.nodes cable.first) _ right in
     let two = and_parts (is_port fabric.nodes cable.second) _ one.1 in
     let three = and_parts (not (cable.first.node == cable.second.node)) _ two.1 in

@@ -9,15 +9,15 @@ use Rattle.std.proofs.lemmas.Option.{same_Some}
 use Rattle.fabric_parts.specs.Cable.{is_same_port}
 use Rattle.fabric_parts.specs.declared.cable.PortRef.{PortRef}
 use Rattle.sweep.specs.Graph.{is_linked}
-use Rattle.sweep.specs.declared.graph.Link.{Link}
+use Rattle.sweep.specs.declared.graph.GraphLink.{GraphLink}
 
-abbrev pub leads : PortRef → ℕ → Link → Bool
+abbrev pub leads : PortRef → ℕ → GraphLink → Bool
 leads there number link = (link.port == number) && is_same_port link.to there
 
-abbrev pub first_port : List Link → PortRef → Option ℕ
+abbrev pub first_port : List GraphLink → PortRef → Option ℕ
 first_port links there = option_map (λ link. link.port) (find (λ link. is_same_port link.to there) links)
 
-linked_by : (link : Link) (links : List Link) (there : PortRef) (number : ℕ) (b : Bool) → is_same_port link.to there ≡ b
+linked_by : (link : GraphLink) (links : List GraphLink) (there : PortRef) (number : ℕ) (b : Bool) → is_same_port link.to there ≡ b
     → option_map (λ link. link.port) (if b then Some link else find (λ link. is_same_port link.to there) links) ≡ Some number
     → (first_port links there ≡ Some number → list_any (leads there number) links ≡ true)
     → leads there number link || list_any (leads there number) links ≡ true
@@ -25,13 +25,13 @@ linked_by link links there number true is found later =
     rw (is, (Decides-eqb link.port number).1 (same_Some _ _ found)) refl
 linked_by link links there number false is found later = rw (later found) (or-true (leads there number link))
 
-pub linked : (links : List Link) (there : PortRef) (number : ℕ) → first_port links there ≡ Some number
+pub linked : (links : List GraphLink) (there : PortRef) (number : ℕ) → first_port links there ≡ Some number
     → list_any (leads there number) links ≡ true
 linked [] there number found = cc
 linked (link ∷ links) there number found =
     linked_by link links there number (is_same_port link.to there) refl found (λ later. linked links there number later)
 
-unlinked_by : (link : Link) (links : List Link) (there : PortRef) (number : ℕ) (b : Bool) → is_same_port link.to there ≡ b
+unlinked_by : (link : GraphLink) (links : List GraphLink) (there : PortRef) (number : ℕ) (b : Bool) → is_same_port link.to there ≡ b
     → option_map (λ link. link.port) (if b then Some link else find (λ link. is_same_port link.to there) links) ≡ None
     → (first_port links there ≡ None → list_any (leads there number) links ≡ false)
     → leads there number link || list_any (leads there number) links ≡ false
@@ -42,17 +42,17 @@ unlinked_by link links there number false is none later = rw (is, later none) (a
     and_false true = refl
     and_false false = refl
 
-pub unlinked : (links : List Link) (there : PortRef) (number : ℕ) → first_port links there ≡ None
+pub unlinked : (links : List GraphLink) (there : PortRef) (number : ℕ) → first_port links there ≡ None
     → list_any (leads there number) links ≡ false
 unlinked [] there number none = refl
 unlinked (link ∷ links) there number none =
     unlinked_by link links there number (is_same_port link.to there) refl none (λ later. unlinked links there number later)
 
 -- nothing leads there from the first switches
-abbrev pub NoneLeads : List (List Link) → PortRef → ℕ → Type 0
+abbrev pub NoneLeads : List (List GraphLink) → PortRef → ℕ → Type 0
 NoneLeads rows there count = (here : PortRef) → here.node < count → is_linked rows here there ≡ false
 
-pub none_more : (rows : List (List Link)) (there : PortRef) (node : ℕ) → NoneLeads rows there node
+pub none_more : (rows : List (List GraphLink)) (there : PortRef) (node : ℕ) → NoneLeads rows there node
     → first_port (get_or rows node []) there ≡ None → NoneLeads rows there (node + 1)
 none_more rows there node before none here within = by (nat_le node here.node) refl
   where
@@ -62,7 +62,7 @@ none_more rows there node before none here within = by (nat_le node here.node) r
         let same : here.node ≡ node = grind (arith, nat_tests, after, within) in
         rw same (unlinked (get_or rows node []) there here.port none)
 
-pub none_at_all : (rows : List (List Link)) (there : PortRef) → NoneLeads rows there (length rows)
+pub none_at_all : (rows : List (List GraphLink)) (there : PortRef) → NoneLeads rows there (length rows)
     → (here : PortRef) → is_linked rows here there ≡ false
 none_at_all rows there none here = by (nat_le (length rows) here.node) refl
   where

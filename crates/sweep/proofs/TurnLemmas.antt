@@ -23,7 +23,7 @@ use Rattle.sweep.specs.Progress.{StandsAt, is_found}
 use Rattle.sweep.specs.Survey.{SurveyState}
 use Rattle.sweep.specs.Sweeps.{Comes, GoesOn, IsAtPort, IsSweepable, Noted}
 use Rattle.sweep.specs.declared.fault.SweepFault.{SweepFault}
-use Rattle.sweep.specs.declared.graph.Link.{Link}
+use Rattle.sweep.specs.declared.graph.GraphLink.{GraphLink}
 use Rattle.sweep.specs.declared.path.TheConstants.{PATH_HOPS}
 use Rattle.sweep.proofs.FoundLemmas.{any_at, found_at, found_by, node_there, one_place, place_is}
 use Rattle.sweep.proofs.LeastLemmas.{in_range, least}
@@ -31,6 +31,7 @@ use Rattle.sweep.proofs.MetLemmas.{good_once}
 use Rattle.sweep.proofs.ProgressLemmas.{IsKnownNext}
 use Rattle.sweep.proofs.SurveyLemmas.{leads}
 use Rattle.sweep.proofs.VisitLemmas.{link_is, link_on, stands_switch}
+use Rattle.smp_wire.proofs.PresentLemmas.{present_right}
 
 -- ---- rows of switches that were asked
 pub row_at : (fabric : FabricState) (nodes : List ℕ) (found : List Found) (i k : ℕ) (one : Found) → k < i → StandsAt found k one
@@ -143,12 +144,12 @@ pub record SeenFrom (fabric : FabricState) (found : List Found) (i : ℕ) (here 
   pub before : at.node < i
   pub link : IsLinkOf fabric (nodes_of found) one.node at.port here
 
-seen_from : (fabric : FabricState) (found : List Found) (i : ℕ) (rows : List (List Link)) (here at : PortRef) → i ≤ length found
+seen_from : (fabric : FabricState) (found : List Found) (i : ℕ) (rows : List (List GraphLink)) (here at : PortRef) → i ≤ length found
     → rows ≡ map (λ one. row_of fabric (nodes_of found) one.node) (take i found) → is_linked rows at here ≡ true → SeenFrom fabric found i here at
 seen_from fabric found i rows here at within are linked = by (nat_le i at.node) refl
   where
     rows_linked : list_any (leads here at.port) (get_or (map (λ one. row_of fabric (nodes_of found) one.node) (take i found)) at.node []) ≡ true
-    rows_linked = ap (λ (rows : List (List Link)). list_any (leads here at.port) (get_or rows at.node [])) (sym are) ∙ linked
+    rows_linked = ap (λ (rows : List (List GraphLink)). list_any (leads here at.port) (get_or rows at.node [])) (sym are) ∙ linked
 
     by : (b : Bool) → nat_le i at.node ≡ b → SeenFrom fabric found i here at
     by true past =
@@ -180,7 +181,7 @@ same_place found i one end number once there among is =
     λ k. record { node = nodes k; port = ap (λ (p : PortRef). p.port) is k }
 
 -- the port was seen from the far end of its cable, which an SMP reaches
-pub known_back : (fabric : FabricState) (found : List Found) (one : Found) (count : ℕ) (survey : SurveyState) (row : List Link) (here there at : PortRef)
+pub known_back : (fabric : FabricState) (found : List Found) (one : Found) (count : ℕ) (survey : SurveyState) (row : List GraphLink) (here there at : PortRef)
     → IsSweepable fabric → IsAtPort fabric found one count survey row here → far_end fabric.cables (port one.node here.port) ≡ Some there
     → length one.path ≡ 63 → is_linked survey.rows at here ≡ true
     → IsKnownNext fabric found one here.port × (is_switch_at fabric.nodes there.node ≡ true) × (at ≡ placed (nodes_of found) there)
@@ -289,7 +290,7 @@ cable_ends fabric here there hops far near_here near_there = by (find (λ cable.
         let both = ends cable (is_same_port cable.first here) refl at.1 (same_Some _ there is) in
         (cable, at.0, both.0, both.1)
 
-too_far : (fabric : FabricState) (found : List Found) (one : Found) (count : ℕ) (survey : SurveyState) (row : List Link) (here there : PortRef)
+too_far : (fabric : FabricState) (found : List Found) (one : Found) (count : ℕ) (survey : SurveyState) (row : List GraphLink) (here there : PortRef)
     → IsSweepable fabric → IsAtPort fabric found one count survey row here → far_end fabric.cables (port one.node here.port) ≡ Some there
     → length one.path ≡ 63 → ((at : PortRef) → is_linked survey.rows at here ≡ false) → IsTooFar fabric
 too_far fabric found one count survey row here there sweepable now cable deep none =
@@ -321,7 +322,7 @@ too_far fabric found one count survey row here there sweepable now cable deep no
         by false place before other stands is short = clash (grind (arith, nat_tests, before))
           where
             range : (1 ≤ there.port) × (there.port ≤ ports_at fabric there.node)
-            range = in_range fabric there.node there.port (far_is_port fabric.nodes fabric.cables (port one.node here.port) there sweepable.good.cables cable)
+            range = in_range fabric there.node there.port (far_is_port fabric.nodes fabric.cables (port one.node here.port) there (present_right sweepable.good) cable)
 
             back : far_end fabric.cables (port other.node there.port) ≡ Some (port one.node here.port)
             back = ap (λ (n : ℕ). far_end fabric.cables (port n there.port)) is ∙ good_once fabric (port one.node here.port) there sweepable.good cable
@@ -337,12 +338,12 @@ too_far fabric found one count survey row here there sweepable now cable deep no
                 let has = row_has fabric (nodes_of found) other.node there.port (port one.node here.port) here back
                 (stands_switch fabric found here.node one now.progress.discovery.are now.there) placed_here range.0 (rw is range.1) in
                 let linked : is_linked survey.rows (port place there.port) here ≡ true =
-                ap (λ (rows : List (List Link)). list_any (leads here there.port) (get_or rows place [])) now.progress.noted.rows
+                ap (λ (rows : List (List GraphLink)). list_any (leads here there.port) (get_or rows place [])) now.progress.noted.rows
                 ∙ ap (list_any (leads here there.port)) (row_at fabric (nodes_of found) found here.node place other earlier stands) ∙ has in
                 false≢true (sym (none (port place there.port)) ∙ linked)
 
 -- ---- what comes of it
-pub turned : (fabric : FabricState) (found : List Found) (one : Found) (count : ℕ) (survey : SurveyState) (row next : List Link) (here there at : PortRef)
+pub turned : (fabric : FabricState) (found : List Found) (one : Found) (count : ℕ) (survey : SurveyState) (row next : List GraphLink) (here there at : PortRef)
     (result : Result (Unit {0}) SweepFault) → IsSweepable fabric → IsAtPort fabric found one count survey row here
     → far_end fabric.cables (port one.node here.port) ≡ Some there → length one.path ≡ 63 → is_linked survey.rows at here ≡ true
     → Noted row next here at result → Comes fabric (λ _. GoesOn fabric found here.node here.port survey next) result
@@ -355,7 +356,7 @@ turned fabric found one count survey row next here there at (Ok done) sweepable 
     }
 turned fabric found one count survey row next here there at (Err fault) sweepable now cable deep linked noted = rw noted tt
 
-pub not_turned : (fabric : FabricState) (found : List Found) (one : Found) (count : ℕ) (survey : SurveyState) (row : List Link) (here there : PortRef)
+pub not_turned : (fabric : FabricState) (found : List Found) (one : Found) (count : ℕ) (survey : SurveyState) (row : List GraphLink) (here there : PortRef)
     → IsSweepable fabric → IsAtPort fabric found one count survey row here → far_end fabric.cables (port one.node here.port) ≡ Some there
     → length one.path ≡ 63 → ((at : PortRef) → is_linked survey.rows at here ≡ false) → IsTooFar fabric
 not_turned fabric found one count survey row here there sweepable now cable deep none =

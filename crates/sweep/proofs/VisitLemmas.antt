@@ -25,7 +25,7 @@ use Rattle.sweep.specs.declared.fault.SweepFault.{SweepFault}
 use Rattle.sweep.specs.declared.fault.SweepFault.TheVariants.{NoMemory, NoReply, WrongReply, TooManyHops, TooManyNodes}
 use Rattle.sweep.specs.declared.graph.GraphPort.{GraphPort}
 use Rattle.sweep.specs.declared.graph.GraphSwitch.{GraphSwitch}
-use Rattle.sweep.specs.declared.graph.Link.{Link}
+use Rattle.sweep.specs.declared.graph.GraphLink.{GraphLink}
 use Rattle.sweep.specs.declared.path.TheConstants.{PATH_HOPS}
 use Rattle.sweep.specs.declared.seen.Seen.{Seen}
 use Rattle.sweep.proofs.FoundLemmas.{all_by, among_at, distinct_push, found_at, found_by, node_there, place_is}
@@ -40,12 +40,12 @@ pub stands_switch : (fabric : FabricState) (found : List Found) (k : ℕ) (one :
     → StandsAt found k one → is_switch_at fabric.nodes one.node ≡ true
 stands_switch fabric found k one are there = all_there (is_switch_at fabric.nodes) (nodes_of found) k one.node are (node_there found k one there)
 
-pub is_switch_found : (fabric : FabricState) (found : List Found) (one : Found) (count : ℕ) (survey : SurveyState) (row : List Link) (here : PortRef)
+pub is_switch_found : (fabric : FabricState) (found : List Found) (one : Found) (count : ℕ) (survey : SurveyState) (row : List GraphLink) (here : PortRef)
     → IsAtPort fabric found one count survey row here → is_switch_at fabric.nodes one.node ≡ true
 is_switch_found fabric found one count survey row here at = stands_switch fabric found here.node one at.progress.discovery.are at.there
 
 -- ---- the switch behind a port was found
-known : (fabric : FabricState) (found : List Found) (one : Found) (count : ℕ) (survey : SurveyState) (row : List Link) (here : PortRef)
+known : (fabric : FabricState) (found : List Found) (one : Found) (count : ℕ) (survey : SurveyState) (row : List GraphLink) (here : PortRef)
     (node place : ℕ) (other : Found) → IsAtPort fabric found one count survey row here → StandsAt found place other → other.node ≡ node
     → IsPlacedAt fabric (found ++ []) one here.node count survey row node place
 known fabric found one count survey row here node place other at stands is =
@@ -58,7 +58,7 @@ known fabric found one count survey row here node place other at stands is =
       place_is = rw (same, sym is) (sym (place_is (nodes_of found) place other.node at.progress.discovery.once (node_there found place other stands)));
     }
 
-pub known_place : (fabric : FabricState) (found : List Found) (one : Found) (count : ℕ) (survey : SurveyState) (row : List Link) (here there : PortRef)
+pub known_place : (fabric : FabricState) (found : List Found) (one : Found) (count : ℕ) (survey : SurveyState) (row : List GraphLink) (here there : PortRef)
     (path : List ℕ) (seen : Seen) (place : ℕ) → IsSweepable fabric → IsAtPort fabric found one count survey row here
     → IsBehind fabric one here there path seen → is_switch_at fabric.nodes there.node ≡ true
     → position (has_guid seen.node_guid) survey.switches ≡ Some place
@@ -74,7 +74,7 @@ known_place fabric found one count survey row here there path seen place sweepab
 long_path : (path : List ℕ) (number : ℕ) → length (path ++ number ∷ []) ≡ length path + 1
 long_path path number = length-append path (number ∷ [])
 
-goes_on : (fabric : FabricState) (found : List Found) (one : Found) (count : ℕ) (survey : SurveyState) (row : List Link) (here there : PortRef)
+goes_on : (fabric : FabricState) (found : List Found) (one : Found) (count : ℕ) (survey : SurveyState) (row : List GraphLink) (here there : PortRef)
     (path : List ℕ) (seen : Seen) → IsAtPort fabric found one count survey row here → IsBehind fabric one here there path seen
     → Leads fabric (record { node = there.node; path = path })
 goes_on fabric found one count survey row here there path seen at behind =
@@ -88,7 +88,7 @@ goes_on fabric found one count survey row here there path seen at behind =
       short = behind.short;
     }
 
-is_new : (fabric : FabricState) (found : List Found) (one : Found) (count : ℕ) (survey : SurveyState) (row : List Link) (here there : PortRef)
+is_new : (fabric : FabricState) (found : List Found) (one : Found) (count : ℕ) (survey : SurveyState) (row : List GraphLink) (here there : PortRef)
     (path : List ℕ) (seen : Seen) → IsSweepable fabric → IsAtPort fabric found one count survey row here
     → IsBehind fabric one here there path seen → is_switch_at fabric.nodes there.node ≡ true → is_among (nodes_of found) there.node ≡ false
     → length survey.switches < 64 → IsNew fabric found one (record { node = there.node; path = path })
@@ -122,7 +122,7 @@ abbrev pub IsAdded : FabricState → Found → SurveyState → SurveyState → �
 IsAdded fabric new old next place =
     (place ≡ length old.switches) × (length old.switches < 64) × (next ≡ record old { switches = old.switches ++ switch_of fabric new ∷ [] })
 
-pub new_place : (fabric : FabricState) (found : List Found) (one : Found) (count : ℕ) (old next : SurveyState) (row : List Link) (here there : PortRef)
+pub new_place : (fabric : FabricState) (found : List Found) (one : Found) (count : ℕ) (old next : SurveyState) (row : List GraphLink) (here there : PortRef)
     (path : List ℕ) (seen : Seen) (result : Result ℕ SweepFault) → IsSweepable fabric → IsAtPort fabric found one count old row here
     → IsBehind fabric one here there path seen → is_switch_at fabric.nodes there.node ≡ true
     → position (has_guid seen.node_guid) old.switches ≡ None
@@ -154,7 +154,7 @@ new_place fabric found one count old next row here there path seen (Err TooManyN
     over fabric found there.node at.progress.discovery.once at.progress.discovery.are switch none (omega (arith, many, added))
 
 -- ---- the link to it
-pub right_count : (fabric : FabricState) (found : List Found) (one : Found) (i count : ℕ) (survey : SurveyState) (row : List Link) (there : PortRef)
+pub right_count : (fabric : FabricState) (found : List Found) (one : Found) (i count : ℕ) (survey : SurveyState) (row : List GraphLink) (there : PortRef)
     (seen : Seen) (place : ℕ) → is_switch_at fabric.nodes there.node ≡ true → IsPlacedAt fabric found one i count survey row there.node place
     → seen_at fabric there ≡ Some seen → count_at survey.switches place ≡ seen.num_ports
 right_count fabric found one i count survey row there seen place switch placed_at is =
@@ -201,7 +201,7 @@ ports_at_it fabric found i number one far stands cable =
     (ap (λ (node : ℕ). far_end fabric.cables (port node number)) (node_of found i one stands) ∙ cable)
 
 -- a port without a cable
-pub nothing_on : (fabric : FabricState) (found : List Found) (one : Found) (count : ℕ) (survey : SurveyState) (row : List Link) (here : PortRef)
+pub nothing_on : (fabric : FabricState) (found : List Found) (one : Found) (count : ℕ) (survey : SurveyState) (row : List GraphLink) (here : PortRef)
     → IsAtPort fabric found one count survey row here → far_end fabric.cables (port one.node here.port) ≡ None
     → GoesOn fabric found here.node here.port survey row
 nothing_on fabric found one count survey row here at none =
@@ -215,7 +215,7 @@ nothing_on fabric found one count survey row here at none =
       switches = refl;
       rows = refl;
       ports = sym (ap (λ (some : List GraphPort). survey.ports ++ some) (ports_at_it fabric found here.node (suc count) one None at.there cable) ∙ append-nil survey.ports);
-      links = sym (ap (λ (some : List Link). row ++ some) (links_at fabric found here.node (suc count) one None at.there cable) ∙ append-nil row);
+      links = sym (ap (λ (some : List GraphLink). row ++ some) (links_at fabric found here.node (suc count) one None at.there cable) ∙ append-nil row);
       few = at.progress.noted.few_ports;
       met = met_on fabric found here.node count survey.ports at.progress.noted.met;
     }) in
@@ -232,7 +232,7 @@ link_is fabric nodes number there switch = rw switch refl
 pub no_port : (fabric : FabricState) (at there : PortRef) → is_switch_at fabric.nodes there.node ≡ true → port_to fabric at there ≡ []
 no_port fabric at there switch = rw switch refl
 
-noted_link : (fabric : FabricState) (found : List Found) (one : Found) (i count : ℕ) (survey : SurveyState) (row : List Link) (there to : PortRef)
+noted_link : (fabric : FabricState) (found : List Found) (one : Found) (i count : ℕ) (survey : SurveyState) (row : List GraphLink) (there to : PortRef)
     → StandsAt found i one → IsProgress fabric found i count survey row → far_end fabric.cables (port one.node (suc count)) ≡ Some there
     → is_switch_at fabric.nodes there.node ≡ true → to ≡ placed (nodes_of found) there
     → NotesAt fabric found i (suc count) survey survey row (row ++ record { port = suc count; to = to } ∷ [])
@@ -242,12 +242,12 @@ noted_link fabric found one i count survey row there to stands progress cable sw
   ports = sym (ap (λ (some : List GraphPort). survey.ports ++ some)
       (ports_at_it fabric found i (suc count) one (Some there) stands cable ∙ no_port fabric (port i (suc count)) there switch) ∙ append-nil survey.ports);
   links = ap (λ (p : PortRef). row ++ record { port = suc count; to = p } ∷ []) is
-      ∙ sym (ap (λ (some : List Link). row ++ some) (links_at fabric found i (suc count) one (Some there) stands cable ∙ link_is fabric (nodes_of found) (suc count) there switch));
+      ∙ sym (ap (λ (some : List GraphLink). row ++ some) (links_at fabric found i (suc count) one (Some there) stands cable ∙ link_is fabric (nodes_of found) (suc count) there switch));
   few = progress.noted.few_ports;
   met = met_on fabric found i count survey.ports progress.noted.met;
 }
 
-pub link_on : (fabric : FabricState) (found : List Found) (one : Found) (i count number : ℕ) (survey : SurveyState) (row next : List Link) (there to : PortRef)
+pub link_on : (fabric : FabricState) (found : List Found) (one : Found) (i count number : ℕ) (survey : SurveyState) (row next : List GraphLink) (there to : PortRef)
     → number ≡ suc count → StandsAt found i one → IsProgress fabric found i count survey row → IsKnownNext fabric found one number
     → far_end fabric.cables (port one.node number) ≡ Some there → is_switch_at fabric.nodes there.node ≡ true
     → to ≡ placed (nodes_of found) there → next ≡ row ++ record { port = number; to = to } ∷ []
@@ -258,7 +258,7 @@ link_on fabric found one i count number survey row next there to is_next stands 
     (rw (sym is_next) known) (noted_link fabric found one i count survey row there to stands progress
     (ap (λ (n : ℕ). far_end fabric.cables (port one.node n)) (sym is_next) ∙ cable) switch is))
 
-pub switch_on : (fabric : FabricState) (found : List Found) (one : Found) (count place : ℕ) (old survey : SurveyState) (row next : List Link) (here there : PortRef)
+pub switch_on : (fabric : FabricState) (found : List Found) (one : Found) (count place : ℕ) (old survey : SurveyState) (row next : List GraphLink) (here there : PortRef)
     (path : List ℕ) (seen : Seen) (result : Result (Unit {0}) SweepFault) → IsAtPort fabric found one count old row here
     → IsBehind fabric one here there path seen → is_switch_at fabric.nodes there.node ≡ true
     → IsPlacedAt fabric found one here.node count survey row there.node place
@@ -289,7 +289,7 @@ same_here : (here : PortRef) (count : ℕ) → here.port ≡ suc count → here 
 same_here here count is = λ i. record { node = here.node; port = is i }
 
 -- the ports that were met, and this one
-met_with : (fabric : FabricState) (found : List Found) (one : Found) (count : ℕ) (survey : SurveyState) (row : List Link) (here there : PortRef)
+met_with : (fabric : FabricState) (found : List Found) (one : Found) (count : ℕ) (survey : SurveyState) (row : List GraphLink) (here there : PortRef)
     (path : List ℕ) (seen : Seen) → IsSweepable fabric → IsAtPort fabric found one count survey row here → IsBehind fabric one here there path seen
     → is_switch_at fabric.nodes there.node ≡ false
     → AreMet fabric found here.node (suc count) (survey.ports ++ port_to fabric (port here.node (suc count)) there)
@@ -324,7 +324,7 @@ too_many fabric found i count ports good are many = inr (record {
         ∙ all_by (λ met. is_adapter_port fabric met.end) some
         (λ k met there. one_end met (all_have (IsShownAt fabric) some k met shown there) (all_have (WasMet fabric found i count) some k met asked there))
 
-pub adapter_on : (fabric : FabricState) (found : List Found) (one : Found) (count : ℕ) (old next : SurveyState) (row : List Link) (here there : PortRef)
+pub adapter_on : (fabric : FabricState) (found : List Found) (one : Found) (count : ℕ) (old next : SurveyState) (row : List GraphLink) (here there : PortRef)
     (path : List ℕ) (seen : Seen) (result : Result (Unit {0}) SweepFault) → IsSweepable fabric → IsAtPort fabric found one count old row here
     → IsBehind fabric one here there path seen → is_switch_at fabric.nodes there.node ≡ false
     → Adds (256 ≤ length old.ports) (λ _. (length old.ports < 256) × (next ≡ record old { ports = old.ports ++ port_to fabric here there })) result
@@ -339,7 +339,7 @@ adapter_on fabric found one count old next row here there path seen (Ok done) sw
       switches = refl;
       rows = refl;
       ports = ap (λ (some : List GraphPort). old.ports ++ some) (sym (ports_at_it fabric found here.node (suc count) one (Some there) at.there cable));
-      links = sym (ap (λ (some : List Link). row ++ some) (links_at fabric found here.node (suc count) one (Some there) at.there cable
+      links = sym (ap (λ (some : List GraphLink). row ++ some) (links_at fabric found here.node (suc count) one (Some there) at.there cable
           ∙ no_link fabric (nodes_of found) (suc count) there adapter) ∙ append-nil row);
       few = omega (arith, one_more fabric (port here.node (suc count)) there seen old.ports adapter behind.seen_is, added.0);
       met = met_with fabric found one count old row here there path seen sweepable at behind adapter;
@@ -366,7 +366,7 @@ pub record IsBase (fabric : FabricState) (one : Found) (path : List ℕ) (here a
   pub there : is_port fabric.nodes (port at.node here.port) ≡ true
   pub short : length path ≤ PATH_HOPS
 
-pub base : (fabric : FabricState) (found : List Found) (one : Found) (count : ℕ) (survey : SurveyState) (row : List Link) (here : PortRef) (path : List ℕ)
+pub base : (fabric : FabricState) (found : List Found) (one : Found) (count : ℕ) (survey : SurveyState) (row : List GraphLink) (here : PortRef) (path : List ℕ)
     → path ≡ one.path → IsAtPort fabric found one count survey row here → (at : PortRef) × IsBase fabric one path here at
 base fabric found one count survey row here path is at =
     let leads = all_have (Leads fabric) found here.node one at.progress.discovery.lead at.there in (
@@ -412,7 +412,7 @@ no_cable fabric one path here at base none =
     ap (λ (n : ℕ). far_end fabric.cables (port n here.port)) (sym base.node) ∙ far_none fabric.cables (port at.node here.port) none
 
 -- ---- port by port
-pub at_next : (fabric : FabricState) (found : List Found) (one : Found) (place before : ℕ) (survey : SurveyState) (row : List Link)
+pub at_next : (fabric : FabricState) (found : List Found) (one : Found) (place before : ℕ) (survey : SurveyState) (row : List GraphLink)
     → StandsAt found place one → before + 1 ≤ ports_at fabric one.node → (on : GoesOn fabric found place before survey row)
     → IsAtPort fabric (found ++ on.more) one before survey row (port place (before + 1))
 at_next fabric found one place before survey row stands within on = record {
@@ -422,7 +422,7 @@ at_next fabric found one place before survey row stands within on = record {
   progress = on.progress;
 }
 
-pub on_again : (fabric : FabricState) (found more : List Found) (i count : ℕ) (survey : SurveyState) (row : List Link)
+pub on_again : (fabric : FabricState) (found more : List Found) (i count : ℕ) (survey : SurveyState) (row : List GraphLink)
     → GoesOn fabric (found ++ more) i count survey row → GoesOn fabric found i count survey row
 on_again fabric found more i count survey row on = record {
   more = more ++ on.more;
@@ -432,7 +432,7 @@ on_again fabric found more i count survey row on = record {
 pub begun : (fabric : FabricState) (found : List Found) (i : ℕ) (survey : SurveyState) → IsProgress fabric found i 0 survey [] → GoesOn fabric found i 0 survey []
 begun fabric found i survey progress = record { more = []; progress = rw (append-nil found) progress }
 
-pub row_end : (fabric : FabricState) (found : List Found) (one : Found) (place count : ℕ) (survey next : SurveyState) (row : List Link)
+pub row_end : (fabric : FabricState) (found : List Found) (one : Found) (place count : ℕ) (survey next : SurveyState) (row : List GraphLink)
     → StandsAt found place one → count ≡ ports_at fabric one.node → next ≡ record survey { rows = survey.rows ++ row ∷ [] }
     → GoesOn fabric found place count survey row → GoesOn fabric found (suc place) 0 next []
 row_end fabric found one place count survey next row stands all is on = record {

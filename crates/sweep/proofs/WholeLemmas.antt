@@ -27,7 +27,7 @@ use Rattle.sweep.specs.Progress.{HasNeighbour, IsDiscovery, IsProgress, StandsAt
 use Rattle.sweep.specs.Seen.{seen_at}
 use Rattle.sweep.specs.Survey.{SurveyState}
 use Rattle.sweep.specs.Sweeps.{IsAllAsked, IsSweepable}
-use Rattle.sweep.specs.declared.graph.Link.{Link}
+use Rattle.sweep.specs.declared.graph.GraphLink.{GraphLink}
 use Rattle.sweep.specs.declared.seen.Seen.{Seen}
 use Rattle.sweep.specs.declared.path.TheConstants.{PATH_HOPS}
 use Rattle.sweep.proofs.FoundLemmas.{all_by, among_place, found_among, found_at, node_there, place_is}
@@ -38,6 +38,7 @@ use Rattle.sweep.proofs.TurnLemmas.{any_in, row_at, row_has}
 use Rattle.sweep.proofs.VisitLemmas.{link_is, port_is, stands_switch}
 use Rattle.sweep.proofs.PortsLemmas.{graph_agrees, graph_guids, graph_ports}
 use Rattle.sweep.proofs.ProgressLemmas.{node_of}
+use Rattle.smp_wire.proofs.PresentLemmas.{present_right}
 
 -- ---- switches
 count_by : (found : Option Node) → option_map_or is_switch found false ≡ true
@@ -66,7 +67,7 @@ graph_switches fabric found good so_far =
     (λ k one there. right_switch fabric one good (stands_switch fabric found k one so_far.are there) (all_have (Leads fabric) found k one so_far.lead there))
 
 -- ---- rows rise
-rises : (f : ℕ → List Link) (a n last : ℕ) → last < a
+rises : (f : ℕ → List GraphLink) (a n last : ℕ) → last < a
     → ((k : ℕ) → (f k ≡ []) ⊎ ((to : PortRef) × (f k ≡ record { port = k; to = to } ∷ [])))
     → rise_above last (flat_map f (range_with_len a n)) ≡ true
 rises f a zero last below each = refl
@@ -107,7 +108,7 @@ all_made p f a (suc n) each =
 
 other_node : (fabric : FabricState) (a b : PortRef) → IsGood fabric → far_end fabric.cables a ≡ Some b → (b.node == a.node) ≡ false
 other_node fabric a b good is =
-    far_ends_meet (λ one other. (other.node == one.node) ≡ false) (is_right fabric.nodes) apart fabric.cables a b good.cables is
+    far_ends_meet (λ one other. (other.node == one.node) ≡ false) (is_right fabric.nodes) apart fabric.cables a b (present_right good) is
   where
     flip : (n m : ℕ) → (n == m) ≡ false → (m == n) ≡ false
     flip n m h = grind (arith, nat_tests, h)
@@ -122,7 +123,7 @@ other_node fabric a b good is =
         (flip cable.first.node cable.second.node differ, differ)
 
 -- the rows of all switches that were found
-abbrev pub rows_of : FabricState → List Found → List (List Link)
+abbrev pub rows_of : FabricState → List Found → List (List GraphLink)
 rows_of fabric found = map (λ one. row_of fabric (nodes_of found) one.node) found
 
 row_there : (fabric : FabricState) (found : List Found) (k : ℕ) (one : Found) → StandsAt found k one → get_or (rows_of fabric found) k [] ≡ row_of fabric (nodes_of found) one.node
@@ -160,7 +161,7 @@ right_link fabric found k number one end good so_far there from within cable amo
         by None stands is = absurd cc
         by (Some other) stands is =
             let node : other.node ≡ end.node = same_Some other.node end.node is in
-            let range = in_range fabric end.node end.port (far_is_port fabric.nodes fabric.cables (port one.node number) end good.cables cable) in
+            let range = in_range fabric end.node end.port (far_is_port fabric.nodes fabric.cables (port one.node number) end (present_right good) cable) in
             let home : far_end fabric.cables (port other.node end.port) ≡ Some (port one.node number) =
             ap (λ (n : ℕ). far_end fabric.cables (port n end.port)) node ∙ good_once fabric (port one.node number) end good cable in
             let here : placed (nodes_of found) (port one.node number) ≡ port k number =
@@ -239,7 +240,7 @@ near_there fabric found k one good so_far there has =
     let among = among_more (nodes_of found) k has.there.node has.among in
     let at = among_place (nodes_of found) has.there.node among in
     let switch = all_there (is_switch_at fabric.nodes) (nodes_of found) at.0 has.there.node so_far.are at.1 in
-    let range = in_range fabric one.node has.number (cabled_is_port fabric.nodes fabric.cables (port one.node has.number) has.there good.cables has.cable) in
+    let range = in_range fabric one.node has.number (cabled_is_port fabric.nodes fabric.cables (port one.node has.number) has.there (present_right good) has.cable) in
     ap (list_any (λ link. nat_lt link.to.node k)) (row_there fabric found k one there)
     ∙ any_in (λ link. nat_lt link.to.node k) (λ number. option_map_or (link_to fabric (nodes_of found) number) (far_end fabric.cables (port one.node number)) [])
     1 (ports_at fabric one.node) has.number range.0 (omega (arith, range.1))
@@ -277,7 +278,7 @@ pub graph_manager : (fabric : FabricState) (found : List Found) (manager : ℕ) 
 graph_manager fabric found manager good so_far is =
     let at = found_at found so_far.first.node 1 so_far.first_found in
     let home : far_end fabric.cables (port so_far.first.node so_far.first.port) ≡ Some fabric.manager = good_once fabric fabric.manager so_far.first good so_far.first_cable in
-    let range = in_range fabric so_far.first.node so_far.first.port (far_is_port fabric.nodes fabric.cables fabric.manager so_far.first good.cables so_far.first_cable) in
+    let range = in_range fabric so_far.first.node so_far.first.port (far_is_port fabric.nodes fabric.cables fabric.manager so_far.first (present_right good) so_far.first_cable) in
     let node : node_at found at.place ≡ so_far.first.node = node_of found at.place at.one at.there ∙ at.node_is in
     any_in (λ port. port.port_guid == manager) (λ place. ports_up_to fabric place (node_at found place) (ports_at fabric (node_at found place))) 0 (length found) at.place
     (omega arith) (omega (arith, slice_get_within found at.place at.one at.there))

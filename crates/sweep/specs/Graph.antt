@@ -9,7 +9,7 @@ use Rattle.fabric_parts.specs.declared.cable.PortRef.{PortRef}
 use Rattle.fabric_parts.specs.declared.node_type.NodeType.TheVariants as node_type
 use Rattle.sweep.specs.declared.graph.GraphPort.{GraphPort}
 use Rattle.sweep.specs.declared.graph.GraphSwitch.{GraphSwitch}
-use Rattle.sweep.specs.declared.graph.Link.{Link}
+use Rattle.sweep.specs.declared.graph.GraphLink.{GraphLink}
 use Rattle.fabric_parts.specs.declared.limits.TheConstants.{ADAPTER_PORTS, SWITCHES}
 use Rattle.sweep.specs.declared.path.TheConstants.{PATH_HOPS}
 
@@ -18,11 +18,11 @@ pub record GraphState : Type 0 where
   pub manager : ℕ
   pub switches : List GraphSwitch
   -- for each switch its links to other switches, by port; the other ends name switches by their places in that list
-  pub rows : List (List Link)
+  pub rows : List (List GraphLink)
   pub ports : List GraphPort
 
 -- the graph of these parts
-abbrev pub graph_with : ℕ → List GraphSwitch → List (List Link) → List GraphPort → GraphState
+abbrev pub graph_with : ℕ → List GraphSwitch → List (List GraphLink) → List GraphPort → GraphState
 graph_with manager switches rows ports = record { manager = manager; switches = switches; rows = rows; ports = ports }
 
 -- ---- switches
@@ -42,31 +42,31 @@ is_switch_port switches at = nat_le 1 at.port && nat_le at.port (count_at switch
 
 -- ---- links
 -- a link out of that port leads there
-abbrev pub is_linked : List (List Link) → PortRef → PortRef → Bool
+abbrev pub is_linked : List (List GraphLink) → PortRef → PortRef → Bool
 is_linked rows here there = list_any (λ link. (link.port == here.port) && is_same_port link.to there) (get_or rows here.node [])
 
 -- ports that rise, from above that number
-abbrev pub rise_above : ℕ → List Link → Bool
+abbrev pub rise_above : ℕ → List GraphLink → Bool
 rise_above last [] = true
 rise_above last (link ∷ links) = nat_lt last link.port && rise_above link.port links
 
 -- out of a port of the switch at that place, to a port of another switch, which leads back
-abbrev pub is_right_link : List GraphSwitch → List (List Link) → ℕ → Link → Bool
+abbrev pub is_right_link : List GraphSwitch → List (List GraphLink) → ℕ → GraphLink → Bool
 is_right_link switches rows place link =
     nat_le link.port (count_at switches place)
     && (not (link.to.node == place) && is_linked rows link.to (port place link.port))
 
 -- in the order of their ports
-abbrev pub is_right_row : List GraphSwitch → List (List Link) → ℕ → Bool
+abbrev pub is_right_row : List GraphSwitch → List (List GraphLink) → ℕ → Bool
 is_right_row switches rows place =
     rise_above 0 (get_or rows place []) && list_all (is_right_link switches rows place) (get_or rows place [])
 
 -- some link of the switch at that place leads to one that was found earlier
-abbrev pub is_near : List (List Link) → ℕ → Bool
+abbrev pub is_near : List (List GraphLink) → ℕ → Bool
 is_near rows place = list_any (λ link. nat_lt link.to.node place) (get_or rows place [])
 
 -- so does one of each but the first
-abbrev pub is_joined : List (List Link) → Bool
+abbrev pub is_joined : List (List GraphLink) → Bool
 is_joined rows = list_all (λ place. (place == 0) || is_near rows place) (range_with_len 0 (length rows))
 
 -- ---- ports of adapters

@@ -1,7 +1,7 @@
 -- When the links of a graph join all its switches, in whatever order these stand.
 use Rattle.std.specs.Prelude.{ℕ, ◌≡◌, ◌==◌, ◌<◌, ◌&&◌, Bool, true, List, [], ◌∷◌, length, get_or}
 use Rattle.std.specs.List.{list_any}
-use Rattle.sweep.specs.declared.graph.Link.{Link}
+use Rattle.sweep.specs.declared.graph.GraphLink.{GraphLink}
 
 -- a walk from switch to switch, by a test of which is next to which: its steps are the switches that it comes to, the last
 -- of them d
@@ -14,8 +14,8 @@ abbrev pub AreJoinedBy : (ℕ → ℕ → Bool) → ℕ → Type 0
 AreJoinedBy next count = (s d : ℕ) → s < count → d < count → (steps : List ℕ) × (is_walk_by next s steps d ≡ true)
 
 -- some link of switch s leads to switch t
-abbrev pub is_next_to : List (List Link) → ℕ → ℕ → Bool
+abbrev pub is_next_to : List (List GraphLink) → ℕ → ℕ → Bool
 is_next_to rows s t = list_any (λ link. link.to.node == t) (get_or rows s [])
 
-abbrev pub AllJoined : List (List Link) → Type 0
+abbrev pub AllJoined : List (List GraphLink) → Type 0
 AllJoined rows = AreJoinedBy (is_next_to rows) (length rows)

@@ -13,7 +13,7 @@ use Rattle.sweep.specs.Graph.{GraphState}
 use Rattle.sweep.specs.Seen.{name_at, seen_at}
 use Rattle.sweep.specs.declared.graph.GraphPort.{GraphPort}
 use Rattle.sweep.specs.declared.graph.GraphSwitch.{GraphSwitch}
-use Rattle.sweep.specs.declared.graph.Link.{Link}
+use Rattle.sweep.specs.declared.graph.GraphLink.{GraphLink}
 use Rattle.sweep.specs.declared.path.TheConstants.{PATH_HOPS}
 use Rattle.sweep.specs.declared.seen.Seen.{Seen}
 
@@ -54,17 +54,17 @@ abbrev pub placed : List ℕ → PortRef → PortRef
 placed nodes at = port (place_of nodes at.node) at.port
 
 -- what a port of a switch has: a link, if there is a switch at the other end of its cable
-abbrev pub link_to : FabricState → List ℕ → ℕ → PortRef → List Link
+abbrev pub link_to : FabricState → List ℕ → ℕ → PortRef → List GraphLink
 link_to fabric nodes number there =
     if is_switch_at fabric.nodes there.node then record { port = number; to = placed nodes there } ∷ [] else []
 
-abbrev pub links_up_to : FabricState → List ℕ → ℕ → ℕ → List Link
+abbrev pub links_up_to : FabricState → List ℕ → ℕ → ℕ → List GraphLink
 links_up_to fabric nodes node count =
     flat_map (λ number. option_map_or (link_to fabric nodes number) (far_end fabric.cables (port node number)) [])
     (range_with_len 1 count)
 
 -- the links of a switch, by port
-abbrev pub row_of : FabricState → List ℕ → ℕ → List Link
+abbrev pub row_of : FabricState → List ℕ → ℕ → List GraphLink
 row_of fabric nodes node = links_up_to fabric nodes node (ports_at fabric node)
 
 -- ---- ports of adapters

@@ -9,7 +9,7 @@ use Rattle.sweep.specs.OfFabric.{Found, Leads, is_among, links_up_to, node_at, n
 use Rattle.sweep.specs.Seen.{seen_at}
 use Rattle.sweep.specs.Survey.{SurveyState}
 use Rattle.sweep.specs.declared.graph.GraphPort.{GraphPort}
-use Rattle.sweep.specs.declared.graph.Link.{Link}
+use Rattle.sweep.specs.declared.graph.GraphLink.{GraphLink}
 use Rattle.sweep.specs.declared.seen.Seen.{Seen}
 use Rattle.sweep.specs.declared.path.TheConstants.{PATH_HOPS}
 use Rattle.fabric_parts.specs.declared.limits.TheConstants.{ADAPTER_PORTS, SWITCHES}
@@ -100,7 +100,7 @@ pub record AreMet (fabric : FabricState) (found : List Found) (i count : ℕ) (p
   pub asked : All (WasMet fabric found i count) met
 
 -- ---- what was noted
-pub record IsNoted (fabric : FabricState) (found : List Found) (i count : ℕ) (survey : SurveyState) (row : List Link) : Type 0 where
+pub record IsNoted (fabric : FabricState) (found : List Found) (i count : ℕ) (survey : SurveyState) (row : List GraphLink) : Type 0 where
   pub switches : survey.switches ≡ map (switch_of fabric) found
   pub rows : survey.rows ≡ map (λ one. row_of fabric (nodes_of found) one.node) (take i found)
   pub links : row ≡ links_up_to fabric (nodes_of found) (node_at found i) count
@@ -108,7 +108,7 @@ pub record IsNoted (fabric : FabricState) (found : List Found) (i count : ℕ) (
   pub few_ports : length survey.ports ≤ ADAPTER_PORTS
   pub met : AreMet fabric found i count survey.ports
 
-pub record IsProgress (fabric : FabricState) (found : List Found) (i count : ℕ) (survey : SurveyState) (row : List Link) : Type 0 where
+pub record IsProgress (fabric : FabricState) (found : List Found) (i count : ℕ) (survey : SurveyState) (row : List GraphLink) : Type 0 where
   pub discovery : IsDiscovery fabric found
   pub within : i ≤ length found
   pub asked : IsAsked fabric found i count

@@ -13,7 +13,7 @@ use Rattle.sweep.specs.Seen.{seen_at}
 use Rattle.sweep.specs.Survey.{SurveyState}
 use Rattle.sweep.specs.Sweeps.{Adds, Comes, GoesOn, IsAllAsked, IsAtPort, IsBehind, IsPlacedAt, IsSweepable}
 use Rattle.sweep.specs.declared.fault.SweepFault.{SweepFault}
-use Rattle.sweep.specs.declared.graph.Link.{Link}
+use Rattle.sweep.specs.declared.graph.GraphLink.{GraphLink}
 use Rattle.sweep.specs.declared.path.TheConstants.{PATH_HOPS}
 use Rattle.sweep.specs.declared.seen.Seen.{Seen}
 
@@ -32,21 +32,21 @@ SwitchIsAsked fabric place num_ports path was next result =
     → Comes fabric (λ _. GoesOn fabric found (suc place) 0 next []) result
 
 -- ---- one port of a switch
-abbrev pub PortIsAsked : FabricState → (here : PortRef) → (path : List ℕ) → (was next : SurveyState) → (row more : List Link)
+abbrev pub PortIsAsked : FabricState → (here : PortRef) → (path : List ℕ) → (was next : SurveyState) → (row more : List GraphLink)
     → Result (Unit {0}) SweepFault → Type 0
 PortIsAsked fabric here path was next row more result =
     IsSweepable fabric → (found : List Found) (one : Found) (count : ℕ) → path ≡ one.path → IsAtPort fabric found one count was row here
     → Comes fabric (λ _. GoesOn fabric found here.node here.port next more) result
 
 -- its cable is one hop too far for an SMP: the link is known where it was seen from its other end
-abbrev pub LinkIsTurned : FabricState → (here : PortRef) → SurveyState → (row more : List Link) → Result (Unit {0}) SweepFault → Type 0
+abbrev pub LinkIsTurned : FabricState → (here : PortRef) → SurveyState → (row more : List GraphLink) → Result (Unit {0}) SweepFault → Type 0
 LinkIsTurned fabric here survey row more result =
     IsSweepable fabric → (found : List Found) (one : Found) (count : ℕ) (there : PortRef) → IsAtPort fabric found one count survey row here
     → far_end fabric.cables (port one.node here.port) ≡ Some there → length one.path ≡ PATH_HOPS
     → Comes fabric (λ _. GoesOn fabric found here.node here.port survey more) result
 
 -- a switch is behind it
-abbrev pub SwitchIsMet : FabricState → (here : PortRef) → (path : List ℕ) → Seen → (was next : SurveyState) → (row more : List Link)
+abbrev pub SwitchIsMet : FabricState → (here : PortRef) → (path : List ℕ) → Seen → (was next : SurveyState) → (row more : List GraphLink)
     → Result (Unit {0}) SweepFault → Type 0
 SwitchIsMet fabric here path seen was next row more result =
     IsSweepable fabric → (found : List Found) (one : Found) (count : ℕ) (there : PortRef) → IsAtPort fabric found one count was row here
@@ -56,7 +56,7 @@ SwitchIsMet fabric here path seen was next row more result =
 -- and has its place among those that are found
 abbrev pub SwitchIsPlaced : FabricState → (path : List ℕ) → Seen → (was next : SurveyState) → Result ℕ SweepFault → Type 0
 SwitchIsPlaced fabric path seen was next result =
-    IsSweepable fabric → (found : List Found) (one : Found) (count : ℕ) (row : List Link) (here there : PortRef)
+    IsSweepable fabric → (found : List Found) (one : Found) (count : ℕ) (row : List GraphLink) (here there : PortRef)
     → IsAtPort fabric found one count was row here → IsBehind fabric one here there path seen → is_switch_at fabric.nodes there.node ≡ true
     → Comes fabric (IsPlacedAt fabric found one here.node count next row there.node) result
 

@@ -3,9 +3,9 @@
 use Rattle.std.specs.Prelude.{List}
 use Rattle.sweep.specs.declared.graph.GraphPort.{GraphPort}
 use Rattle.sweep.specs.declared.graph.GraphSwitch.{GraphSwitch}
-use Rattle.sweep.specs.declared.graph.Link.{Link}
+use Rattle.sweep.specs.declared.graph.GraphLink.{GraphLink}
 
 pub record SurveyState : Type 0 where
   pub switches : List GraphSwitch
-  pub rows : List (List Link)
+  pub rows : List (List GraphLink)
   pub ports : List GraphPort

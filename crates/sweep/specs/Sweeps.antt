@@ -14,7 +14,7 @@ use Rattle.sweep.specs.Seen.{seen_at}
 use Rattle.sweep.specs.Survey.{SurveyState}
 use Rattle.sweep.specs.declared.fault.SweepFault.{SweepFault}
 use Rattle.sweep.specs.declared.fault.SweepFault.TheVariants.{NoMemory, NoReply, WrongReply, TooManyHops, TooManyNodes}
-use Rattle.sweep.specs.declared.graph.Link.{Link}
+use Rattle.sweep.specs.declared.graph.GraphLink.{GraphLink}
 use Rattle.sweep.specs.declared.path.TheConstants.{PATH_HOPS}
 use Rattle.sweep.specs.declared.seen.Seen.{Seen}
 
@@ -49,13 +49,13 @@ Adds full Done (Ok x) = Done x
 Adds full Done (Err fault) = IsFull full fault
 
 -- a link is noted, or memory is refused
-abbrev pub Noted : List Link → List Link → PortRef → PortRef → Result (Unit {0}) SweepFault → Type 0
+abbrev pub Noted : List GraphLink → List GraphLink → PortRef → PortRef → Result (Unit {0}) SweepFault → Type 0
 Noted row next here to (Ok done) = next ≡ row ++ record { port = here.port; to = to } ∷ []
 Noted row next here to (Err fault) = fault ≡ NoMemory
 
 -- ---- the steps
 -- the port of a switch that is asked next, and the path to its switch
-pub record IsAtPort (fabric : FabricState) (found : List Found) (one : Found) (count : ℕ) (survey : SurveyState) (row : List Link)
+pub record IsAtPort (fabric : FabricState) (found : List Found) (one : Found) (count : ℕ) (survey : SurveyState) (row : List GraphLink)
     (here : PortRef) : Type 0 where
   pub there : StandsAt found here.node one
   pub number : here.port ≡ suc count
@@ -71,12 +71,12 @@ pub record IsBehind (fabric : FabricState) (one : Found) (here there : PortRef) 
   pub seen_is : seen_at fabric there ≡ Some seen
 
 -- switches may have been found on the way
-pub record GoesOn (fabric : FabricState) (found : List Found) (i count : ℕ) (survey : SurveyState) (row : List Link) : Type 0 where
+pub record GoesOn (fabric : FabricState) (found : List Found) (i count : ℕ) (survey : SurveyState) (row : List GraphLink) : Type 0 where
   pub more : List Found
   pub progress : IsProgress fabric (found ++ more) i count survey row
 
 -- the switch behind a port was found, and stands at that place
-pub record IsPlacedAt (fabric : FabricState) (found : List Found) (one : Found) (i count : ℕ) (survey : SurveyState) (row : List Link)
+pub record IsPlacedAt (fabric : FabricState) (found : List Found) (one : Found) (i count : ℕ) (survey : SurveyState) (row : List GraphLink)
     (node place : ℕ) : Type 0 where
   pub more : List Found
   pub progress : IsProgress fabric (found ++ more) i count survey row

@@ -7,7 +7,7 @@ ghost use Rattle.sweep.specs.Graph.{IsGraph, count_at, end_guids, graph_with, ho
 ghost use Rattle.fabric_parts.specs.declared.limits.TheConstants.{ADAPTER_PORTS, SWITCHES};
 
 use crate::adapters::all_agree;
-use crate::graph::{GraphPort, GraphSwitch, Link, Row};
+use crate::graph::{GraphLink, GraphPort, GraphRow, GraphSwitch};
 use crate::path::PATH_HOPS;
 use crate::switch_list::SwitchList;
 use fabric_parts::{ADAPTER_PORTS, NodeType, PortRef, SWITCHES};
@@ -19,7 +19,7 @@ pub(crate) fn are_a_graph(
     alloc: Global,
     manager: u64,
     switches: &SwitchList,
-    rows: &[Row],
+    rows: &[GraphRow],
     ports: &[GraphPort],
 ) -> Result<bool, AllocError>
     ensures { IfOk result (λ b. Decides b (IsGraph (graph_with manager switches.now rows.now ports.now))) }
@@ -34,7 +34,7 @@ pub(crate) fn are_a_graph(
 }
 
 /// Whether there are as many rows as switches, and no more switches and ports than a graph holds.
-fn are_few(switches: &[GraphSwitch], rows: &[Row], ports: &[GraphPort]) -> bool
+fn are_few(switches: &[GraphSwitch], rows: &[GraphRow], ports: &[GraphPort]) -> bool
     ensures { result ≡ (nat_le (length switches.now) SWITCHES
         && (nat_le (length ports.now) ADAPTER_PORTS && (length rows.now == length switches.now))) }
 {
@@ -42,7 +42,7 @@ fn are_few(switches: &[GraphSwitch], rows: &[Row], ports: &[GraphPort]) -> bool
 }
 
 /// Whether each switch, link and port is one that a fabric of ours may have.
-fn are_right(switches: &SwitchList, rows: &[Row], ports: &[GraphPort]) -> bool
+fn are_right(switches: &SwitchList, rows: &[GraphRow], ports: &[GraphPort]) -> bool
     ensures { result ≡ (list_all is_right_switch switches.now
         && (list_all (is_right_row switches.now rows.now) (range_with_len 0 (length rows.now))
         && list_all (is_right_port switches.now) ports.now)) }
@@ -60,7 +60,7 @@ fn are_right_switches(switches: &[GraphSwitch]) -> bool
 }
 
 /// Whether the links of each switch are right.
-fn are_right_rows(switches: &[GraphSwitch], rows: &[Row]) -> bool
+fn are_right_rows(switches: &[GraphSwitch], rows: &[GraphRow]) -> bool
     ensures { result ≡ list_all (is_right_row switches.now rows.now) (range_with_len 0 (length rows.now)) }
 {
     (0..rows.len()).all(|place| is_right_row(switches, rows, place))
@@ -94,7 +94,7 @@ pub(crate) fn count_at(switches: &[GraphSwitch], place: usize) -> u8
 }
 
 /// The links of the switch at that place; none, where there is no switch.
-pub(crate) fn links_at(rows: &[Row], place: usize) -> &[Link]
+pub(crate) fn links_at(rows: &[GraphRow], place: usize) -> &[GraphLink]
     ensures { result.now ≡ get_or rows.now place [] }
 {
     match rows.get(place) {
@@ -104,7 +104,7 @@ pub(crate) fn links_at(rows: &[Row], place: usize) -> &[Link]
 }
 
 /// Whether a link out of that port leads there.
-fn is_linked(rows: &[Row], here: PortRef, there: PortRef) -> bool
+fn is_linked(rows: &[GraphRow], here: PortRef, there: PortRef) -> bool
     ensures { result ≡ is_linked rows.now here there }
 {
     links_at(rows, here.node)
@@ -113,7 +113,7 @@ fn is_linked(rows: &[Row], here: PortRef, there: PortRef) -> bool
 }
 
 /// Whether the ports of links rise, from above that number.
-fn rise_above(last: u8, links: &[Link]) -> bool
+fn rise_above(last: u8, links: &[GraphLink]) -> bool
     ensures { result ≡ rise_above last links.now }
 {
     let mut last = last;
@@ -127,7 +127,12 @@ fn rise_above(last: u8, links: &[Link]) -> bool
 }
 
 /// Whether a link is out of a port of the switch at that place, to a port of another, which leads back.
-fn is_right_link(switches: &[GraphSwitch], rows: &[Row], place: usize, link: &Link) -> bool
+fn is_right_link(
+    switches: &[GraphSwitch],
+    rows: &[GraphRow],
+    place: usize,
+    link: &GraphLink,
+) -> bool
     ensures { result ≡ is_right_link switches.now rows.now place link.now }
 {
     let here = PortRef {
@@ -140,7 +145,7 @@ fn is_right_link(switches: &[GraphSwitch], rows: &[Row], place: usize, link: &Li
 }
 
 /// Whether the links of the switch at that place are right, and in the order of their ports.
-fn is_right_row(switches: &[GraphSwitch], rows: &[Row], place: usize) -> bool
+fn is_right_row(switches: &[GraphSwitch], rows: &[GraphRow], place: usize) -> bool
     ensures { result ≡ is_right_row switches.now rows.now place }
 {
     let links = links_at(rows, place);
@@ -148,7 +153,12 @@ fn is_right_row(switches: &[GraphSwitch], rows: &[Row], place: usize) -> bool
 }
 
 /// Whether each of these links of the switch at that place is right.
-fn are_right_links(switches: &[GraphSwitch], rows: &[Row], place: usize, links: &[Link]) -> bool
+fn are_right_links(
+    switches: &[GraphSwitch],
+    rows: &[GraphRow],
+    place: usize,
+    links: &[GraphLink],
+) -> bool
     ensures { result ≡ list_all (is_right_link switches.now rows.now place) links.now }
 {
     links
@@ -157,7 +167,7 @@ fn are_right_links(switches: &[GraphSwitch], rows: &[Row], place: usize, links: 
 }
 
 /// Whether some link of the switch at that place leads to one that was found earlier.
-fn is_near(rows: &[Row], place: usize) -> bool
+fn is_near(rows: &[GraphRow], place: usize) -> bool
     ensures { result ≡ is_near rows.now place }
 {
     links_at(rows, place)
@@ -166,7 +176,7 @@ fn is_near(rows: &[Row], place: usize) -> bool
 }
 
 /// Whether some link of each switch but the first leads to one that was found earlier.
-pub(crate) fn has_a_nearer_switch(rows: &[Row]) -> bool
+pub(crate) fn has_a_nearer_switch(rows: &[GraphRow]) -> bool
     ensures { result ≡ is_joined rows.now }
 {
     (0..rows.len()).all(|place| place == 0 || is_near(rows, place))

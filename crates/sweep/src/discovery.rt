@@ -8,7 +8,7 @@ ghost use Rattle.smp_wire.specs.FabricState.{FabricState};
 ghost use Rattle.smp_wire.specs.Good.{IsGood};
 ghost use Rattle.sweep.specs.Joined.{AllJoined};
 ghost use Rattle.sweep.specs.Sweeps.{Adds, Finds, IsSweepable, Noted};
-ghost use Rattle.sweep.specs.declared.graph.Link.{Link};
+ghost use Rattle.sweep.specs.declared.graph.GraphLink.{GraphLink};
 ghost use Rattle.fabric_parts.specs.declared.limits.TheConstants.{SWITCHES};
 ghost use Rattle.sweep.specs.declared.path.TheConstants.{PATH_HOPS};
 ghost use Rattle.sweep.specs.Steps.{AllAreAsked, LinkIsTurned, PortIsAdded, PortIsAsked, SwitchIsAdded, SwitchIsAsked, SwitchIsMet, SwitchIsPlaced};
@@ -17,7 +17,7 @@ ghost use Rattle.sweep.specs.declared.fault.SweepFault.TheVariants.{NoMemory};
 
 use crate::asking::{has_link, look, name_of};
 use crate::fault::SweepFault;
-use crate::graph::{Graph, GraphPort, GraphSwitch, Link, Row};
+use crate::graph::{Graph, GraphLink, GraphPort, GraphRow, GraphSwitch};
 use crate::path::{PATH_HOPS, Path};
 use crate::seen::Seen;
 use crate::survey::Survey;
@@ -143,7 +143,7 @@ fn visit_switch<W: SmpWire>(
     ensures went { ForSome (W.fabric wire.old) (λ fabric. SwitchIsAsked fabric place num_ports path.now survey.old survey.new result) }
     ensures left { ForSome (W.fabric wire.old) (λ fabric. IsGood fabric → W.fabric wire.new ≡ Some fabric) }
 {
-    let mut row = Row::new(alloc);
+    let mut row = GraphRow::new(alloc);
     for before in 0..num_ports {
         let here = PortRef {
             node: place,
@@ -165,7 +165,7 @@ fn visit_port<W: SmpWire>(
     wire: &mut W,
     transaction_id: &mut u64,
     survey: &mut Survey,
-    row: &mut Row,
+    row: &mut GraphRow,
     here: PortRef,
     path: &Path,
 ) -> Result<(), SweepFault>
@@ -192,7 +192,7 @@ fn visit_port<W: SmpWire>(
 }
 
 /// Notes a link that no SMP can follow, if it was seen from its other end.
-fn turn_round(survey: &Survey, row: &mut Row, here: PortRef) -> Result<(), SweepFault>
+fn turn_round(survey: &Survey, row: &mut GraphRow, here: PortRef) -> Result<(), SweepFault>
     ensures went { (fabric : FabricState) → LinkIsTurned fabric here survey.now row.old row.new result }
 {
     match survey.seen_from(here) {
@@ -202,10 +202,10 @@ fn turn_round(survey: &Survey, row: &mut Row, here: PortRef) -> Result<(), Sweep
 }
 
 /// Notes a link.
-fn note(row: &mut Row, here: PortRef, to: PortRef) -> Result<(), SweepFault>
+fn note(row: &mut GraphRow, here: PortRef, to: PortRef) -> Result<(), SweepFault>
     ensures { Noted row.old row.new here to result }
 {
-    match row.push(Link {
+    match row.push(GraphLink {
         port: here.port,
         to,
     }) {
@@ -219,12 +219,13 @@ fn meet_switch<W: SmpWire>(
     wire: &mut W,
     transaction_id: &mut u64,
     survey: &mut Survey,
-    row: &mut Row,
+    row: &mut GraphRow,
     here: PortRef,
     seen: &Seen,
     path: Path,
 ) -> Result<(), SweepFault>
-    ensures went { ForSome (W.fabric wire.old) (λ fabric. SwitchIsMet fabric here path seen.now survey.old survey.new row.old row.new result) }
+    ensures went { ForSome (W.fabric wire.old)
+        (λ fabric. SwitchIsMet fabric here path seen.now survey.old survey.new row.old row.new result) }
     ensures left { ForSome (W.fabric wire.old) (λ fabric. IsGood fabric → W.fabric wire.new ≡ Some fabric) }
 {
     let node = match place_behind(wire, transaction_id, survey, seen, path) {

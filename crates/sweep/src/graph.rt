@@ -1,11 +1,13 @@
 //! What a graph holds.
 
-ghost use Rattle.std.specs.Prelude.{◌≡◌, true, [], ◌∷◌, ◌++◌, length, IfOk, OnOk};
+ghost use Rattle.std.specs.Prelude.{◌≡◌, ◌==◌, true, [], ◌∷◌, ◌++◌, length, find, position, IfOk, OnOk};
+ghost use Rattle.std.specs.Option.{option_copied};
 ghost use Rattle.sweep.specs.Graph.{IsGraph, end_guids, is_joined};
 ghost use Rattle.sweep.specs.Joined.{AllJoined};
 
 use crate::agreement::{end_guids, has_a_nearer_switch};
 use crate::path::Path;
+use crate::switch_list::SwitchList;
 use fabric_parts::PortRef;
 use std::alloc::{AllocError, Global};
 use std::marker::Model;
@@ -42,7 +44,7 @@ pub struct GraphPort {
 
 /// A port of a switch with a cable to another switch.
 #[derive(Clone, Copy, Debug, PartialEq, Eq)]
-pub struct Link {
+pub struct GraphLink {
     /// Its number.
     pub port: u8,
     /// The port at the other end, of a switch by its place in the graph.
@@ -51,38 +53,38 @@ pub struct Link {
 
 /// The links of a switch, in the order of its ports.
 #[derive(Debug, Drop)]
-pub struct Row {
-    links: Vec<Link>,
+pub struct GraphRow {
+    links: Vec<GraphLink>,
 }
 
-impl Model for Row {
+impl Model for GraphRow {
     ghost use Rattle.std.specs.Prelude.{List};
-    ghost use Rattle.sweep.specs.declared.graph.Link.{Link};
+    ghost use Rattle.sweep.specs.declared.graph.GraphLink.{GraphLink};
 
-    ghost Value = { List Link };
+    ghost Value = { List GraphLink };
 
     ghost view = { λ row. row.links.items };
 }
 
-impl Row {
+impl GraphRow {
     /// No link.
-    pub(crate) fn new(alloc: Global) -> Row
+    pub(crate) fn new(alloc: Global) -> GraphRow
         ensures { result ≡ [] }
     {
-        Row {
+        GraphRow {
             links: Vec::new(alloc),
         }
     }
 
     /// The links.
-    pub fn as_slice(&self) -> &[Link]
+    pub fn as_slice(&self) -> &[GraphLink]
         ensures { result.now ≡ self.now }
     {
         &self.links
     }
 
     /// Adds a link. Memory alone can be refused.
-    pub(crate) fn push(&mut self, link: Link) -> Result<(), AllocError>
+    pub(crate) fn push(&mut self, link: GraphLink) -> Result<(), AllocError>
         ensures ok { OnOk result (self.new ≡ self.old ++ link ∷ []) }
     {
         self.links.push(link)?;
@@ -97,8 +99,8 @@ impl Row {
 #[derive(Debug, Drop)]
 pub struct Graph {
     pub(crate) manager: u64,
-    pub(crate) switches: Vec<GraphSwitch>,
-    pub(crate) rows: Vec<Row>,
+    pub(crate) switches: SwitchList,
+    pub(crate) rows: Vec<GraphRow>,
     pub(crate) ports: Vec<GraphPort>,
 }
 
@@ -107,9 +109,9 @@ impl Model for Graph {
 
     ghost Value = { GraphState };
 
-    ghost view = { λ graph. graph_with graph.manager graph.switches.items graph.rows.items graph.ports.items };
+    ghost view = { λ graph. graph_with graph.manager graph.switches graph.rows.items graph.ports.items };
 
-    ghost invariant = { λ graph. IsGraph (graph_with graph.manager graph.switches.items graph.rows.items graph.ports.items) };
+    ghost invariant = { λ graph. IsGraph (graph_with graph.manager graph.switches graph.rows.items graph.ports.items) };
 }
 
 impl Graph {
@@ -124,11 +126,28 @@ impl Graph {
     pub fn switches(&self) -> &[GraphSwitch]
         ensures { result.now ≡ self.now.switches }
     {
-        &self.switches
+        self.switches.as_slice()
+    }
+
+    /// The place of the switch with this GUID, looked up in constant time.
+    pub fn place_of(&self, guid: u64) -> Option<usize>
+        ensures { result ≡ position (λ switch. switch.guid == guid) self.now.switches }
+    {
+        self.switches.place_of(guid)
+    }
+
+    /// The switch with this GUID, looked up in constant time.
+    pub fn switch(&self, guid: u64) -> Option<&GraphSwitch>
+        ensures { option_copied result ≡ find (λ switch. switch.guid == guid) self.now.switches }
+    {
+        match self.place_of(guid) {
+            Some(place) => Some(&self.switches()[place]),
+            None => None,
+        }
     }
 
     /// For each switch its links, in the same order; so each cable between two switches is in two rows.
-    pub fn rows(&self) -> &[Row]
+    pub fn rows(&self) -> &[GraphRow]
         ensures { result.now ≡ self.now.rows }
     {
         &self.rows
@@ -146,7 +165,7 @@ impl Graph {
     pub fn end_guids(&self, alloc: Global) -> Result<Vec<u64>, AllocError>
         ensures { IfOk result (λ guids. guids.items ≡ end_guids self.now.switches self.now.ports) }
     {
-        end_guids(alloc, &self.switches, &self.ports)
+        end_guids(alloc, self.switches(), &self.ports)
     }
 
     /// Whether each switch but the first has a link to one that was found earlier. Then links join all switches.

@@ -21,7 +21,7 @@ mod switch_list;
 
 pub use crate::discovery::sweep;
 pub use crate::fault::SweepFault;
-pub use crate::graph::{Graph, GraphPort, GraphSwitch, Link, Row};
+pub use crate::graph::{Graph, GraphLink, GraphPort, GraphRow, GraphSwitch};
 pub use crate::laws::{graphs_have_the_end_ports, the_numbers};
 pub use crate::path::{PATH_HOPS, Path};
 pub use crate::seen::{Seen, seen_of};

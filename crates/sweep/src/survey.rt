@@ -11,7 +11,7 @@ ghost use Rattle.fabric_parts.specs.declared.limits.TheConstants.{ADAPTER_PORTS,
 
 use crate::agreement::{are_a_graph, count_at, links_at};
 use crate::fault::SweepFault;
-use crate::graph::{Graph, GraphPort, GraphSwitch, Link, Row};
+use crate::graph::{Graph, GraphLink, GraphPort, GraphRow, GraphSwitch};
 use crate::path::Path;
 use crate::switch_list::SwitchList;
 use fabric_parts::{ADAPTER_PORTS, PortRef, SWITCHES};
@@ -23,7 +23,7 @@ use std::marker::Model;
 #[derive(Debug, Drop)]
 pub(crate) struct Survey {
     switches: SwitchList,
-    rows: Vec<Row>,
+    rows: Vec<GraphRow>,
     ports: Vec<GraphPort>,
 }
 
@@ -100,7 +100,7 @@ impl Survey {
     }
 
     /// Adds the links of a switch. Memory alone can be refused.
-    pub(crate) fn add_row(&mut self, row: Row) -> Result<(), AllocError>
+    pub(crate) fn add_row(&mut self, row: GraphRow) -> Result<(), AllocError>
         ensures ok { OnOk result (self.new ≡ record self.old { rows = self.old.rows ++ row ∷ [] }) }
     {
         self.rows.push(row)?;
@@ -131,7 +131,7 @@ impl Survey {
         }
         Ok(Graph {
             manager,
-            switches: switches.into_vec(),
+            switches,
             rows,
             ports,
         })
@@ -149,7 +149,7 @@ fn way_to(switches: &[GraphSwitch], place: usize) -> Option<(u8, Path)>
 }
 
 /// The port of that switch whose link leads there.
-fn port_to(links: &[Link], there: PortRef) -> Option<u8>
+fn port_to(links: &[GraphLink], there: PortRef) -> Option<u8>
     ensures { result ≡ option_map (λ link. link.port) (find (λ link. is_same_port link.to there) links.now) }
 {
     links
@@ -159,7 +159,7 @@ fn port_to(links: &[Link], there: PortRef) -> Option<u8>
 }
 
 /// A port whose link leads there.
-fn seen_from(rows: &[Row], there: PortRef) -> Option<PortRef>
+fn seen_from(rows: &[GraphRow], there: PortRef) -> Option<PortRef>
     ensures some { IfSome result (λ here. is_linked rows.now here there ≡ true) }
     ensures none { result ≡ None → (here : PortRef) → is_linked rows.now here there ≡ false }
 {

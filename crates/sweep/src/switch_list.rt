@@ -45,13 +45,6 @@ impl SwitchList {
         self.switches.as_slice()
     }
 
-    /// The switches, given away.
-    pub(crate) fn into_vec(self) -> Vec<GraphSwitch>
-        ensures { result.items ≡ self }
-    {
-        self.switches
-    }
-
     /// The place of the switch with this GUID, looked up in constant time.
     pub(crate) fn place_of(&self, guid: u64) -> Option<usize>
         ensures { result ≡ position (λ switch. switch.guid == guid) self.now }

@@ -24,8 +24,8 @@ use Rattle.agent_rules.specs.Carried.{linear_fdb_top_in}
 use Rattle.agent_rules.specs.Good.{IsTable}
 use Rattle.agent_rules.specs.PowerUp.{switch_info_at_power_up}
 use Rattle.agent_rules.specs.Request.{data_of, modifier_of}
-use Rattle.agent_rules.specs.declared.link.Link.{Link}
-use Rattle.agent_rules.specs.declared.link.Link.TheVariants.{Internal}
+use Rattle.agent_rules.specs.declared.link.PortLink.{PortLink}
+use Rattle.agent_rules.specs.declared.link.PortLink.TheVariants.{Internal}
 use Rattle.agent_rules.proofs.AgentLemmas.{after_cases}
 use Rattle.agent_rules.proofs.GivenLemmas.{block_is, whole_is, words_are}
 use Rattle.agent_rules.proofs.GoodLemmas.{new_info_good, new_keys_good, ports_keep, settings_keep_good, words_keep}
@@ -117,7 +117,7 @@ smps_keep_good lids multicast_lids held smp good =
     (λ attribute next asked h. set_good lids multicast_lids held next attribute (modifier_of smp) (data_of smp) good h)
 
 -- ---- at power-up
-ports_good : (number : ℕ) (links : List Link) → number + length links ≤ 256 → All IsGoodPort (ports_from number links)
+ports_good : (number : ℕ) (links : List PortLink) → number + length links ≤ 256 → All IsGoodPort (ports_from number links)
 ports_good number [] few = All-nil IsGoodPort
 ports_good number (link ∷ links) few =
     All-cons IsGoodPort (port_at_power_up number link) (ports_from (number + 1) links)

@@ -3,8 +3,8 @@ use Rattle.std.specs.Prelude.{ℕ, ◌≡◌, ◌↔◌, ◌<◌, true, false, L
 use Rattle.mad_layout.specs.Bits.{put_field}
 use Rattle.attr_tables.specs.Attribute.{IsAttribute}
 use Rattle.attr_tables.specs.declared.smp_attribute.SmpAttribute.{SmpAttribute}
-use Rattle.agent_rules.specs.declared.link.Link.{Link}
-use Rattle.agent_rules.specs.declared.link.Link.TheVariants.{Internal}
+use Rattle.agent_rules.specs.declared.link.PortLink.{PortLink}
+use Rattle.agent_rules.specs.declared.link.PortLink.TheVariants.{Internal}
 use Rattle.agent_rules.specs.Agent.{answer}
 use Rattle.agent_rules.specs.Laws.{IsSettled, IsUnseenPut, ReadsAlike}
 use Rattle.data_packet.specs.declared.packet.Packet.{Packet}
@@ -23,7 +23,7 @@ SmpsChangeWhatTheyName = (held : SwitchState) (smp : List ℕ) → ChangesAtMost
 -- a switch at power-up is good, with no more links than a port number can name
 abbrev pub NewSwitchesAreGood : Type 0
 NewSwitchesAreGood =
-    (node_guid : ℕ) (description : List ℕ) (links : List Link) (lids multicast_lids : ℕ) → IsAttribute description
+    (node_guid : ℕ) (description : List ℕ) (links : List PortLink) (lids multicast_lids : ℕ) → IsAttribute description
     → length links < 255 → lids < 65536 → multicast_lids < 65536
     → IsGoodSwitch lids multicast_lids (at_power_up node_guid description links lids multicast_lids)
 
@@ -53,12 +53,13 @@ abbrev pub UnseenComesBack : Type 0
 UnseenComesBack =
     (held : SwitchState) (in_port : ℕ) (smp : List ℕ) (off len value : ℕ) → IsUnseenPut smp off len value
     → IfOk (answer (get in_port) set held smp) IsAttribute
-    → agent_reply held in_port (put_field smp off len value) ≡ option_map (λ reply. put_field reply off len value) (agent_reply held in_port smp)
+    → agent_reply held in_port (put_field smp off len value) ≡ option_map (λ reply. put_field reply off len value)
+    (agent_reply held in_port smp)
 
 -- each port of a new switch has what its link gives it, port 0 that of the inside
 abbrev pub PortsHaveTheirLinks : Type 0
 PortsHaveTheirLinks =
-    (links : List Link) (number : ℕ)
+    (links : List PortLink) (number : ℕ)
     → slice_get (ports_from 0 (Internal ∷ links)) number ≡ option_map (port_at_power_up number) (slice_get (Internal ∷ links) number)
 
 -- a unicast packet leaves by the entry of its LID, wherever it came in and whatever the states of ports, unless the

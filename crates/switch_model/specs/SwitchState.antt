@@ -2,8 +2,8 @@
 use Rattle.std.specs.Prelude.{ℕ, ◌+◌, ◌-◌, List, [], ◌∷◌, length, replicate}
 use Rattle.std.specs.List.{All}
 use Rattle.mad_layout.specs.Layout.{Fits}
-use Rattle.agent_rules.specs.declared.link.Link.{Link}
-use Rattle.agent_rules.specs.declared.link.Link.TheVariants.{Internal}
+use Rattle.agent_rules.specs.declared.link.PortLink.{PortLink}
+use Rattle.agent_rules.specs.declared.link.PortLink.TheVariants.{Internal}
 use Rattle.fabric_parts.specs.declared.node_type.NodeType.TheVariants.{Switch}
 use Rattle.attr_tables.specs.declared.switch_info.SwitchInfo.{SwitchInfo}
 use Rattle.attr_tables.specs.PortInfo.{port_info}
@@ -31,17 +31,17 @@ num_ports held = length held.ports - 1
 abbrev pub AllFit : List SwitchPort → Type 0
 AllFit ports = All (λ port. Fits (port_info port.info)) ports
 
-abbrev pub port_at_power_up : ℕ → Link → SwitchPort
+abbrev pub port_at_power_up : ℕ → PortLink → SwitchPort
 port_at_power_up number link =
     record { info = port_info_at_power_up Switch number link; keys = keys_at_power_up }
 
 -- the ports with these links, the first of which has this number
-abbrev pub ports_from : ℕ → List Link → List SwitchPort
+abbrev pub ports_from : ℕ → List PortLink → List SwitchPort
 ports_from number [] = []
 ports_from number (link ∷ links) = port_at_power_up number link ∷ ports_from (number + 1) links
 
 -- a switch whose ports from 1 on have these links, with tables for so many LIDs and multicast LIDs
-abbrev pub at_power_up : ℕ → List ℕ → List Link → (lids multicast_lids : ℕ) → SwitchState
+abbrev pub at_power_up : ℕ → List ℕ → List PortLink → (lids multicast_lids : ℕ) → SwitchState
 at_power_up node_guid description links lids multicast_lids =
     record {
       node_guid = node_guid;

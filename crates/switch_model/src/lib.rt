@@ -4,7 +4,8 @@
 //! [`Switch::agent`] answers an SMP: its clauses say, by the definitions of `specs/Agent.antt`, whether
 //! there is a reply, each bit of it, and what the switch holds from then on. A wire needs to know nothing
 //! else. [`Switch::unicast_out`] says by which port a packet leaves, by the tables that SMPs wrote
-//! (`specs/Forwarding.antt`), and [`Switch::fate`] what becomes of one that does not (`specs/Fate.antt`). What all agents share stands in `agent_rules`. The attributes are those of
+//! (`specs/Forwarding.antt`), and [`Switch::fate`] what becomes of one that does not (`specs/Fate.antt`). What all
+//! agents share stands in `agent_rules`. The attributes are those of
 //! the IBA volume 1, chapter 14; what a switch holds at power-up is ours.
 #![tactic(auto)]
 

@@ -8,7 +8,9 @@ ghost use Rattle.fabric_parts.specs.declared.limits.TheConstants.{SWITCH_PORTS};
 
 use crate::switch::PORTS_WITH_0;
 use crate::switch_port::SwitchPort;
-use agent_rules::{Link, PortSetting, port_info_after, set_word_block, shown_at, word_block_at};
+use agent_rules::{
+    PortLink, PortSetting, port_info_after, set_word_block, shown_at, word_block_at,
+};
 use arrayvec::ArrayVec;
 use mad_layout::MadStatus;
 
@@ -87,13 +89,13 @@ fn key_block(modifier: u32) -> usize
 }
 
 /// The ports of a switch at power-up: port 0, and one for each link.
-pub fn ports_at_power_up(links: &[Link]) -> ArrayVec<SwitchPort, PORTS_WITH_0>
+pub fn ports_at_power_up(links: &[PortLink]) -> ArrayVec<SwitchPort, PORTS_WITH_0>
     requires { length links.now ≤ SWITCH_PORTS }
-    ensures ports { result.items ≡ ports_from 0 (Link.Internal ∷ links.now) }
+    ensures ports { result.items ≡ ports_from 0 (PortLink.Internal ∷ links.now) }
     ensures fits { AllFit result.items }
 {
     let mut ports = ArrayVec::new();
-    ports.push(SwitchPort::at_power_up(0, Link::Internal));
+    ports.push(SwitchPort::at_power_up(0, PortLink::Internal));
     for link in links {
         let number = ports.len() as u8;
         ports.push(SwitchPort::at_power_up(number, *link));

@@ -18,7 +18,7 @@ use crate::multicast_table::{POSITIONS, get_masks, set_masks};
 use crate::ports::{get_keys, get_port_info, ports_at_power_up, set_keys, set_port_info};
 use crate::switch_port::SwitchPort;
 use agent_rules::{
-    Link, attribute_asked, data_of, is_request, is_set, modifier_of, node_info_of, put_reply,
+    PortLink, attribute_asked, data_of, is_request, is_set, modifier_of, node_info_of, put_reply,
     switch_info_at_power_up, whole,
 };
 use arrayvec::ArrayVec;
@@ -64,7 +64,7 @@ impl<const LFT: usize, const MFT: usize> Model for Switch<LFT, MFT> {
 
 impl<const LFT: usize, const MFT: usize> Switch<LFT, MFT> {
     /// A switch at power-up, of that GUID and name, with a port for each of these links beside port 0.
-    pub fn new(node_guid: u64, name: &[u8], links: &[Link]) -> Self
+    pub fn new(node_guid: u64, name: &[u8], links: &[PortLink]) -> Self
         requires lids { LFT < 65536 }
         requires multicast_lids { MFT < 65536 }
         requires name { length name.now ≤ 64 }

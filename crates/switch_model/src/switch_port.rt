@@ -6,7 +6,7 @@ ghost use Rattle.attr_tables.specs.PortInfo.{port_info};
 ghost use Rattle.switch_model.specs.Forwarding.{port_accepts};
 ghost use Rattle.switch_model.specs.SwitchState.{port_at_power_up};
 
-use agent_rules::{Link, keys_at_power_up, port_info_at_power_up};
+use agent_rules::{PortLink, keys_at_power_up, port_info_at_power_up};
 use attr_tables::PortInfo;
 use fabric_parts::NodeType;
 use pkey_rules::{PARTITIONS, PKey, stored_accepts};
@@ -22,7 +22,7 @@ pub struct SwitchPort {
 
 impl SwitchPort {
     /// The port of that number at power-up.
-    pub fn at_power_up(number: u8, link: Link) -> SwitchPort
+    pub fn at_power_up(number: u8, link: PortLink) -> SwitchPort
         ensures value { result ≡ port_at_power_up number link }
         ensures fits { Fits (port_info result.info) }
     {

@@ -31,6 +31,7 @@ use Rattle.table_push.proofs.EntryLemmas.{entry_there}
 use Rattle.table_push.proofs.HomeLemmas.{home_at, port_home, switch_home}
 use Rattle.table_push.proofs.RowLemmas.{linked, row_within}
 use Rattle.table_push.proofs.SeatLemmas.{IsSeated, seated}
+use Rattle.smp_wire.proofs.PresentLemmas.{present_right}
 
 -- ---- homes
 home_there : (homes : List PortRef) (lid : ℕ) (home : PortRef) → home_of homes lid ≡ Some home → slice_get homes (lid - 1) ≡ Some home
@@ -188,8 +189,8 @@ module _ (routes : RoutesState) (keys : List (List ℕ)) (fabric : FabricState) 
       let here = port_lid from begin.far sender begin first in
       let there = port_lid at end.far one end last in
       let own = switch_lid first.place first.found first.there in
-      let begins = in_range fabric begin.far.node begin.far.port (far_is_port fabric.nodes fabric.cables from begin.far up.good.cables begin.cable) in
-      let ends = in_range fabric end.far.node end.far.port (far_is_port fabric.nodes fabric.cables at end.far up.good.cables end.cable) in
+      let begins = in_range fabric begin.far.node begin.far.port (far_is_port fabric.nodes fabric.cables from begin.far (present_right up.good) begin.cable) in
+      let ends = in_range fabric end.far.node end.far.port (far_is_port fabric.nodes fabric.cables at end.far (present_right up.good) end.cable) in
       let way = arrives first.place last.place one.info.lid end.far.port (row_within fabric routes.graph first.place first.found up.graph first.there) there.hangs
       (λ is. omega (arith, ends.0, is)) own.0 own.1 (carried_by sender.info.lid first.place begin.far.port here.hangs begins.0) in
       follow one.info.lid last.place end.far.port at way.0 first.place first.found begin.far

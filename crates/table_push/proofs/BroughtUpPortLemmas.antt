@@ -27,7 +27,7 @@ use Rattle.fabric_parts.specs.declared.node_type.NodeType.TheVariants as node_ty
 use Rattle.sweep.specs.OfFabric.{Found, IsGraphOf, guid_at, link_to, node_at, nodes_of, placed, ports_at, row_of, switch_of}
 use Rattle.sweep.specs.declared.graph.GraphPort.{GraphPort}
 use Rattle.sweep.specs.declared.graph.GraphSwitch.{GraphSwitch}
-use Rattle.sweep.specs.declared.graph.Link.{Link}
+use Rattle.sweep.specs.declared.graph.GraphLink.{GraphLink}
 use Rattle.sweep.proofs.EndPortLemmas.{in_all, stands, there_is}
 use Rattle.sweep.proofs.FoundLemmas.{among_place, any_by}
 use Rattle.sweep.proofs.LeastLemmas.{in_range}
@@ -46,6 +46,7 @@ use Rattle.table_push.specs.Pushed.{all_pushed}
 use Rattle.table_push.proofs.HomeLemmas.{later, own_switch}
 use Rattle.table_push.proofs.BroughtUpNodeLemmas.{SwitchPortAfter, adapter_port_after, switch_port_after}
 use Rattle.table_push.proofs.SeatLemmas.{IsSeated, seated}
+use Rattle.smp_wire.proofs.PresentLemmas.{present_right}
 
 fourth : (a b c d e : Bool) → (a && (b && (c && (d && e)))) ≡ true → d ≡ true
 fourth a b c d e all =
@@ -158,7 +159,7 @@ module _ (routes : RoutesState) (keys : List (List ℕ)) (fabric : FabricState) 
 
   not_first : (here at : PortRef) → far_end fabric.cables here ≡ Some at → (here.port == 0) ≡ false
   not_first here at cable =
-      let range = in_range fabric here.node here.port (cabled_is_port fabric.nodes fabric.cables here at good.cables cable) in
+      let range = in_range fabric here.node here.port (cabled_is_port fabric.nodes fabric.cables here at (present_right good) cable) in
       let low = range.0 in grind (arith, nat_tests, low)
 
   pub faces_adapter : (here at : PortRef) (mine : SwitchPort) (one : AdapterState) (own : List ℕ) → switch_port_at (all_pushed routes keys fabric).nodes here ≡ Some mine
@@ -197,8 +198,8 @@ module _ (routes : RoutesState) (keys : List (List ℕ)) (fabric : FabricState) 
       → has_link routes.graph at_place.place here.port ≡ true
   is_linked here at at_place cable switch =
       let row = row_of fabric (nodes_of of.layout.found) at_place.found.node in
-      let link : Link = record { port = here.port; to = placed (nodes_of of.layout.found) at } in
-      let range = in_range fabric here.node here.port (cabled_is_port fabric.nodes fabric.cables here at good.cables cable) in
+      let link : GraphLink = record { port = here.port; to = placed (nodes_of of.layout.found) at } in
+      let range = in_range fabric here.node here.port (cabled_is_port fabric.nodes fabric.cables here at (present_right good) cable) in
       let node = at_place.node_is in
       let made : option_map_or (link_to fabric (nodes_of of.layout.found) here.port) (far_end fabric.cables (port at_place.found.node here.port)) [] ≡ link ∷ [] =
       ap (λ (n : ℕ). option_map_or (link_to fabric (nodes_of of.layout.found) here.port) (far_end fabric.cables (port n here.port)) []) node
@@ -207,14 +208,14 @@ module _ (routes : RoutesState) (keys : List (List ℕ)) (fabric : FabricState) 
       let has : Contains row link =
       in_all (λ number. option_map_or (link_to fabric (nodes_of of.layout.found) number) (far_end fabric.cables (port at_place.found.node number)) [])
       1 (ports_at fabric at_place.found.node) here.port link range.0 (rw node (omega (arith, range.1)))
-      (subst (λ (links : List Link). Contains links link) (sym made) (there_is (link ∷ []) 0 link refl)) in
+      (subst (λ (links : List GraphLink). Contains links link) (sym made) (there_is (link ∷ []) 0 link refl)) in
       let at_row = stands row link has in
       let rows : slice_get routes.graph.rows at_place.place ≡ Some row =
-      ap (λ (rows : List (List Link)). slice_get rows at_place.place) of.layout.rows
+      ap (λ (rows : List (List GraphLink)). slice_get rows at_place.place) of.layout.rows
       ∙ slice_get-map (λ (found : Found). row_of fabric (nodes_of of.layout.found) found.node) of.layout.found at_place.place
       ∙ ap (option_map (λ (found : Found). row_of fabric (nodes_of of.layout.found) found.node)) at_place.there in
-      ap (list_any (λ (other : Link). other.port == here.port)) (get_or_from_slice_get routes.graph.rows at_place.place row [] rows)
-      ∙ any_by (λ (other : Link). other.port == here.port) row at_row.0 link at_row.1 (eq-eqb here.port here.port refl)
+      ap (list_any (λ (other : GraphLink). other.port == here.port)) (get_or_from_slice_get routes.graph.rows at_place.place row [] rows)
+      ∙ any_by (λ (other : GraphLink). other.port == here.port) row at_row.0 link at_row.1 (eq-eqb here.port here.port refl)
 
   pub faces_switch : (here at : PortRef) (mine : SwitchPort) → switch_port_at (all_pushed routes keys fabric).nodes here ≡ Some mine
       → far_end fabric.cables here ≡ Some at → is_switch_at fabric.nodes at.node ≡ true

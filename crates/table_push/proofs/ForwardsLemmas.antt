@@ -15,11 +15,12 @@ use Rattle.table_push.specs.BroughtUpLaws.{BroughtUpForwardsByLid}
 use Rattle.table_push.proofs.BroughtUpKeyLemmas.{faces}
 use Rattle.table_push.proofs.BroughtUpLeadLemmas.{lead_there, lid_place}
 use Rattle.table_push.proofs.OwnLemmas.{own_lid}
+use Rattle.smp_wire.proofs.PresentLemmas.{present_once, present_right}
 
 pub brought_up_forwards_by_lid : BroughtUpForwardsByLid
 brought_up_forwards_by_lid routes keys fabric home all up = record {
-  cables = up.good.cables;
-  once = up.good.once;
+  cables = (present_right up.good);
+  once = (present_once up.good);
   own = own_lid routes keys fabric home up;
   lead = lead_there routes keys fabric home up;
   facing = facing;

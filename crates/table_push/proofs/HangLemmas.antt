@@ -26,6 +26,7 @@ use Rattle.sweep.proofs.OwnLemmas.{adapter_seen}
 use Rattle.sweep.proofs.ProgressLemmas.{node_of}
 use Rattle.table_push.specs.Pushes.{IsAskedFor, LeadsToPort}
 use Rattle.table_push.proofs.LeadLemmas.{found_at_place}
+use Rattle.smp_wire.proofs.PresentLemmas.{present_right}
 
 -- ---- ports of switches
 pub switch_leads : (fabric : FabricState) (graph : GraphState) (place number : ℕ) (switch : GraphSwitch) → IsGraphOf graph fabric
@@ -159,9 +160,9 @@ adapter_leads fabric graph k one switch good of there home =
     let cable : far_end fabric.cables (port leads.at.node a.number) ≡ Some end =
     ap (λ (n : ℕ). far_end fabric.cables (port n a.number)) (sym node) ∙ a.behind.cable in
     let ends = end_more fabric f.0.path leads.at end a.number leads.ends switch_there
-    (cabled_is_port fabric.nodes fabric.cables (port leads.at.node a.number) end good.cables cable) cable in
+    (cabled_is_port fabric.nodes fabric.cables (port leads.at.node a.number) end (present_right good) cable) cable in
     let seen = adapter_seen fabric end a.behind.seen a.behind.adapter a.behind.seen_is in
-    let range = in_range fabric end.node end.port (far_is_port fabric.nodes fabric.cables (port leads.at.node a.number) end good.cables cable) in
+    let range = in_range fabric end.node end.port (far_is_port fabric.nodes fabric.cables (port leads.at.node a.number) end (present_right good) cable) in
     let guid : guid_at fabric end.node ≡ one.node_guid =
     ap (λ (o : Option Node). option_map_or node_guid o 0) seen.there ∙ sym seen.guid ∙ ap (λ (p : GraphPort). p.node_guid) (sym a.behind.is) in
     let number : end.port ≡ one.number = sym seen.number ∙ ap (λ (p : GraphPort). p.number) (sym a.behind.is) in

@@ -42,6 +42,7 @@ leads_on old new path guid same leads = record {
 pub same_shape : (one two three : FabricState) → IsSameShape one two → IsSameShape two three → IsSameShape one three
 same_shape one two three first second = record {
   cables = second.cables ∙ first.cables;
+  cut = second.cut ∙ first.cut;
   manager = second.manager ∙ first.manager;
   switches = second.switches ∙ first.switches;
   node_guids = second.node_guids ∙ first.node_guids;
@@ -53,6 +54,7 @@ same_shape one two three first second = record {
 pub itself : (fabric : FabricState) → IsSameShape fabric fabric
 itself fabric = record {
   cables = refl;
+  cut = refl;
   manager = refl;
   switches = refl;
   node_guids = refl;

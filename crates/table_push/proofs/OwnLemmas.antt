@@ -31,6 +31,7 @@ use Rattle.table_push.proofs.EntryLemmas.{entry_is}
 use Rattle.table_push.proofs.HomeLemmas.{at_home, home_of_port}
 use Rattle.table_push.proofs.RowLemmas.{linked, row_within}
 use Rattle.table_push.proofs.SeatLemmas.{IsSeated, is_no_switch, seated}
+use Rattle.smp_wire.proofs.PresentLemmas.{present_right}
 
 -- no node has so many ports that 0xFF is one
 few_ports : (nodes : List Node) (node number : ℕ) → list_all has_a_right_count nodes ≡ true → number ≤ option_map_or port_count (slice_get nodes node) 0
@@ -84,7 +85,7 @@ module _ (routes : RoutesState) (keys : List (List ℕ)) (fabric : FabricState) 
       let seat = seated fabric routes.graph at one up.good up.graph cabled in
       let entry = entry_is routes keys fabric home up seat.place lid leads.out seat.found seat.there
       (ap (λ (n : ℕ). entry_at fabric.nodes n lid) seat.node ∙ leads.entry) in
-      let range = in_range fabric here.node leads.out (cabled_is_port fabric.nodes fabric.cables near at up.good.cables leads.cable) in
+      let range = in_range fabric here.node leads.out (cabled_is_port fabric.nodes fabric.cables near at (present_right up.good) leads.cable) in
       let hop : next_hop routes.between seat.place lid ≡ Some leads.out =
       some_hop (next_hop routes.between seat.place lid) leads.out (few_ports fabric.nodes here.node leads.out up.good.counts range.1) entry.is in
       by seat range.0 (home_of (homes_of routes.graph routes.lids) lid) refl hop

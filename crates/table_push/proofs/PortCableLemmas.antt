@@ -14,7 +14,7 @@ use Rattle.sweep.specs.Graph.{GraphState, IsGraph}
 use Rattle.sweep.specs.OfFabric.{IsGraphOf}
 use Rattle.sweep.specs.declared.graph.GraphPort.{GraphPort}
 use Rattle.sweep.specs.declared.graph.GraphSwitch.{GraphSwitch}
-use Rattle.sweep.specs.declared.graph.Link.{Link}
+use Rattle.sweep.specs.declared.graph.GraphLink.{GraphLink}
 use Rattle.result_words.proofs.RangeLemmas.{range_more}
 use Rattle.table_push.specs.Keys.{at_cable, at_cables, guid_of}
 use Rattle.table_push.specs.Nodes.{with_infos}
@@ -31,7 +31,7 @@ use Rattle.table_push.proofs.WantedLemmas.{guid_there, hanging_is, port_is, with
 use Rattle.updn_routes.specs.Subnet.{RoutesState}
 
 -- ---- the ports of a switch with links
-abbrev pub with_links : (ℕ → ℕ → Bool) → ℕ → List Link → ℕ → ℕ → Bool
+abbrev pub with_links : (ℕ → ℕ → Bool) → ℕ → List GraphLink → ℕ → ℕ → Bool
 with_links there guid links of_guid of_number = there of_guid of_number || ((guid == of_guid) && list_any (λ link. link.port == of_number) links)
 
 or_none : (a b : Bool) → (a || (b && false)) ≡ a
@@ -51,7 +51,7 @@ links_begin stood fabric routes there guid stands =
     subst (Stands stood fabric) (told_same routes fabric _ _ (λ of_guid of_number. sym (or_none (there of_guid of_number) (guid == of_guid)))) stands
 
 pub links_more : (stood left : Option FabricState) (result : Result (Unit {0}) PushFault) (fabric : FabricState) (routes : RoutesState) (there : ℕ → ℕ → Bool)
-    (place k : ℕ) (switch : GraphSwitch) (row : List Link) (link : Link) → IsGood fabric → ShowsLinks fabric → IsGraph routes.graph → IsGraphOf routes.graph fabric
+    (place k : ℕ) (switch : GraphSwitch) (row : List GraphLink) (link : GraphLink) → IsGood fabric → ShowsLinks fabric → IsGraph routes.graph → IsGraphOf routes.graph fabric
     → slice_get routes.graph.switches place ≡ Some switch → slice_get routes.graph.rows place ≡ Some row → slice_get row k ≡ Some link → k < length row
     → Stands stood fabric (with_infos (changed_where (with_links there (guid_of routes.graph.switches place) (take k row)) routes) fabric)
     → ChangesAt stood left result switch.path link.port (record stays { enforcement = Some false; active = true })
@@ -69,11 +69,11 @@ links_more stood left result fabric routes there place k switch row link good sh
     ap (λ (g : ℕ). with_links there guid (take k row) of_guid of_number || ((g == of_guid) && (link.port == of_number))) (sym named)
     ∙ or_both (there of_guid of_number) (guid == of_guid) (list_any (λ one. one.port == of_number) (take k row)) (link.port == of_number)
     ∙ ap (λ (b : Bool). there of_guid of_number || ((guid == of_guid) && b))
-    (ap (λ (one : Link). list_any (λ other. other.port == of_number) (take k row) || (one.port == of_number)) (sym (get_or_from_slice_get row k link link at))
+    (ap (λ (one : GraphLink). list_any (λ other. other.port == of_number) (take k row) || (one.port == of_number)) (sym (get_or_from_slice_get row k link link at))
     ∙ sym (list_any_more (λ one. one.port == of_number) row k link within)) in
     subst (Leaves result left fabric) (told_same routes fabric _ _ grown) leaves
 
-pub links_end : (stood : Option FabricState) (fabric : FabricState) (routes : RoutesState) (there : ℕ → ℕ → Bool) (place count : ℕ) (row : List Link)
+pub links_end : (stood : Option FabricState) (fabric : FabricState) (routes : RoutesState) (there : ℕ → ℕ → Bool) (place count : ℕ) (row : List GraphLink)
     → slice_get routes.graph.rows place ≡ Some row → length row ≤ count
     → Stands stood fabric (with_infos (changed_where (with_links there (guid_of routes.graph.switches place) (take count row)) routes) fabric)
     → Leaves {X = Unit {0}} (Ok tt) stood fabric
@@ -140,7 +140,7 @@ switches_end stood fabric routes place count all stands =
     ends_as stood fabric _ _ stands (ap (λ (n : ℕ). with_infos (changed_where (at_switches_before routes.graph n) routes) fabric) all)
 
 -- ---- what the code has read
-abbrev pub no_link : Link
+abbrev pub no_link : GraphLink
 no_link = record { port = 0; to = record { node = 0; port = 0 } }
 
 pub changes_along : (stood left : Option FabricState) (result : Result (Unit {0}) PushFault) (one other : List ℕ) (asked : ℕ) (change : PortChange) → one ≡ other
@@ -148,14 +148,14 @@ pub changes_along : (stood left : Option FabricState) (result : Result (Unit {0}
 changes_along stood left result one other asked change same changes = subst (λ (path : List ℕ). ChangesAt stood left result path asked change) same changes
 
 -- the row of a switch of the graph
-pub row_at : (graph given : GraphState) (rows : List (List Link)) (place : ℕ) (d row links : List Link) → given ≡ graph → rows ≡ given.rows
+pub row_at : (graph given : GraphState) (rows : List (List GraphLink)) (place : ℕ) (d row links : List GraphLink) → given ≡ graph → rows ≡ given.rows
     → place < length rows → row ≡ get_or rows place d → links ≡ row → slice_get graph.rows place ≡ Some links
 row_at graph given rows place d row links same are within is links_are =
     let rows_same : rows ≡ graph.rows = are ∙ ap (λ (g : GraphState). g.rows) same in
-    ap (λ (some : List (List Link)). slice_get some place) (sym rows_same) ∙ slice_get-get_or rows place d within
-    ∙ ap (λ (one : List Link). Some one) (sym is ∙ sym links_are)
+    ap (λ (some : List (List GraphLink)). slice_get some place) (sym rows_same) ∙ slice_get-get_or rows place d within
+    ∙ ap (λ (one : List GraphLink). Some one) (sym is ∙ sym links_are)
 
-pub row_within : (graph given : GraphState) (rows : List (List Link)) (place : ℕ) → IsGraph given → given ≡ graph → rows ≡ given.rows
+pub row_within : (graph given : GraphState) (rows : List (List GraphLink)) (place : ℕ) → IsGraph given → given ≡ graph → rows ≡ given.rows
     → place < length graph.switches → place < length rows
 row_within graph given rows place is same are within =
     omega (arith, within, ap length are, is.a_row_each, ap (λ (g : GraphState). length g.switches) same)

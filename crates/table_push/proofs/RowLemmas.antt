@@ -9,7 +9,7 @@ use Rattle.fabric_parts.specs.declared.cable.PortRef.{PortRef}
 use Rattle.smp_wire.specs.FabricState.{FabricState, is_switch_at}
 use Rattle.sweep.specs.Graph.{GraphState}
 use Rattle.sweep.specs.OfFabric.{Found, IsGraphOf, link_to, nodes_of, place_of, placed, ports_at, row_of as fabric_row}
-use Rattle.sweep.specs.declared.graph.Link.{Link as GraphLink}
+use Rattle.sweep.specs.declared.graph.GraphLink.{GraphLink}
 use Rattle.sweep.proofs.EndPortLemmas.{of_one, one_of, there_is}
 use Rattle.sweep.proofs.FoundLemmas.{any_at}
 use Rattle.updn_routes.specs.Cabling.{leads, links_of}

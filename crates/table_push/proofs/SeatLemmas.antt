@@ -27,6 +27,7 @@ use Rattle.sweep.proofs.MetLemmas.{good_once}
 use Rattle.sweep.proofs.ProgressLemmas.{node_of}
 use Rattle.sweep.proofs.VisitLemmas.{port_is}
 use Rattle.sweep.proofs.WholeLemmas.{found_there}
+use Rattle.smp_wire.proofs.PresentLemmas.{present_right}
 
 -- ---- a port of a channel adapter
 no_switch_by : (found : Option Node) (number : ℕ) (one : AdapterState) → option_and_then (λ node. adapter_port (adapter_ports node) number) found ≡ Some one
@@ -95,7 +96,7 @@ seated fabric graph at one good of cabled =
     let back = cabled.far in
     let adapter = is_no_switch fabric.nodes at one cabled.there in
     let home : far_end fabric.cables back ≡ Some at = good_once fabric at back good cabled.cable in
-    let range = in_range fabric back.node back.port (far_is_port fabric.nodes fabric.cables at back good.cables cabled.cable) in
+    let range = in_range fabric back.node back.port (far_is_port fabric.nodes fabric.cables at back (present_right good) cabled.cable) in
     let switch = to_switch fabric at back good adapter cabled.cable in
     let place = among_place (nodes_of of.layout.found) back.node (of.layout.all back.node ∙ switch) in
     let found = found_there of.layout.found place.0 back.node place.1 in

@@ -21,7 +21,7 @@ use Rattle.sweep.specs.Graph.{GraphState}
 use Rattle.sweep.specs.OfFabric.{Found, IsGraphOf, Leads, guid_at, link_to, node_at, nodes_of, placed, ports_at, row_of}
 use Rattle.sweep.specs.declared.graph.GraphPort.{GraphPort}
 use Rattle.sweep.specs.declared.graph.GraphSwitch.{GraphSwitch}
-use Rattle.sweep.specs.declared.graph.Link.{Link}
+use Rattle.sweep.specs.declared.graph.GraphLink.{GraphLink}
 use Rattle.sweep.proofs.CabledLemmas.{cabled_of, end_more}
 use Rattle.sweep.proofs.EndPortLemmas.{of_one, one_of, there_is}
 use Rattle.sweep.proofs.FoundLemmas.{among_at, node_there}
@@ -38,6 +38,7 @@ use Rattle.table_push.proofs.InfoPortLemmas.{info_after}
 use Rattle.table_push.proofs.LeadLemmas.{found_at_place}
 use Rattle.table_push.proofs.PortLemmas.{port_on}
 use Rattle.updn_routes.specs.Subnet.{RoutesState}
+use Rattle.smp_wire.proofs.PresentLemmas.{present_right}
 
 -- ---- a switch of the graph
 pub record Seated (fabric : FabricState) (found : List Found) (place : ℕ) (switch : GraphSwitch) : Type 0 where
@@ -73,7 +74,7 @@ mapped_at f [] k y there = absurd (cc)
 mapped_at f (x ∷ xs) zero y there = (x, refl, sym (same_Some _ _ there))
 mapped_at f (x ∷ xs) (suc k) y there = mapped_at f xs k y there
 
-by_link : (fabric : FabricState) (found : List Found) (place number : ℕ) (link : Link)
+by_link : (fabric : FabricState) (found : List Found) (place number : ℕ) (link : GraphLink)
     → Contains (option_map_or (link_to fabric (nodes_of found) number) (far_end fabric.cables (port (node_at found place) number)) []) link
     → Linked fabric found place link.port
 by_link fabric found place number link has = by_far (far_end fabric.cables (port (node_at found place) number)) refl has
@@ -85,7 +86,7 @@ by_link fabric found place number link has = by_far (far_end fabric.cables (port
         → Contains (if b then record { port = number; to = placed (nodes_of found) there } ∷ [] else []) link → Linked fabric found place link.port
     by_kind there far true kind has =
         let is = one_of (record { port = number; to = placed (nodes_of found) there }) link has in
-        let same : number ≡ link.port = ap (λ (one : Link). one.port) is in
+        let same : number ≡ link.port = ap (λ (one : GraphLink). one.port) is in
         record { there = there; cable = subst (λ (n : ℕ). far_end fabric.cables (port (node_at found place) n) ≡ Some there) same far; switch = kind }
     by_kind there far false kind has = absurd (none has)
 
@@ -94,25 +95,25 @@ by_link fabric found place number link has = by_far (far_end fabric.cables (port
     by_far None far has = absurd (none has)
     by_far (Some there) far has = by_kind there far (is_switch_at fabric.nodes there.node) refl has
 
-pub linked : (fabric : FabricState) (graph : GraphState) (place k : ℕ) (row : List Link) (link : Link) → (of : IsGraphOf graph fabric)
+pub linked : (fabric : FabricState) (graph : GraphState) (place k : ℕ) (row : List GraphLink) (link : GraphLink) → (of : IsGraphOf graph fabric)
     → slice_get graph.rows place ≡ Some row → slice_get row k ≡ Some link → Linked fabric of.layout.found place link.port
 linked fabric graph place k row link of there at =
     let f = mapped_at (λ (one : Found). row_of fabric (nodes_of of.layout.found) one.node) of.layout.found place row
-    (ap (λ (rows : List (List Link)). slice_get rows place) (sym of.layout.rows) ∙ there) in
+    (ap (λ (rows : List (List GraphLink)). slice_get rows place) (sym of.layout.rows) ∙ there) in
     let node = node_of of.layout.found place f.0 f.1 in
     let same : row ≡ row_of fabric (nodes_of of.layout.found) (node_at of.layout.found place) = f.2 ∙ ap (row_of fabric (nodes_of of.layout.found)) (sym node) in
-    let has = subst (λ (links : List Link). Contains links link) same (there_is row k link at) in
+    let has = subst (λ (links : List GraphLink). Contains links link) same (there_is row k link at) in
     let number = of_one (λ number. option_map_or (link_to fabric (nodes_of of.layout.found) number) (far_end fabric.cables (port (node_at of.layout.found place) number)) [])
     1 (ports_at fabric (node_at of.layout.found place)) link has in
     by_link fabric of.layout.found place number.number link number.has
 
 -- its port is not port 0
-pub link_number : (fabric : FabricState) (graph : GraphState) (place k : ℕ) (row : List Link) (link : Link) → IsGood fabric → IsGraphOf graph fabric
+pub link_number : (fabric : FabricState) (graph : GraphState) (place k : ℕ) (row : List GraphLink) (link : GraphLink) → IsGood fabric → IsGraphOf graph fabric
     → slice_get graph.rows place ≡ Some row → slice_get row k ≡ Some link → (link.port == 0) ≡ false
 link_number fabric graph place k row link good of there at =
     let is = linked fabric graph place k row link of there at in
     let range = in_range fabric (node_at of.layout.found place) link.port
-    (cabled_is_port fabric.nodes fabric.cables (port (node_at of.layout.found place) link.port) is.there good.cables is.cable) in
+    (cabled_is_port fabric.nodes fabric.cables (port (node_at of.layout.found place) link.port) is.there (present_right good) is.cable) in
     ne_eqb link.port 0 (λ none. omega (arith, none, range.0))
 
 -- ---- LIDs are unicast
@@ -164,14 +165,14 @@ module _ (fabric : FabricState) (good : IsGood fabric) (shows : ShowsLinks fabri
   at_switch graph place number switch there on of home cable =
       let sits = seated fabric graph place switch of home in
       let near : far_end fabric.cables (port sits.at.node number) ≡ Some there = ap (λ (n : ℕ). far_end fabric.cables (port n number)) sits.node ∙ cable in
-      let is_there = cabled_is_port fabric.nodes fabric.cables (port sits.at.node number) there good.cables near in
+      let is_there = cabled_is_port fabric.nodes fabric.cables (port sits.at.node number) there (present_right good) near in
       let range = in_range fabric sits.at.node number is_there in
       let count : ports_at fabric sits.at.node ≡ switch.num_ports = ap (ports_at fabric) sits.node ∙ sym sits.count in
       takes_up switch.path number switch.guid number (record stays { enforcement = Some on; active = true }) sits.at sits.ends
       (switch_leads fabric graph place number switch of home (omega (arith, range.1, count))) refl
       (λ some. and_from _ _ sits.is (lt-ltb 0 number (omega (arith, range.0)))) is_there (cabled_of fabric.cables (port sits.at.node number) there near)
 
-  pub takes_link : (graph : GraphState) (place k : ℕ) (row : List Link) (link : Link) (switch : GraphSwitch) → IsGraphOf graph fabric
+  pub takes_link : (graph : GraphState) (place k : ℕ) (row : List GraphLink) (link : GraphLink) (switch : GraphSwitch) → IsGraphOf graph fabric
       → slice_get graph.switches place ≡ Some switch → slice_get graph.rows place ≡ Some row → slice_get row k ≡ Some link
       → TakesChange fabric switch.path link.port switch.guid link.port (record stays { enforcement = Some false; active = true })
   takes_link graph place k row link switch of home there at =
@@ -196,7 +197,7 @@ module _ (fabric : FabricState) (good : IsGood fabric) (shows : ShowsLinks fabri
       let near : far_end fabric.cables (port sits.at.node one.at.port) ≡ Some is.there =
       ap (λ (n : ℕ). far_end fabric.cables (port n one.at.port)) sits.node ∙ is.cable in
       let ends = end_more fabric switch.path sits.at is.there one.at.port sits.ends sits.is
-      (cabled_is_port fabric.nodes fabric.cables (port sits.at.node one.at.port) is.there good.cables near) near in
+      (cabled_is_port fabric.nodes fabric.cables (port sits.at.node one.at.port) is.there (present_right good) near) near in
       let leads = adapter_leads fabric graph k one switch good of there home in
       let same : leads.at ≡ is.there = same_Some _ _ (sym leads.ends ∙ ends) in
       let asked : IsAskedFor false (ports_at fabric leads.at.node) leads.at.port 0 one.number =
@@ -206,7 +207,7 @@ module _ (fabric : FabricState) (good : IsGood fabric) (shows : ShowsLinks fabri
       let back = good_once fabric (port sits.at.node one.at.port) is.there good near in
       takes_up (switch.path ++ one.at.port ∷ []) 0 one.node_guid one.number (record stays { lid = lid_in guids one.port_guid; active = true }) is.there ends
       leads (unicast guids one.port_guid few) (λ some. absurd (false≢true some))
-      (subst (λ (n : ℕ). is_port fabric.nodes (port is.there.node n) ≡ true) number (far_is_port fabric.nodes fabric.cables (port sits.at.node one.at.port) is.there good.cables near))
+      (subst (λ (n : ℕ). is_port fabric.nodes (port is.there.node n) ≡ true) number (far_is_port fabric.nodes fabric.cables (port sits.at.node one.at.port) is.there (present_right good) near))
       (subst (λ (n : ℕ). is_cabled fabric.cables (port is.there.node n) ≡ true) number (cabled_of fabric.cables is.there (port sits.at.node one.at.port) back))
 
 -- ---- a port takes a change as long as others were told

@@ -17,7 +17,7 @@ use Rattle.smp_wire.proofs.CableLemmas.{same_port}
 use Rattle.sweep.specs.Graph.{GraphState}
 use Rattle.sweep.specs.OfFabric.{IsGraphOf, node_at}
 use Rattle.sweep.specs.declared.graph.GraphPort.{GraphPort}
-use Rattle.sweep.specs.declared.graph.Link.{Link}
+use Rattle.sweep.specs.declared.graph.GraphLink.{GraphLink}
 use Rattle.sweep.proofs.FoundLemmas.{any_by}
 use Rattle.sweep.proofs.PlaceLemmas.{position_at}
 use Rattle.table_push.specs.Keys.{at_cable, at_cables, guid_of, hanging_at, port_of}
@@ -67,14 +67,14 @@ no_adapter : (routes : RoutesState) (guid number : ℕ) → place_of routes.grap
     → change_wanted routes guid number ≡ stays
 no_adapter routes guid number is there = wanted_by routes guid number None is ∙ rw there refl
 
-pub link_there : (graph : GraphState) (place k : ℕ) (row : List Link) (link : Link) → slice_get graph.rows place ≡ Some row → slice_get row k ≡ Some link
+pub link_there : (graph : GraphState) (place k : ℕ) (row : List GraphLink) (link : GraphLink) → slice_get graph.rows place ≡ Some row → slice_get row k ≡ Some link
     → has_link graph place link.port ≡ true
 link_there graph place k row link there at =
-    ap (λ (links : List Link). list_any (λ one. one.port == link.port) links) (get_or_from_slice_get graph.rows place row [] there)
+    ap (λ (links : List GraphLink). list_any (λ one. one.port == link.port) links) (get_or_from_slice_get graph.rows place row [] there)
     ∙ any_by (λ one. one.port == link.port) row k link at (eq-eqb link.port link.port refl)
 
 -- where a cable leads to a switch, no adapter hangs
-none_hangs : (fabric : FabricState) (graph : GraphState) (place k : ℕ) (row : List Link) (link : Link) → IsGraphOf graph fabric
+none_hangs : (fabric : FabricState) (graph : GraphState) (place k : ℕ) (row : List GraphLink) (link : GraphLink) → IsGraphOf graph fabric
     → slice_get graph.rows place ≡ Some row → slice_get row k ≡ Some link → (found : Option GraphPort) → hanging_at graph.ports place link.port ≡ found
     → found ≡ None
 none_hangs fabric graph place k row link of there at None hangs = refl
@@ -87,7 +87,7 @@ none_hangs fabric graph place k row link of there at (Some one) hangs =
     same_Some _ _ (sym is.cable ∙ ap (λ (p : PortRef). far_end fabric.cables (port (node_at of.layout.found p.node) p.port)) (sym same) ∙ hung.cable) in
     absurd (false≢true (sym hung.adapter ∙ ap (λ (p : PortRef). is_switch_at fabric.nodes p.node) (sym far) ∙ is.switch))
 
-pub wanted_link : (fabric : FabricState) (routes : RoutesState) (guid place k : ℕ) (row : List Link) (link : Link) → IsGraphOf routes.graph fabric
+pub wanted_link : (fabric : FabricState) (routes : RoutesState) (guid place k : ℕ) (row : List GraphLink) (link : GraphLink) → IsGraphOf routes.graph fabric
     → place_of routes.graph.switches guid ≡ Some place → (link.port == 0) ≡ false → slice_get routes.graph.rows place ≡ Some row → slice_get row k ≡ Some link
     → change_wanted routes guid link.port ≡ record stays { enforcement = Some false; active = true }
 wanted_link fabric routes guid place k row link of is some there at =

@@ -38,7 +38,8 @@ port_of ports guid number = find (λ one. (one.node_guid == guid) && (one.number
 abbrev pub switch_keys : RoutesState → List (List ℕ) → (guid place number : ℕ) → Option (List ℕ)
 switch_keys routes keys guid place number =
     if number == 0 then option_map (key_table false) (keys_of routes keys guid)
-    else option_and_then (λ one. option_map (key_table true) (keys_of routes keys one.port_guid)) (hanging_at routes.graph.ports place number)
+    else option_and_then (λ one. option_map (key_table true) (keys_of routes keys one.port_guid))
+    (hanging_at routes.graph.ports place number)
 
 abbrev pub adapter_keys : RoutesState → List (List ℕ) → (guid number : ℕ) → Option (List ℕ)
 adapter_keys routes keys guid number =

@@ -61,7 +61,8 @@ switch_change routes guid place number =
 -- a port of an adapter is an end port if it has a cable
 abbrev pub adapter_change : RoutesState → (guid number : ℕ) → PortChange
 adapter_change routes guid number =
-    option_map_or (λ one. record stays { lid = lid_in routes.lids one.port_guid; active = true }) (port_of routes.graph.ports guid number) stays
+    option_map_or (λ one. record stays { lid = lid_in routes.lids one.port_guid; active = true })
+    (port_of routes.graph.ports guid number) stays
 
 -- of that port of the node with that GUID
 unfoldable pub change_wanted : RoutesState → (guid number : ℕ) → PortChange

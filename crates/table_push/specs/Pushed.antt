@@ -28,7 +28,8 @@ pub record ArePushed (routes : RoutesState) (keys : List (List ℕ)) (fabric : F
   pub linear : StaysGood (ports_and_keys routes keys fabric) (all_pushed routes keys fabric)
 
 -- all of it is done, and the wire stands for that fabric
-pub record LeavesAll {X : Type 0} (result : Result X PushFault) (left : Option FabricState) (routes : RoutesState) (keys : List (List ℕ)) (fabric : FabricState) : Type 0 where
+pub record LeavesAll {X : Type 0} (result : Result X PushFault) (left : Option FabricState) (routes : RoutesState)
+    (keys : List (List ℕ)) (fabric : FabricState) : Type 0 where
   pub done : IsOk result
   pub stands : left ≡ Some (all_pushed routes keys fabric)
   pub pushed : ArePushed routes keys fabric

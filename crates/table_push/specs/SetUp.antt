@@ -16,7 +16,7 @@ use Rattle.sweep.specs.Graph.{IsGraph}
 use Rattle.sweep.specs.OfFabric.{IsGraphOf, guid_at}
 use Rattle.sweep.specs.declared.graph.GraphPort.{GraphPort}
 use Rattle.sweep.specs.declared.graph.GraphSwitch.{GraphSwitch}
-use Rattle.sweep.specs.declared.graph.Link.{Link}
+use Rattle.sweep.specs.declared.graph.GraphLink.{GraphLink}
 use Rattle.switch_model.specs.SwitchState.{SwitchState}
 use Rattle.table_push.specs.Keys.{guid_of, key_table}
 use Rattle.table_push.specs.Linear.{linear_entry}
@@ -80,7 +80,7 @@ pub record IsSetUp (routes : RoutesState) (fabric : FabricState) (place : ℕ) (
   pub entries : (node : ℕ) (held : SwitchState) → slice_get fabric.nodes node ≡ Some (Switch held) → held.node_guid ≡ switch.guid
       → (to : ℕ) → to < LINEAR_TABLE → slice_get held.linear to ≡ Some (linear_entry routes place to)
   -- each port with a cable to another switch is Active
-  pub links : (k : ℕ) (row : List Link) (link : Link) → slice_get routes.graph.rows place ≡ Some row → slice_get row k ≡ Some link
+  pub links : (k : ℕ) (row : List GraphLink) (link : GraphLink) → slice_get routes.graph.rows place ≡ Some row → slice_get row k ≡ Some link
       → (link.port == 0) ≡ false → InfoIs fabric switch.guid link.port IsActive
   pub top : (node : ℕ) (held : SwitchState) → slice_get fabric.nodes node ≡ Some (Switch held)
       → held.info.linear_fdb_top ≡ length routes.lids

@@ -46,7 +46,8 @@ fn to_switches<W: SmpWire>(
     keys: &[KeyTable<PARTITIONS>],
 ) -> Result<(), PushFault>
     ensures { ForSome (W.fabric wire.old) (λ fabric. IsGraphOf routes.now.graph fabric → IsGood fabric
-        → Leaves result (W.fabric wire.new) fabric (with_keys (keys_where (at_switches routes.now.graph.switches) routes.now keys.now) fabric)) }
+        → Leaves result (W.fabric wire.new) fabric
+        (with_keys (keys_where (at_switches routes.now.graph.switches) routes.now keys.now) fabric)) }
 {
     let graph = routes.graph();
     graph.known_graph();

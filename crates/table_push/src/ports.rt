@@ -86,7 +86,8 @@ fn to_switch<W: SmpWire>(
     place: usize,
 ) -> Result<(), PushFault>
     requires { place < length routes.now.graph.switches }
-    ensures { SetsUpMore routes.now (W.fabric wire.old) (W.fabric wire.new) (λ guid number. at_switch routes.now.graph guid number place) result }
+    ensures { SetsUpMore routes.now (W.fabric wire.old) (W.fabric wire.new)
+        (λ guid number. at_switch routes.now.graph guid number place) result }
 {
     let graph = routes.graph();
     graph.known_graph();

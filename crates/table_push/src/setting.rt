@@ -21,7 +21,8 @@ pub(crate) fn set<W: SmpWire>(
     wanted: &[u8; 64],
 ) -> Result<(), PushFault>
     requires { length path.now ≤ 63 }
-    ensures left { ForSome (W.fabric wire.old) (λ fabric. TakesAndGives fabric (W.fabric wire.new) path.now attribute modifier wanted.now result) }
+    ensures left { ForSome (W.fabric wire.old)
+        (λ fabric. TakesAndGives fabric (W.fabric wire.new) path.now attribute modifier wanted.now result) }
     ensures counted { transaction_id.new ≡ (transaction_id.old + 1) % 2 ^ 64 }
 {
     *transaction_id = transaction_id.wrapping_add(1);

@@ -1,6 +1,6 @@
 //! The same fabrics over the plain wire, which has no hops.
 
-use agent_rules::{LINEAR_TABLE, Link, MULTICAST_TABLE};
+use agent_rules::{LINEAR_TABLE, MULTICAST_TABLE, PortLink};
 use example_texts::TWO_SWITCHES;
 use fabric_parts::{PortRef, SWITCH_PORTS};
 use fabric_wire::{AdapterPorts, Node, PlainWire};
@@ -16,16 +16,16 @@ pub fn two_switch_wire(alloc: Global) -> Result<PlainWire, Fail> {
     plain_wire_of(alloc, &topology)
 }
 
-fn link_of(topology: &Topology, node: usize, port: u8) -> Link {
+fn link_of(topology: &Topology, node: usize, port: u8) -> PortLink {
     if topology.is_cabled(PortRef { node, port }) {
-        Link::Cabled
+        PortLink::Cabled
     } else {
-        Link::Uncabled
+        PortLink::Uncabled
     }
 }
 
 fn switch_of(topology: &Topology, place: usize, node: &PlannedNode) -> Node {
-    let mut links = [Link::Uncabled; SWITCH_PORTS];
+    let mut links = [PortLink::Uncabled; SWITCH_PORTS];
     for port in 1..SWITCH_PORTS as u8 + 1 {
         links[port as usize - 1] = link_of(topology, place, port);
     }

@@ -1,3 +1,5 @@
+//! End ports that tests of partitions share.
+
 use partition_file::Members;
 use pkey_rules::EndPort;
 

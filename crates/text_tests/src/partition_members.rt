@@ -1,3 +1,5 @@
+//! The keys of end ports, under a partition file and without one.
+
 use crate::fixtures::{end_ports, keys_of};
 use partition_file::{PartFault, members, no_file, read};
 use pkey_rules::EndPort;

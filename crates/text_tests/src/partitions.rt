@@ -1,3 +1,5 @@
+//! A worked partition file, of several definitions of one base.
+
 use crate::fixtures::end_ports;
 use partition_file::{BroadcastGroup, Item, Partition, Ports, members, read};
 use std::test::Fail;

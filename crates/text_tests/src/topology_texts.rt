@@ -1,3 +1,5 @@
+//! Worked topologies, read or refused for want of memory.
+
 use example_texts::TWO_SWITCHES;
 use fabric_parts::{Cable, NodeType, PortRef};
 use std::alloc::Global;

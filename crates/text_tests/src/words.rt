@@ -1,3 +1,5 @@
+//! Worked words: numbers, names, ports and lines.
+
 use std::test::Fail;
 use text_words::{Lines, Words, is_name, number_in, port_in};
 

@@ -30,7 +30,9 @@ uncommented line = before_first (λ byte. byte == 35) (body line)
 -- what counts of a line: a CR that a comment or the LF follows is white space, and is left out too
 abbrev pub content : List ℕ → List ℕ
 content line =
-    if ends_in 13 (uncommented line) && nat_lt (length (uncommented line)) (length line) then without_last (uncommented line) else uncommented line
+    if ends_in 13 (uncommented line) && nat_lt (length (uncommented line)) (length line)
+    then without_last (uncommented line)
+    else uncommented line
 
 -- a blank or a tab
 abbrev pub is_blank : ℕ → Bool

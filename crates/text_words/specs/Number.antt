@@ -7,7 +7,10 @@ use Rattle.std.specs.Str.Parse.{digits_value}
 -- the number that a row of digits spells: at least one digit, all of this radix, and a value of 128 bits
 abbrev pub digits_in : ℕ → List ℕ → Option ℕ
 digits_in radix digits =
-    if nat_lt 0 (length digits) && (list_all (λ byte. is_digit byte radix) digits && nat_lt (digits_value radix digits) (2 ^ 128)) then Some (digits_value radix digits) else None
+    if nat_lt 0 (length digits)
+    && (list_all (λ byte. is_digit byte radix) digits && nat_lt (digits_value radix digits) (2 ^ 128))
+    then Some (digits_value radix digits)
+    else None
 
 -- decimal digits, or `0x` and hexadecimal digits of either case
 abbrev pub number_in : List ℕ → Option ℕ

@@ -53,7 +53,8 @@ impl<'a> Iterator for Lines<'a> {
 
 /// How many bytes the first line has, with its LF.
 fn line_length(text: &[u8]) -> Option<usize>
-    ensures { MatchOption result (text.now ≡ []) (λ n. (n ≤ length text.now) × (lines text.now ≡ take n text.now ∷ lines (drop n text.now))) }
+    ensures { MatchOption result (text.now ≡ [])
+        (λ n. (n ≤ length text.now) × (lines text.now ≡ take n text.now ∷ lines (drop n text.now))) }
 {
     if text.is_empty() {
         return None;

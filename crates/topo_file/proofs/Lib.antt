@@ -5,3 +5,4 @@ pub mod WalkLemmas
 pub mod CableLemmas
 pub mod AcceptedLemmas
 pub mod SoundLemmas
+pub mod GuidLemmas

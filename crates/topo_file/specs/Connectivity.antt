@@ -34,7 +34,8 @@ switches nodes = filter (is_switch_at nodes) (range_with_len 0 (length nodes))
 abbrev pub is_joined_within : List Node → List Cable → ℕ → ℕ → ℕ → Bool
 is_joined_within nodes cables zero a b = a == b
 is_joined_within nodes cables (suc steps) a b =
-    (a == b) || list_any (λ next. list_any (λ cable. joins a next cable) cables && is_joined_within nodes cables steps next b) (switches nodes)
+    (a == b) || list_any (λ next. list_any (λ cable. joins a next cable) cables && is_joined_within nodes cables steps next b)
+    (switches nodes)
 
 abbrev pub is_connected : List Node → List Cable → Bool
 is_connected nodes cables =

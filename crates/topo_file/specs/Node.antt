@@ -1,5 +1,5 @@
 -- Nodes: switches and adapters, their names, ports and GUIDs.
-use Rattle.std.specs.Prelude.{ℕ, ◌+◌, ◌^◌, ◌<◌, ◌≤◌, Bool, false, ◌&&◌, ◌||◌, nat_le, nat_lt, List, [], position, count_by, sum_by, slice_get, Option}
+use Rattle.std.specs.Prelude.{ℕ, ◌≡◌, ◌+◌, ◌^◌, ◌<◌, ◌≤◌, Bool, false, ◌&&◌, ◌||◌, nat_le, nat_lt, List, [], position, count_by, sum_by, slice_get, Option}
 use Rattle.std.specs.List.{list_any}
 use Rattle.std.specs.Option.{option_map_or}
 use Rattle.std.specs.Str.{bytes_eq}
@@ -46,6 +46,10 @@ port_guids ChannelAdapter ports = ports
 abbrev pub last_guid : Node → ℕ
 last_guid node = port_guid node (port_guids node.node_type node.ports)
 
+-- this is one of them
+abbrev pub IsGuidOf : Node → ℕ → Type 0
+IsGuidOf node guid = (number : ℕ) × (number ≤ port_guids node.node_type node.ports) × (guid ≡ port_guid node number)
+
 -- all GUIDs of the node have 64 bits
 abbrev pub HasGuids : Node → Type 0
 HasGuids node = last_guid node < 2 ^ 64
@@ -65,10 +69,10 @@ switch_count nodes = count_by is_switch nodes
 abbrev pub adapter_ports : List Node → ℕ
 adapter_ports nodes = sum_by (λ node. port_guids node.node_type node.ports) nodes
 
--- a fabric has at most 64 switches, and 256 adapter ports in all, so that no such node may follow these
+-- so many nodes are there already that no such node may follow these
 abbrev pub is_one_too_many : List Node → NodeType → ℕ → Bool
-is_one_too_many nodes Switch ports = nat_le 64 (switch_count nodes)
-is_one_too_many nodes ChannelAdapter ports = nat_lt 256 (adapter_ports nodes + ports)
+is_one_too_many nodes Switch ports = nat_le SWITCHES (switch_count nodes)
+is_one_too_many nodes ChannelAdapter ports = nat_lt ADAPTER_PORTS (adapter_ports nodes + ports)
 
 -- no limit is passed
 abbrev pub IsWithinLimits : List Node → Type 0

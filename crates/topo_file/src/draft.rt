@@ -42,7 +42,8 @@ impl Model for Draft {
 
     ghost view = { λ draft. record { nodes = draft.nodes; cables = draft.cables; roots = draft.roots.items; manager = draft.manager } };
 
-    ghost invariant = { λ draft. IsSoundSoFar (record { nodes = draft.nodes; cables = draft.cables; roots = draft.roots.items; manager = draft.manager }) };
+    ghost invariant = { λ draft. IsSoundSoFar
+        (record { nodes = draft.nodes; cables = draft.cables; roots = draft.roots.items; manager = draft.manager }) };
 }
 
 impl Draft {

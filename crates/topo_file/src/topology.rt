@@ -29,9 +29,11 @@ impl Model for Topology {
 
     ghost Value = { TopologyState };
 
-    ghost view = { λ topology. record { nodes = topology.nodes; cables = topology.cables; roots = topology.roots.items; sm = topology.sm } };
+    ghost view = { λ topology.
+        record { nodes = topology.nodes; cables = topology.cables; roots = topology.roots.items; sm = topology.sm } };
 
-    ghost invariant = { λ topology. IsSound (record { nodes = topology.nodes; cables = topology.cables; roots = topology.roots.items; sm = topology.sm }) };
+    ghost invariant = { λ topology. IsSound
+        (record { nodes = topology.nodes; cables = topology.cables; roots = topology.roots.items; sm = topology.sm }) };
 }
 
 impl Topology {

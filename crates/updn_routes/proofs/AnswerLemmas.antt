@@ -9,7 +9,7 @@ use Rattle.std.proofs.lemmas.List.Sums.{fails_before_first}
 use Rattle.std.proofs.lemmas.Option.{get_or_from_slice_get, slice_get-get_or, slice_get_cases}
 use Rattle.fabric_parts.specs.declared.cable.PortRef.{PortRef}
 use Rattle.updn_routes.specs.declared.link.Link.{Link}
-use Rattle.updn_routes.specs.declared.table.Hop.{Hop}
+use Rattle.updn_routes.specs.declared.table.NextHop.{NextHop}
 use Rattle.updn_routes.specs.Cabling.{is_cabling, is_next_to, is_walk, leads, links_of, rises}
 use Rattle.updn_routes.specs.Choice.{AllChosen, is_route}
 use Rattle.updn_routes.specs.Fabric.{IsFabric}
@@ -90,7 +90,7 @@ marks_first rows guids roots fabric =
     marks_right rows (is_first_root guids roots) (length guids) first.place fabric.cabling fabric.count first.there first.first
 
 -- ---- all routes
-pub routes_right : (rows : List (List Link)) (guids roots ranks depths places : List ℕ) (tables : List (List (Option Hop)))
+pub routes_right : (rows : List (List Link)) (guids roots ranks depths places : List ℕ) (tables : List (List (Option NextHop)))
     (homes : List PortRef) → IsFabric rows guids roots → length rows ≤ 64 → all_hang homes (length rows) ≡ true
     → length homes ≤ 49151
     → places ≡ places_of ranks guids

@@ -7,7 +7,7 @@ use Rattle.std.proofs.lemmas.Bool.{and_parts, and_from, or_cases, cases_lt, case
 use Rattle.std.proofs.lemmas.List.FromFn.{get_or-map-range_with_len, length-map-range_with_len}
 use Rattle.std.proofs.lemmas.List.Sums.{position_or_len_is}
 use Rattle.updn_routes.specs.declared.link.Link.{Link}
-use Rattle.updn_routes.specs.declared.table.Hop.{Hop}
+use Rattle.updn_routes.specs.declared.table.NextHop.{NextHop}
 use Rattle.updn_routes.specs.Cabling.{is_cabling, leads, links_of, rises}
 use Rattle.updn_routes.specs.Choice.{AllChosen}
 use Rattle.updn_routes.specs.Laws.{KeepsTheOrder}
@@ -21,40 +21,40 @@ use Rattle.updn_routes.proofs.PlaceLemmas.{keeps_order}
 use Rattle.updn_routes.proofs.TableLemmas.{Climbs, Falls, IsBest, IsEntry, NoneAt, Rests, same_some, table_chosen}
 use Rattle.updn_routes.proofs.WriteLemmas.{past_end}
 
-not_hop : (hop : Hop) → ◌≡◌ {A = Option Hop} None (Some hop) → ⊥
+not_hop : (hop : NextHop) → ◌≡◌ {A = Option NextHop} None (Some hop) → ⊥
 not_hop hop h = cc
 
-same_hop : (one other : Hop) → ◌≡◌ {A = Option Hop} (Some one) (Some other) → one ≡ other
+same_hop : (one other : NextHop) → ◌≡◌ {A = Option NextHop} (Some one) (Some other) → one ≡ other
 same_hop one other h = cc
 
 -- ---- the first of the shortest
-module _ (table : List (Option Hop)) (place : ℕ → ℕ) (test : ℕ → Bool) where
+module _ (table : List (Option NextHop)) (place : ℕ → ℕ) (test : ℕ → Bool) where
   abbrev kind : ℕ → Bool
   kind t = test (place t)
 
   abbrev far : ℕ → Option ℕ
   far t = option_map (λ hop. hop.hops) (entry_at table (place t))
 
-  abbrev found : List Link → Option Hop → Option Hop
+  abbrev found : List Link → Option NextHop → Option NextHop
   found row best = fold (or_link table) best (filter (λ link. test link.to) (map (placed_link place) row))
 
   -- what was found before is no worse than all of these links
-  abbrev Ahead : List Link → Option Hop → Type 0
+  abbrev Ahead : List Link → Option NextHop → Type 0
   Ahead row best =
-      (q t j : ℕ) → list_any (goes q t) row ≡ true → kind t ≡ true → far t ≡ Some j → (hop : Hop) × (best ≡ Some hop) × (hop.hops ≤ suc j)
+      (q t j : ℕ) → list_any (goes q t) row ≡ true → kind t ≡ true → far t ≡ Some j → (hop : NextHop) × (best ≡ Some hop) × (hop.hops ≤ suc j)
 
-  pub record Taken (row : List Link) (best given : Option Hop) : Type 0 where
+  pub record Taken (row : List Link) (best given : Option NextHop) : Type 0 where
     port : ℕ
     more : ℕ
     is : given ≡ Some (record { port = port; hops = suc more })
     own : BestIn row kind far port more
-    ahead : (hop : Hop) → best ≡ Some hop → suc more < hop.hops
+    ahead : (hop : NextHop) → best ≡ Some hop → suc more < hop.hops
 
-  abbrev Picks : List Link → Option Hop → Option Hop → Type 0
+  abbrev Picks : List Link → Option NextHop → Option NextHop → Type 0
   Picks row best given = ((given ≡ best) × Ahead row best) ⊎ Taken row best given
 
   -- a link that leads nowhere
-  off : (link : Link) (row : List Link) (best given : Option Hop) → (kind link.to ≡ true → far link.to ≡ None)
+  off : (link : Link) (row : List Link) (best given : Option NextHop) → (kind link.to ≡ true → far link.to ≡ None)
       → Picks row best given → Picks (link ∷ row) best given
   off link row best given out (inr t) =
       inr (record { port = t.port; more = t.more; is = t.is; own = skip_best kind far link row t.port t.more out t.own; ahead = t.ahead })
@@ -73,9 +73,9 @@ module _ (table : List (Option Hop)) (place : ℕ → ℕ) (test : ℕ → Bool)
       none_some j h = cc
 
   -- a link that is better than what was found before
-  over : (link : Link) (row : List Link) (best : Option Hop) (beyond : Hop) (given : Option Hop)
+  over : (link : Link) (row : List Link) (best : Option NextHop) (beyond : NextHop) (given : Option NextHop)
       → rises (map (λ l. l.port) (link ∷ row)) ≡ true → kind link.to ≡ true → far link.to ≡ Some beyond.hops
-      → ((hop : Hop) → best ≡ Some hop → suc beyond.hops < hop.hops)
+      → ((hop : NextHop) → best ≡ Some hop → suc beyond.hops < hop.hops)
       → Picks row (Some (record { port = link.port; hops = suc beyond.hops })) given → Picks (link ∷ row) best given
   over link row best beyond given rising fits at ahead (inl kept) =
       inr (record {
@@ -88,7 +88,7 @@ module _ (table : List (Option Hop)) (place : ℕ → ℕ) (test : ℕ → Bool)
         ahead = ahead;
       })
     where
-      near : (j : ℕ) → (hop : Hop) × (Some (record { port = link.port; hops = suc beyond.hops }) ≡ Some hop) × (hop.hops ≤ suc j) → beyond.hops ≤ j
+      near : (j : ℕ) → (hop : NextHop) × (Some (record { port = link.port; hops = suc beyond.hops }) ≡ Some hop) × (hop.hops ≤ suc j) → beyond.hops ≤ j
       near j h =
           let same : suc beyond.hops ≡ h.0.hops = ap (λ hop. hop.hops) (same_hop (record { port = link.port; hops = suc beyond.hops }) h.0 h.1) in
           let most = h.2 in
@@ -104,7 +104,7 @@ module _ (table : List (Option Hop)) (place : ℕ → ℕ) (test : ℕ → Bool)
       })
 
   -- a link that is no better
-  under : (link : Link) (row : List Link) (hop : Hop) (beyond : ℕ) (given : Option Hop) → far link.to ≡ Some beyond
+  under : (link : Link) (row : List Link) (hop : NextHop) (beyond : ℕ) (given : Option NextHop) → far link.to ≡ Some beyond
       → hop.hops ≤ suc beyond → Picks row (Some hop) given → Picks (link ∷ row) (Some hop) given
   under link row hop beyond given at worse (inl kept) =
       inl (
@@ -126,7 +126,7 @@ module _ (table : List (Option Hop)) (place : ℕ → ℕ) (test : ℕ → Bool)
         ahead = t.ahead;
       })
 
-  picks : (row : List Link) (best : Option Hop) → rises (map (λ l. l.port) row) ≡ true → Picks row best (found row best)
+  picks : (row : List Link) (best : Option NextHop) → rises (map (λ l. l.port) row) ≡ true → Picks row best (found row best)
   picks [] best rising = inl (refl, λ q t j way. absurd (false≢true way))
   picks (link ∷ row) best rising =
       by (test (place link.to)) refl (entry_at table (place link.to)) refl (λ acc. picks row acc rest)
@@ -138,16 +138,16 @@ module _ (table : List (Option Hop)) (place : ℕ → ℕ) (test : ℕ → Bool)
           → found (link ∷ row) best ≡ fold (or_link table) best (cond b (placed_link place link ∷ filter (λ l. test l.to) (map (placed_link place) row)) (filter (λ l. test l.to) (map (placed_link place) row)))
       taken b e = rw e refl
 
-      better : (o : Option Hop) → entry_at table (place link.to) ≡ o → test (place link.to) ≡ true
+      better : (o : Option NextHop) → entry_at table (place link.to) ≡ o → test (place link.to) ≡ true
           → found (link ∷ row) best ≡ found row (or_better best link.port o)
       better o e f = taken true f ∙ ap (λ p. fold (or_link table) (or_better best link.port p) (filter (λ l. test l.to) (map (placed_link place) row))) e
 
-      by : (b : Bool) → test (place link.to) ≡ b → (o : Option Hop) → entry_at table (place link.to) ≡ o
-          → ((acc : Option Hop) → Picks row acc (found row acc)) → Picks (link ∷ row) best (found (link ∷ row) best)
+      by : (b : Bool) → test (place link.to) ≡ b → (o : Option NextHop) → entry_at table (place link.to) ≡ o
+          → ((acc : Option NextHop) → Picks row acc (found row acc)) → Picks (link ∷ row) best (found (link ∷ row) best)
       by false e o f later =
-          subst (λ (given : Option Hop). Picks (link ∷ row) best given) (sym (taken false e)) (off link row best (found row best) (λ fits. absurd (false≢true (sym e ∙ fits))) (later best))
+          subst (λ (given : Option NextHop). Picks (link ∷ row) best given) (sym (taken false e)) (off link row best (found row best) (λ fits. absurd (false≢true (sym e ∙ fits))) (later best))
       by true e None f later =
-          subst (λ (given : Option Hop). Picks (link ∷ row) best given) (sym (better None f e)) (off link row best (found row best) (λ fits. ap (option_map (λ hop. hop.hops)) f) (later best))
+          subst (λ (given : Option NextHop). Picks (link ∷ row) best given) (sym (better None f e)) (off link row best (found row best) (λ fits. ap (option_map (λ hop. hop.hops)) f) (later best))
       by true e (Some beyond) f later = on best refl
         where
           at : far link.to ≡ Some beyond.hops
@@ -156,17 +156,17 @@ module _ (table : List (Option Hop)) (place : ℕ → ℕ) (test : ℕ → Bool)
           plus : beyond.hops + 1 ≡ suc beyond.hops
           plus = omega arith
 
-          same : ◌≡◌ {A = Option Hop} (Some (record { port = link.port; hops = beyond.hops + 1 })) (Some (record { port = link.port; hops = suc beyond.hops }))
+          same : ◌≡◌ {A = Option NextHop} (Some (record { port = link.port; hops = beyond.hops + 1 })) (Some (record { port = link.port; hops = suc beyond.hops }))
           same = ap (λ k. Some (record { port = link.port; hops = k })) plus
 
-          first : ((hop : Hop) → best ≡ Some hop → suc beyond.hops < hop.hops)
+          first : ((hop : NextHop) → best ≡ Some hop → suc beyond.hops < hop.hops)
               → or_better best link.port (Some beyond) ≡ Some (record { port = link.port; hops = suc beyond.hops })
               → Picks (link ∷ row) best (found (link ∷ row) best)
           first ahead is =
-              subst (λ (given : Option Hop). Picks (link ∷ row) best given) (sym (better (Some beyond) f e ∙ ap (found row) is))
+              subst (λ (given : Option NextHop). Picks (link ∷ row) best given) (sym (better (Some beyond) f e ∙ ap (found row) is))
               (over link row best beyond (found row (Some (record { port = link.port; hops = suc beyond.hops }))) rising e at ahead (later (Some (record { port = link.port; hops = suc beyond.hops }))))
 
-          on : (acc : Option Hop) → best ≡ acc → Picks (link ∷ row) best (found (link ∷ row) best)
+          on : (acc : Option NextHop) → best ≡ acc → Picks (link ∷ row) best (found (link ∷ row) best)
           on None g =
               first (λ hop h. absurd (not_hop hop (sym g ∙ h))) (ap (λ acc. or_better acc link.port (Some beyond)) g ∙ same)
           on (Some hop) g = less (nat_lt (beyond.hops + 1) hop.hops) refl
@@ -174,17 +174,17 @@ module _ (table : List (Option Hop)) (place : ℕ → ℕ) (test : ℕ → Bool)
               less : (c : Bool) → nat_lt (beyond.hops + 1) hop.hops ≡ c → Picks (link ∷ row) best (found (link ∷ row) best)
               less true h =
                   let low = ltb-true (beyond.hops + 1) hop.hops h in
-                  first (λ other k. let even = same_hop hop other (sym g ∙ k) in subst (λ (one : Hop). suc beyond.hops < one.hops) even (omega (arith, low)))
+                  first (λ other k. let even = same_hop hop other (sym g ∙ k) in subst (λ (one : NextHop). suc beyond.hops < one.hops) even (omega (arith, low)))
                   (ap (λ acc. or_better acc link.port (Some beyond)) g ∙ (ap (λ b. Some (cond b (record { port = link.port; hops = beyond.hops + 1 }) hop)) h ∙ same))
               less false h =
                   let high : hop.hops ≤ beyond.hops + 1 = elim (cases_lt (beyond.hops + 1) hop.hops) [ inl low ↦ absurd (false≢true (sym h ∙ lt-ltb _ _ low)) | inr more ↦ more ] in
                   let stays = ap (λ acc. or_better acc link.port (Some beyond)) g ∙ ap (λ b. Some (cond b (record { port = link.port; hops = beyond.hops + 1 }) hop)) h in
-                  subst (λ (acc : Option Hop). Picks (link ∷ row) acc (found (link ∷ row) best)) (sym g)
-                  (subst (λ (given : Option Hop). Picks (link ∷ row) (Some hop) given) (sym (better (Some beyond) f e ∙ ap (found row) stays))
+                  subst (λ (acc : Option NextHop). Picks (link ∷ row) acc (found (link ∷ row) best)) (sym g)
+                  (subst (λ (given : Option NextHop). Picks (link ∷ row) (Some hop) given) (sym (better (Some beyond) f e ∙ ap (found row) stays))
                   (under link row hop beyond.hops (found row (Some hop)) at (omega (arith, high)) (later (Some hop))))
 
   -- none, and then no link of that kind leads on; or the best
-  pub record BestFound (row : List Link) (given : Option Hop) : Type 0 where
+  pub record BestFound (row : List Link) (given : Option NextHop) : Type 0 where
     port : ℕ
     more : ℕ
     is : given ≡ Some (record { port = port; hops = suc more })
@@ -292,8 +292,8 @@ module _ (rows : List (List Link)) (before : ℕ → ℕ → Bool) (places : Lis
       get_or-map-range_with_len (ups_at rows places) 0 (length places) (place_at places s) (place_at places s) [] (room s less) same
       ∙ ap (filter (λ link. nat_lt link.to (place_at places s))) (links_are s less)
 
-  module _ (d : ℕ) (table : List (Option Hop)) (there : d < length rows) (is : IsTable (all_downs rows places) (all_ups rows places) (place_at places d) table) where
-    abbrev hops_in : List (Option Hop) → ℕ → Option ℕ
+  module _ (d : ℕ) (table : List (Option NextHop)) (there : d < length rows) (is : IsTable (all_downs rows places) (all_ups rows places) (place_at places d) table) where
+    abbrev hops_in : List (Option NextHop) → ℕ → Option ℕ
     hops_in list t = option_map (λ hop. hop.hops) (entry_at list (place_at places t))
 
     abbrev next : ℕ → Option ℕ
@@ -302,7 +302,7 @@ module _ (rows : List (List Link)) (before : ℕ → ℕ → Bool) (places : Lis
     reached : (s port t : ℕ) → s < length rows → leads rows s port t ≡ true → t < length rows
     reached s port t less out = (ends rows s t cabling less (leads_next rows s port t out)).0
 
-    best_down : (list : List (Option Hop)) (s port more : ℕ) → s < length rows
+    best_down : (list : List (Option NextHop)) (s port more : ℕ) → s < length rows
         → BestIn (links_of rows s) (λ t. nat_lt (place_at places s) (place_at places t)) (hops_in list) port more
         → IsBest rows (is_down before s) (hops_in list) s port more
     best_down list s port more less best =
@@ -315,7 +315,7 @@ module _ (rows : List (List Link)) (before : ℕ → ℕ → Bool) (places : Lis
           least = λ q t out fits at. best.least q t out (keeps.less s t less (reached s q t less out) ∙ fits) at;
         }
 
-    best_up : (list : List (Option Hop)) (s port more : ℕ) → s < length rows
+    best_up : (list : List (Option NextHop)) (s port more : ℕ) → s < length rows
         → BestIn (links_of rows s) (λ t. nat_lt (place_at places t) (place_at places s)) (hops_in list) port more
         → IsBest rows (is_up before s) (hops_in list) s port more
     best_up list s port more less best =

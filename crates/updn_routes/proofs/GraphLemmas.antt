@@ -10,7 +10,7 @@ use Rattle.std.proofs.Math.ListN.{get_or-map}
 use Rattle.fabric_parts.specs.Cable.{port}
 use Rattle.fabric_parts.specs.declared.cable.PortRef.{PortRef}
 use Rattle.lid_assign.specs.Lids.{AreLids, adapter_end, end_ports, switch_end}
-use Rattle.result_words.proofs.ListLemmas.{list_all_weaker}
+use Rattle.result_words.proofs.ListLemmas.{list_all_weaker, any_map}
 use Rattle.result_words.proofs.DistinctLemmas.{left_part}
 use Rattle.result_words.proofs.TestLemmas.{same_and}
 use Rattle.sweep.proofs.JoinedLemmas.{at_each}
@@ -18,7 +18,7 @@ use Rattle.sweep.specs.Graph.{GraphState, IsGraph, count_at, is_linked, is_right
 use Rattle.sweep.specs.Joined.{AllJoined as AllJoinedThere, is_next_to as is_next_there, is_walk_by}
 use Rattle.sweep.specs.declared.graph.GraphPort.{GraphPort}
 use Rattle.sweep.specs.declared.graph.GraphSwitch.{GraphSwitch}
-use Rattle.sweep.specs.declared.graph.Link.{Link as GraphLink}
+use Rattle.sweep.specs.declared.graph.GraphLink.{GraphLink}
 use Rattle.updn_routes.specs.declared.link.Link.{Link}
 use Rattle.updn_routes.specs.Cabling.{AllJoined, is_cabling, is_next_to, is_row, is_walk, links_of, rises}
 use Rattle.updn_routes.specs.Fabric.{IsFabric}
@@ -31,10 +31,6 @@ use Rattle.updn_routes.proofs.WriteLemmas.{past_end}
 long_map : {X Y : Type 0} (f : X → Y) (xs : List X) → length (map f xs) ≡ length xs
 long_map f [] = refl
 long_map f (x ∷ xs) = ap suc (long_map f xs)
-
-any_map : {X Y : Type 0} (p : Y → Bool) (f : X → Y) (xs : List X) → list_any p (map f xs) ≡ list_any (λ x. p (f x)) xs
-any_map p f [] = refl
-any_map p f (x ∷ xs) = ap (λ b. p (f x) || b) (any_map p f xs)
 
 all_range : (p : ℕ → Bool) (first count : ℕ) → ((s : ℕ) → first ≤ s → s < first + count → p s ≡ true)
     → list_all p (range_with_len first count) ≡ true

@@ -1,15 +1,11 @@
--- The codes of faults, and what a fault tells.
-use Rattle.std.specs.Prelude.{ℕ, List, codes, Option, Some, None}
+-- What a fault tells.
+use Rattle.std.specs.Prelude.{ℕ, List}
 use Rattle.fabric_parts.specs.declared.cable.PortRef.{PortRef}
 use Rattle.updn_routes.specs.declared.fault.RouteFault.{RouteFault}
 use Rattle.updn_routes.specs.declared.fault.RouteFault.TheVariants.{NoMemory, NoLegalPath}
 use Rattle.updn_routes.specs.declared.link.Link.{Link}
 use Rattle.updn_routes.specs.Order.{AreRanks, precedes}
 use Rattle.updn_routes.specs.Routes.{IsFirstUnreached}
-
-abbrev pub code_of : RouteFault → Option (List ℕ)
-code_of NoMemory = None
-code_of (NoLegalPath switch port) = Some (codes "UR1")
 
 -- by the order that these roots make, the pair is the first with no legal path
 pub record IsRefused (rows : List (List Link)) (guids roots : List ℕ) (homes : List PortRef) (a b : ℕ) : Type 0 where

@@ -3,13 +3,15 @@ use Rattle.std.specs.Prelude.{ℕ, ◌≡◌, ◌≢◌, ◌⊎◌, ◌+◌, ◌
 use Rattle.std.specs.List.{list_all, list_any}
 use Rattle.fabric_parts.specs.declared.cable.PortRef.{PortRef}
 use Rattle.updn_routes.specs.declared.link.Link.{Link}
-use Rattle.updn_routes.specs.declared.table.Hop.{Hop}
+use Rattle.updn_routes.specs.declared.table.NextHop.{NextHop}
 use Rattle.updn_routes.specs.Cabling.{is_cabling, is_next_to, is_walk, rises}
 use Rattle.updn_routes.specs.Choice.{AllChosen, is_route}
 use Rattle.updn_routes.specs.Order.{AreRanks, IsOrder, precedes}
 use Rattle.updn_routes.specs.Tables.{entry_at, place_at, places_of}
 use Rattle.updn_routes.specs.Tree.{AreDepths}
 use Rattle.updn_routes.specs.UpDown.{channel_number, channel_numbers, is_legal}
+use Rattle.fabric_parts.specs.declared.limits.TheConstants.{SWITCHES}
+use Rattle.fabric_parts.specs.declared.lid.TheConstants.{LAST_UNICAST_LID}
 
 -- the switches' links, GUIDs, ranks and depths, each by the number of the switch; the place of each in the order, and
 -- for the target at each place its table by places; and where each LID hangs, from LID 1 on
@@ -19,11 +21,11 @@ pub record SwitchRoutesState : Type 0 where
   pub ranks : List ℕ
   pub depths : List ℕ
   pub places : List ℕ
-  pub tables : List (List (Option Hop))
+  pub tables : List (List (Option NextHop))
   pub homes : List PortRef
 
 -- the routes of these parts
-abbrev pub routes_with : List (List Link) → List ℕ → List ℕ → List ℕ → List ℕ → List (List (Option Hop)) → List PortRef
+abbrev pub routes_with : List (List Link) → List ℕ → List ℕ → List ℕ → List ℕ → List (List (Option NextHop)) → List PortRef
     → SwitchRoutesState
 routes_with rows guids ranks depths places tables homes =
     record { rows = rows; guids = guids; ranks = ranks; depths = depths; places = places; tables = tables; homes = homes }
@@ -65,8 +67,8 @@ pub record AreRoutes (routes : SwitchRoutesState) : Type 0 where
   pub order : IsOrder (length routes.rows) (order_of routes)
   pub places : routes.places ≡ places_of routes.ranks routes.guids
   pub hang : all_hang routes.homes (length routes.rows) ≡ true
-  pub few : length routes.rows ≤ 64
-  pub few_lids : length routes.homes ≤ 49151
+  pub few : length routes.rows ≤ SWITCHES
+  pub few_lids : length routes.homes ≤ LAST_UNICAST_LID
   pub chosen : (d : ℕ) → d < length routes.rows → AllChosen routes.rows (order_of routes) (port_towards routes d) d
   pub at_home : (d : ℕ) → d < length routes.rows → port_towards routes d d ≡ Some 0
 

@@ -7,7 +7,7 @@ use Rattle.sweep.specs.Graph.{GraphState}
 use Rattle.sweep.specs.Joined.{AllJoined}
 use Rattle.sweep.specs.declared.graph.GraphPort.{GraphPort}
 use Rattle.sweep.specs.declared.graph.GraphSwitch.{GraphSwitch}
-use Rattle.sweep.specs.declared.graph.Link.{Link as GraphLink}
+use Rattle.sweep.specs.declared.graph.GraphLink.{GraphLink}
 use Rattle.updn_routes.specs.Routes.{SwitchRoutesState}
 use Rattle.updn_routes.specs.declared.link.Link.{Link}
 

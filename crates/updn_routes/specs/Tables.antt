@@ -4,7 +4,7 @@ use Rattle.std.specs.Prelude.{ℕ, ◌≡◌, ◌+◌, ◌≤◌, ◌<◌, ◌�
 use Rattle.std.specs.List.{fold, list_all, range_with_len}
 use Rattle.std.specs.Option.{option_map_or}
 use Rattle.updn_routes.specs.declared.link.Link.{Link}
-use Rattle.updn_routes.specs.declared.table.Hop.{Hop}
+use Rattle.updn_routes.specs.declared.table.NextHop.{NextHop}
 use Rattle.updn_routes.specs.Cabling.{links_of}
 use Rattle.updn_routes.specs.Order.{place_of, precedes}
 use Rattle.updn_routes.specs.Places.{placed_link}
@@ -41,44 +41,44 @@ all_ups rows places = map (ups_at rows places) (range_with_len 0 (length places)
 
 -- ---- hops
 -- at the target itself
-abbrev pub home : Hop
+abbrev pub home : NextHop
 home = record { port = 0; hops = 0 }
 
-abbrev pub entry_at : List (Option Hop) → ℕ → Option Hop
+abbrev pub entry_at : List (Option NextHop) → ℕ → Option NextHop
 entry_at table p = get_or table p None
 
 -- before any way is found
-abbrev pub entry_first : ℕ → ℕ → Option Hop
+abbrev pub entry_first : ℕ → ℕ → Option NextHop
 entry_first d p = if p == d then Some home else None
 
 -- the better of what was found so far and a link with that far end's entry beyond: the first of the shortest
-abbrev pub shorter : Hop → Hop → Hop
+abbrev pub shorter : NextHop → NextHop → NextHop
 shorter best other = if nat_lt other.hops best.hops then other else best
 
-abbrev pub or_better : Option Hop → ℕ → Option Hop → Option Hop
+abbrev pub or_better : Option NextHop → ℕ → Option NextHop → Option NextHop
 or_better best port None = best
 or_better None port (Some beyond) = Some (record { port = port; hops = beyond.hops + 1 })
 or_better (Some best) port (Some beyond) = Some (shorter best (record { port = port; hops = beyond.hops + 1 }))
 
-abbrev pub or_link : List (Option Hop) → Option Hop → Link → Option Hop
+abbrev pub or_link : List (Option NextHop) → Option NextHop → Link → Option NextHop
 or_link table best link = or_better best link.port (entry_at table link.to)
 
 -- the best of these links, by a table
-abbrev pub best_of : List (Option Hop) → List Link → Option Hop
+abbrev pub best_of : List (Option NextHop) → List Link → Option NextHop
 best_of table row = fold (or_link table) None row
 
 -- the way down where there is one, and else the way up
-abbrev pub or_up : Option Hop → Option Hop → Option Hop
+abbrev pub or_up : Option NextHop → Option NextHop → Option NextHop
 or_up (Some way) up = Some way
 or_up None up = up
 
 -- ---- tables
 -- no entry has more hops
-abbrev pub AllWithin : ℕ → List (Option Hop) → Type 0
+abbrev pub AllWithin : ℕ → List (Option NextHop) → Type 0
 AllWithin most table = (p : ℕ) → IfSome (entry_at table p) (λ hop. hop.hops ≤ most)
 
 -- a table that holds the best way down from each place between the first and the target
-pub record IsDownFrom (downs : List (List Link)) (d first most : ℕ) (table : List (Option Hop)) : Type 0 where
+pub record IsDownFrom (downs : List (List Link)) (d first most : ℕ) (table : List (Option NextHop)) : Type 0 where
   pub count : length table ≡ length downs
   pub at_home : entry_at table d ≡ Some home
   pub past : (p : ℕ) → d < p → entry_at table p ≡ None
@@ -86,21 +86,21 @@ pub record IsDownFrom (downs : List (List Link)) (d first most : ℕ) (table : L
   pub small : AllWithin most table
 
 -- that table, with the best way up from each place before the last one that has no way down
-pub record IsUpTo (ups : List (List Link)) (down : List (Option Hop)) (last most : ℕ) (table : List (Option Hop)) : Type 0 where
+pub record IsUpTo (ups : List (List Link)) (down : List (Option NextHop)) (last most : ℕ) (table : List (Option NextHop)) : Type 0 where
   pub count : length table ≡ length down
-  pub kept : (p : ℕ) (hop : Hop) → entry_at down p ≡ Some hop → entry_at table p ≡ Some hop
+  pub kept : (p : ℕ) (hop : NextHop) → entry_at down p ≡ Some hop → entry_at table p ≡ Some hop
   pub waits : (p : ℕ) → last ≤ p → entry_at table p ≡ entry_at down p
   pub right : (p : ℕ) → p < last → entry_at down p ≡ None → entry_at table p ≡ best_of table (links_of ups p)
   pub small : AllWithin most table
 
 -- the table towards the target at that place
-pub record IsTable (downs ups : List (List Link)) (d : ℕ) (table : List (Option Hop)) : Type 0 where
-  pub down : List (Option Hop)
+pub record IsTable (downs ups : List (List Link)) (d : ℕ) (table : List (Option NextHop)) : Type 0 where
+  pub down : List (Option NextHop)
   pub down_is : IsDownFrom downs d 0 d down
   pub up_is : IsUpTo ups down (length downs) (d + length downs) table
 
 -- the tables towards the targets at so many places
-pub record AreTables (downs ups : List (List Link)) (many : ℕ) (tables : List (List (Option Hop))) : Type 0 where
+pub record AreTables (downs ups : List (List Link)) (many : ℕ) (tables : List (List (Option NextHop))) : Type 0 where
   pub count : length tables ≡ many
   pub each : (d : ℕ) → d < many → IsTable downs ups d (get_or tables d [])
 

@@ -6,6 +6,7 @@ ghost use Rattle.updn_routes.specs.Cabling.{is_next_to};
 ghost use Rattle.updn_routes.specs.Order.{place_of};
 ghost use Rattle.updn_routes.specs.Routes.{AllReached, AllRouted, AreRoutes, IsFirstUnreached, carries, has_gap, home_of, is_gap, next_hop, number_of, order_of, port_towards, routes_with};
 ghost use Rattle.updn_routes.specs.Tree.{tree_port};
+ghost use Rattle.fabric_parts.specs.declared.limits.TheConstants.{SWITCHES};
 
 use crate::place::place_at;
 use crate::row::{Row, links_of};
@@ -34,7 +35,8 @@ impl Model for SwitchRoutes {
 
     ghost view = { λ r. routes_with r.rows.items r.guids.items r.ranks.items r.depths.items r.places.items r.tables.items r.homes.items };
 
-    ghost invariant = { λ r. AreRoutes (routes_with r.rows.items r.guids.items r.ranks.items r.depths.items r.places.items r.tables.items r.homes.items) };
+    ghost invariant = { λ r. AreRoutes
+        (routes_with r.rows.items r.guids.items r.ranks.items r.depths.items r.places.items r.tables.items r.homes.items) };
 }
 
 impl SwitchRoutes {
@@ -208,7 +210,7 @@ fn is_next_to(rows: &[Row], switch: usize, other: usize) -> bool
 /// The number of the channel from a place to another, among so many: those up first, from the last place to the
 /// first, and then those down, from the first to the last.
 fn number(count: usize, place: usize, other: usize) -> usize
-    requires few { count ≤ 64 }
+    requires few { count ≤ SWITCHES }
     requires there { place < count }
     ensures { result ≡ (if nat_lt other place then count - 1 - place else count + place) }
 {

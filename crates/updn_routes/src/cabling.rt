@@ -3,14 +3,15 @@
 ghost use Rattle.std.specs.Prelude.{ℕ, ◌≡◌, ◌==◌, ◌<◌, length, get_or, IfOk};
 ghost use Rattle.std.specs.List.{list_all, list_any};
 ghost use Rattle.lid_assign.specs.Lids.{AreLids, end_ports};
-ghost use Rattle.updn_routes.specs.Subnet.{guids_of, home_from, homes_of, link_of, place_of, row_of, rows_of, seat_of};
+ghost use Rattle.updn_routes.specs.Subnet.{guids_of, home_from, home_in, homes_of, link_of, row_of, rows_of, seat_of};
+ghost use Rattle.fabric_parts.specs.declared.lid.TheConstants.{LAST_UNICAST_LID};
 
 use crate::link::Link;
 use crate::row::Row;
 use fabric_parts::PortRef;
 use lid_assign::Lids;
 use std::alloc::{AllocError, Global};
-use sweep::{Graph, GraphPort, GraphSwitch};
+use sweep::{Graph, GraphPort};
 
 /// The links between the switches of a graph. Memory alone can be refused.
 pub(crate) fn rows_of(alloc: Global, graph: &Graph) -> Result<Vec<Row>, AllocError>
@@ -25,7 +26,7 @@ pub(crate) fn rows_of(alloc: Global, graph: &Graph) -> Result<Vec<Row>, AllocErr
 }
 
 /// The links of a switch, to switches.
-fn row_of(alloc: Global, links: &[sweep::Link]) -> Result<Vec<Link>, AllocError>
+fn row_of(alloc: Global, links: &[sweep::GraphLink]) -> Result<Vec<Link>, AllocError>
     ensures { IfOk result (λ row. row.items ≡ row_of links.now) }
 {
     links
@@ -59,33 +60,24 @@ pub(crate) fn homes_of(
 {
     graph.known_graph();
     lids.known_distinct();
-    let switches = graph.switches();
-    let ports = graph.ports();
-    let count = switches.len() + ports.len();
+    let count = graph.switches().len() + graph.ports().len();
     let mut homes = Vec::new(alloc);
     for before in 0..count {
-        homes.push(home_of(switches, ports, lids, before))?;
+        homes.push(home_of(graph, lids, before))?;
     }
     Ok(homes)
 }
 
 /// Where the LID after so many hangs.
-fn home_of(switches: &[GraphSwitch], ports: &[GraphPort], lids: &Lids, before: usize) -> PortRef
+fn home_of(graph: &Graph, lids: &Lids, before: usize) -> PortRef
     requires there { before < length lids.now }
-    requires few { before < 49151 }
-    ensures { result ≡ home_from (place_of switches.now (get_or lids.now before 0)) (seat_of ports.now (get_or lids.now before 0)) }
+    requires few { before < LAST_UNICAST_LID }
+    ensures { result ≡ home_in graph.now (get_or lids.now before 0) }
 {
     match lids.port_of((before + 1) as u16) {
-        Some(guid) => home_from(place_of(switches, guid), seat_of(ports, guid)),
+        Some(guid) => home_from(graph.place_of(guid), seat_of(graph.ports(), guid)),
         None => PortRef { node: 0, port: 0 },
     }
-}
-
-/// The place of the switch with that GUID.
-fn place_of(switches: &[GraphSwitch], guid: u64) -> Option<usize>
-    ensures { result ≡ place_of switches.now guid }
-{
-    switches.iter().position(|switch| switch.guid == guid)
 }
 
 /// The port of a switch on which the adapter's port with that GUID hangs.

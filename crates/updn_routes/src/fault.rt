@@ -1,8 +1,5 @@
 //! Why there are no routes.
 
-ghost use Rattle.std.specs.Prelude.{◌≡◌, option_map};
-ghost use Rattle.updn_routes.specs.Fault.{code_of};
-
 use std::alloc::{AllocError, AllocFailed};
 use thiserror::Error;
 
@@ -21,18 +18,6 @@ pub enum RouteFault {
         /// The LID of the adapter's port.
         port: u16,
     },
-}
-
-impl RouteFault {
-    /// The code that is printed for the fault; want of memory has none.
-    pub fn code(self) -> Option<&'static str>
-        ensures { option_map (λ code. code.now) result ≡ code_of self }
-    {
-        match self {
-            RouteFault::NoMemory => None,
-            RouteFault::NoLegalPath { .. } => Some("UR1"),
-        }
-    }
 }
 
 impl From<AllocError> for RouteFault {

@@ -10,6 +10,8 @@ ghost use Rattle.updn_routes.specs.Order.{AreRanks};
 ghost use Rattle.updn_routes.specs.Routes.{AllReached, AreRoutesOf, all_hang, order_of};
 ghost use Rattle.updn_routes.specs.Subnet.{guids_of, homes_of, rows_of};
 ghost use Rattle.updn_routes.specs.Tree.{AreDepths};
+ghost use Rattle.fabric_parts.specs.declared.limits.TheConstants.{SWITCHES};
+ghost use Rattle.fabric_parts.specs.declared.lid.TheConstants.{LAST_UNICAST_LID};
 
 use crate::answer::SwitchRoutes;
 use crate::cabling::{guids_of, homes_of, rows_of};
@@ -57,9 +59,11 @@ fn routes_between(
     requires joined { AllJoined graph.now.rows }
     requires lids { AreLids (end_ports graph.now) lids.now }
     requires named { list_all (λ root. list_any (λ guid. guid == root) (guids_of graph.now)) roots.now ≡ true }
-    ensures made { IfOk result (λ routes. AreRoutesOf (rows_of graph.now) (guids_of graph.now) roots.now (homes_of graph.now lids.now) routes) }
+    ensures made { IfOk result (λ routes. AreRoutesOf (rows_of graph.now) (guids_of graph.now) roots.now
+        (homes_of graph.now lids.now) routes) }
     ensures reached { IfOk result (λ routes. AllReached (rows_of graph.now) (order_of routes) (homes_of graph.now lids.now)) }
-    ensures fault { IfErr result (λ fault. IsFaultOf (rows_of graph.now) (guids_of graph.now) roots.now (homes_of graph.now lids.now) fault) }
+    ensures fault { IfErr result (λ fault. IsFaultOf (rows_of graph.now) (guids_of graph.now) roots.now
+        (homes_of graph.now lids.now) fault) }
 {
     graph.known_graph();
     lids.known_distinct();
@@ -81,9 +85,9 @@ pub fn routes_over(
     homes: Vec<PortRef>,
 ) -> Result<SwitchRoutes, RouteFault>
     requires fabric { IsFabric rows.items guids.items roots.now }
-    requires few { length rows.items ≤ 64 }
+    requires few { length rows.items ≤ SWITCHES }
     requires hang { all_hang homes.items (length rows.items) ≡ true }
-    requires few_lids { length homes.items ≤ 49151 }
+    requires few_lids { length homes.items ≤ LAST_UNICAST_LID }
     ensures made { IfOk result (λ routes. AreRoutesOf rows.items guids.items roots.now homes.items routes) }
     ensures reached { IfOk result (λ routes. AllReached rows.items (order_of routes) homes.items) }
     ensures fault { IfErr result (λ fault. IsFaultOf rows.items guids.items roots.now homes.items fault) }
@@ -104,9 +108,9 @@ fn all_routes(
     homes: Vec<PortRef>,
 ) -> Result<SwitchRoutes, AllocError>
     requires fabric { IsFabric rows.items guids.items roots.now }
-    requires few { length rows.items ≤ 64 }
+    requires few { length rows.items ≤ SWITCHES }
     requires hang { all_hang homes.items (length rows.items) ≡ true }
-    requires few_lids { length homes.items ≤ 49151 }
+    requires few_lids { length homes.items ≤ LAST_UNICAST_LID }
     ensures { IfOk result (λ routes. AreRoutesOf rows.items guids.items roots.now homes.items routes) }
 {
     let ranks = ranks(alloc, &rows, &guids, roots)?;

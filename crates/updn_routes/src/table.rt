@@ -4,6 +4,7 @@ ghost use Rattle.std.specs.Prelude.{ℕ, ◌≡◌, ◌≤◌, ◌<◌, ◌+◌,
 ghost use Rattle.std.specs.List.{range_with_len};
 ghost use Rattle.updn_routes.specs.Cabling.{links_of};
 ghost use Rattle.updn_routes.specs.Tables.{AllDown, AllUp, AllWithin, AreTables, IsDownFrom, IsTable, IsUpTo, best_of, entry_at, entry_first, or_better, or_up};
+ghost use Rattle.fabric_parts.specs.declared.limits.TheConstants.{SWITCHES};
 
 use crate::link::Link;
 use crate::row::{Row, links_of};
@@ -12,7 +13,7 @@ use std::marker::Model;
 
 /// The next hop of a route, and how many are left with it.
 #[derive(Clone, Copy, Debug, PartialEq, Eq)]
-pub(crate) struct Hop {
+pub(crate) struct NextHop {
     /// The port that it goes out of; 0 at the target itself.
     pub port: u8,
     /// How many hops are left to the target.
@@ -22,21 +23,21 @@ pub(crate) struct Hop {
 /// The hops towards one switch, by the place at which they begin.
 #[derive(Debug, Drop)]
 pub(crate) struct Table {
-    entries: Vec<Option<Hop>>,
+    entries: Vec<Option<NextHop>>,
 }
 
 impl Model for Table {
     ghost use Rattle.std.specs.Prelude.{List, Option};
-    ghost use Rattle.updn_routes.specs.declared.table.Hop.{Hop};
+    ghost use Rattle.updn_routes.specs.declared.table.NextHop.{NextHop};
 
-    ghost Value = { List (Option Hop) };
+    ghost Value = { List (Option NextHop) };
 
     ghost view = { λ table. table.entries.items };
 }
 
 impl Table {
     /// The entries.
-    pub(crate) fn as_slice(&self) -> &[Option<Hop>]
+    pub(crate) fn as_slice(&self) -> &[Option<NextHop>]
         ensures { result.now ≡ self.now }
     {
         &self.entries
@@ -44,7 +45,7 @@ impl Table {
 }
 
 /// At the target itself.
-const HOME: Hop = Hop { port: 0, hops: 0 };
+const HOME: NextHop = NextHop { port: 0, hops: 0 };
 
 /// The table towards each switch, by the switch's place. Memory alone can be refused.
 pub(crate) fn all_tables(
@@ -52,7 +53,7 @@ pub(crate) fn all_tables(
     downs: &[Row],
     ups: &[Row],
 ) -> Result<Vec<Table>, AllocError>
-    requires few { length downs.now ≤ 64 }
+    requires few { length downs.now ≤ SWITCHES }
     requires count { length ups.now ≡ length downs.now }
     requires down { AllDown downs.now }
     requires up { AllUp ups.now }
@@ -72,7 +73,7 @@ fn table_towards(
     ups: &[Row],
     target: usize,
 ) -> Result<Table, AllocError>
-    requires few { length downs.now ≤ 64 }
+    requires few { length downs.now ≤ SWITCHES }
     requires count { length ups.now ≡ length downs.now }
     requires there { target < length downs.now }
     requires down { AllDown downs.now }
@@ -85,8 +86,12 @@ fn table_towards(
 }
 
 /// The ways down: each place reads the entries of later places alone, and these are written before it.
-fn downwards(alloc: Global, downs: &[Row], target: usize) -> Result<Vec<Option<Hop>>, AllocError>
-    requires few { length downs.now ≤ 64 }
+fn downwards(
+    alloc: Global,
+    downs: &[Row],
+    target: usize,
+) -> Result<Vec<Option<NextHop>>, AllocError>
+    requires few { length downs.now ≤ SWITCHES }
     requires there { target < length downs.now }
     requires down { AllDown downs.now }
     ensures { IfOk result (λ table. IsDownFrom downs.now target 0 target table.items) }
@@ -101,8 +106,8 @@ fn downwards(alloc: Global, downs: &[Row], target: usize) -> Result<Vec<Option<H
 }
 
 /// The ways up of the places that have none down: each reads the entries of earlier places alone.
-fn upwards(ups: &[Row], target: usize, mut table: Vec<Option<Hop>>) -> Vec<Option<Hop>>
-    requires few { length table.items ≤ 64 }
+fn upwards(ups: &[Row], target: usize, mut table: Vec<Option<NextHop>>) -> Vec<Option<NextHop>>
+    requires few { length table.items ≤ SWITCHES }
     requires there { target < length table.items }
     requires up { AllUp ups.now }
     requires small { AllWithin target table.items }
@@ -116,7 +121,7 @@ fn upwards(ups: &[Row], target: usize, mut table: Vec<Option<Hop>>) -> Vec<Optio
 }
 
 /// The way of a place: down where there is one, and else the best way up.
-fn down_or_up(ups: &[Row], place: usize, table: &[Option<Hop>]) -> Option<Hop>
+fn down_or_up(ups: &[Row], place: usize, table: &[Option<NextHop>]) -> Option<NextHop>
     requires { AllWithin 254 table.now }
     ensures { result ≡ or_up (entry_at table.now place) (best_of table.now (links_of ups.now place)) }
 {
@@ -127,7 +132,7 @@ fn down_or_up(ups: &[Row], place: usize, table: &[Option<Hop>]) -> Option<Hop>
 }
 
 /// The target's entry alone.
-fn only_home(alloc: Global, count: usize, target: usize) -> Result<Vec<Option<Hop>>, AllocError>
+fn only_home(alloc: Global, count: usize, target: usize) -> Result<Vec<Option<NextHop>>, AllocError>
     ensures { IfOk result (λ table. table.items ≡ map (entry_first target) (range_with_len 0 count)) }
 {
     (0..count)
@@ -136,7 +141,7 @@ fn only_home(alloc: Global, count: usize, target: usize) -> Result<Vec<Option<Ho
 }
 
 /// The best of these links, by a table: the first of those that leave the fewest hops.
-fn best(links: &[Link], table: &[Option<Hop>]) -> Option<Hop>
+fn best(links: &[Link], table: &[Option<NextHop>]) -> Option<NextHop>
     requires { AllWithin 254 table.now }
     ensures { result ≡ best_of table.now links.now }
 {
@@ -148,7 +153,7 @@ fn best(links: &[Link], table: &[Option<Hop>]) -> Option<Hop>
 }
 
 /// The better of what was found so far and a link out of that port, whose far end has that entry.
-fn or_better(best: Option<Hop>, port: u8, beyond: Option<Hop>) -> Option<Hop>
+fn or_better(best: Option<NextHop>, port: u8, beyond: Option<NextHop>) -> Option<NextHop>
     requires { IfSome beyond (λ hop. hop.hops ≤ 254) }
     ensures { result ≡ or_better best port beyond }
 {
@@ -158,12 +163,12 @@ fn or_better(best: Option<Hop>, port: u8, beyond: Option<Hop>) -> Option<Hop>
     let hops = beyond.hops + 1;
     match best {
         Some(best) if best.hops <= hops => Some(best),
-        _ => Some(Hop { port, hops }),
+        _ => Some(NextHop { port, hops }),
     }
 }
 
 /// The table towards the switch at a place; no entry, where there is no such place.
-pub(crate) fn table_at(tables: &[Table], place: usize) -> &[Option<Hop>]
+pub(crate) fn table_at(tables: &[Table], place: usize) -> &[Option<NextHop>]
     ensures { result.now ≡ get_or tables.now place [] }
 {
     match tables.get(place) {
@@ -173,7 +178,7 @@ pub(crate) fn table_at(tables: &[Table], place: usize) -> &[Option<Hop>]
 }
 
 /// The entry of a place.
-pub(crate) fn entry_at(table: &[Option<Hop>], place: usize) -> Option<Hop>
+pub(crate) fn entry_at(table: &[Option<NextHop>], place: usize) -> Option<NextHop>
     ensures { result ≡ entry_at table.now place }
 {
     match table.get(place) {

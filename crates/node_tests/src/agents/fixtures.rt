@@ -2,7 +2,7 @@
 
 ghost use Rattle.std.specs.Prelude.{◌+◌, ◌≤◌};
 
-use agent_rules::{LINEAR_TABLE, Link, MULTICAST_TABLE};
+use agent_rules::{LINEAR_TABLE, MULTICAST_TABLE, PortLink};
 use attr_tables::SmpAttribute;
 use mad_layout::{DrSmp, Header, Mad, Method};
 use port_model::AdapterPort;
@@ -12,17 +12,22 @@ pub type TestSwitch = Switch<LINEAR_TABLE, MULTICAST_TABLE>;
 
 /// Port 1 of an adapter of one port, cabled.
 pub fn adapter_port() -> AdapterPort {
-    AdapterPort::new(0x100, 1, 1, 0x101, b"h0", Link::Cabled)
+    AdapterPort::new(0x100, 1, 1, 0x101, b"h0", PortLink::Cabled)
 }
 
 /// Port 2 of an adapter of two ports, cabled.
 pub fn second_port() -> AdapterPort {
-    AdapterPort::new(0x100, 2, 2, 0x102, b"h0", Link::Cabled)
+    AdapterPort::new(0x100, 2, 2, 0x102, b"h0", PortLink::Cabled)
 }
 
 /// A switch of four ports, the last of which has no cable.
 pub fn switch() -> TestSwitch {
-    let links = [Link::Cabled, Link::Cabled, Link::Cabled, Link::Uncabled];
+    let links = [
+        PortLink::Cabled,
+        PortLink::Cabled,
+        PortLink::Cabled,
+        PortLink::Uncabled,
+    ];
     Switch::new(0x10, b"A", &links)
 }
 

@@ -4,7 +4,7 @@ use crate::agents::fixtures::{
     adapter_port, adapter_port_info, answer_of_a_switch, attribute_with, get, reply, set, switch,
     with_byte,
 };
-use agent_rules::Link;
+use agent_rules::PortLink;
 use attr_tables::{NodeInfo, PortInfo, PortState, SmpAttribute, SwitchInfo};
 use fabric_parts::NodeType;
 use mad_layout::{DrSmp, Header, MadStatus};
@@ -48,7 +48,7 @@ fn a_port_goes_from_initialize_over_armed_to_active(rt: HostRuntime) {
 
 #[test]
 fn a_port_without_a_cable_stays_down(rt: HostRuntime) {
-    let mut port = AdapterPort::new(0x100, 1, 1, 0x101, b"h0", Link::Uncabled);
+    let mut port = AdapterPort::new(0x100, 1, 1, 0x101, b"h0", PortLink::Uncabled);
     for asked in [1, 2, 3, 4] {
         let mut smp = set(SmpAttribute::PortInfo, 0, adapter_port_info(asked));
         assert!(rt; port.agent(&mut smp));
@@ -82,7 +82,7 @@ fn port_info_after(lid: [u8; 2]) -> Option<(u16, PortInfo)> {
 
 #[test]
 fn a_set_of_port_info_takes_what_it_may(rt: HostRuntime) {
-    let before = agent_rules::port_info_at_power_up(NodeType::Switch, 4, Link::Cabled);
+    let before = agent_rules::port_info_at_power_up(NodeType::Switch, 4, PortLink::Cabled);
     let after = PortInfo {
         gid_prefix: 0xffffffffffffffff,
         lid: 0x1234,

@@ -1,5 +1,5 @@
 use Rattle.fabric_cli.specs.Serving.{texts_in}
-use Rattle.fabric_cli.specs.Words.{names}
+use Rattle.call_words.specs.Words.{names}
 use Rattle.fabric_cli.proofs.EndingLemmas.{of_texts}
 use Rattle.fabric_cli.proofs.serving.output_of_files.Goals as goal
 

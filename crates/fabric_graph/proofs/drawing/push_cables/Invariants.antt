@@ -1,8 +1,8 @@
 use Rattle.std.proofs.Common.{◌≡◌, ◌++◌, take}
 use Rattle.std.specs.List.{flat_map}
-use Rattle.fabric_graph.specs.Cables.{cable_line}
+use Rattle.fabric_graph.specs.Graph.{edge_of}
 use Rattle.fabric_graph.proofs.drawing.push_cables.Given as goal
 
 abbrev pub invariant-loop-cable : goal.invariant-loop-cable
 invariant-loop-cable l =
-    l.text.items ≡ l.fn.text.items ++ flat_map (cable_line l.fn.routes l.fn.nodes) (take l.cable-index l.fn.cables)
+    l.text.items ≡ l.fn.text.items ++ flat_map (edge_of l.fn.topology l.fn.routes l.fn.seats) (take l.cable-index l.fn.topology.cables)

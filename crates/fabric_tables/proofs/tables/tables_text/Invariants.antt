@@ -5,4 +5,4 @@ use Rattle.fabric_tables.proofs.tables.tables_text.Given as goal
 
 abbrev pub invariant-loop-port : goal.invariant-loop-port
 invariant-loop-port l =
-    l.text.items ≡ flat_map (port_table l.topology.nodes l.fabric l.switches l.ports) (take l.port-index l.ports)
+    l.text.items ≡ flat_map (port_table l.topology.nodes l.fabric l.graph.switches l.ports) (take l.port-index l.ports)

@@ -2,4 +2,4 @@ use Rattle.packet_ways.proofs.WayLemmas.{IsOnWay}
 use Rattle.fabric_wire.proofs.carrying.end_of_way.Given as goal
 
 abbrev pub invariant-loop-hops : goal.invariant-loop-hops
-invariant-loop-hops l = IsOnWay l.nodes l.cabling l.packet l.fn.first l._hops l.here
+invariant-loop-hops l = IsOnWay l.nodes l.cabling.cables l.packet l.fn.first l._hops l.here

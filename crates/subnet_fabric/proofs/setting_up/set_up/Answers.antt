@@ -1,3 +1,6 @@
+use Rattle.std.proofs.Common.{ap, Some}
+use Rattle.std.proofs.lemmas.Option.{same_Some}
+use Rattle.smp_wire.specs.FabricState.{FabricState}
 use Rattle.std.proofs.lemmas.Result.{err_from_is_err_and}
 use Rattle.subnet_fabric.proofs.RootLemmas.{are_named}
 use Rattle.subnet_fabric.proofs.setting_up.set_up.Goals as goal
@@ -13,3 +16,10 @@ routes_of-requires-clause-named c =
 
 pub known_to_lead_home-requires : goal.known_to_lead_home-requires
 known_to_lead_home-requires c = (c.in_ok-routes.ensures c.args.fabric.now c.in_ok-graph.ensures.found).reached
+
+pub returns-in-Ok : goal.returns-in-Ok
+returns-in-Ok c =
+    let are = c.in_ok-routes.ensures c.args.fabric.now c.in_ok-graph.ensures.found in
+    let leaves = c.push_all.ensures c.args.fabric.now (ap (λ (fabric : FabricState). Some fabric) c.graph_of.ensures.left)
+    are.found.of c.requires.swept.good c.requires.swept.links in
+    record { are = are; home = c.known_to_lead_home.ensures; pushed = leaves.pushed; is = same_Some _ _ leaves.stands }

@@ -4,8 +4,8 @@ use Rattle.subnet_sends.specs.Sends.{ComesOf}
 use Rattle.subnet_sends.proofs.SendLemmas.{what_comes_is_told}
 use Rattle.subnet_sends.proofs.sending.send.Goals as goal
 
-pub returns-then-not-has_port-clause-told : goal.returns-then-not-has_port-clause-told
-returns-then-not-has_port-clause-told c = what_comes_is_told c.args.fabric.now c.args.command.now c.new.result.items (search rules)
+pub returns-in_default-clause-told : goal.returns-in_default-clause-told
+returns-in_default-clause-told c = what_comes_is_told c.args.fabric.now c.args.command.now c.new.result.items (search rules)
 
 pub returns-in-Ok-clause-told : goal.returns-in-Ok-clause-told
 returns-in-Ok-clause-told c = what_comes_is_told c.args.fabric.now c.args.command.now c.new-in-Ok.result.items (search rules)

@@ -7,6 +7,7 @@ use Rattle.sweep.proofs.CabledLemmas.{end_more, far_of}
 use Rattle.sweep.proofs.StartLemmas.{kind_at, seen_err, seen_ok}
 use Rattle.sweep.proofs.VisitLemmas.{adapter_on, base, behind_it, no_cable, nothing_on, same_bit}
 use Rattle.sweep.proofs.discovery.visit_port.Goals as goal
+use Rattle.smp_wire.proofs.PresentLemmas.{present_right}
 
 pub returns-in-Ok-false-clause-went : goal.returns-in-Ok-false-clause-went
 returns-in-Ok-false-clause-went g c x stands sweepable found one count is at =
@@ -37,7 +38,7 @@ returns-in-Err-look-clause-went g c x stands sweepable found one count is at =
     let far = far_of x.cables (port b.0.node c.args.here.port) (same_bit _ _ true told c.in-Ok-true.field-0-test) in
     let ends = ap (end_of x) c.then-path.ensures ∙ end_more x c.args.path.now b.0 far.0 c.args.here.port b.1.ends b.1.switch b.1.there far.1 in
     absurd (seen_err x c.then-path.result far.0 c.in-Err-look.fault sweepable.good
-    (far_is_port x.nodes x.cables (port b.0.node c.args.here.port) far.0 sweepable.good.cables far.1) ends
+    (far_is_port x.nodes x.cables (port b.0.node c.args.here.port) far.0 (present_right sweepable.good) far.1) ends
     (sym c.in-Err-look.is ∙ c.look.ensures.told x (c.has_link.ensures.left x stands sweepable.good) sweepable.good))
 
 pub returns-in-Switch-clause-went : goal.returns-in-Switch-clause-went

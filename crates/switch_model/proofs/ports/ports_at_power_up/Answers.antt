@@ -2,15 +2,15 @@ use Rattle.std.proofs.Common.{◌≡◌, ℕ, ◌+◌, ◌<◌, List, [], ◌∷
 use Rattle.std.proofs.lemmas.List.{take_more}
 use Rattle.mad_layout.specs.Layout.{Fits}
 use Rattle.attr_tables.specs.PortInfo.{port_info}
-use Rattle.agent_rules.specs.declared.link.Link.{Link}
-use Rattle.agent_rules.specs.declared.link.Link.TheVariants.{Cabled, Internal}
+use Rattle.agent_rules.specs.declared.link.PortLink.{PortLink}
+use Rattle.agent_rules.specs.declared.link.PortLink.TheVariants.{Cabled, Internal}
 use Rattle.switch_model.specs.declared.switch_port.SwitchPort.{SwitchPort}
 use Rattle.switch_model.specs.SwitchState.{AllFit, port_at_power_up, ports_from}
 use Rattle.switch_model.proofs.PortLemmas.{grown_fits, length-ports_from, ports_from_more}
 use Rattle.switch_model.proofs.ports.ports_at_power_up.Goals as goal
 
 -- the list with the port for one more link
-step : (links : List Link) (i : ℕ) (d link : Link) (number : ℕ) (ports next : List SwitchPort) (port : SwitchPort)
+step : (links : List PortLink) (i : ℕ) (d link : PortLink) (number : ℕ) (ports next : List SwitchPort) (port : SwitchPort)
     → i < length links → link ≡ get_or links i d → ports ≡ ports_from 0 (Internal ∷ take i links)
     → number ≡ length ports → port ≡ port_at_power_up number link → next ≡ ports ++ port ∷ []
     → next ≡ ports_from 0 (Internal ∷ take (i + 1) links)
@@ -18,7 +18,7 @@ step links i d link number ports next port h is so_far count made pushed =
     let all : number ≡ length (Internal ∷ take i links) = count ∙ ap length so_far ∙ length-ports_from 0 (Internal ∷ take i links) in
     let place : number ≡ 0 + length (Internal ∷ take i links) = omega arith in
     let longer : ports_from 0 (Internal ∷ take (i + 1) links) ≡ ports_from 0 ((Internal ∷ take i links) ++ link ∷ []) =
-    ap (λ (ls : List Link). ports_from 0 (Internal ∷ ls)) (take_more links i d h ∙ ap (λ (one : Link). take i links ++ one ∷ []) (sym is)) in
+    ap (λ (ls : List PortLink). ports_from 0 (Internal ∷ ls)) (take_more links i d h ∙ ap (λ (one : PortLink). take i links ++ one ∷ []) (sym is)) in
     pushed
     ∙ ap (λ (ps : List SwitchPort). ps ++ port ∷ []) so_far
     ∙ ap (λ (one : SwitchPort). ports_from 0 (Internal ∷ take i links) ++ one ∷ []) (made ∙ ap (λ (n : ℕ). port_at_power_up n link) place)

@@ -1,5 +1,5 @@
 use Rattle.std.proofs.Common.{◌≡◌, ◌+◌, ◌∷◌, length, take}
-use Rattle.agent_rules.specs.declared.link.Link.TheVariants.{Internal}
+use Rattle.agent_rules.specs.declared.link.PortLink.TheVariants.{Internal}
 use Rattle.switch_model.specs.SwitchState.{AllFit, ports_from}
 use Rattle.switch_model.proofs.ports.ports_at_power_up.Given as goal
 

@@ -1,6 +1,6 @@
 use Rattle.std.proofs.Common.{◌≡◌, ◌≤◌, ℕ, List, Option, length, refl, sym, subst, ◌∙◌, ap, arith}
 use Rattle.updn_routes.specs.declared.link.Link.{Link}
-use Rattle.updn_routes.specs.declared.table.Hop.{Hop}
+use Rattle.updn_routes.specs.declared.table.NextHop.{NextHop}
 use Rattle.updn_routes.specs.Order.{AreRanks}
 use Rattle.updn_routes.specs.Tables.{AllDown, AllUp, AreTables, all_downs, all_ups, places_of}
 use Rattle.updn_routes.specs.Tree.{AreDepths}

@@ -1,5 +1,6 @@
-use Rattle.std.proofs.Common.{◌∙◌}
+use Rattle.std.proofs.Common.{◌∙◌, ap}
 use Rattle.smp_wire.specs.Good.{IsGood, ShowsLinks, SwitchesJoined}
+use Rattle.fabric_wire.specs.Cabling.{uncut}
 use Rattle.fabric_wire.proofs.MadeLemmas.{made}
 use Rattle.fabric_wire.proofs.OfTopologyGoodLemmas.{good}
 use Rattle.fabric_wire.proofs.OfTopologyLinksLemmas.{links}
@@ -8,7 +9,7 @@ use Rattle.fabric_wire.proofs.fabric.Fabric.new.Goals as goal
 
 pub invariant_of-result : goal.invariant_of-result
 invariant_of-result c =
-    let is_good = made IsGood c.args.topology.now _ _ _ c.in_ok-nodes.ensures (c.in_ok-cabling.ensures ∙ c.cables.ensures.value)
+    let is_good = made IsGood c.args.topology.now _ _ _ c.in_ok-nodes.ensures (c.in_ok-cabling.ensures ∙ ap uncut c.cables.ensures.value)
     c.sm.ensures.value (good c.args.topology.now c.known_sound.ensures) in
     record { good = is_good; found = rw (← c.deref.ensures.value) c.in_ok-adapter_ports.ensures }
 
@@ -22,16 +23,16 @@ places_by_guid-requires-clause-own c =
 
 pub returns-clause-good : goal.returns-clause-good
 returns-clause-good c =
-    made IsGood c.args.topology.now _ _ _ c.in_ok-nodes.ensures (c.in_ok-cabling.ensures ∙ c.cables.ensures.value)
+    made IsGood c.args.topology.now _ _ _ c.in_ok-nodes.ensures (c.in_ok-cabling.ensures ∙ ap uncut c.cables.ensures.value)
     c.sm.ensures.value (good c.args.topology.now c.known_sound.ensures)
 
 pub returns-clause-links : goal.returns-clause-links
 returns-clause-links c =
     made ShowsLinks c.args.topology.now _ _ _ c.in_ok-nodes.ensures
-    (c.in_ok-cabling.ensures ∙ c.cables.ensures.value) c.sm.ensures.value (links c.args.topology.now)
+    (c.in_ok-cabling.ensures ∙ ap uncut c.cables.ensures.value) c.sm.ensures.value (links c.args.topology.now)
 
 pub returns-clause-joined : goal.returns-clause-joined
 returns-clause-joined c =
     made SwitchesJoined c.args.topology.now _ _ _ c.in_ok-nodes.ensures
-    (c.in_ok-cabling.ensures ∙ c.cables.ensures.value) c.sm.ensures.value
+    (c.in_ok-cabling.ensures ∙ ap uncut c.cables.ensures.value) c.sm.ensures.value
     (joined c.args.topology.now c.known_sound.ensures)

@@ -3,13 +3,14 @@ use Rattle.std.proofs.Math.Seq.{take-append_seam}
 use Rattle.smp_wire.specs.FabricState.{FabricState}
 use Rattle.smp_wire.proofs.KeptLemmas.{good}
 use Rattle.indexmap.specs.IndexMap.{get}
+use Rattle.fabric_wire.specs.Cabling.{fabric_over}
 use Rattle.fabric_wire.proofs.KeptPortLemmas.{still_finds}
 use Rattle.fabric_wire.proofs.fabric.FabricSmpWire.exchange.Goals as goal
 
 -- the vector holds the nodes that the slice holds
 pub invariant_of-self : goal.invariant_of-self
 invariant_of-self c =
-    let fabric : FabricState = record { nodes = c.deref_mut.result.now; cables = c.self.inside.cabling; manager = c.self.inside.manager } in
+    let fabric : FabricState = fabric_over c.deref_mut.result.now c.self.inside.cabling c.self.inside.manager in
     let long : length c.exchange.new.nodes ≡ length c.self.inside.nodes.items = search in
     let same : c.self.inside.nodes.len ≡ length c.exchange.new.nodes = sym c.deref_mut.ensures.len ∙ ap length c.deref_mut.ensures.value ∙ sym long in
     let stands = take-append_seam c.exchange.new.nodes (drop (length c.exchange.new.nodes) c.self.inside.nodes.items) in

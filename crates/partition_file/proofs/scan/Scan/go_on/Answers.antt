@@ -9,7 +9,7 @@ pub invariant_of-self : goal.invariant_of-self
 invariant_of-self c =
     let inside = c.self.inside in
     as_before (record { at = inside.part; current = inside.current; done = inside.done }) c.take_piece.new.self c.self.invariant
-    c.in_err-take_piece.ensures.err_key c.in_err-take_piece.ensures.err_flags
+    c.in_err-take_piece.ensures.err_base c.in_err-take_piece.ensures.err_flags
 
 pub push-requires : goal.push-requires
 push-requires c =

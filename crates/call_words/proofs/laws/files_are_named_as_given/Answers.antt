@@ -1,0 +1,8 @@
+use Rattle.call_words.proofs.NameLemmas.{blanks_are_kept, files_are_given}
+use Rattle.call_words.proofs.laws.files_are_named_as_given.Goals as goal
+
+pub returns-clause-words : goal.returns-clause-words
+returns-clause-words c = files_are_given
+
+pub returns-clause-blanks : goal.returns-clause-blanks
+returns-clause-blanks c = blanks_are_kept

@@ -1,0 +1,61 @@
+-- The commands of the program and their arguments, as clap reads them.
+use Rattle.std.specs.Prelude.{codes, Some, true}
+use Rattle.clap.specs.Words.{App, Rule, Text, new_app, new_rule, with_rule, with_subcommand}
+use Rattle.clap.specs.declared.builder.ArgAction.TheVariants.{Set}
+
+-- an argument that has to be given
+abbrev pub wanted : Text → Rule
+wanted name = record (new_rule name) { action = Some Set; required = true }
+
+-- an argument that may be given
+abbrev pub optional : Text → Rule
+optional name = record (new_rule name) { action = Some Set }
+
+-- a command that names a subnet by its topology and its partitions
+abbrev pub subnet_command : Text → App
+subnet_command name = with_rule (with_rule (new_app name) (wanted (codes "TOPO"))) (wanted (codes "PARTS"))
+
+abbrev pub check_command : App
+check_command = subnet_command (codes "check")
+
+abbrev pub shares_command : App
+shares_command = with_rule (subnet_command (codes "shares")) (optional (codes "PORT"))
+
+abbrev pub diff_command : App
+diff_command = with_rule (subnet_command (codes "diff")) (wanted (codes "PARTS2"))
+
+abbrev pub tables_command : App
+tables_command = subnet_command (codes "tables")
+
+abbrev pub keys_command : App
+keys_command = subnet_command (codes "keys")
+
+abbrev pub trace_command : App
+trace_command =
+    let from = with_rule (subnet_command (codes "trace")) (wanted (codes "PORT")) in
+    with_rule (with_rule from (wanted (codes "DLID"))) (wanted (codes "PKEY"))
+
+abbrev pub graph_command : App
+graph_command = subnet_command (codes "graph")
+
+abbrev pub run_command : App
+run_command = with_rule (subnet_command (codes "run")) (wanted (codes "SCRIPT"))
+
+abbrev pub explain_command : App
+explain_command = with_rule (new_app (codes "explain")) (optional (codes "CODE"))
+
+-- the program's words: one of its subcommands, with that one's arguments
+abbrev pub fabric_top : App
+fabric_top = let app = new_app (codes "fabric") in record app { top = record app.top { has_version = true; subcommand_required = true } }
+
+abbrev pub fabric_command : App
+fabric_command =
+    let checks = with_subcommand fabric_top check_command.top in
+    let shares = with_subcommand checks shares_command.top in
+    let compares = with_subcommand shares diff_command.top in
+    let tables = with_subcommand compares tables_command.top in
+    let keys = with_subcommand tables keys_command.top in
+    let traces = with_subcommand keys trace_command.top in
+    let graphs = with_subcommand traces graph_command.top in
+    let runs = with_subcommand graphs run_command.top in
+    with_subcommand runs explain_command.top

@@ -1,0 +1,75 @@
+-- The program's own texts in help, where a contract can see them: what clap makes of them is clap's.
+use Rattle.std.specs.Prelude.{List, ℕ, codes, Option, option_map}
+use Rattle.std.specs.Borrow.{Bor}
+
+-- a text that was set, if it was
+abbrev pub text_in : Option (Bor (List ℕ)) → Option (List ℕ)
+text_in given = option_map (λ text. text.now) given
+
+-- what usage and help call the program, whatever name its file has
+abbrev pub program_name : List ℕ
+program_name = codes "fabric"
+
+abbrev pub program_version : List ℕ
+program_version = codes "0.1.0"
+
+abbrev pub about_program : List ℕ
+about_program = codes "An InfiniBand subnet manager over a simulated fabric"
+
+abbrev pub about_check : List ℕ
+about_check = codes "Lists the ports of a subnet by LID, and the members of each partition with their keys"
+
+abbrev pub about_shares : List ℕ
+about_shares = codes "Lists which two ports may talk to one another, and in which partitions"
+
+abbrev pub about_diff : List ℕ
+about_diff = codes "Lists what a second partition file in place of the first changes"
+
+abbrev pub about_tables : List ℕ
+about_tables = codes "Prints the linear forwarding tables of a subnet's switches, as dump_fts does"
+
+abbrev pub about_keys : List ℕ
+about_keys = codes "Prints the key tables of a subnet's ports"
+
+abbrev pub about_trace : List ℕ
+about_trace = codes "Prints the way of one packet, and why it ends"
+
+abbrev pub about_graph : List ℕ
+about_graph = codes "Draws a subnet's fabric, as a text for Graphviz"
+
+abbrev pub about_run : List ℕ
+about_run = codes "Runs a script in a subnet, and prints what its ports receive"
+
+abbrev pub about_explain : List ℕ
+about_explain = codes "Tells what the code of a fault or a refusal means, or lists all codes"
+
+abbrev pub help_of_topology : List ℕ
+help_of_topology = codes "The topology: switches, adapters, cables and the subnet manager"
+
+abbrev pub help_of_partitions : List ℕ
+help_of_partitions = codes "The partitions and their members, or `-` for the default one alone"
+
+abbrev pub help_of_port : List ℕ
+help_of_port = codes "An end port as `check` lists it: `h1/1`, or `A/0` for port 0 of switch A"
+
+abbrev pub help_of_sender : List ℕ
+help_of_sender = codes "The port that sends, of a channel adapter: `h1/1`"
+
+abbrev pub help_of_dlid : List ℕ
+help_of_dlid = codes "The LID that it is sent to: a number of 16 bits, as `5` or `0x0005`, no multicast LID"
+
+abbrev pub help_of_key : List ℕ
+help_of_key = codes "The key under which it is sent: a number of 16 bits, as `0x8001`"
+
+abbrev pub help_of_second_partitions : List ℕ
+help_of_second_partitions = codes "The partitions in place of those, or `-` for the default one alone"
+
+abbrev pub help_of_code : List ℕ
+help_of_code = codes "A code as it is told: `PF2`, or `memory`"
+
+abbrev pub help_of_script : List ℕ
+help_of_script = codes "The script: what ports send"
+
+-- ---- for words that are refused by the program itself
+abbrev pub not_text_line : List ℕ
+not_text_line = codes "error: a word is not text\n"

@@ -1,0 +1,30 @@
+-- What holds of all words: the statements of the laws of `src/laws.rt`.
+use Rattle.std.specs.Prelude.{ℕ, ◌≡◌, ◌∷◌, [], List, Ok, Some, None, codes, Option}
+use Rattle.std.specs.Option.{option_map_or}
+use Rattle.std.specs.List.{All}
+use Rattle.clap.specs.Words.{Row, Text, first_of}
+use Rattle.call_words.specs.Words.{Names, all_names, asked_by_clap, asked_in, opened_for}
+use Rattle.call_words.specs.declared.call.Call.TheVariants.{Subnet}
+use Rattle.call_words.specs.declared.call.Subcommand.{Subcommand}
+
+-- the name is the word of an argument, as it stands
+abbrev pub IsWordOf : List Row → Text → Type 0
+IsWordOf rows name = (argument : Text) × (first_of argument rows ≡ Some name)
+
+-- each name that is opened is a word as clap found it, whatever stands in it
+abbrev pub FilesAreNamedAsGiven : Type 0
+FilesAreNamedAsGiven =
+    (word : Text) (rows : List Row) (names : Names) → asked_in (Some (word, rows)) ≡ Ok (Subnet names)
+    → All (IsWordOf rows) (all_names names)
+
+-- the names that are opened where the words behind the program's own are these
+abbrev pub opened_by : List Text → List Text
+opened_by words = opened_for (asked_by_clap (codes "fabric" ∷ words))
+
+-- a name with a blank in front of it or behind it is another name, and so is one in capitals
+pub record NamesKeepTheirBlanks : Type 0 where
+  pub plain : opened_by (codes "check" ∷ codes "net" ∷ codes "-" ∷ []) ≡ codes "net" ∷ []
+  pub before : opened_by (codes "check" ∷ codes " net" ∷ codes "-" ∷ []) ≡ codes " net" ∷ []
+  pub behind : opened_by (codes "check" ∷ codes "net" ∷ codes "parts " ∷ []) ≡ codes "net" ∷ codes "parts " ∷ []
+  pub script : opened_by (codes "run" ∷ codes "Net" ∷ codes "-" ∷ codes " sends " ∷ []) ≡ codes "Net" ∷ codes " sends " ∷ []
+  pub dash : opened_by (codes "diff" ∷ codes "net" ∷ codes "-" ∷ codes " -" ∷ []) ≡ codes "net" ∷ codes " -" ∷ []

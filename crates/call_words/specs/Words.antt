@@ -1,0 +1,200 @@
+-- What the words of a call ask for.
+use Rattle.std.specs.Prelude.{List, [], ◌∷◌, ◌++◌, codes, map, string_bytes, Option, Some, None, option_map, Result, Ok, Err}
+use Rattle.std.specs.Prelude.{String}
+use Rattle.std.specs.Prelude.{if◌then◌else◌, ℕ}
+use Rattle.std.specs.Global.{Global}
+use Rattle.std.specs.Option.{option_and_then, option_to_list}
+use Rattle.std.specs.Str.{bytes_eq}
+use Rattle.clap.specs.Words.{Row, Text, Kinds, fault_of, first_of, subcommand_of}
+use Rattle.std.specs.Borrow.{Bor}
+use Rattle.std.specs.Vec.Iter.{into_iter_items}
+use Rattle.std.specs.declared.vec.IntoIter.{IntoIter}
+use Rattle.code_texts.specs.Codes.{code_of}
+use Rattle.call_words.specs.CommandLine.{fabric_command}
+use Rattle.call_words.specs.Help.{not_text_line}
+use Rattle.call_words.specs.declared.call.Asked.{Asked}
+use Rattle.call_words.specs.declared.call.Call.{Call}
+use Rattle.call_words.specs.declared.call.Call.TheVariants.{Explain, Subnet}
+use Rattle.call_words.specs.declared.call.Work.{Work}
+use Rattle.call_words.specs.declared.call.Inspection.{Inspection}
+use Rattle.call_words.specs.declared.call.Inspection.TheVariants.{Graph, Keys, Tables, Trace}
+use Rattle.call_words.specs.declared.call.Subcommand.{Subcommand}
+use Rattle.call_words.specs.declared.call.Subcommand.TheVariants as command
+use Rattle.call_words.specs.declared.help.TheConstants.{NO_SUCH_CODE, NO_SUCH_NUMBER}
+use Rattle.call_words.specs.declared.call.Work.TheVariants.{Check, Diff, Inspect, Run, Shares}
+use Rattle.fabric_parts.specs.Lid.{is_multicast}
+use Rattle.text_words.specs.Number.{u16_in}
+
+-- ---- what is asked for, with the names of the files as texts
+pub record Names : Type 0 where
+  pub topology : Text
+  pub partitions : Option Text
+  pub work : Work Text Text
+
+abbrev pub named_inspection : Inspection (Bor Text) → Inspection Text
+named_inspection Tables = Tables
+named_inspection Keys = Keys
+named_inspection (Trace port dlid p_key) = Trace port.now dlid p_key
+named_inspection Graph = Graph
+
+abbrev pub named_work : Work (Bor Text) (Bor Text) → Work Text Text
+named_work Check = Check
+named_work (Shares port) = Shares (option_map (λ word. word.now) port)
+named_work (Diff second) = Diff (option_map (λ word. word.now) second)
+named_work (Inspect what) = Inspect (named_inspection what)
+named_work (Run script) = Run script.now
+
+abbrev pub names : Asked → Names
+names asked = record {
+  topology = asked.topology.now;
+  partitions = option_map (λ name. name.now) asked.partitions;
+  work = named_work asked.work;
+}
+
+abbrev pub named_call : Call Asked → Call Names
+named_call (Subnet asked) = Subnet (names asked)
+named_call (Explain code) = Explain code
+
+-- what words ask for, or the text that they are refused with, where it is known
+abbrev pub Asking : Type 0
+Asking = Result (Call Names) (Option Text)
+
+abbrev pub named_found : Result (Call Asked) (Bor Text) → Asking
+named_found (Ok call) = Ok (named_call call)
+named_found (Err text) = Err (Some text.now)
+
+-- ---- the words of one command
+-- `-` stands for no file
+abbrev pub file_in : Text → Option Text
+file_in word = if bytes_eq word (codes "-") then None else Some word
+
+abbrev pub diff_by : Option Text → Option (Work Text Text)
+diff_by second = option_map (λ word. Diff (file_in word)) second
+
+abbrev pub run_by : Option Text → Option (Work Text Text)
+run_by script = option_map (λ name. Run name) script
+
+-- a number of 16 bits, as scripts write it
+abbrev pub u16_by : Option Text → Option ℕ
+u16_by word = option_and_then u16_in word
+
+-- the LID of a packet that a trace can follow: not one of multicast groups
+abbrev pub lid_by : Option Text → Option ℕ
+lid_by word = option_and_then (λ lid. if is_multicast lid then None else Some lid) (u16_by word)
+
+abbrev pub packet_by : Option Text → Option ℕ → Option ℕ → Option (Work Text Text)
+packet_by (Some port) (Some dlid) (Some p_key) = Some (Inspect (Trace port dlid p_key))
+packet_by _ _ _ = None
+
+abbrev pub trace_by : List Row → Option (Work Text Text)
+trace_by rows =
+    packet_by (first_of (codes "PORT") rows) (lid_by (first_of (codes "DLID") rows)) (u16_by (first_of (codes "PKEY") rows))
+
+abbrev pub asked_by : Option Text → Option Text → Option (Work Text Text) → Option (Call Names)
+asked_by (Some topology) (Some partitions) (Some work) =
+    Some (Subnet (record { topology = topology; partitions = file_in partitions; work = work }))
+asked_by _ _ _ = None
+
+-- this work in the subnet of a topology and of partitions
+abbrev pub in_subnet : List Row → Option (Work Text Text) → Option (Call Names)
+in_subnet rows work = asked_by (first_of (codes "TOPO") rows) (first_of (codes "PARTS") rows) work
+
+-- a word for a code that spells none asks for nothing
+abbrev pub explain_by : Option Text → Option (Call Names)
+explain_by None = Some (Explain None)
+explain_by (Some word) = option_map (λ code. Explain (Some code)) (code_of word)
+
+-- `check`, `tables`, `keys` and `graph` need no more words than their subnet's, `shares` takes a port, `diff` needs other
+-- partitions, `trace` a packet and `run` a script; `explain` takes a code
+abbrev pub call_in : Subcommand → List Row → Option (Call Names)
+call_in command.Check rows = in_subnet rows (Some Check)
+call_in command.Shares rows = in_subnet rows (Some (Shares (first_of (codes "PORT") rows)))
+call_in command.Diff rows = in_subnet rows (diff_by (first_of (codes "PARTS2") rows))
+call_in command.Tables rows = in_subnet rows (Some (Inspect Tables))
+call_in command.Keys rows = in_subnet rows (Some (Inspect Keys))
+call_in command.Trace rows = in_subnet rows (trace_by rows)
+call_in command.Graph rows = in_subnet rows (Some (Inspect Graph))
+call_in command.Run rows = in_subnet rows (run_by (first_of (codes "SCRIPT") rows))
+call_in command.Explain rows = explain_by (first_of (codes "CODE") rows)
+
+-- ---- all words
+abbrev pub subcommand_in : Text → Option Subcommand
+subcommand_in word =
+    if bytes_eq word (codes "check") then Some command.Check
+    else if bytes_eq word (codes "shares") then Some command.Shares
+    else if bytes_eq word (codes "diff") then Some command.Diff
+    else if bytes_eq word (codes "tables") then Some command.Tables
+    else if bytes_eq word (codes "keys") then Some command.Keys
+    else if bytes_eq word (codes "trace") then Some command.Trace
+    else if bytes_eq word (codes "graph") then Some command.Graph
+    else if bytes_eq word (codes "run") then Some command.Run
+    else if bytes_eq word (codes "explain") then Some command.Explain
+    else None
+
+-- the text for a word that clap takes and that is none: in a trace that is a number, and else a code
+abbrev pub text_for : Subcommand → Text
+text_for command.Trace = NO_SUCH_NUMBER.now
+text_for _ = NO_SUCH_CODE.now
+
+abbrev pub asked_or : Text → Option (Call Names) → Asking
+asked_or text (Some call) = Ok call
+asked_or text None = Err (Some text)
+
+abbrev pub asked_by_command : Option Subcommand → List Row → Asking
+asked_by_command (Some command) rows = asked_or (text_for command) (call_in command rows)
+asked_by_command None rows = Err (Some NO_SUCH_CODE.now)
+
+-- by what clap finds: the word for a command, and the arguments of that
+abbrev pub asked_in : Option (Text × List Row) → Asking
+asked_in (Some found) = asked_by_command (subcommand_in found.0) found.1
+asked_in None = Err (Some NO_SUCH_CODE.now)
+
+abbrev pub unless_refused : Option Text → Kinds → Asking → Asking
+unless_refused shown [] asked = asked
+unless_refused shown (kind ∷ kinds) asked = Err shown
+
+-- what the words ask for, the first of them the program's own name. Where clap refuses them, or help or the version is asked
+-- for, they are refused with the text that `shown` says, where it says one; and where a word for a code or a number is none,
+-- with a text of the program's own
+unfoldable pub asked_of : (shown : List Text → Option Text) → List Text → Asking
+asked_of shown words =
+    unless_refused (shown words) (fault_of fabric_command words) (asked_in (subcommand_of fabric_command words))
+
+-- clap's own texts are known to no contract
+abbrev pub asked_by_clap : List Text → Asking
+asked_by_clap words = asked_of (λ _. None) words
+
+abbrev pub asking : (List Text → Option Text) → List (String Global) → Asking
+asking shown words = asked_of shown (map string_bytes words)
+
+abbrev pub asking_by_clap : List (String Global) → Asking
+asking_by_clap words = asked_by_clap (map string_bytes words)
+
+-- ---- the words that a program is given, where all of them are text
+abbrev pub given_items : {E : Type 0} → Result (IntoIter (String Global) Global) E → Option (List (String Global))
+given_items (Ok words) = Some (into_iter_items words)
+given_items (Err error) = None
+
+abbrev pub given_texts : {E : Type 0} → Result (IntoIter (String Global) Global) E → Option (List Text)
+given_texts given = option_map (λ words. map string_bytes words) (given_items given)
+
+-- words that are not text are refused with a text of the program's own
+abbrev pub asked_by_given : Option (List Text) → Asking
+asked_by_given None = Err (Some not_text_line)
+asked_by_given (Some words) = asked_by_clap words
+
+-- ---- the names that are opened, in order
+abbrev pub work_names : Work Text Text → List Text
+work_names Check = []
+work_names (Shares port) = []
+work_names (Diff second) = option_to_list second
+work_names (Inspect what) = []
+work_names (Run script) = script ∷ []
+
+abbrev pub all_names : Names → List Text
+all_names asked = asked.topology ∷ (option_to_list asked.partitions ++ work_names asked.work)
+
+abbrev pub opened_for : Asking → List Text
+opened_for (Err text) = []
+opened_for (Ok (Subnet asked)) = all_names asked
+opened_for (Ok (Explain code)) = []

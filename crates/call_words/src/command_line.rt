@@ -1,0 +1,310 @@
+//! The command line of the program, for `clap`.
+
+ghost use Rattle.std.specs.Prelude.{◌≡◌, false, List, ℕ, Option, None, Some, codes, map, string_bytes, IfOk, IfErr, IsSomeAnd};
+ghost use Rattle.clap.specs.Words.{app_of, rule_of, subcommand_rows_of};
+ghost use Rattle.clap.specs.declared.builder.command.Command.TheViews.{out-Command as fields_of};
+ghost use Rattle.call_words.specs.CommandLine.{check_command, diff_command, explain_command, fabric_command, graph_command, keys_command};
+ghost use Rattle.call_words.specs.CommandLine.{optional, run_command, shares_command, subnet_command, tables_command, trace_command};
+ghost use Rattle.call_words.specs.CommandLine.{wanted};
+ghost use Rattle.call_words.specs.Help.{about_check, about_diff, about_explain, about_graph, about_keys, about_program, about_run};
+ghost use Rattle.call_words.specs.Help.{about_shares, about_tables, about_trace, help_of_code, help_of_dlid, help_of_key};
+ghost use Rattle.call_words.specs.Help.{help_of_partitions};
+ghost use Rattle.call_words.specs.Help.{help_of_port, help_of_script, help_of_second_partitions, help_of_sender, help_of_topology};
+ghost use Rattle.call_words.specs.Help.{program_name, program_version, text_in};
+ghost use Rattle.call_words.specs.Refusals.{IsShown};
+ghost use Rattle.call_words.specs.Words.{asked_in, asked_of};
+ghost use Rattle.call_words.specs.declared.help.TheConstants.{CHANGES, CODES, GRAPH, KEYS, LISTING, REPORT, SHARES, STATUSES, TABLES};
+ghost use Rattle.call_words.specs.declared.help.TheConstants.{TRACE};
+
+use crate::call::Refused;
+use crate::help::{
+    ABOUT, ABOUT_CHECK, ABOUT_DIFF, ABOUT_EXPLAIN, ABOUT_GRAPH, ABOUT_KEYS, ABOUT_RUN,
+    ABOUT_SHARES, ABOUT_TABLES, ABOUT_TRACE, CHANGES, CODES, GRAPH, KEYS, LISTING, REPORT, SHARES,
+    STATUSES, TABLES, TRACE,
+};
+use clap::error::ErrorKind;
+use clap::{Arg, ArgAction, ArgMatches, Command, Error};
+use std::alloc::{AllocError, Global};
+use std::fmt::Display;
+
+/// An argument that has to be given.
+fn wanted<'a>(alloc: Global, name: &'a str, help: &'a str) -> Arg<'a>
+    ensures global { result.global ≡ false }
+    ensures rule { rule_of result ≡ wanted name.entry.now }
+    ensures help { result.help ≡ Some help.entry }
+{
+    Arg::new(alloc, name)
+        .required(true)
+        .action(ArgAction::Set)
+        .help(help)
+}
+
+fn wanted_topology<'a>(alloc: Global) -> Arg<'a>
+    ensures global { result.global ≡ false }
+    ensures rule { rule_of result ≡ wanted (codes "TOPO") }
+    ensures help { text_in result.help ≡ Some help_of_topology }
+{
+    wanted(
+        alloc,
+        "TOPO",
+        "The topology: switches, adapters, cables and the subnet manager",
+    )
+}
+
+fn wanted_partitions<'a>(alloc: Global) -> Arg<'a>
+    ensures global { result.global ≡ false }
+    ensures rule { rule_of result ≡ wanted (codes "PARTS") }
+    ensures help { text_in result.help ≡ Some help_of_partitions }
+{
+    wanted(
+        alloc,
+        "PARTS",
+        "The partitions and their members, or `-` for the default one alone",
+    )
+}
+
+fn wanted_port<'a>(alloc: Global) -> Arg<'a>
+    ensures global { result.global ≡ false }
+    ensures rule { rule_of result ≡ wanted (codes "PORT") }
+    ensures help { text_in result.help ≡ Some help_of_sender }
+{
+    wanted(
+        alloc,
+        "PORT",
+        "The port that sends, of a channel adapter: `h1/1`",
+    )
+}
+
+fn wanted_dlid<'a>(alloc: Global) -> Arg<'a>
+    ensures global { result.global ≡ false }
+    ensures rule { rule_of result ≡ wanted (codes "DLID") }
+    ensures help { text_in result.help ≡ Some help_of_dlid }
+{
+    wanted(
+        alloc,
+        "DLID",
+        "The LID that it is sent to: a number of 16 bits, as `5` or `0x0005`, no multicast LID",
+    )
+}
+
+fn wanted_key<'a>(alloc: Global) -> Arg<'a>
+    ensures global { result.global ≡ false }
+    ensures rule { rule_of result ≡ wanted (codes "PKEY") }
+    ensures help { text_in result.help ≡ Some help_of_key }
+{
+    wanted(
+        alloc,
+        "PKEY",
+        "The key under which it is sent: a number of 16 bits, as `0x8001`",
+    )
+}
+
+fn wanted_script<'a>(alloc: Global) -> Arg<'a>
+    ensures global { result.global ≡ false }
+    ensures rule { rule_of result ≡ wanted (codes "SCRIPT") }
+    ensures help { text_in result.help ≡ Some help_of_script }
+{
+    wanted(alloc, "SCRIPT", "The script: what ports send")
+}
+
+fn optional_port<'a>(alloc: Global) -> Arg<'a>
+    ensures global { result.global ≡ false }
+    ensures rule { rule_of result ≡ optional (codes "PORT") }
+    ensures help { text_in result.help ≡ Some help_of_port }
+{
+    Arg::new(alloc, "PORT").action(ArgAction::Set).help(
+        "An end port as `check` lists it: `h1/1`, or `A/0` for port 0 of switch A",
+    )
+}
+
+fn optional_code<'a>(alloc: Global) -> Arg<'a>
+    ensures global { result.global ≡ false }
+    ensures rule { rule_of result ≡ optional (codes "CODE") }
+    ensures help { text_in result.help ≡ Some help_of_code }
+{
+    Arg::new(alloc, "CODE")
+        .action(ArgAction::Set)
+        .help("A code as it is told: `PF2`, or `memory`")
+}
+
+fn wanted_second_partitions<'a>(alloc: Global) -> Arg<'a>
+    ensures global { result.global ≡ false }
+    ensures rule { rule_of result ≡ wanted (codes "PARTS2") }
+    ensures help { text_in result.help ≡ Some help_of_second_partitions }
+{
+    wanted(
+        alloc,
+        "PARTS2",
+        "The partitions in place of those, or `-` for the default one alone",
+    )
+}
+
+/// A command that names a subnet by its topology and its partitions.
+fn subnet_command<'a>(alloc: Global, name: &'a str) -> Result<Command<'a>, AllocError>
+    ensures { IfOk result (λ command. app_of command ≡ subnet_command name.entry.now) }
+{
+    let command = Command::new(alloc, name)
+        .arg(wanted_topology(alloc))?
+        .arg(wanted_partitions(alloc))?;
+    Ok(command)
+}
+
+/// The command that lists a subnet.
+fn check_command<'a>(alloc: Global) -> Result<Command<'a>, AllocError>
+    ensures words { IfOk result (λ command. app_of command ≡ check_command) }
+    ensures about { IfOk result (λ command. text_in (fields_of command).about ≡ Some about_check) }
+    ensures help { IfOk result (λ command. text_in (fields_of command).after_help ≡ Some LISTING.now) }
+{
+    let command = subnet_command(alloc, "check")?;
+    Ok(command.about(ABOUT_CHECK).after_help(LISTING))
+}
+
+/// The command that lists who may talk to whom in a subnet.
+fn shares_command<'a>(alloc: Global) -> Result<Command<'a>, AllocError>
+    ensures words { IfOk result (λ command. app_of command ≡ shares_command) }
+    ensures about { IfOk result (λ command. text_in (fields_of command).about ≡ Some about_shares) }
+    ensures help { IfOk result (λ command. text_in (fields_of command).after_help ≡ Some SHARES.now) }
+{
+    let command = subnet_command(alloc, "shares")?.arg(optional_port(alloc))?;
+    Ok(command.about(ABOUT_SHARES).after_help(SHARES))
+}
+
+/// The command that lists what another partition file changes.
+fn diff_command<'a>(alloc: Global) -> Result<Command<'a>, AllocError>
+    ensures words { IfOk result (λ command. app_of command ≡ diff_command) }
+    ensures about { IfOk result (λ command. text_in (fields_of command).about ≡ Some about_diff) }
+    ensures help { IfOk result (λ command. text_in (fields_of command).after_help ≡ Some CHANGES.now) }
+{
+    let command = subnet_command(alloc, "diff")?.arg(wanted_second_partitions(alloc))?;
+    Ok(command.about(ABOUT_DIFF).after_help(CHANGES))
+}
+
+/// The command that prints linear forwarding tables.
+fn tables_command<'a>(alloc: Global) -> Result<Command<'a>, AllocError>
+    ensures words { IfOk result (λ command. app_of command ≡ tables_command) }
+    ensures about { IfOk result (λ command. text_in (fields_of command).about ≡ Some about_tables) }
+    ensures help { IfOk result (λ command. text_in (fields_of command).after_help ≡ Some TABLES.now) }
+{
+    let command = subnet_command(alloc, "tables")?;
+    Ok(command.about(ABOUT_TABLES).after_help(TABLES))
+}
+
+/// The command that prints key tables.
+fn keys_command<'a>(alloc: Global) -> Result<Command<'a>, AllocError>
+    ensures words { IfOk result (λ command. app_of command ≡ keys_command) }
+    ensures about { IfOk result (λ command. text_in (fields_of command).about ≡ Some about_keys) }
+    ensures help { IfOk result (λ command. text_in (fields_of command).after_help ≡ Some KEYS.now) }
+{
+    let command = subnet_command(alloc, "keys")?;
+    Ok(command.about(ABOUT_KEYS).after_help(KEYS))
+}
+
+/// The command that follows a packet.
+fn trace_command<'a>(alloc: Global) -> Result<Command<'a>, AllocError>
+    ensures words { IfOk result (λ command. app_of command ≡ trace_command) }
+    ensures about { IfOk result (λ command. text_in (fields_of command).about ≡ Some about_trace) }
+    ensures help { IfOk result (λ command. text_in (fields_of command).after_help ≡ Some TRACE.now) }
+{
+    let command = subnet_command(alloc, "trace")?
+        .arg(wanted_port(alloc))?
+        .arg(wanted_dlid(alloc))?
+        .arg(wanted_key(alloc))?;
+    Ok(command.about(ABOUT_TRACE).after_help(TRACE))
+}
+
+/// The command that draws a fabric.
+fn graph_command<'a>(alloc: Global) -> Result<Command<'a>, AllocError>
+    ensures words { IfOk result (λ command. app_of command ≡ graph_command) }
+    ensures about { IfOk result (λ command. text_in (fields_of command).about ≡ Some about_graph) }
+    ensures help { IfOk result (λ command. text_in (fields_of command).after_help ≡ Some GRAPH.now) }
+{
+    let command = subnet_command(alloc, "graph")?;
+    Ok(command.about(ABOUT_GRAPH).after_help(GRAPH))
+}
+
+/// The command that runs a script in a subnet.
+fn run_command<'a>(alloc: Global) -> Result<Command<'a>, AllocError>
+    ensures words { IfOk result (λ command. app_of command ≡ run_command) }
+    ensures about { IfOk result (λ command. text_in (fields_of command).about ≡ Some about_run) }
+    ensures help { IfOk result (λ command. text_in (fields_of command).after_help ≡ Some REPORT.now) }
+{
+    let command = subnet_command(alloc, "run")?.arg(wanted_script(alloc))?;
+    Ok(command.about(ABOUT_RUN).after_help(REPORT))
+}
+
+/// The command that tells what codes mean.
+fn explain_command<'a>(alloc: Global) -> Result<Command<'a>, AllocError>
+    ensures words { IfOk result (λ command. app_of command ≡ explain_command) }
+    ensures about { IfOk result (λ command. text_in (fields_of command).about ≡ Some about_explain) }
+    ensures help { IfOk result (λ command. text_in (fields_of command).after_help ≡ Some CODES.now) }
+{
+    let command = Command::new(alloc, "explain").arg(optional_code(alloc))?;
+    Ok(command.about(ABOUT_EXPLAIN).after_help(CODES))
+}
+
+/// The program's command line. Help and usage say `fabric`, whatever name the program's file has.
+fn fabric_command<'a>(alloc: Global) -> Result<Command<'a>, AllocError>
+    ensures words { IfOk result (λ command. app_of command ≡ fabric_command) }
+    ensures name { IfOk result (λ command. IsSomeAnd (fields_of command).bin_name (λ name. string_bytes name ≡ program_name)) }
+    ensures version { IfOk result (λ command. text_in (fields_of command).version ≡ Some program_version) }
+    ensures about { IfOk result (λ command. text_in (fields_of command).about ≡ Some about_program) }
+    ensures help { IfOk result (λ command. text_in (fields_of command).after_help ≡ Some STATUSES.now) }
+{
+    let command = Command::new(alloc, "fabric")
+        .subcommand_required(true)
+        .subcommand(check_command(alloc)?)?
+        .subcommand(shares_command(alloc)?)?
+        .subcommand(diff_command(alloc)?)?
+        .subcommand(tables_command(alloc)?)?
+        .subcommand(keys_command(alloc)?)?
+        .subcommand(trace_command(alloc)?)?
+        .subcommand(graph_command(alloc)?)?
+        .subcommand(run_command(alloc)?)?
+        .subcommand(explain_command(alloc)?)?
+        .bin_name("fabric")?;
+    Ok(command.version("0.1.0").about(ABOUT).after_help(STATUSES))
+}
+
+/// What takes the words of a call apart, by the program's commands and their arguments, or refuses them.
+///
+/// Its ghost member is what a contract may know of that: `shown` is the text that words are refused with, where it is
+/// told.
+pub trait Parser {
+    /// Why words are refused, or what is shown of help or the version: its text is for the user.
+    type Error: Display + Drop;
+
+    ghost shown: { Self → List (List ℕ) → Option (List ℕ) };
+
+    /// What stands in the words, the first of them the program's own name.
+    fn parse<'a>(
+        &self,
+        alloc: Global,
+        words: &'a [String],
+    ) -> Result<ArgMatches<'a>, Refused<Self::Error>>
+        ensures found { IfOk result (λ matches.
+            asked_of (shown self.now) (map string_bytes words.entry.now) ≡ asked_in (subcommand_rows_of matches)) }
+        ensures refused { IfErr result (IsShown Self.Error.output (shown self.now) (map string_bytes words.entry.now)) };
+}
+
+/// The parser `clap`. The texts of its errors are its own, and no contract of it says which.
+#[derive(Clone, Copy)]
+pub struct Clap;
+
+impl Parser for Clap {
+    type Error = Error;
+
+    ghost shown = { λ _ _. None };
+
+    fn parse<'a>(
+        &self,
+        alloc: Global,
+        words: &'a [String],
+    ) -> Result<ArgMatches<'a>, Refused<Error>> {
+        let command = fabric_command(alloc)?;
+        match command.try_get_matches_from(words) {
+            Ok(matches) => Ok(matches),
+            Err(error) if error.kind() == ErrorKind::OutOfMemory => Err(Refused::NoMemory),
+            Err(error) => Err(Refused::Words(error)),
+        }
+    }
+}

@@ -1,0 +1,17 @@
+//! The words of a call of the program `fabric`: which commands and arguments there are, with their help, and what the
+//! words of one call ask for. No subnet and no fabric is known here.
+//!
+//! [`read_words`] reads them by a [`Parser`], which is [`Clap`] in the program, and [`given_words`] those that the
+//! machine gives it. `specs/CommandLine.antt` has the commands, and `specs/Words.antt` what their words ask for.
+#![tactic(auto)]
+
+mod call;
+mod command_line;
+mod help;
+mod laws;
+mod words;
+
+pub use crate::call::{Asked, Call, Inspection, Refused, Subcommand, Work};
+pub use crate::command_line::{Clap, Parser};
+pub use crate::laws::files_are_named_as_given;
+pub use crate::words::{given_words, read_words};

@@ -1,0 +1,197 @@
+//! What the words of a call ask for.
+
+ghost use Rattle.std.specs.Prelude.{◌≡◌, Ok, Some, map, string_bytes, option_map, IfOk, IfErr};
+ghost use Rattle.clap.specs.Words.{first_of, found_of, rows_of, subcommand_rows_of};
+ghost use Rattle.call_words.specs.Refusals.{IsOfGiven, IsOfWords, TellsAll};
+ghost use Rattle.call_words.specs.Words.{asked_in, asked_of, call_in, diff_by, explain_by, file_in, given_items, in_subnet, lid_by};
+ghost use Rattle.call_words.specs.Words.{named_call, named_found};
+ghost use Rattle.call_words.specs.Words.{named_work, run_by, subcommand_in, text_for, trace_by, u16_by};
+
+use crate::call::{Asked, Call, Inspection, Refused, Subcommand, Work};
+use crate::command_line::Parser;
+use crate::help::{NO_SUCH_CODE, NO_SUCH_NUMBER, NOT_TEXT};
+use clap::ArgMatches;
+use code_texts::Code;
+use fabric_parts::is_multicast;
+use std::alloc::Global;
+use std::env::Args;
+use std::fmt::Display;
+use std::io;
+use text_words::u16_in;
+
+/// The words that the program is given, its own name first: all of them. Words that are not text are refused.
+pub fn given_words(alloc: Global, given: io::Result<Args>) -> Result<Vec<String>, Refused<String>>
+    ensures all { IfOk result (λ words. given_items given ≡ Some words.items) }
+    ensures refused { IfErr result (IsOfGiven given) }
+{
+    match given {
+        Ok(words) => Ok(words.collect(alloc)?),
+        Err(error) if error.kind() == io::ErrorKind::OutOfMemory => Err(Refused::NoMemory),
+        Err(_) => Err(Refused::Words(String::from_str(alloc, NOT_TEXT)?)),
+    }
+}
+
+/// What the words ask for, the first of them the program's own name. Words that a parser refuses are refused with the
+/// text of its error.
+pub fn read_words<'a, P: Parser>(
+    alloc: Global,
+    parser: &P,
+    words: &'a [String],
+) -> Result<Call<Asked<'a>>, Refused<String>>
+    ensures asked { IfOk result (λ call. asked_of (P.shown parser.now) (map string_bytes words.entry.now) ≡ Ok (named_call call)) }
+    ensures refused { IfErr result (IsOfWords (asked_of (P.shown parser.now) (map string_bytes words.entry.now))) }
+{
+    match parser.parse(alloc, words) {
+        Ok(matches) => match call_in(&matches) {
+            Ok(call) => Ok(call),
+            Err(text) => Err(Refused::Words(String::from_str(alloc, text)?)),
+        },
+        Err(Refused::NoMemory) => Err(Refused::NoMemory),
+        Err(Refused::Words(error)) => Err(shown(alloc, &error)),
+    }
+}
+
+/// The refusal with the text by which the error shows itself, whatever that is.
+fn shown<E: Display>(alloc: Global, error: &E) -> Refused<String>
+    ensures { TellsAll (E.output error.now) result }
+{
+    match error.to_string(alloc) {
+        Ok(text) => Refused::Words(text),
+        Err(_) => Refused::NoMemory,
+    }
+}
+
+/// What is asked for in what was found, or the text for a word that is no code or no number.
+fn call_in<'a>(matches: &ArgMatches<'a>) -> Result<Call<Asked<'a>>, &'static str>
+    ensures { named_found result ≡ asked_in (subcommand_rows_of matches.now) }
+{
+    let Some((word, found)) = matches.subcommand() else {
+        return Err(NO_SUCH_CODE);
+    };
+    let Some(command) = subcommand_in(word) else {
+        return Err(NO_SUCH_CODE);
+    };
+    match call_of(command, found) {
+        Some(call) => Ok(call),
+        None => Err(text_for(command)),
+    }
+}
+
+/// The command of that name.
+fn subcommand_in(word: &str) -> Option<Subcommand>
+    ensures { result ≡ subcommand_in word.now }
+{
+    match word {
+        "check" => Some(Subcommand::Check),
+        "shares" => Some(Subcommand::Shares),
+        "diff" => Some(Subcommand::Diff),
+        "tables" => Some(Subcommand::Tables),
+        "keys" => Some(Subcommand::Keys),
+        "trace" => Some(Subcommand::Trace),
+        "graph" => Some(Subcommand::Graph),
+        "run" => Some(Subcommand::Run),
+        "explain" => Some(Subcommand::Explain),
+        _ => None,
+    }
+}
+
+/// The text for a word of a command that is none.
+fn text_for(command: Subcommand) -> &'static str
+    ensures { result.now ≡ text_for command }
+{
+    match command {
+        Subcommand::Trace => NO_SUCH_NUMBER,
+        _ => NO_SUCH_CODE,
+    }
+}
+
+/// What a command with these arguments is for; nothing where a word for a code or a number is none.
+fn call_of<'a>(command: Subcommand, found: &ArgMatches<'a>) -> Option<Call<Asked<'a>>>
+    ensures { option_map named_call result ≡ call_in command (rows_of (found_of found.now)) }
+{
+    match command {
+        Subcommand::Check => in_subnet(found, Some(Work::Check)),
+        Subcommand::Shares => in_subnet(found, Some(Work::Shares(word_of(found, "PORT")))),
+        Subcommand::Diff => in_subnet(found, diff_by(word_of(found, "PARTS2"))),
+        Subcommand::Tables => in_subnet(found, Some(Work::Inspect(Inspection::Tables))),
+        Subcommand::Keys => in_subnet(found, Some(Work::Inspect(Inspection::Keys))),
+        Subcommand::Trace => in_subnet(found, traced(found)),
+        Subcommand::Graph => in_subnet(found, Some(Work::Inspect(Inspection::Graph))),
+        Subcommand::Run => in_subnet(found, run_by(word_of(found, "SCRIPT"))),
+        Subcommand::Explain => explain_by(word_of(found, "CODE")),
+    }
+}
+
+/// The word for an argument, if there is one.
+fn word_of<'a>(found: &ArgMatches<'a>, name: &str) -> Option<&'a str>
+    ensures { option_map (λ word. word.now) result ≡ first_of name.now (rows_of (found_of found.now)) }
+{
+    found.get_str(name)
+}
+
+/// What is to be done in the subnet of a topology and partitions.
+fn in_subnet<'a>(
+    found: &ArgMatches<'a>,
+    work: Option<Work<&'a str, &'a str>>,
+) -> Option<Call<Asked<'a>>>
+    ensures { option_map named_call result ≡ in_subnet (rows_of (found_of found.now)) (option_map named_work work.entry) }
+{
+    Some(Call::Subnet(Asked {
+        topology: word_of(found, "TOPO")?,
+        partitions: file_in(word_of(found, "PARTS")?),
+        work: work?,
+    }))
+}
+
+/// The name of a file, or none for `-`.
+fn file_in(word: &str) -> Option<&str>
+    ensures { option_map (λ name. name.now) result ≡ file_in word.entry.now }
+{
+    if word == "-" { None } else { Some(word) }
+}
+
+fn diff_by(second: Option<&str>) -> Option<Work<&str, &str>>
+    ensures { option_map named_work result ≡ diff_by (option_map (λ word. word.now) second.entry) }
+{
+    Some(Work::Diff(file_in(second?)))
+}
+
+fn run_by(script: Option<&str>) -> Option<Work<&str, &str>>
+    ensures { option_map named_work result ≡ run_by (option_map (λ word. word.now) script.entry) }
+{
+    Some(Work::Run(script?))
+}
+
+/// A packet from a port, if the numbers have 16 bits, and the LID is not one of multicast groups.
+fn traced<'a>(found: &ArgMatches<'a>) -> Option<Work<&'a str, &'a str>>
+    ensures { option_map named_work result ≡ trace_by (rows_of (found_of found.now)) }
+{
+    let port = word_of(found, "PORT")?;
+    let dlid = lid_by(word_of(found, "DLID"))?;
+    let p_key = u16_by(word_of(found, "PKEY"))?;
+    Some(Work::Inspect(Inspection::Trace(port, dlid, p_key)))
+}
+
+/// The LID of a packet that a trace can follow.
+fn lid_by(word: Option<&str>) -> Option<u16>
+    ensures { result ≡ lid_by (option_map (λ word. word.now) word.entry) }
+{
+    let lid = u16_by(word)?;
+    if is_multicast(lid) { None } else { Some(lid) }
+}
+
+fn u16_by(word: Option<&str>) -> Option<u16>
+    ensures { result ≡ u16_by (option_map (λ word. word.now) word.entry) }
+{
+    u16_in(word?.as_bytes())
+}
+
+/// The code that a word spells, or none where there is no word.
+fn explain_by<'a>(word: Option<&str>) -> Option<Call<Asked<'a>>>
+    ensures { option_map named_call result ≡ explain_by (option_map (λ word. word.now) word.entry) }
+{
+    match word {
+        Some(word) => Some(Call::Explain(Some(Code::read(word)?))),
+        None => Some(Call::Explain(None)),
+    }
+}

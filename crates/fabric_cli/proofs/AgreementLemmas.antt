@@ -1,0 +1,48 @@
+-- Files that agree on the names that are asked for.
+use Rattle.std.proofs.Common.{ℕ, ◌≡◌, List, [], ◌∷◌, ◌++◌, Option, Some, None, Result, Ok, Err, ap, refl}
+use Rattle.std.specs.List.{All}
+use Rattle.std.specs.Option.{option_to_list}
+use Rattle.std.proofs.lemmas.List.Elements.{All-head, All-tail}
+use Rattle.call_words.specs.Words.{Names, work_names}
+use Rattle.call_words.specs.declared.call.Call.TheVariants.{Explain, Subnet}
+use Rattle.call_words.specs.declared.call.Work.{Work}
+use Rattle.call_words.specs.declared.call.Work.TheVariants as work
+use Rattle.fabric_cli.specs.Files.{Contents}
+use Rattle.fabric_cli.specs.Laws.{FilesThatAgreeAreJudgedAlike}
+use Rattle.fabric_cli.specs.Serving.{Bytes, Ending, bytes_if_named, bytes_of, opened_bytes, texts_of, work_of}
+use Rattle.result_words.specs.Steps.{◌>>=◌}
+
+module _ (file other : Contents) where
+  abbrev agree : List (List ℕ) → Type 0
+  agree names = All (λ name. file name ≡ other name) names
+
+  bytes_alike : (name : List ℕ) → file name ≡ other name → bytes_of file name ≡ bytes_of other name
+  bytes_alike name same = ap (opened_bytes name) same
+
+  -- the first of these, if there is one, and the rest
+  named_alike : (name : Option (List ℕ)) (more : List (List ℕ)) → agree (option_to_list name ++ more)
+      → (bytes_if_named file name ≡ bytes_if_named other name) × agree more
+  named_alike None more same = (refl, same)
+  named_alike (Some name) more same = (
+    ap (λ (read : Result (List ℕ) Ending). read >>= λ bytes. Ok (Some bytes)) (bytes_alike name (All-head (λ one. file one ≡ other one) name more same)),
+    All-tail (λ one. file one ≡ other one) name more same,
+  )
+
+  work_alike : (asked : Work (List ℕ) (List ℕ)) → agree (work_names asked) → work_of file asked ≡ work_of other asked
+  work_alike work.Check same = refl
+  work_alike (work.Shares port) same = refl
+  work_alike (work.Diff None) same = refl
+  work_alike (work.Diff (Some name)) same = rw (bytes_alike name (All-head (λ one. file one ≡ other one) name [] same)) refl
+  work_alike (work.Inspect what) same = refl
+  work_alike (work.Run name) same = rw (bytes_alike name (All-head (λ one. file one ≡ other one) name [] same)) refl
+
+  texts_alike : (names : Names) → agree (names.topology ∷ (option_to_list names.partitions ++ work_names names.work))
+      → texts_of file names ≡ texts_of other names
+  texts_alike names same =
+      let partitions = named_alike names.partitions (work_names names.work) (All-tail (λ one. file one ≡ other one) names.topology _ same) in
+      rw (bytes_alike names.topology (All-head (λ one. file one ≡ other one) names.topology _ same), partitions.0, work_alike names.work partitions.1) refl
+
+pub judged_alike : FilesThatAgreeAreJudgedAlike
+judged_alike file other (Err shown) same = refl
+judged_alike file other (Ok (Subnet names)) same = texts_alike file other names same
+judged_alike file other (Ok (Explain code)) same = refl

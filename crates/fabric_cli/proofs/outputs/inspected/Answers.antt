@@ -1,0 +1,14 @@
+use Rattle.std.specs.Option.{option_copied}
+use Rattle.subnet_core.specs.BringUp.{up_in}
+use Rattle.call_words.specs.Words.{named_inspection}
+use Rattle.fabric_cli.proofs.JudgedLemmas.{inspection_stops, is_inspected}
+use Rattle.fabric_cli.proofs.outputs.inspected.Goals as goal
+
+pub returns-in-Ok-clause-exact : goal.returns-in-Ok-clause-exact
+returns-in-Ok-clause-exact c =
+    is_inspected c.args.topology.now (option_copied c.args.partitions) (named_inspection c.args.what.now) c.in-Ok.subnet.roster (up_in c.in-Ok.subnet)
+    c.looked_at.result c.in-Ok.ensures.exact c.in-Ok.ensures.started.up c.looked_at.ensures.exact
+
+pub returns-in-Err-clause-exact : goal.returns-in-Err-clause-exact
+returns-in-Err-clause-exact c =
+    inspection_stops c.args.topology.now (option_copied c.args.partitions) (named_inspection c.args.what.now) c.in-Err.fault c.in-Err.ensures.exact

@@ -1,0 +1,274 @@
+//! What is printed of texts that were read.
+
+ghost use Rattle.std.specs.Prelude.{◌≡◌, Err, Ok, option_copied, option_map, IfErr, IfOk, IsErr};
+ghost use Rattle.call_words.specs.Words.{named_inspection};
+ghost use Rattle.call_words.specs.declared.call.Inspection.TheVariants.{Graph as IsGraph, Keys as IsKeys, Tables as IsTables};
+ghost use Rattle.call_words.specs.declared.call.Work.TheVariants as work;
+ghost use Rattle.fabric_cli.specs.Faults.{IsOfRun};
+ghost use Rattle.fabric_cli.specs.Serving.{asked_port, changes_in, looked_at, second_stop, shares_in, texts_in, texts_with, traced};
+ghost use Rattle.fabric_cli.specs.Serving.{ComesTo};
+ghost use Rattle.fabric_cli.specs.declared.faults.Stop.TheVariants.{NoMemory};
+ghost use Rattle.subnet_core.specs.BringUp.{up_in};
+ghost use Rattle.subnet_core.specs.NamedPort.{adapter_place};
+ghost use Rattle.subnet_core.specs.Roster.{roster_of};
+
+use crate::faults::Stop;
+use crate::texts::Texts;
+use call_words::{Inspection, Work};
+use fabric_graph::graph_text;
+use fabric_tables::{keys_text, tables_text};
+use packet_trace::trace_text;
+use partition_changes::changes_text;
+use port_shares::shares_text;
+use std::alloc::{AllocError, Global};
+use subnet_core::{Roster, RunFault, ScriptCause, Subnet, bring_up, read_roster, run};
+
+/// The output over these texts.
+pub fn output_of_texts<'a>(alloc: Global, texts: &Texts<'_>) -> Result<Vec<u8>, Stop<'a>>
+    ensures exact { ComesTo (λ text. text.items) (Ok (texts_in texts.now)) result }
+    ensures fault { IfErr result IsOfRun }
+{
+    let topology = texts.topology.as_slice();
+    let partitions = slice_of(&texts.partitions);
+    match &texts.work {
+        Work::Check => listed(alloc, topology, partitions),
+        Work::Shares(port) => shared(alloc, topology, partitions, *port),
+        Work::Diff(second) => changed(alloc, topology, partitions, slice_of(second)),
+        Work::Inspect(what) => inspected(alloc, topology, partitions, what),
+        Work::Run(script) => reported(alloc, topology, partitions, script.as_slice()),
+    }
+}
+
+/// The listing of a subnet that is brought up.
+fn listed<'a>(
+    alloc: Global,
+    topology: &[u8],
+    partitions: Option<&[u8]>,
+) -> Result<Vec<u8>, Stop<'a>>
+    ensures exact { ComesTo (λ text. text.items)
+        (texts_with topology.now (option_copied partitions.entry) work.Check) result }
+    ensures fault { IfErr result IsOfRun }
+{
+    match bring_up(alloc, topology, partitions) {
+        Ok(subnet) => text_or_stop(subnet.listing()),
+        Err(fault) => Err(Stop::Run(fault)),
+    }
+}
+
+/// The shares in a subnet, of one port alone where a word names it.
+fn shared<'a>(
+    alloc: Global,
+    topology: &[u8],
+    partitions: Option<&[u8]>,
+    port: Option<&str>,
+) -> Result<Vec<u8>, Stop<'a>>
+    ensures exact { ComesTo (λ text. text.items)
+        (texts_with topology.now (option_copied partitions.entry) (work.Shares (option_map (λ word. word.now) port.entry))) result }
+    ensures fault { IfErr result IsOfRun }
+{
+    match read_roster(alloc, topology, partitions) {
+        Ok(roster) => shares_in(alloc, &roster, port),
+        Err(fault) => Err(Stop::Run(fault)),
+    }
+}
+
+fn shares_in<'a>(alloc: Global, roster: &Roster, port: Option<&str>) -> Result<Vec<u8>, Stop<'a>>
+    ensures exact { ComesTo (λ text. text.items) (Err (shares_in (Ok roster.now) (option_map (λ word. word.now) port.entry))) result }
+    ensures fault { IfErr result IsOfRun }
+{
+    match asked_port(roster, port) {
+        Ok(asked) => text_or_stop(shares_text(alloc, roster.configuration().ports(), asked)),
+        Err(cause) => Err(Stop::Port(cause)),
+    }
+}
+
+/// The GUID of the port that a word names, if there is a word.
+fn asked_port(roster: &Roster, port: Option<&str>) -> Result<Option<u64>, ScriptCause>
+    ensures { result ≡ asked_port roster.now.plan (option_map (λ word. word.now) port.entry) }
+{
+    match port {
+        Some(word) => Ok(Some(roster.named_port(word.as_bytes())?)),
+        None => Ok(None),
+    }
+}
+
+/// What the second partitions in place of the first change.
+fn changed<'a>(
+    alloc: Global,
+    topology: &[u8],
+    partitions: Option<&[u8]>,
+    second: Option<&[u8]>,
+) -> Result<Vec<u8>, Stop<'a>>
+    ensures exact { ComesTo (λ text. text.items)
+        (texts_with topology.now (option_copied partitions.entry) (work.Diff (option_copied second.entry))) result }
+    ensures fault { IfErr result IsOfRun }
+{
+    match read_roster(alloc, topology, partitions) {
+        Ok(before) => changes_from(alloc, &before, topology, second),
+        Err(fault) => Err(Stop::Run(fault)),
+    }
+}
+
+fn changes_from<'a>(
+    alloc: Global,
+    before: &Roster,
+    topology: &[u8],
+    second: Option<&[u8]>,
+) -> Result<Vec<u8>, Stop<'a>>
+    ensures exact { ComesTo (λ text. text.items)
+        (Err (changes_in (Ok before.now) (roster_of topology.now (option_copied second.entry)))) result }
+    ensures fault { IfErr result IsOfRun }
+{
+    match read_roster(alloc, topology, second) {
+        Ok(after) => text_or_stop(changes_text(
+            alloc,
+            before.configuration(),
+            after.configuration(),
+        )),
+        Err(fault) => Err(second_stop(fault)),
+    }
+}
+
+/// The stop for a fault of a subnet with the second partitions: the topology is the same.
+fn second_stop<'a>(fault: RunFault) -> Stop<'a>
+    ensures told { result ≡ second_stop fault }
+    ensures fault { IsOfRun result }
+{
+    match fault {
+        RunFault::Partitions { line, cause } => Stop::Second { line, cause },
+        other => Stop::Run(other),
+    }
+}
+
+/// What the fabric of a subnet holds.
+fn inspected<'a>(
+    alloc: Global,
+    topology: &[u8],
+    partitions: Option<&[u8]>,
+    what: &Inspection<&str>,
+) -> Result<Vec<u8>, Stop<'a>>
+    ensures exact { ComesTo (λ text. text.items)
+        (texts_with topology.now (option_copied partitions.entry) (work.Inspect (named_inspection what.now))) result }
+    ensures fault { IfErr result IsOfRun }
+{
+    match bring_up(alloc, topology, partitions) {
+        Ok(subnet) => looked_at(alloc, &subnet, what),
+        Err(fault) => Err(Stop::Run(fault)),
+    }
+}
+
+fn looked_at<'a>(
+    alloc: Global,
+    subnet: &Subnet,
+    what: &Inspection<&str>,
+) -> Result<Vec<u8>, Stop<'a>>
+    ensures exact { ComesTo (λ text. text.items)
+        (Err (looked_at subnet.now.roster (up_in subnet.now) (named_inspection what.now))) result }
+    ensures fault { IfErr result IsOfRun }
+{
+    match what {
+        Inspection::Tables => tabled(alloc, subnet),
+        Inspection::Keys => keyed(alloc, subnet),
+        Inspection::Trace(port, dlid, p_key) => traced(alloc, subnet, port, *dlid, *p_key),
+        Inspection::Graph => drawn(alloc, subnet),
+    }
+}
+
+/// The linear forwarding tables, with the paths of the sweep that brought the fabric up.
+fn tabled<'a>(alloc: Global, subnet: &Subnet) -> Result<Vec<u8>, Stop<'a>>
+    ensures exact { ComesTo (λ text. text.items) (Err (looked_at subnet.now.roster (up_in subnet.now) IsTables)) result }
+    ensures fault { IfErr result IsOfRun }
+{
+    let roster = subnet.roster();
+    let ports = roster.configuration().ports();
+    let graph = subnet.routes().graph();
+    text_or_stop(tables_text(alloc, roster.topology(), ports, graph, subnet.fabric()))
+}
+
+/// The key tables.
+fn keyed<'a>(alloc: Global, subnet: &Subnet) -> Result<Vec<u8>, Stop<'a>>
+    ensures exact { ComesTo (λ text. text.items) (Err (looked_at subnet.now.roster (up_in subnet.now) IsKeys)) result }
+    ensures fault { IfErr result IsOfRun }
+{
+    let roster = subnet.roster();
+    let ports = roster.configuration().ports();
+    text_or_stop(keys_text(alloc, roster.topology(), ports, subnet.fabric()))
+}
+
+/// The picture, with the ranks that the routes go by.
+fn drawn<'a>(alloc: Global, subnet: &Subnet) -> Result<Vec<u8>, Stop<'a>>
+    ensures exact { ComesTo (λ text. text.items) (Err (looked_at subnet.now.roster (up_in subnet.now) IsGraph)) result }
+    ensures fault { IfErr result IsOfRun }
+{
+    let roster = subnet.roster();
+    text_or_stop(graph_text(
+        alloc,
+        roster.topology(),
+        roster.configuration(),
+        subnet.routes(),
+    ))
+}
+
+/// The way of a packet from the port that a word names.
+fn traced<'a>(
+    alloc: Global,
+    subnet: &Subnet,
+    port: &str,
+    dlid: u16,
+    p_key: u16,
+) -> Result<Vec<u8>, Stop<'a>>
+    ensures exact { ComesTo (λ text. text.items)
+        (Err (traced subnet.now.roster (up_in subnet.now) dlid p_key (adapter_place subnet.now.roster.plan port.now))) result }
+    ensures fault { IfErr result IsOfRun }
+{
+    let roster = subnet.roster();
+    match roster.adapter_place(port.as_bytes()) {
+        Ok(from) => text_or_stop(trace_text(
+            alloc,
+            roster.topology(),
+            subnet.fabric(),
+            from,
+            dlid,
+            p_key,
+        )),
+        Err(cause) => Err(Stop::Port(cause)),
+    }
+}
+
+/// The report of a script in a subnet.
+fn reported<'a>(
+    alloc: Global,
+    topology: &[u8],
+    partitions: Option<&[u8]>,
+    script: &[u8],
+) -> Result<Vec<u8>, Stop<'a>>
+    ensures exact { ComesTo (λ text. text.items)
+        (texts_with topology.now (option_copied partitions.entry) (work.Run script.now)) result }
+    ensures fault { IfErr result IsOfRun }
+{
+    match run(alloc, topology, partitions, script) {
+        Ok(report) => text_or_stop(report.text()),
+        Err(fault) => Err(Stop::Run(fault)),
+    }
+}
+
+/// A text that is made, or that memory for it is refused.
+pub fn text_or_stop<'a>(text: Result<Vec<u8>, AllocError>) -> Result<Vec<u8>, Stop<'a>>
+    ensures made { IfOk result (λ made. text ≡ Ok made) }
+    ensures fault { IfErr result (λ stop. (stop ≡ NoMemory) × IsErr text) }
+{
+    match text {
+        Ok(text) => Ok(text),
+        Err(_) => Err(Stop::NoMemory),
+    }
+}
+
+/// The bytes, if there are any to read.
+fn slice_of(bytes: &Option<Vec<u8>>) -> Option<&[u8]>
+    ensures { option_copied result ≡ option_map (λ items. items.items) bytes.now }
+{
+    match bytes {
+        Some(bytes) => Some(bytes.as_slice()),
+        None => None,
+    }
+}

@@ -1,0 +1,110 @@
+-- What a MAD changes of the tables that are open, and which port it comes from.
+use Rattle.std.proofs.Common.{◌≡◌, ℕ, ◌+◌, Vec, Global, ◌==◌, ◌&&◌, Bool, true, false, if◌then◌else◌, List, [], ◌∷◌, length, Option, Some, None, Result, Ok, Err}
+use Rattle.std.proofs.Common.{refl, sym, ◌∙◌, ap, inl, inr}
+use Rattle.std.proofs.lemmas.Bool.{cases_Bool, eqb-true, eq-eqb}
+use Rattle.std.specs.List.{position_from}
+use Rattle.std.proofs.lemmas.Iterator.Adapters.{position_from-zero}
+use Rattle.mad_layout.specs.Bits.{field}
+use Rattle.result_words.proofs.ListLemmas.{found_passes}
+use Rattle.mad_layout.specs.declared.status.MadStatus.{MadStatus}
+use Rattle.rmpp_core.specs.Segments.{Transfer, opened, segment_mad}
+use Rattle.subnet_model.specs.Delivery.{port_with_guid}
+use Rattle.subnet_model.specs.declared.subnet_port.SubnetPort.{SubnetPort}
+use Rattle.sa_queries.specs.Visible.{SaState}
+use Rattle.sa_replies.specs.Answer.{Administration, answer_to, answered_with}
+use Rattle.sa_replies.specs.Reply.{refusal_reply, table_header}
+use Rattle.sa_replies.specs.Request.{Request, request_in}
+use Rattle.sa_replies.specs.Success.{Success as Brought}
+use Rattle.sa_replies.specs.Transfers.{PortTransfer, with_table}
+use Rattle.sa_answer.specs.Answering.{Answers, Brings, answer_to_port}
+use Rattle.sa_answer.specs.Registry.{RegistryState, place_with_guid}
+use Rattle.sa_answer.specs.Replying.{padded, reply_with}
+use Rattle.sa_answer.specs.declared.outcome.Success.TheVariants.{Reply, Table}
+
+pub with_table_again : (port : ℕ) (first second : Option Transfer) (transfers : List PortTransfer)
+    → with_table port second (with_table port first transfers) ≡ with_table port second transfers
+with_table_again port first second [] = refl
+with_table_again port first second (place ∷ places) = elim (cases_Bool (place.port == port)) [
+  | inl this ↦ rw (this, eq-eqb port port refl) (ap (λ rest. record { port = port; open_table = second } ∷ rest) (with_table_again port first second places))
+  | inr other ↦ rw (other, other) (ap (λ rest. place ∷ rest) (with_table_again port first second places))
+]
+
+pub guid_of_found : (ports : List SubnetPort) (guid : ℕ) (own : SubnetPort) → port_with_guid ports guid ≡ Some own → own.guid ≡ guid
+guid_of_found ports guid own found = eqb-true own.guid guid (found_passes (λ (port : SubnetPort). port.guid == guid) ports own found)
+
+-- ---- what is brought, by what was found
+pub refused_is : (state : SaState) (brought : Result Brought MadStatus) (status : MadStatus) → Brings state brought (Err status) → brought ≡ Err status
+refused_is state (Ok some) status h = absurd h
+refused_is state (Err other) status h = ap (λ (s : MadStatus). Err s) (sym h)
+
+pub record IsReplied (state : SaState) (brought : Result Brought MadStatus) (content : List ℕ) : Type 0 where
+  pub bytes : List ℕ
+  pub is : brought ≡ Ok (Brought.one_reply bytes state)
+  pub whole : content ≡ padded bytes
+
+pub replied_is : (state : SaState) (brought : Result Brought MadStatus) (content : List ℕ) → Brings state brought (Ok (Reply content)) → IsReplied state brought content
+replied_is state (Err other) content h = absurd h
+replied_is state (Ok (Brought.whole_table offset bytes)) content h = absurd h
+replied_is state (Ok (Brought.one_reply bytes next)) content h = record { bytes = bytes; is = ap (λ (s : SaState). Ok (Brought.one_reply bytes s)) h.1; whole = h.0 }
+
+pub tabled_is : (state : SaState) (brought : Result Brought MadStatus) (spacing : ℕ) (held : Vec ℕ Global) → Brings state brought (Ok (Table spacing held))
+    → brought ≡ Ok (Brought.whole_table spacing held.items)
+tabled_is state (Err other) spacing held h = absurd h
+tabled_is state (Ok (Brought.one_reply bytes next)) spacing held h = absurd h
+tabled_is state (Ok (Brought.whole_table offset bytes)) spacing held h = rw (h.0, h.1) refl
+
+-- ---- the answers
+pub refused_answers : (own : SubnetPort) (request : Request) (old : RegistryState) (brought : Result Brought MadStatus) (mads : List (List ℕ)) (status : MadStatus)
+    → brought ≡ Err status → mads ≡ refusal_reply request status ∷ [] → Answers (answered_with own request old.administration brought) mads old old
+refused_answers own request old brought mads status is told = rw is (record { mads_are = told; next = refl })
+
+pub replied_answers : (own : SubnetPort) (request : Request) (old : RegistryState) (brought : Result Brought MadStatus) (mads : List (List ℕ)) (content : List ℕ)
+    → IsReplied old.administration.remembered brought content → mads ≡ reply_with request 0 content ∷ []
+    → Answers (answered_with own request old.administration brought) mads old old
+replied_answers own request old brought mads content replied told =
+    let whole = replied.whole in
+    rw replied.is (record { mads_are = rw whole at told; next = refl })
+
+pub tabled_answers : (own : SubnetPort) (request : Request) (old new : RegistryState) (brought : Result Brought MadStatus) (mads : List (List ℕ)) (spacing : ℕ)
+    (bytes : List ℕ) → brought ≡ Ok (Brought.whole_table spacing bytes) → mads ≡ segment_mad (opened (table_header request spacing) bytes) 1 ∷ []
+    → new ≡ record old { administration = record old.administration { transfers = with_table own.guid (Some (opened (table_header request spacing) bytes)) old.administration.transfers } }
+    → Answers (answered_with own request old.administration brought) mads old new
+tabled_answers own request old new brought mads spacing bytes is told next = rw is (record { mads_are = told; next = next })
+
+-- ---- who asks, and whether it is a MAD
+pub record IsSomebody (ports : List SubnetPort) (guid : ℕ) : Type 0 where
+  pub own : SubnetPort
+  pub found : port_with_guid ports guid ≡ Some own
+
+pub somebody : (ports : List SubnetPort) (guid place : ℕ) → place_with_guid ports guid ≡ Some place → IsSomebody ports guid
+somebody ports guid place h = some_from 0 ports (sym (position_from-zero (λ (port : SubnetPort). port.guid == guid) ports) ∙ h)
+  where
+    some_from : (from : ℕ) (some : List SubnetPort) → position_from (λ port. port.guid == guid) from some ≡ Some place → IsSomebody some guid
+    some_from from [] h = absurd (cc)
+    some_from from (port ∷ some) h = elim (cases_Bool (port.guid == guid)) [
+      | inl here ↦ record { own = port; found = rw here refl }
+      | inr other ↦ let later = some_from (from + 1) some (rw other at h) in record { own = later.own; found = rw other later.found }
+    ]
+
+pub nobody : (ports : List SubnetPort) (guid : ℕ) → place_with_guid ports guid ≡ None → port_with_guid ports guid ≡ None
+nobody ports guid h = none_from 0 ports (sym (position_from-zero (λ (port : SubnetPort). port.guid == guid) ports) ∙ h)
+  where
+    none_from : (from : ℕ) (some : List SubnetPort) → position_from (λ port. port.guid == guid) from some ≡ None → port_with_guid some guid ≡ None
+    none_from from [] h = refl
+    none_from from (port ∷ some) h = elim (cases_Bool (port.guid == guid)) [
+      | inl here ↦ absurd (let e : Some from ≡ None = rw here at h in cc)
+      | inr other ↦ rw other (none_from (from + 1) some (rw other at h))
+    ]
+
+pub mad_is : (test : Bool) (mad payload : List ℕ) → Some mad ≡ (if test then Some payload else None) → (test ≡ true) × (mad ≡ payload)
+mad_is true mad payload h = (refl, cc)
+mad_is false mad payload h = absurd (let nothing : Option (List ℕ) = None in let e : Some mad ≡ nothing = h in cc)
+
+pub answered_as : (ports : List SubnetPort) (guid : ℕ) (own : SubnetPort) (mad payload : List ℕ) (state : Administration) → port_with_guid ports guid ≡ Some own
+    → Some mad ≡ (if (length payload == 256) && (field payload 8 8 == 3) then Some payload else None)
+    → answer_to ports own (request_in mad) state ≡ answer_to_port ports guid payload state
+answered_as ports guid own mad payload state found h =
+    let is = mad_is ((length payload == 256) && (field payload 8 8 == 3)) mad payload h in
+    let test = is.0 in
+    let same = is.1 in
+    rw (found, test, same) refl

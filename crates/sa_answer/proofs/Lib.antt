@@ -1,0 +1,9 @@
+pub mod AnswerLemmas
+pub mod BroughtLemmas
+pub mod KeyLemmas
+pub mod OutLemmas
+pub mod PathLemmas
+pub mod PlaceLemmas
+pub mod PremiseLemmas
+pub mod SelectLemmas
+pub mod StartLemmas

@@ -1,0 +1,28 @@
+-- A registry before the first command.
+use Rattle.std.proofs.Common.{◌≡◌, ℕ, ◌++◌, List, [], ◌∷◌, map, None, refl, ◌∙◌, ap}
+use Rattle.pkey_rules.specs.PKey.{base_of}
+use Rattle.subnet_model.specs.declared.subnet_port.SubnetPort.{SubnetPort}
+use Rattle.sa_services.specs.KeyOrder.{by_base}
+use Rattle.sa_services.specs.Services.{PortServices, no_services, none_of_port}
+use Rattle.sa_replies.specs.Transfers.{PortTransfer, no_transfers}
+use Rattle.sa_answer.specs.Kept.{at_the_start, no_place, ports_of, services_of, transfers_of}
+
+pub same_ports : (ports : List SubnetPort) → ports_of (map at_the_start ports) ≡ ports
+same_ports [] = refl
+same_ports (port ∷ ports) = ap (λ (rest : List SubnetPort). port ∷ rest) (same_ports ports)
+
+no_places : (port : SubnetPort) (keys : List ℕ)
+    → map {B = PortServices} (λ place. record { port = port.guid; base = place.base; services = place.services }) (map no_place keys)
+    ≡ map {B = PortServices} (λ key. record { port = port.guid; base = base_of key; services = [] }) keys
+no_places port [] = refl
+no_places port (key ∷ keys) = ap (λ rest. record { port = port.guid; base = base_of key; services = [] } ∷ rest) (no_places port keys)
+
+pub same_services : (ports : List SubnetPort) → services_of (map at_the_start ports) ≡ no_services ports
+same_services [] = refl
+same_services (port ∷ ports) =
+    ap (λ (some : List PortServices). some ++ services_of (map at_the_start ports)) (no_places port (by_base port.keys))
+    ∙ ap (λ (rest : List PortServices). none_of_port port ++ rest) (same_services ports)
+
+pub same_transfers : (ports : List SubnetPort) → transfers_of (map at_the_start ports) ≡ no_transfers ports
+same_transfers [] = refl
+same_transfers (port ∷ ports) = ap (λ (rest : List PortTransfer). record { port = port.guid; open_table = None } ∷ rest) (same_transfers ports)

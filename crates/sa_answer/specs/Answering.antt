@@ -1,0 +1,53 @@
+-- What comes of what a port sends, in words that code computes.
+use Rattle.std.specs.Prelude.{ℕ, ◌≡◌, ◌<◌, ◌^◌, Bool, ◌||◌, List, [], Option, Some, None, Result, Ok, Err}
+use Rattle.mad_layout.specs.declared.status.MadStatus.{MadStatus}
+use Rattle.rmpp_core.specs.Segments.{payload_size}
+use Rattle.sa_records.specs.declared.sa_attribute.SaAttribute.TheVariants as sa_attribute
+use Rattle.subnet_model.specs.Delivery.{port_with_guid}
+use Rattle.subnet_model.specs.declared.subnet_port.SubnetPort.{SubnetPort}
+use Rattle.sa_queries.specs.Visible.{SaState}
+use Rattle.sa_replies.specs.Answer.{Administration, Answered, answer}
+use Rattle.sa_replies.specs.Request.{Request, is_about}
+use Rattle.sa_replies.specs.Success.{Success as Brought}
+use Rattle.sa_answer.specs.declared.outcome.Success.{Success}
+use Rattle.sa_answer.specs.declared.outcome.Success.TheVariants.{Reply, Table}
+use Rattle.sa_answer.specs.Registry.{RegistryState}
+use Rattle.sa_answer.specs.Replying.{padded}
+
+-- a request by a record of groups or of services
+abbrev pub is_left : Request → Bool
+is_left request = is_about sa_attribute.McMemberRecord request || is_about sa_attribute.ServiceRecord request
+
+-- the same comes of a request, in the data of a reply or in the bytes of a table; what is remembered stays
+abbrev pub IsBrought : SaState → Brought → Success → Type 0
+IsBrought state (Brought.one_reply bytes next) (Reply content) = (content ≡ padded bytes) × (next ≡ state)
+IsBrought state (Brought.whole_table offset bytes) (Table spacing held) = (spacing ≡ offset) × (held.items ≡ bytes)
+IsBrought state _ _ = ⊥
+
+abbrev pub Brings : SaState → Result Brought MadStatus → Result Success MadStatus → Type 0
+Brings state (Ok brought) (Ok found) = IsBrought state brought found
+Brings state (Err status) (Err told) = told ≡ status
+Brings state _ _ = ⊥
+
+-- the port is one of these, and the first of its GUID
+abbrev pub IsListed : List SubnetPort → SubnetPort → Type 0
+IsListed ports own = port_with_guid ports own.guid ≡ Some own
+
+-- the length of a table can be told in the 32 bits that its first segment has for it
+abbrev pub CanBeTold : Result Success MadStatus → Type 0
+CanBeTold (Ok (Table spacing held)) = payload_size held.items < 2 ^ 32
+CanBeTold (Ok (Reply content)) = Unit {0}
+CanBeTold (Err status) = Unit {0}
+
+-- ---- what a port of a GUID sends; what comes from none is not answered
+abbrev pub answer_from : List SubnetPort → Option SubnetPort → List ℕ → Administration → Answered
+answer_from ports (Some own) payload state = answer ports own payload state
+answer_from ports None payload state = ([], state)
+
+abbrev pub answer_to_port : List SubnetPort → ℕ → List ℕ → Administration → Answered
+answer_to_port ports guid payload state = answer_from ports (port_with_guid ports guid) payload state
+
+-- these MADs are the answer, and all that is remembered then is as it says; all else is as it was
+pub record Answers (answered : Answered) (mads : List (List ℕ)) (old new : RegistryState) : Type 0 where
+  pub mads_are : mads ≡ answered.0
+  pub next : new ≡ record old { administration = answered.1 }

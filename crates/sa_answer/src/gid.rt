@@ -1,0 +1,28 @@
+//! The GIDs of ports.
+
+ghost use Rattle.std.specs.Prelude.{◌≡◌, ◌^◌, ◌/◌, ◌%◌, ◌==◌, if◌then◌else◌};
+ghost use Rattle.sa_queries.specs.Gid.{gid_of};
+ghost use Rattle.sa_answer.specs.Asked.{guid_in};
+
+/// The subnet's prefix, which PortInfo shows.
+///
+/// Source: IBA volume 1, 14.2.5.6.
+const GID_PREFIX: u64 = 0xfe80_0000_0000_0000;
+
+/// The GID of the port of a GUID.
+pub(crate) fn gid_of(guid: u64) -> u128
+    ensures { result ≡ gid_of guid }
+{
+    (u128::from(GID_PREFIX) << 64) + u128::from(guid)
+}
+
+/// The GUID of the port that may have this GID, if it has the subnet's prefix.
+pub(crate) fn guid_in(gid: u128) -> Option<u64>
+    ensures { result ≡ guid_in gid }
+{
+    if (gid >> 64) as u64 == GID_PREFIX {
+        Some((gid % (1 << 64)) as u64)
+    } else {
+        None
+    }
+}

@@ -1,0 +1,104 @@
+//! Multicast groups, and who takes part in them.
+
+ghost use Rattle.std.specs.Prelude.{◌≡◌, []};
+ghost use Rattle.sa_groups.specs.Groups.{Creator as MadeBy, file_parameters};
+
+use mad_layout::JoinState;
+use partition_file::BroadcastGroup;
+use std::alloc::Global;
+use std::marker::Model;
+
+/// Who made a group.
+#[derive(Clone, Copy, Debug, PartialEq, Eq)]
+pub(crate) enum Creator {
+    /// The port of this GUID.
+    Port(u64),
+    /// The partition file.
+    PartitionFile,
+}
+
+/// What is fixed for a group when it is made, as an MCMemberRecord codes it.
+///
+/// Source: IBA volume 1, 15.2.5.
+#[derive(Clone, Copy, Debug, PartialEq, Eq)]
+pub(crate) struct GroupParameters {
+    pub(crate) q_key: u32,
+    pub(crate) mtu: u8,
+    pub(crate) traffic_class: u8,
+    pub(crate) rate: u8,
+    pub(crate) packet_life_time: u8,
+    pub(crate) service_level: u8,
+    pub(crate) flow_label: u32,
+    pub(crate) hop_limit: u8,
+    pub(crate) scope: u8,
+}
+
+/// The port of this GUID takes part in a group.
+#[derive(Debug, Drop)]
+pub(crate) struct Membership {
+    port: u64,
+    join_state: JoinState,
+}
+
+impl Model for Membership {
+    ghost use Rattle.sa_groups.specs.Groups.{Membership};
+    ghost use Rattle.sa_replies.specs.Joins.{join_state_of};
+
+    ghost Value = { Membership };
+
+    ghost view = { λ one. record { port = one.port; join_state = join_state_of one.join_state.0 } };
+}
+
+/// A group in its slot: all of it but its MLID, which its slot tells.
+#[derive(Debug, Drop)]
+pub(crate) struct Group {
+    mgid: u128,
+    parameters: GroupParameters,
+    creator: Creator,
+    memberships: Vec<Membership>,
+}
+
+impl Model for Group {
+    ghost use Rattle.sa_answer.specs.Slots.{SlotGroup, maker_of, parameters_of};
+
+    ghost Value = { SlotGroup };
+
+    ghost view = { λ group. record {
+      mgid = group.mgid;
+      parameters = parameters_of group.parameters;
+      creator = maker_of group.creator;
+      memberships = group.memberships.items;
+    } };
+}
+
+/// How long packets of the partition file's groups may be on their way.
+const PACKET_LIFE_TIME: u8 = 18;
+
+impl Group {
+    /// The group that a partition file makes, in which nobody is yet.
+    pub(crate) fn of_file(alloc: Global, mgid: u128, group: &BroadcastGroup) -> Group
+        ensures { result ≡ record {
+          mgid = mgid;
+          parameters = file_parameters group.now;
+          creator = MadeBy.PartitionFile;
+          memberships = [];
+        } }
+    {
+        Group {
+            mgid,
+            parameters: GroupParameters {
+                q_key: group.q_key,
+                mtu: group.mtu,
+                traffic_class: 0,
+                rate: group.rate,
+                packet_life_time: PACKET_LIFE_TIME,
+                service_level: group.service_level,
+                flow_label: 0,
+                hop_limit: 0,
+                scope: group.scope,
+            },
+            creator: Creator::PartitionFile,
+            memberships: Vec::new(alloc),
+        }
+    }
+}

@@ -1,0 +1,178 @@
+//! What is kept for a port.
+
+ghost use Rattle.std.specs.Prelude.{◌≡◌, ◌-◌, ◌++◌, length, replicate, IfOk};
+ghost use Rattle.mad_layout.specs.Layout.{Fits};
+ghost use Rattle.sa_records.specs.NodeRecord.{node_record, node_record_bytes};
+ghost use Rattle.fabric_parts.specs.NodeType.{node_type_code};
+ghost use Rattle.subnet_model.specs.declared.subnet_port.SubnetPort.{SubnetPort};
+ghost use Rattle.sa_services.specs.KeyOrder.{by_base};
+ghost use Rattle.sa_queries.specs.Shown.{node_record_of};
+ghost use Rattle.sa_answer.specs.Kept.{at_the_start};
+ghost use Rattle.sa_answer.specs.Replying.{node_bytes, node_data};
+
+use crate::keys::by_base;
+use crate::services::{ServicesOfBase, no_services};
+use attr_tables::NodeDescription;
+use mad_layout::{SA_DATA_BYTES, known_bytes};
+use pkey_rules::{PARTITIONS, PKey};
+use rmpp_core::Sender;
+use sa_records::{NODE_RECORD_BYTES, NodeRecord};
+use std::alloc::{AllocError, Global};
+use std::marker::Model;
+use subnet_model::SubnetPort;
+
+/// A port, its services by base, and the table that is open to it, at most one; and what answers take from it, prepared.
+#[derive(Drop)]
+pub(crate) struct KeptPort {
+    port: SubnetPort,
+    keys: Vec<PKey>,
+    shown: NodeRecord,
+    bytes: [u8; NODE_RECORD_BYTES],
+    services: Vec<ServicesOfBase>,
+    open_table: Option<Sender>,
+}
+
+impl Model for KeptPort {
+    ghost use Rattle.sa_answer.specs.Kept.{KeptPort, IsPrepared};
+
+    ghost Value = { KeptPort };
+
+    ghost view = { λ kept. record { port = kept.port; services = kept.services.items; open_table = kept.open_table } };
+
+    ghost invariant = { λ kept. IsPrepared kept.port kept.keys.items kept.shown kept.bytes };
+}
+
+impl KeptPort {
+    /// A port that has no service, and no table open to it.
+    pub(crate) fn new(alloc: Global, port: SubnetPort) -> Result<KeptPort, AllocError>
+        ensures { IfOk result (λ kept. kept ≡ at_the_start port) }
+    {
+        let keys = by_base(alloc, &port.keys)?;
+        let services = no_services(alloc, &keys)?;
+        let shown = node_record_of(&port);
+        Ok(KeptPort {
+            port,
+            keys,
+            shown,
+            bytes: bytes_of(&shown),
+            services,
+            open_table: None,
+        })
+    }
+}
+
+impl KeptPort {
+    /// Its GUID.
+    pub(crate) fn guid(&self) -> u64
+        ensures { result ≡ self.now.port.guid }
+    {
+        self.port.guid
+    }
+
+    /// The port.
+    pub(crate) fn port(&self) -> &SubnetPort
+        ensures { result.now ≡ self.now.port }
+    {
+        &self.port
+    }
+
+    /// Its keys by base.
+    pub(crate) fn keys(&self) -> &[PKey]
+        ensures { result.now ≡ by_base self.now.port.keys }
+    {
+        self.keys.as_slice()
+    }
+
+    /// Its NodeRecord.
+    pub(crate) fn shown(&self) -> &NodeRecord
+        ensures { result.now ≡ node_record_of self.now.port }
+    {
+        &self.shown
+    }
+
+    /// The bytes of its NodeRecord.
+    pub(crate) fn bytes(&self) -> &[u8]
+        ensures { result.now ≡ node_bytes self.now.port }
+    {
+        &self.bytes
+    }
+
+    /// The data of a reply with its NodeRecord.
+    pub(crate) fn data(&self) -> [u8; SA_DATA_BYTES]
+        ensures { result ≡ node_data self.now.port }
+    {
+        let mut data = [0; SA_DATA_BYTES];
+        data[..NODE_RECORD_BYTES].copy_from_slice(&self.bytes);
+        data
+    }
+
+    /// Opens this table to it, or none, in place of the one that was open.
+    pub(crate) fn replace_table(&mut self, table: Option<Sender>) -> Option<Sender>
+        ensures was { result ≡ self.old.open_table }
+        ensures next { self.new ≡ record self.old { open_table = table } }
+    {
+        std::mem::replace(&mut self.open_table, table)
+    }
+}
+
+/// What the node of a port says of itself.
+fn node_record_of(port: &SubnetPort) -> NodeRecord
+    ensures value { result ≡ node_record_of port.now }
+    ensures fits { Fits (node_record result) }
+{
+    let node_string = NodeDescription::of_text(port.node_name.as_slice()).node_string;
+    let node_type = port.node_type.code();
+    node_record(
+        port.lid,
+        node_type,
+        port.num_ports,
+        port.node_guid,
+        port.guid,
+        port.number,
+        node_string,
+    )
+}
+
+/// The record of these facts; all others are the same for every port.
+fn node_record(
+    lid: u16,
+    node_type: u8,
+    num_ports: u8,
+    node_guid: u64,
+    port_guid: u64,
+    local_port_num: u8,
+    node_string: [u8; 64],
+) -> NodeRecord
+    ensures value { (port : SubnetPort) → port.lid ≡ lid → node_type_code port.node_type ≡ node_type
+        → port.num_ports ≡ num_ports → port.node_guid ≡ node_guid → port.guid ≡ port_guid → port.number ≡ local_port_num
+        → port.node_name ++ replicate (64 - length port.node_name) 0 ≡ node_string → result ≡ node_record_of port }
+    ensures fits { Fits (node_record result) }
+{
+    known_bytes(&node_string);
+    NodeRecord {
+        lid,
+        base_version: 1,
+        class_version: 1,
+        node_type,
+        num_ports,
+        system_image_guid: node_guid,
+        node_guid,
+        port_guid,
+        partition_cap: PARTITIONS as u16,
+        device_id: 0,
+        revision: 0,
+        local_port_num,
+        vendor_id: 0,
+        node_string,
+    }
+}
+
+/// The bytes of a record.
+fn bytes_of(shown: &NodeRecord) -> [u8; NODE_RECORD_BYTES]
+    requires { Fits (node_record shown.now) }
+    ensures { result ≡ node_record_bytes shown.now }
+{
+    let mut bytes = [0; NODE_RECORD_BYTES];
+    shown.write(&mut bytes);
+    bytes
+}

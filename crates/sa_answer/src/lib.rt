@@ -1,0 +1,30 @@
+//! Subnet administration in code: what the end ports of a subnet ask, and what they are answered.
+//!
+//! A [`Registry`] knows the ports and the partitions of a subnet and remembers groups, services and open tables. Its value is
+//! that of the definitions (`specs/Registry.antt`), and each MAD that it answers is answered as `sa_replies` defines
+//! (`specs/Answering.antt`): Get and GetTable of NodeRecord and PathRecord, segments and what acknowledges them, and what is
+//! refused whatever it asks for; IBA volume 1, 13.4.5, 15.2.1.1, 15.2.2 and 15.2.5. How it is stored is in
+//! `specs/Slots.antt` and `specs/Kept.antt`.
+#![tactic(auto)]
+
+mod answering;
+mod gid;
+mod group;
+mod kept_port;
+mod keys;
+mod node_port;
+mod nodes;
+mod outcome;
+mod paths;
+mod premises;
+mod questions;
+mod registry;
+mod reply;
+mod request;
+mod services;
+mod slots;
+mod transfers;
+
+pub use crate::node_port::NodePort;
+pub use crate::premises::are_configured;
+pub use crate::registry::Registry;

@@ -1,0 +1,218 @@
+//! What subnet administration knows of a subnet, and what it remembers.
+
+ghost use Rattle.std.specs.Prelude.{ℕ, ◌≡◌, ◌==◌, ◌≤◌, false, filter, length, map, Option, IfOk, nat_eq};
+ghost use Rattle.std.specs.List.{flat_map};
+ghost use Rattle.indexmap.specs.IndexMap.{get};
+ghost use Rattle.subnet_model.specs.Configured.{IsConfigured};
+ghost use Rattle.subnet_model.specs.declared.subnet_port.SubnetPort.{SubnetPort};
+ghost use Rattle.sa_queries.specs.Selected.{few_paths};
+ghost use Rattle.sa_groups.specs.Groups.{start_from};
+ghost use Rattle.sa_replies.specs.State.{at_start};
+ghost use Rattle.sa_replies.specs.Transfers.{table_of, with_table};
+ghost use Rattle.subnet_model.specs.Delivery.{port_with_guid};
+ghost use Rattle.sa_answer.specs.NodePorts.{all_with_keys, configured};
+ghost use Rattle.sa_answer.specs.Kept.{at_the_start, ports_of};
+ghost use Rattle.sa_answer.specs.Asked.{is_told, of_guid, of_lid};
+ghost use Rattle.sa_answer.specs.Registry.{Finds, place_with_guid};
+
+use crate::gid::guid_in;
+use crate::kept_port::KeptPort;
+use crate::node_port::NodePort;
+use crate::nodes::LID;
+use crate::paths::{DGID, DLID};
+use crate::questions::asks;
+use crate::slots::PartitionSlots;
+use indexmap::IndexMap;
+use partition_file::{Heading, Members};
+use pkey_rules::{KeyTable, PARTITIONS};
+use rmpp_core::Sender;
+use sa_records::{NodeRecord, PathRecord};
+use std::alloc::{AllocError, Global};
+use std::marker::Model;
+
+/// What subnet administration knows of a subnet, and what it remembers between two requests.
+///
+/// Its value is the subnet's ports and partitions, the groups, services and open tables, and whether memory was ever
+/// refused while it answered. A LID less 1 is the place of its port.
+#[derive(Drop)]
+pub struct Registry {
+    pub(crate) alloc: Global,
+    kept: Vec<KeptPort>,
+    places: IndexMap<u64, usize>,
+    headings: Vec<Heading>,
+    partitions: Vec<PartitionSlots>,
+    pub(crate) is_broken: bool,
+}
+
+impl Model for Registry {
+    ghost use Rattle.std.specs.Prelude.{nat_eq};
+    ghost use Rattle.indexmap.specs.IndexMap.{get};
+    ghost use Rattle.sa_answer.specs.Registry.{IsRegistry, RegistryState, registry_in};
+
+    ghost Value = { RegistryState };
+
+    ghost view = { λ r. registry_in r.kept.items r.headings.items r.partitions.items r.is_broken };
+
+    ghost invariant = { λ r. IsRegistry r.kept.items r.headings.items (get nat_eq r.places) };
+}
+
+impl Registry {
+    /// The registry of a subnet before its first command: of these ports in order of LID, and the partitions and the keys
+    /// of each of them that a partition file gives. Memory alone can be refused.
+    pub fn new(alloc: Global, ports: &[NodePort], members: &Members) -> Result<Registry, AllocError>
+        requires each { length members.now.keys ≡ length ports.now }
+        requires configured { IsConfigured (configured ports.now members.now) }
+        ensures { IfOk result (λ registry. registry ≡ record {
+          configuration = configured ports.now members.now;
+          administration = at_start (configured ports.now members.now);
+          is_broken = false;
+        }) }
+    {
+        let kept = kept_ports(alloc, ports, members.keys())?;
+        let places = places_by_guid(alloc, &kept)?;
+        Ok(Registry {
+            alloc,
+            kept,
+            places,
+            headings: copied(alloc, members.headings())?,
+            partitions: partitions_at_start(alloc, members.headings())?,
+            is_broken: false,
+        })
+    }
+
+    /// The place of the port of a GUID, if there is one.
+    pub(crate) fn place_of(&self, guid: u64) -> Option<usize>
+        ensures { result ≡ place_with_guid self.now.configuration.ports guid }
+    {
+        self.places.get(&guid).copied()
+    }
+
+    /// Opens this table, or none, to the port of a GUID, which has that place, in place of the one that was open.
+    pub(crate) fn replace_table(
+        &mut self,
+        guid: u64,
+        place: usize,
+        table: Option<Sender>,
+    ) -> Option<Sender>
+        requires { place_with_guid self.old.configuration.ports guid ≡ Some place }
+        ensures was { result ≡ table_of guid self.old.administration.transfers }
+        ensures next { self.new ≡ record self.old {
+          administration = record self.old.administration {
+            transfers = with_table guid table self.old.administration.transfers;
+          };
+        } }
+    {
+        self.kept[place].replace_table(table)
+    }
+
+    /// What is kept for the port of a GUID, which has that place.
+    pub(crate) fn kept_at(&self, guid: u64, place: usize) -> &KeptPort
+        requires { place_with_guid self.now.configuration.ports guid ≡ Some place }
+        ensures { Some result.now.port ≡ port_with_guid self.now.configuration.ports guid }
+    {
+        &self.kept[place]
+    }
+
+    /// The port of a LID alone, or none.
+    fn of_lid(&self, lid: u16) -> &[KeptPort]
+        ensures { ports_of result.now ≡ of_lid lid self.now.configuration.ports }
+    {
+        let lid = usize::from(lid);
+        if lid == 0 || lid > self.kept.len() {
+            return &[];
+        }
+        &self.kept[lid - 1..lid]
+    }
+
+    /// The port of a GUID alone, or none.
+    fn of_guid(&self, guid: u64) -> &[KeptPort]
+        ensures { ports_of result.now ≡ of_guid guid self.now.configuration.ports }
+    {
+        match self.place_of(guid) {
+            Some(place) => &self.kept[place..place + 1],
+            None => &[],
+        }
+    }
+
+    /// The ports whose nodes a request can name: that of the LID that it asks, or all.
+    pub(crate) fn nodes_asked(&self, mask: u64, asked: &NodeRecord) -> &[KeptPort]
+        ensures { (own : SubnetPort) → filter (is_told own mask asked.now) (ports_of result.now)
+            ≡ filter (is_told own mask asked.now) self.now.configuration.ports }
+    {
+        if asks(mask, LID) {
+            self.of_lid(asked.lid)
+        } else {
+            self.kept.as_slice()
+        }
+    }
+
+    /// The ports to which a request can name paths: that of the GID or the LID that it asks, or all.
+    pub(crate) fn destinations_asked(&self, mask: u64, asked: &PathRecord) -> &[KeptPort]
+        ensures { (most : Option ℕ) (own : SubnetPort) → flat_map (few_paths most mask asked.now own) (ports_of result.now)
+            ≡ flat_map (few_paths most mask asked.now own) self.now.configuration.ports }
+    {
+        if asks(mask, DGID)
+            && let Some(guid) = guid_in(asked.dgid)
+        {
+            return self.of_guid(guid);
+        }
+        if asks(mask, DLID) {
+            return self.of_lid(asked.dlid);
+        }
+        self.kept.as_slice()
+    }
+}
+
+/// Each port with its keys, and nothing that it did yet.
+fn kept_ports(
+    alloc: Global,
+    ports: &[NodePort],
+    keys: &[KeyTable<PARTITIONS>],
+) -> Result<Vec<KeptPort>, AllocError>
+    requires { length keys.now ≡ length ports.now }
+    ensures { IfOk result (λ kept. kept.items ≡ map at_the_start (all_with_keys ports.now keys.now)) }
+{
+    let mut kept = Vec::new(alloc);
+    for (place, port) in ports.iter().enumerate() {
+        let held = keys[place].clone()?;
+        kept.push(KeptPort::new(alloc, port.with_keys(held))?)?;
+    }
+    Ok(kept)
+}
+
+/// The place of the port of each GUID. Later ports come first, so that the first of a GUID stays.
+fn places_by_guid(alloc: Global, kept: &[KeptPort]) -> Result<IndexMap<u64, usize>, AllocError>
+    ensures { IfOk result (λ places. Finds (ports_of kept.now) (get nat_eq places)) }
+{
+    let mut places = IndexMap::new(alloc);
+    for place in (0..kept.len()).rev() {
+        places.insert(kept[place].guid(), place)?;
+    }
+    Ok(places)
+}
+
+/// The slots of each partition before anybody joins.
+fn partitions_at_start(
+    alloc: Global,
+    headings: &[Heading],
+) -> Result<Vec<PartitionSlots>, AllocError>
+    requires { length headings.now ≤ PARTITIONS }
+    ensures { IfOk result (λ partitions. partitions.items ≡ start_from 0 headings.now) }
+{
+    let mut partitions = Vec::new(alloc);
+    for (number, heading) in headings.iter().enumerate() {
+        partitions.push(PartitionSlots::of_file(alloc, number as u16, heading)?)?;
+    }
+    Ok(partitions)
+}
+
+/// The same partitions, to keep.
+fn copied(alloc: Global, headings: &[Heading]) -> Result<Vec<Heading>, AllocError>
+    ensures { IfOk result (λ copies. copies.items ≡ headings.now) }
+{
+    let mut copies = Vec::new(alloc);
+    for heading in headings {
+        copies.push(heading.clone()?)?;
+    }
+    Ok(copies)
+}

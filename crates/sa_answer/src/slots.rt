@@ -1,0 +1,81 @@
+//! The multicast groups of a partition, in slots.
+
+ghost use Rattle.std.specs.Prelude.{◌≡◌, ◌∷◌, None, replicate, IfOk};
+ghost use Rattle.sa_groups.specs.Groups.{file_groups};
+ghost use Rattle.sa_answer.specs.Slots.{file_group};
+
+use crate::group::Group;
+use partition_file::Heading;
+use std::alloc::{AllocError, Global};
+use std::marker::Model;
+
+/// How many MLIDs a partition has of its own, and so how many slots.
+pub(crate) const SLOTS: usize = 32;
+
+/// The groups of the partition of this number and base. The one of its MLID `j`, counted from 0, stands in slot `j`, with
+/// its memberships beneath it; and bit `j` of a set says whether that slot is free.
+#[derive(Debug, Drop)]
+pub(crate) struct PartitionSlots {
+    number: u16,
+    base: u16,
+    slots: Vec<Option<Group>>,
+    free: u32,
+}
+
+impl Model for PartitionSlots {
+    ghost use Rattle.sa_groups.specs.Groups.{PartitionGroups};
+    ghost use Rattle.sa_answer.specs.Slots.{AreSlots, partition_in};
+
+    ghost Value = { PartitionGroups };
+
+    ghost view = { λ partition. partition_in partition.number partition.base partition.slots.items };
+
+    ghost invariant = { λ partition. AreSlots partition.slots.items partition.free };
+}
+
+impl PartitionSlots {
+    /// The slots of a partition before anybody joins: the partition file's group has the first, if there is one.
+    pub(crate) fn of_file(
+        alloc: Global,
+        number: u16,
+        heading: &Heading,
+    ) -> Result<PartitionSlots, AllocError>
+        ensures { IfOk result (λ partition. partition
+            ≡ record { number = number; base = heading.now.base; groups = file_groups number heading.now.base heading.now.group }) }
+    {
+        let first = file_group(alloc, heading);
+        let free = if first.is_some() {
+            u32::MAX - 1
+        } else {
+            u32::MAX
+        };
+        Ok(PartitionSlots {
+            number,
+            base: heading.base,
+            slots: slots_from(alloc, first)?,
+            free,
+        })
+    }
+}
+
+/// The group that the partition file makes in a partition.
+fn file_group(alloc: Global, heading: &Heading) -> Option<Group>
+    ensures { result ≡ file_group heading.now.base heading.now.group }
+{
+    match (heading.mgid(), &heading.group) {
+        (Some(mgid), Some(group)) => Some(Group::of_file(alloc, u128::from_be_bytes(mgid), group)),
+        _ => None,
+    }
+}
+
+/// A slot with that, and the others free.
+fn slots_from(alloc: Global, first: Option<Group>) -> Result<Vec<Option<Group>>, AllocError>
+    ensures { IfOk result (λ slots. slots.items ≡ first ∷ replicate 31 None) }
+{
+    let mut slots = Vec::new(alloc);
+    slots.push(first)?;
+    for _slot in 0..SLOTS - 1 {
+        slots.push(None)?;
+    }
+    Ok(slots)
+}
