@@ -170,6 +170,7 @@ impl Fabric {
         from: PortRef,
         packet: &Packet,
     ) -> Result<Vec<Delivery>, AllocError>
+        requires there { is_some (adapter_at self.now.nodes from) ≡ true }
         ensures { IfOk result (λ deliveries. (port : ℕ) → guid_at self.now.nodes from ≡ Some port
             → AreDeliveries self.now port packet.now deliveries.items) }
     {

@@ -6,7 +6,7 @@ use Rattle.partition_file.specs.declared.heading.Heading.{Heading}
 use Rattle.port_shares.specs.Shares.{Share, share_line}
 use Rattle.subnet_model.specs.declared.subnet_port.SubnetPort.{SubnetPort}
 use Rattle.partition_changes.specs.Changes.{change_of_member_line, group_line, partition_line, same_group, same_groups, same_member, same_share}
-use Rattle.partition_changes.specs.Laws.{AreSigned, IsShownAlike, LinesAreSigned, SameIsWhatIsShown}
+use Rattle.partition_changes.specs.Laws.{AreSigned, IsShownAlike, LinesAreSigned, SameIsWhatIsCompared}
 use Rattle.partition_changes.proofs.KindLemmas.{alike, fields_alike, fields_if, same_if, AlikeFields}
 
 -- a group is its five fields
@@ -64,8 +64,8 @@ share_is_shown a b = (
       (and_from (a.second.guid == b.second.guid) (a.base == b.base) (eq-eqb a.second.guid b.second.guid e.1.0) (eq-eqb a.base b.base e.1.1)),
 )
 
-pub same_is_what_is_shown : SameIsWhatIsShown
-same_is_what_is_shown = record {
+pub same_is_what_is_compared : SameIsWhatIsCompared
+same_is_what_is_compared = record {
   partitions = λ a b. (λ e. alike a b e, λ e. same_if a b e);
   groups = group_is_shown;
   members = member_is_shown;

@@ -97,13 +97,13 @@ NearStaysWhereNoShareIsTold =
     (before after : List SubnetPort) → AreSamePorts before after → share_changes (zip before after) ≡ []
     → (p q : ℕ) → is_near before p q ≡ is_near after p q
 
--- ---- what counts as the same is what lines show, and all that they show
+-- ---- what counts as the same: the fields that are compared, and no others
 abbrev pub IsShownAlike : Option BroadcastGroup → Option BroadcastGroup → Type 0
 IsShownAlike (Some a) (Some b) = a ≡ b
 IsShownAlike (Some a) None = ⊥
 IsShownAlike None b = ⊥
 
-pub record SameIsWhatIsShown : Type 0 where
+pub record SameIsWhatIsCompared : Type 0 where
   pub partitions : (a b : ℕ × Heading) → same_partition a b ≡ true ↔ ((a.0 ≡ b.0) × ((a.1.base ≡ b.1.base) × (a.1.name ≡ b.1.name)))
   pub groups : (a b : Heading) → same_group a b ≡ true ↔ ((a.base ≡ b.base) × IsShownAlike a.group b.group)
   pub members : (a b : SubnetPort × ℕ) → same_member a b ≡ true ↔ ((a.0.guid ≡ b.0.guid) × (a.1 ≡ b.1))

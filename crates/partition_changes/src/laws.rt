@@ -1,6 +1,6 @@
 //! What changes tell, over the definitions alone. The functions do nothing: their contracts are the laws.
 
-ghost use Rattle.partition_changes.specs.Laws.{GroupsAreTold, LinesAreSigned, MembersAreTold, NearStaysWhereNoShareIsTold, NothingIsToldOfTheSame, PartitionsAreTold, SameIsWhatIsShown, SharesAreTold};
+ghost use Rattle.partition_changes.specs.Laws.{GroupsAreTold, LinesAreSigned, MembersAreTold, NearStaysWhereNoShareIsTold, NothingIsToldOfTheSame, PartitionsAreTold, SameIsWhatIsCompared, SharesAreTold};
 
 /// A partition with its number and name goes exactly where it was there before and is not after, and comes the other way
 /// round.
@@ -34,9 +34,10 @@ pub fn near_stays_where_no_share_is_told()
     ensures { NearStaysWhereNoShareIsTold }
 {}
 
-/// Two partitions, groups, members or shares count as the same exactly where all that their lines show is equal.
-pub fn same_is_what_is_shown()
-    ensures { SameIsWhatIsShown }
+/// Two partitions, groups, members or shares count as the same exactly where these are equal: number, base and name; base
+/// and all of the group; the port's GUID and the key; both ports' GUIDs and the base.
+pub fn same_is_what_is_compared()
+    ensures { SameIsWhatIsCompared }
 {}
 
 /// The line of what comes begins with `+`, and the line of what goes with `-`.

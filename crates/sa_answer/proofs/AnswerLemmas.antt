@@ -11,14 +11,20 @@ use Rattle.rmpp_core.specs.Segments.{Transfer, opened, segment_mad}
 use Rattle.subnet_model.specs.Delivery.{port_with_guid}
 use Rattle.subnet_model.specs.declared.subnet_port.SubnetPort.{SubnetPort}
 use Rattle.sa_queries.specs.Visible.{SaState}
-use Rattle.sa_replies.specs.Answer.{Administration, answer_to, answered_with}
+use Rattle.subnet_model.specs.Configuration.{ConfigurationState}
+use Rattle.subnet_model.specs.Configured.{IsConfigured}
+use Rattle.sa_replies.specs.Answer.{Administration, answer_to, answered_with, outcome}
+use Rattle.sa_replies.specs.State.{IsRememberedOf}
+use Rattle.sa_replies.proofs.OpenTableLemmas.{TableLow, outcome_low}
+use Rattle.sa_replies.proofs.RefusalLemmas.{Ends}
 use Rattle.sa_replies.specs.Reply.{refusal_reply, table_header}
 use Rattle.sa_replies.specs.Request.{Request, request_in}
 use Rattle.sa_replies.specs.Success.{Success as Brought}
 use Rattle.sa_replies.specs.Transfers.{PortTransfer, with_table}
-use Rattle.sa_answer.specs.Answering.{Answers, Brings, answer_to_port}
+use Rattle.sa_answer.specs.Answering.{Answers, Brings, BringsAbout, CanBeTold, IsListed, answer_to_port}
 use Rattle.sa_answer.specs.Registry.{RegistryState, place_with_guid}
 use Rattle.sa_answer.specs.Replying.{padded, reply_with}
+use Rattle.sa_answer.specs.declared.outcome.Success.{Success}
 use Rattle.sa_answer.specs.declared.outcome.Success.TheVariants.{Reply, Table}
 
 pub with_table_again : (port : ℕ) (first second : Option Transfer) (transfers : List PortTransfer)
@@ -70,6 +76,36 @@ pub tabled_answers : (own : SubnetPort) (request : Request) (old new : RegistryS
     → new ≡ record old { administration = record old.administration { transfers = with_table own.guid (Some (opened (table_header request spacing) bytes)) old.administration.transfers } }
     → Answers (answered_with own request old.administration brought) mads old new
 tabled_answers own request old new brought mads spacing bytes is told next = rw is (record { mads_are = told; next = next })
+
+-- ---- what is changed
+pub changed_answers : (own : SubnetPort) (request : Request) (old new : RegistryState) (brought : Result Brought MadStatus) (content : List ℕ) (mads : List (List ℕ))
+    → BringsAbout old brought (Ok content) new → mads ≡ reply_with request 0 content ∷ [] → Answers (answered_with own request old.administration brought) mads old new
+changed_answers own request old new (Err status) content mads h told = absurd h
+changed_answers own request old new (Ok (Brought.whole_table offset bytes)) content mads h told = absurd h
+changed_answers own request old new (Ok (Brought.one_reply bytes next)) content mads h told =
+    let whole = h.0 in
+    record { mads_are = rw whole at told; next = h.1 }
+
+pub unchanged_answers : (own : SubnetPort) (request : Request) (old new : RegistryState) (brought : Result Brought MadStatus) (status : MadStatus) (mads : List (List ℕ))
+    → BringsAbout old brought (Err status) new → mads ≡ refusal_reply request status ∷ [] → Answers (answered_with own request old.administration brought) mads old new
+unchanged_answers own request old new (Ok (Brought.whole_table offset bytes)) status mads h told = absurd h
+unchanged_answers own request old new (Ok (Brought.one_reply bytes next)) status mads h told = absurd h
+unchanged_answers own request old new (Err other) status mads h told =
+    let same = h.0 in
+    record { mads_are = rw same at told; next = h.1 }
+
+-- ---- the length of a table can be told
+can_be_told : (state : SaState) (brought : Result Brought MadStatus) (found : Result Success MadStatus) → Brings state brought found → Ends TableLow brought → CanBeTold found
+can_be_told state brought (Err status) brings low = tt
+can_be_told state brought (Ok (Reply content)) brings low = tt
+can_be_told state (Ok (Brought.whole_table offset bytes)) (Ok (Table spacing held)) brings low = rw brings.1 low.2
+can_be_told state (Ok (Brought.one_reply bytes next)) (Ok (Table spacing held)) brings low = absurd brings
+can_be_told state (Err status) (Ok (Table spacing held)) brings low = absurd brings
+
+pub told_of : (configuration : ConfigurationState) (own : SubnetPort) (state : SaState) (request : Request) (found : Result Success MadStatus) → IsConfigured configuration
+    → IsListed configuration.ports own → IsRememberedOf configuration state → Brings state (outcome configuration.ports own state request) found → CanBeTold found
+told_of configuration own state request found configured listed remembered brings =
+    can_be_told state (outcome configuration.ports own state request) found brings (outcome_low configuration own state request configured listed remembered)
 
 -- ---- who asks, and whether it is a MAD
 pub record IsSomebody (ports : List SubnetPort) (guid : ℕ) : Type 0 where

@@ -1,5 +1,5 @@
 -- What requests for nodes and paths bring.
-use Rattle.std.proofs.Common.{◌≡◌, ℕ, ◌<◌, ◌^◌, Vec, Global, ◌++◌, List, [], ◌∷◌, filter, map, Option, Some, None, Result, Ok, Err, refl, sym, ◌∙◌, ap, subst}
+use Rattle.std.proofs.Common.{◌≡◌, ℕ, ◌<◌, ◌^◌, Vec, Global, ◌++◌, List, [], ◌∷◌, filter, map, Option, Some, None, Result, Ok, Err, refl, sym, ◌∙◌, ap}
 use Rattle.std.specs.List.{flat_map}
 use Rattle.mad_layout.specs.declared.status.MadStatus.{MadStatus}
 use Rattle.sa_records.specs.declared.node_record.NodeRecord.{NodeRecord}
@@ -26,6 +26,34 @@ use Rattle.sa_answer.specs.Replying.{node_bytes, node_data, only_one, path_bytes
 use Rattle.sa_answer.specs.declared.outcome.Success.{Success}
 use Rattle.sa_answer.specs.declared.outcome.Success.TheVariants.{Reply, Table}
 use Rattle.sa_answer.proofs.SelectLemmas.{filter_both}
+
+-- ---- refused
+pub get_refused : (ports : List SubnetPort) (own : SubnetPort) (state : SaState) (query : Query) (status : MadStatus) → refusal own query ≡ Some status
+    → Brings state (get_outcome ports own state (Some query)) (Err status)
+get_refused ports own state query status is = refused (refusal own query) is
+  where
+    refused : (told : Option MadStatus) → told ≡ Some status
+        → Brings state (one_record state (unless_status told (the_only_one (selected (Some 1) ports own state query)))) (Err status)
+    refused None h = absurd (cc)
+    refused (Some other) h = cc
+
+pub table_refused : (ports : List SubnetPort) (own : SubnetPort) (state : SaState) (query : Query) (status : MadStatus) → refusal own query ≡ Some status
+    → table_outcome ports own state (Some query) ≡ Err status
+table_refused ports own state query status is = refused (refusal own query) is
+  where
+    refused : (told : Option MadStatus) → told ≡ Some status
+        → all_records query (unless_status told (Ok (selected (paths_wanted query) ports own state query))) ≡ Err status
+    refused None h = absurd (cc)
+    refused (Some other) h = cc
+
+-- ---- and not refused
+pub get_taken : (ports : List SubnetPort) (own : SubnetPort) (state : SaState) (query : Query) → refusal own query ≡ None
+    → get_outcome ports own state (Some query) ≡ one_record state (the_only_one (selected (Some 1) ports own state query))
+get_taken ports own state query none = ap (λ told. one_record state (unless_status told (the_only_one (selected (Some 1) ports own state query)))) none
+
+pub table_taken : (ports : List SubnetPort) (own : SubnetPort) (state : SaState) (query : Query) → refusal own query ≡ None
+    → table_outcome ports own state (Some query) ≡ all_records query (Ok (selected (paths_wanted query) ports own state query))
+table_taken ports own state query none = ap (λ told. all_records query (unless_status told (Ok (selected (paths_wanted query) ports own state query)))) none
 
 -- data that are found, as what a request brings
 abbrev pub as_reply : Result (List ℕ) MadStatus → Result Success MadStatus
@@ -60,25 +88,7 @@ pub path_brought : (ports : List SubnetPort) (own : SubnetPort) (state : SaState
     → found ≡ only_one path_data (flat_map (few_paths (Some 1) mask asked own) ports)
     → Brings state (get_outcome ports own state (Some (Query.for_paths mask asked))) (as_reply found)
 path_brought ports own state mask asked found none is =
-    let paths = flat_map (few_paths (Some 1) mask asked own) ports in
-    let got = unless_none (refusal own (Query.for_paths mask asked)) (the_only_one (map path_entry paths)) none in
-    rw is (subst (λ (outcome : Result Entry MadStatus). Brings state (one_record state outcome) (as_reply (only_one path_data paths))) (sym got) (one_path state paths))
-  where
-    unless_none : (status : Option MadStatus) (outcome : Result Entry MadStatus) → status ≡ None → unless_status status outcome ≡ outcome
-    unless_none None outcome h = refl
-    unless_none (Some status) outcome h = absurd (cc)
-
--- ---- refused
-pub path_refused : (ports : List SubnetPort) (own : SubnetPort) (state : SaState) (mask : ℕ) (asked : PathRecord) (status : MadStatus)
-    → refusal own (Query.for_paths mask asked) ≡ Some status
-    → Brings state (get_outcome ports own state (Some (Query.for_paths mask asked))) (Err status)
-path_refused ports own state mask asked status is =
-    refused (refusal own (Query.for_paths mask asked)) is
-  where
-    refused : (told : Option MadStatus) → told ≡ Some status
-        → Brings state (one_record state (unless_status told (the_only_one (map path_entry (flat_map (few_paths (Some 1) mask asked own) ports))))) (Err status)
-    refused None h = absurd (cc)
-    refused (Some other) h = cc
+    rw (get_taken ports own state (Query.for_paths mask asked) none, is) (one_path state (flat_map (few_paths (Some 1) mask asked own) ports))
 
 -- ---- tables
 pub bytes_of_shown : {X : Type 0} (entry : X → Entry) (xs : List X) → flat_map (λ one. record_bytes one.shown) (map entry xs) ≡ flat_map (λ x. record_bytes (entry x).shown) xs
@@ -95,24 +105,9 @@ pub paths_brought : (ports : List SubnetPort) (own : SubnetPort) (state : SaStat
     → refusal own (Query.for_paths mask asked) ≡ None
     → bytes.items ≡ flat_map path_bytes (flat_map (few_paths (paths_wanted (Query.for_paths mask asked)) mask asked own) ports)
     → Brings state (table_outcome ports own state (Some (Query.for_paths mask asked))) (Ok (Table PATH_RECORD_OFFSET bytes))
-paths_brought ports own state mask asked bytes none is = wanted (refusal own (Query.for_paths mask asked)) none
-  where
-    wanted : (told : Option MadStatus) → told ≡ None
-        → Brings state (all_records (Query.for_paths mask asked) (unless_status told (Ok (map path_entry (flat_map (few_paths (paths_wanted (Query.for_paths mask asked)) mask asked own) ports)))))
-        (Ok (Table PATH_RECORD_OFFSET bytes))
-    wanted None h =
-        (refl, is ∙ sym (bytes_of_shown path_entry (flat_map (few_paths (paths_wanted (Query.for_paths mask asked)) mask asked own) ports)))
-    wanted (Some status) h = absurd (cc)
-
-pub paths_refused : (ports : List SubnetPort) (own : SubnetPort) (state : SaState) (mask : ℕ) (asked : PathRecord) (status : MadStatus)
-    → refusal own (Query.for_paths mask asked) ≡ Some status
-    → table_outcome ports own state (Some (Query.for_paths mask asked)) ≡ Err status
-paths_refused ports own state mask asked status is = refused (refusal own (Query.for_paths mask asked)) is
-  where
-    refused : (told : Option MadStatus) → told ≡ Some status
-        → all_records (Query.for_paths mask asked) (unless_status told (Ok (map path_entry (flat_map (few_paths (paths_wanted (Query.for_paths mask asked)) mask asked own) ports)))) ≡ Err status
-    refused None h = absurd (cc)
-    refused (Some other) h = cc
+paths_brought ports own state mask asked bytes none is =
+    rw (table_taken ports own state (Query.for_paths mask asked) none)
+    (refl, is ∙ sym (bytes_of_shown path_entry (flat_map (few_paths (paths_wanted (Query.for_paths mask asked)) mask asked own) ports)))
 
 -- ---- and how long they can be
 pub selected_low : (most : Option ℕ) (configuration : ConfigurationState) (own : SubnetPort) (query : Query) (bytes : List ℕ) → IsConfigured configuration

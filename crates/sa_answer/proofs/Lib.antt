@@ -1,9 +1,16 @@
 pub mod AnswerLemmas
 pub mod BroughtLemmas
+pub mod FoundLemmas
+pub mod GroupLemmas
 pub mod KeyLemmas
+pub mod OfferLemmas
 pub mod OutLemmas
 pub mod PathLemmas
 pub mod PlaceLemmas
 pub mod PremiseLemmas
 pub mod SelectLemmas
 pub mod StartLemmas
+pub mod DeedLemmas
+pub mod BaseLemmas
+pub mod RegistryLemmas
+pub mod RequestLemmas

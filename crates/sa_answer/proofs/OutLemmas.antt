@@ -33,7 +33,7 @@ none_few (Some (suc n)) paths none = ap (take (suc n)) none
 abbrev pub BringsNone : Option ℕ → ℕ → PathRecord → SubnetPort → SubnetPort → Type 0
 BringsNone most mask asked own other = few_paths most mask asked own other ≡ []
 
-gids_differ : (guid gid other : ℕ) → guid_in gid ≡ Some guid → (other == guid) ≡ false → (gid_of other == gid) ≡ false
+pub gids_differ : (guid gid other : ℕ) → guid_in gid ≡ Some guid → (other == guid) ≡ false → (gid_of other == gid) ≡ false
 gids_differ guid gid other h differ = elim (cases_Bool (gid / 2 ^ 64 == gid_prefix)) [
   | inl ours ↦
       let e : Some (gid % 2 ^ 64) ≡ Some guid = rw ours at h in

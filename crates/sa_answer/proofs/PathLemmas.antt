@@ -1,8 +1,7 @@
 -- The paths under the keys that a port holds, as they are gone through.
-use Rattle.std.proofs.Common.{◌≡◌, ℕ, zero, suc, ◌+◌, ◌-◌, ◌<◌, ◌≤◌, Bool, true, false, List, [], ◌∷◌, ◌++◌, filter, length, map, take, drop, get_or, Err}
-use Rattle.std.proofs.Common.{refl, sym, ◌∙◌, ap, inl, inr, arith, append_assoc}
+use Rattle.std.proofs.Common.{◌≡◌, ℕ, zero, suc, ◌+◌, ◌-◌, ◌<◌, ◌≤◌, true, false, List, [], ◌∷◌, ◌++◌, filter, length, map, take, drop, get_or, Err}
+use Rattle.std.proofs.Common.{refl, sym, ◌∙◌, ap, arith, append_assoc}
 use Rattle.std.specs.List.{flat_map}
-use Rattle.std.proofs.lemmas.Bool.{cases_Bool}
 use Rattle.std.proofs.lemmas.List.{drop_more, length-map, map-append, take-append-drop, take_all}
 use Rattle.std.proofs.lemmas.List.Concat.{flat_map-append}
 use Rattle.mad_layout.specs.declared.status.MadStatus.TheVariants.{TooManyRecords}
@@ -10,6 +9,7 @@ use Rattle.pkey_rules.specs.KeyTable.{accepts}
 use Rattle.sa_records.specs.declared.path_record.PathRecord.{PathRecord}
 use Rattle.sa_records.specs.PathRecord.{path_record_selected}
 use Rattle.subnet_model.specs.declared.subnet_port.SubnetPort.{SubnetPort}
+use Rattle.sa_replies.proofs.OpenTableLemmas.{filter_few}
 use Rattle.sa_queries.specs.Selected.{paths_selected}
 use Rattle.sa_queries.specs.Shown.{path_record_of}
 use Rattle.sa_queries.specs.Visible.{Path, paths_under}
@@ -55,19 +55,12 @@ pub none_left : (bytes all_bytes : List ℕ) (left : ℕ) (all rest : List Path)
 none_left bytes all_bytes zero all rest none told = told
 none_left bytes all_bytes (suc n) all rest none told = absurd (omega arith)
 
-filter_low : {X : Type 0} (p : X → Bool) (xs : List X) → length (filter p xs) ≤ length xs
-filter_low p [] = omega arith
-filter_low p (x ∷ xs) = elim (cases_Bool (p x)) [
-  | inl passes ↦ rw passes (let rest = filter_low p xs in omega arith)
-  | inr fails ↦ rw fails (let rest = filter_low p xs in omega arith)
-]
-
 agreeing_low : (mask : ℕ) (asked : PathRecord) (own other : SubnetPort) (keys : List ℕ) → length (agreeing mask asked own other keys) ≤ length keys
 agreeing_low mask asked own other keys =
     let accepted = filter (λ key. accepts key other.keys) keys in
-    let a = filter_low (λ key. accepts key other.keys) keys in
+    let a = filter_few (λ key. accepts key other.keys) keys in
     let b = length-map accepted (under own other) in
-    let c = filter_low (λ path. path_record_selected mask (path_record_of path) asked) (paths_under accepted own other) in
+    let c = filter_few (λ path. path_record_selected mask (path_record_of path) asked) (paths_under accepted own other) in
     omega arith
 
 pub all_wanted : (mask : ℕ) (asked : PathRecord) (own other : SubnetPort) (keys : List ℕ)

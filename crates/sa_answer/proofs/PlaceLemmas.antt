@@ -57,7 +57,7 @@ pub record IsAt (guid : ℕ) (kept : List KeptPort) (i : ℕ) (d : KeptPort) : T
   pub within : i < length kept
   pub is : ((get_or kept i d).port.guid == guid) ≡ true
 
-further : (guid : ℕ) (one : KeptPort) (kept : List KeptPort) (i : ℕ) (d : KeptPort) → IsAt guid (one ∷ kept) (suc i) d
+pub further : (guid : ℕ) (one : KeptPort) (kept : List KeptPort) (i : ℕ) (d : KeptPort) → IsAt guid (one ∷ kept) (suc i) d
     → ((one.port.guid == guid) ≡ false) × IsAt guid kept i d
 further guid one kept i d at =
     let others = others_of one.port kept (IsDistinct-head same_guid one.port (ports_of kept) at.distinct) in
@@ -73,7 +73,7 @@ further guid one kept i d at =
       record { distinct = IsDistinct-tail same_guid one.port (ports_of kept) at.distinct; within = within; is = at.is },
     )
 
-rest_others : (guid : ℕ) (one : KeptPort) (kept : List KeptPort) (d : KeptPort) → IsAt guid (one ∷ kept) zero d → AreOthers guid kept
+pub rest_others : (guid : ℕ) (one : KeptPort) (kept : List KeptPort) (d : KeptPort) → IsAt guid (one ∷ kept) zero d → AreOthers guid kept
 rest_others guid one kept d at =
     subst (λ (n : ℕ). AreOthers n kept) (eqb-true one.port.guid guid at.is)
     (others_of one.port kept (IsDistinct-head same_guid one.port (ports_of kept) at.distinct))
@@ -126,7 +126,7 @@ is_at guid kept i d distinct h =
     let at = position-Some test kept i d (position_from-zero test kept ∙ sym (place_is guid kept) ∙ h) in
     record { distinct = distinct; within = at.0; is = at.1 }
 
-one_of : (kept : List KeptPort) (i : ℕ) (d : KeptPort) → i < length kept → take (i + 1 - i) (drop i kept) ≡ get_or kept i d ∷ []
+pub one_of : (kept : List KeptPort) (i : ℕ) (d : KeptPort) → i < length kept → take (i + 1 - i) (drop i kept) ≡ get_or kept i d ∷ []
 one_of kept i d within =
     let e : i + 1 - i ≡ suc zero = omega arith in
     rw (e, drop_more kept i d within) refl
@@ -232,8 +232,14 @@ replaced guid table kept i d headings partitions is_broken state at is =
     let transfers = next_at guid table kept i d at in
     rw (ports, services, ← transfers, ← is) refl
 
-pub stays_registry : (table : Option Transfer) (kept : List KeptPort) (i : ℕ) (d : KeptPort) (headings : List Heading) (place_of : ℕ → Option ℕ)
-    → i < length kept → IsRegistry kept headings place_of → IsRegistry (set kept i (with_open table (get_or kept i d))) headings place_of
-stays_registry table kept i d headings place_of within is =
+pub stays_registry : (table : Option Transfer) (kept : List KeptPort) (i : ℕ) (d : KeptPort) (headings : List Heading) (partitions : List PartitionGroups)
+    (place_of : ℕ → Option ℕ) → i < length kept → IsRegistry kept headings partitions place_of
+    → IsRegistry (set kept i (with_open table (get_or kept i d))) headings partitions place_of
+stays_registry table kept i d headings partitions place_of within is =
     let ports = ports_stay table kept i d within in
-    record { configured = rw ports is.configured; finds = rw ports is.finds }
+    let services = services_stay table kept i d within in
+    record {
+      configured = rw ports is.configured;
+      finds = rw ports is.finds;
+      remembered = rw (ports, services) is.remembered;
+    }

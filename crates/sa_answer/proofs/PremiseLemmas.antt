@@ -83,7 +83,7 @@ keys_known headings (port ∷ ports) (held ∷ keys) h =
 pub sound_is_configured : (ports : List NodePort) (members : Membership) → AreSoundHeadings members.headings
     → are_sound ports members.headings members.keys ≡ true → IsConfigured (configured ports members)
 sound_is_configured ports members headings h =
-    let first = and_parts (pairwise other_guid ports) _ h in
+    let first = and_parts (pairwise other_guid ports) _ (and_parts (length members.keys == length ports) _ h).1 in
     let second = and_parts (have_lids_from 1 ports) _ first.1 in
     let third = and_parts (nat_le (length ports) 320) (list_all (are_known_keys members.headings) members.keys) second.1 in
     let few = leb-true (length ports) 320 third.0 in

@@ -26,3 +26,7 @@ same_services (port ∷ ports) =
 pub same_transfers : (ports : List SubnetPort) → transfers_of (map at_the_start ports) ≡ no_transfers ports
 same_transfers [] = refl
 same_transfers (port ∷ ports) = ap (λ (rest : List PortTransfer). record { port = port.guid; open_table = None } ∷ rest) (same_transfers ports)
+
+pub same_bases : (keys : List ℕ) → map (λ place. place.base) (map no_place keys) ≡ map base_of keys
+same_bases [] = refl
+same_bases (key ∷ keys) = ap (λ (rest : List ℕ). base_of key ∷ rest) (same_bases keys)

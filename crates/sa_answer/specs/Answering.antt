@@ -1,24 +1,40 @@
 -- What comes of what a port sends, in words that code computes.
-use Rattle.std.specs.Prelude.{ℕ, ◌≡◌, ◌<◌, ◌^◌, Bool, ◌||◌, List, [], Option, Some, None, Result, Ok, Err}
+use Rattle.std.specs.Prelude.{ℕ, ◌≡◌, ◌==◌, ◌<◌, ◌^◌, Bool, ◌&&◌, ◌||◌, bit_and, not, List, [], Option, Some, None, Result, Ok, Err}
+use Rattle.mad_layout.specs.Method.{method_code}
+use Rattle.mad_layout.specs.declared.method.Method.TheVariants.{Set, Delete}
 use Rattle.mad_layout.specs.declared.status.MadStatus.{MadStatus}
 use Rattle.rmpp_core.specs.Segments.{payload_size}
+use Rattle.sa_records.specs.declared.sa_attribute.SaAttribute.{SaAttribute}
 use Rattle.sa_records.specs.declared.sa_attribute.SaAttribute.TheVariants as sa_attribute
 use Rattle.subnet_model.specs.Delivery.{port_with_guid}
 use Rattle.subnet_model.specs.declared.subnet_port.SubnetPort.{SubnetPort}
 use Rattle.sa_queries.specs.Visible.{SaState}
 use Rattle.sa_replies.specs.Answer.{Administration, Answered, answer}
-use Rattle.sa_replies.specs.Request.{Request, is_about}
+use Rattle.sa_replies.specs.Request.{Request, has_versions, is_about}
 use Rattle.sa_replies.specs.Success.{Success as Brought}
 use Rattle.sa_answer.specs.declared.outcome.Success.{Success}
 use Rattle.sa_answer.specs.declared.outcome.Success.TheVariants.{Reply, Table}
-use Rattle.sa_answer.specs.Registry.{RegistryState}
+use Rattle.sa_answer.specs.Registry.{RegistryState, with_remembered}
 use Rattle.sa_answer.specs.Replying.{padded}
 
--- a request by a record of groups or of services
-abbrev pub is_left : Request → Bool
-is_left request = is_about sa_attribute.McMemberRecord request || is_about sa_attribute.ServiceRecord request
+-- ---- a Set or a Delete
+abbrev pub is_change_of : SaAttribute → Request → Bool
+is_change_of attribute request =
+    is_about attribute request && ((request.header.method == method_code Set) || (request.header.method == method_code Delete))
 
--- the same comes of a request, in the data of a reply or in the bytes of a table; what is remembered stays
+-- of a service
+abbrev pub is_change : Request → Bool
+is_change request = is_change_of sa_attribute.ServiceRecord request
+
+-- of a membership in a group: a join or a leave
+abbrev pub is_join_or_leave : Request → Bool
+is_join_or_leave request = is_change_of sa_attribute.McMemberRecord request
+
+-- what is left: a join or a leave of our versions that is no MAD of a transfer; a response has neither method
+abbrev pub is_left : Request → Bool
+is_left request = (has_versions request.header && not (bit_and request.rmpp.flags 1 == 1)) && is_join_or_leave request
+
+-- ---- the same comes of a request, in the data of a reply or in the bytes of a table; what is remembered stays
 abbrev pub IsBrought : SaState → Brought → Success → Type 0
 IsBrought state (Brought.one_reply bytes next) (Reply content) = (content ≡ padded bytes) × (next ≡ state)
 IsBrought state (Brought.whole_table offset bytes) (Table spacing held) = (spacing ≡ offset) × (held.items ≡ bytes)
@@ -28,6 +44,13 @@ abbrev pub Brings : SaState → Result Brought MadStatus → Result Success MadS
 Brings state (Ok brought) (Ok found) = IsBrought state brought found
 Brings state (Err status) (Err told) = told ≡ status
 Brings state _ _ = ⊥
+
+-- a Set or a Delete brings this data for its reply, and what is remembered then is as it says; or it is refused, and changes
+-- nothing
+abbrev pub BringsAbout : RegistryState → Result Brought MadStatus → Result (List ℕ) MadStatus → RegistryState → Type 0
+BringsAbout old (Ok (Brought.one_reply bytes next)) (Ok content) new = (content ≡ padded bytes) × (new ≡ with_remembered next old)
+BringsAbout old (Err status) (Err told) new = (told ≡ status) × (new ≡ old)
+BringsAbout old _ _ new = ⊥
 
 -- the port is one of these, and the first of its GUID
 abbrev pub IsListed : List SubnetPort → SubnetPort → Type 0

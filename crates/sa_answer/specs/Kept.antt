@@ -21,11 +21,13 @@ pub record KeptPort : Type 0 where
   pub services : List ServicesOfBase
   pub open_table : Option Transfer
 
--- the port's keys by base, and its NodeRecord, as fields and as bytes
-pub record IsPrepared (port : SubnetPort) (keys : List ℕ) (shown : NodeRecord) (bytes : List ℕ) : Type 0 where
+-- the port's keys by base, its NodeRecord, as fields and as bytes, and a place for services for each of its keys
+pub record IsPrepared (port : SubnetPort) (keys : List ℕ) (shown : NodeRecord) (bytes : List ℕ) (places : List ServicesOfBase)
+    : Type 0 where
   pub keys_stand : keys ≡ by_base port.keys
   pub node : shown ≡ node_record_of port
   pub spelt : bytes ≡ node_record_bytes (node_record_of port)
+  pub places_stand : map (λ place. place.base) places ≡ map base_of (by_base port.keys)
 
 -- ---- of all ports
 abbrev pub ports_of : List KeptPort → List SubnetPort

@@ -1,8 +1,11 @@
 pub mod NodePorts
 pub mod Slots
 pub mod Kept
+pub mod Deeds
 pub mod Registry
 pub mod Asked
 pub mod Replying
 pub mod Answering
 pub mod Premises
+pub mod Offers
+pub mod Groups

@@ -24,8 +24,10 @@ abbrev pub are_known_keys : List Heading → List ℕ → Bool
 are_known_keys headings keys =
     pairwise other_base keys && (list_all (is_known_key headings) keys && nat_le (length keys) PARTITIONS)
 
+-- a table for each port
 abbrev pub are_sound : List NodePort → List Heading → List (List ℕ) → Bool
 are_sound ports headings keys =
-    pairwise other_guid ports
+    (length keys == length ports)
+    && (pairwise other_guid ports
     && (have_lids_from 1 ports
-    && (nat_le (length ports) (SWITCHES + ADAPTER_PORTS) && list_all (are_known_keys headings) keys))
+    && (nat_le (length ports) (SWITCHES + ADAPTER_PORTS) && list_all (are_known_keys headings) keys)))

@@ -5,7 +5,12 @@ use Rattle.subnet_model.specs.Configuration.{ConfigurationState}
 use Rattle.subnet_model.specs.Configured.{IsConfigured}
 use Rattle.subnet_model.specs.declared.subnet_port.SubnetPort.{SubnetPort}
 use Rattle.sa_groups.specs.Groups.{PartitionGroups}
+use Rattle.sa_services.specs.ServiceChange.{Deed, ServiceChange}
+use Rattle.sa_services.specs.Services.{Service}
+use Rattle.sa_queries.specs.Visible.{SaState}
 use Rattle.sa_replies.specs.Answer.{Administration}
+use Rattle.sa_replies.specs.ServiceRequests.{after_change}
+use Rattle.sa_replies.specs.State.{IsRememberedOf}
 use Rattle.sa_answer.specs.Kept.{KeptPort, ports_of, services_of, transfers_of}
 
 -- once memory was refused it is broken for good
@@ -17,9 +22,12 @@ pub record RegistryState : Type 0 where
 abbrev pub configuration_in : List KeptPort → List Heading → ConfigurationState
 configuration_in kept headings = record { ports = ports_of kept; partitions = headings }
 
+abbrev pub remembered_in : List KeptPort → List PartitionGroups → SaState
+remembered_in kept partitions = record { partitions = partitions; services = services_of kept }
+
 abbrev pub administration_in : List KeptPort → List PartitionGroups → Administration
 administration_in kept partitions = record {
-  remembered = record { partitions = partitions; services = services_of kept };
+  remembered = remembered_in kept partitions;
   transfers = transfers_of kept;
 }
 
@@ -37,7 +45,22 @@ place_with_guid ports guid = position (λ port. port.guid == guid) ports
 abbrev pub Finds : List SubnetPort → (ℕ → Option ℕ) → Type 0
 Finds ports place_of = (guid : ℕ) → place_of guid ≡ place_with_guid ports guid
 
--- a registry is of a configured subnet, and finds its ports
-pub record IsRegistry (kept : List KeptPort) (headings : List Heading) (place_of : ℕ → Option ℕ) : Type 0 where
+-- ---- a registry is of a configured subnet, finds its ports, and remembers what may be remembered of them
+pub record IsRegistry (kept : List KeptPort) (headings : List Heading) (partitions : List PartitionGroups) (place_of : ℕ → Option ℕ)
+    : Type 0 where
   pub configured : IsConfigured (configuration_in kept headings)
   pub finds : Finds (ports_of kept) place_of
+  pub remembered : IsRememberedOf (configuration_in kept headings) (remembered_in kept partitions)
+
+-- ---- after what a port does to services
+abbrev pub set_by : (guid base : ℕ) → Service → ServiceChange
+set_by guid base service = record { port = guid; base = base; deed = Deed.sets service }
+
+abbrev pub deleted_by : (guid base id : ℕ) → ServiceChange
+deleted_by guid base id = record { port = guid; base = base; deed = Deed.deletes id }
+
+abbrev pub with_remembered : SaState → RegistryState → RegistryState
+with_remembered remembered state = record state { administration = record state.administration { remembered = remembered } }
+
+abbrev pub with_change : ServiceChange → RegistryState → RegistryState
+with_change change state = with_remembered (after_change state.administration.remembered change) state

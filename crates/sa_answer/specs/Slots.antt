@@ -1,8 +1,10 @@
 -- The multicast groups of a partition in their slots: one for each of its 32 MLIDs.
-use Rattle.std.specs.Prelude.{ℕ, ◌≡◌, ◌+◌, ◌*◌, List, [], ◌∷◌, Option, Some, None, length}
+use Rattle.std.specs.Prelude.{ℕ, ◌≡◌, ◌<◌, ◌+◌, ◌*◌, true, List, [], ◌∷◌, Option, Some, None, length}
 use Rattle.std.specs.Int.Digits.{number_from_digits}
 use Rattle.partition_file.specs.declared.broadcast_group.BroadcastGroup.{BroadcastGroup}
 use Rattle.partition_file.specs.Partitions.{mgid_of}
+use Rattle.pkey_rules.specs.PKey.{is_base}
+use Rattle.pkey_rules.specs.declared.key_table.TheConstants.{PARTITIONS}
 use Rattle.sa_groups.specs.Groups.{Creator as MadeBy, GroupParameters as Parameters, Membership as MemberOf}
 use Rattle.sa_groups.specs.Groups.{MulticastGroup, PartitionGroups}
 use Rattle.sa_groups.specs.Groups.{file_parameters, first_mlid}
@@ -56,8 +58,10 @@ free_slots [] = 0
 free_slots (None ∷ slots) = 1 + 2 * free_slots slots
 free_slots (Some group ∷ slots) = 2 * free_slots slots
 
--- a slot for each MLID of a partition, and the set tells which are free
-pub record AreSlots (slots : List (Option SlotGroup)) (free : ℕ) : Type 0 where
+-- a partition has a number below 32, a base, and a slot for each of its MLIDs, and the set tells which are free
+pub record AreSlots (number base : ℕ) (slots : List (Option SlotGroup)) (free : ℕ) : Type 0 where
+  pub numbered : number < PARTITIONS
+  pub based : is_base base ≡ true
   pub all : length slots ≡ 32
   pub told : free ≡ free_slots slots
 

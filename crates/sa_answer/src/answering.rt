@@ -8,7 +8,7 @@ ghost use Rattle.subnet_model.specs.declared.subnet_port.SubnetPort.{SubnetPort}
 ghost use Rattle.sa_replies.specs.Answer.{after_rmpp, answer_to, answered_with, outcome, version_refused};
 ghost use Rattle.sa_replies.specs.Request.{request_in};
 ghost use Rattle.sa_replies.specs.Transfers.{on_rmpp, table_of};
-ghost use Rattle.sa_answer.specs.Answering.{Answers, answer_to_port, is_left};
+ghost use Rattle.sa_answer.specs.Answering.{Answers, answer_to_port, is_change, is_change_of, is_join_or_leave, is_left};
 ghost use Rattle.sa_answer.specs.Registry.{place_with_guid};
 
 use crate::outcome::Success;
@@ -16,21 +16,18 @@ use crate::registry::Registry;
 use crate::reply::{refusal_reply, reply, table_header};
 use crate::request::{Request, SA_CLASS};
 use crate::transfers::{on_rmpp, only};
-use mad_layout::{Mad, MadStatus, get_bits};
+use mad_layout::{Mad, MadStatus, Method, get_bits};
 use rmpp_core::Sender;
 use sa_records::SaAttribute;
 use std::alloc::AllocError;
 
 impl Registry {
-    /// Answers what the port of a GUID sends: requests by NodeRecord and PathRecord, MADs of a transfer, and what is refused
-    /// or ignored whatever its attribute. None for a request by a record of groups or services, which this call leaves.
+    /// Answers what the port of a GUID sends: requests for records of all kinds, Sets and Deletes of services, MADs of a transfer,
+    /// and what is refused or ignored whatever its attribute. None for a join or a leave, which this call leaves: a Set or a
+    /// Delete by MCMemberRecord.
     ///
     /// Memory alone can be refused, and then for good.
-    pub fn answer_query(
-        &mut self,
-        port: u64,
-        payload: &[u8],
-    ) -> Result<Option<Vec<Mad>>, AllocError>
+    pub fn answer(&mut self, port: u64, payload: &[u8]) -> Result<Option<Vec<Mad>>, AllocError>
         ensures answers { IfOk result (λ answered. IfSome answered (λ mads.
             Answers (answer_to_port self.old.configuration.ports port payload.now self.old.administration) mads.items self.old self.new)) }
         ensures left { IfOk result (λ answered. answered ≡ None → self.new ≡ self.old) }
@@ -96,7 +93,7 @@ impl Registry {
         if request.is_response() {
             return Ok(Some(Vec::new(self.alloc)));
         }
-        if is_left(request) {
+        if is_join_or_leave(request) {
             return Ok(None);
         }
         Ok(Some(self.answered_with(port, place, request)?))
@@ -131,8 +128,7 @@ impl Registry {
         Ok(mads)
     }
 
-    /// Answers a request: by one reply, or by the first segment of a table, which takes the place of the one that is open to
-    /// the port.
+    /// Answers a request.
     fn answered_with(
         &mut self,
         port: u64,
@@ -140,7 +136,59 @@ impl Registry {
         request: &Request,
     ) -> Result<Vec<Mad>, AllocError>
         requires place { place_with_guid self.old.configuration.ports port ≡ Some place }
-        requires request { is_left request.now ≡ false }
+        requires left { is_join_or_leave request.now ≡ false }
+        requires method { request.now.header.method < 128 }
+        ensures configuration { self.new.configuration ≡ self.old.configuration }
+        ensures answers { (own : SubnetPort) → port_with_guid self.old.configuration.ports port ≡ Some own → IfOk result (λ mads.
+            Answers (answered_with own request.now self.old.administration
+            (outcome self.old.configuration.ports own self.old.administration.remembered request.now)) mads.items self.old self.new) }
+    {
+        if is_change(request) {
+            self.answered_with_change(port, place, request)
+        } else {
+            self.answered_with_records(port, place, request)
+        }
+    }
+
+    /// Answers a request that changes a service, by one reply.
+    fn answered_with_change(
+        &mut self,
+        port: u64,
+        place: usize,
+        request: &Request,
+    ) -> Result<Vec<Mad>, AllocError>
+        requires place { place_with_guid self.old.configuration.ports port ≡ Some place }
+        requires change { is_change request.now ≡ true }
+        requires method { request.now.header.method < 128 }
+        ensures configuration { self.new.configuration ≡ self.old.configuration }
+        ensures answers { (own : SubnetPort) → port_with_guid self.old.configuration.ports port ≡ Some own → IfOk result (λ mads.
+            Answers (answered_with own request.now self.old.administration
+            (outcome self.old.configuration.ports own self.old.administration.remembered request.now)) mads.items self.old self.new) }
+    {
+        let alloc = self.alloc;
+        match self.changed(port, place, request)? {
+            Err(status) => {
+                let mads = only(alloc, refusal_reply(request, status))?;
+                Ok(mads)
+            }
+            Ok(data) => {
+                let mads = only(alloc, reply(request, &data))?;
+                Ok(mads)
+            }
+        }
+    }
+
+    /// Answers a request for records: by one reply, or by the first segment of a table, which takes the place of the one that
+    /// is open to the port.
+    fn answered_with_records(
+        &mut self,
+        port: u64,
+        place: usize,
+        request: &Request,
+    ) -> Result<Vec<Mad>, AllocError>
+        requires place { place_with_guid self.old.configuration.ports port ≡ Some place }
+        requires left { is_join_or_leave request.now ≡ false }
+        requires change { is_change request.now ≡ false }
         requires method { request.now.header.method < 128 }
         ensures configuration { self.new.configuration ≡ self.old.configuration }
         ensures answers { (own : SubnetPort) → port_with_guid self.old.configuration.ports port ≡ Some own → IfOk result (λ mads.
@@ -180,12 +228,25 @@ fn sa_mad_of(payload: &[u8]) -> Option<&Mad>
     }
 }
 
-/// Whether a request is by a record of groups or of services.
-fn is_left(request: &Request) -> bool
-    ensures { result ≡ is_left request.now }
+/// Whether a request sets or deletes a service.
+fn is_change(request: &Request) -> bool
+    ensures { result ≡ is_change request.now }
 {
-    match SaAttribute::from_code(request.header.attribute_id) {
-        Some(SaAttribute::McMemberRecord) | Some(SaAttribute::ServiceRecord) => true,
-        _ => false,
-    }
+    is_change_of(SaAttribute::ServiceRecord, request)
+}
+
+/// Whether a request joins or leaves a group.
+fn is_join_or_leave(request: &Request) -> bool
+    ensures { result ≡ is_join_or_leave request.now }
+{
+    is_change_of(SaAttribute::McMemberRecord, request)
+}
+
+/// Whether a request sets or deletes by a record of this kind.
+fn is_change_of(attribute: SaAttribute, request: &Request) -> bool
+    ensures { result ≡ is_change_of attribute request.now }
+{
+    let method = request.header.method;
+    request.header.attribute_id == attribute.code()
+        && (method == Method::Set.code() || method == Method::Delete.code())
 }

@@ -1,7 +1,10 @@
 //! Multicast groups, and who takes part in them.
 
-ghost use Rattle.std.specs.Prelude.{◌≡◌, []};
+ghost use Rattle.std.specs.Prelude.{◌≡◌, true, []};
+ghost use Rattle.partition_file.specs.Sound.{fits};
 ghost use Rattle.sa_groups.specs.Groups.{Creator as MadeBy, file_parameters};
+ghost use Rattle.sa_replies.specs.State.{is_fit_group};
+ghost use Rattle.sa_answer.specs.Slots.{parameters_of};
 
 use mad_layout::JoinState;
 use partition_file::BroadcastGroup;
@@ -59,6 +62,8 @@ pub(crate) struct Group {
 }
 
 impl Model for Group {
+    ghost use Rattle.std.specs.Prelude.{◌≡◌, true};
+    ghost use Rattle.sa_replies.specs.State.{is_fit_group};
     ghost use Rattle.sa_answer.specs.Slots.{SlotGroup, maker_of, parameters_of};
 
     ghost Value = { SlotGroup };
@@ -69,6 +74,8 @@ impl Model for Group {
       creator = maker_of group.creator;
       memberships = group.memberships.items;
     } };
+
+    ghost invariant = { λ group. is_fit_group (parameters_of group.parameters) ≡ true };
 }
 
 /// How long packets of the partition file's groups may be on their way.
@@ -77,6 +84,7 @@ const PACKET_LIFE_TIME: u8 = 18;
 impl Group {
     /// The group that a partition file makes, in which nobody is yet.
     pub(crate) fn of_file(alloc: Global, mgid: u128, group: &BroadcastGroup) -> Group
+        requires { fits group.now ≡ true }
         ensures { result ≡ record {
           mgid = mgid;
           parameters = file_parameters group.now;
@@ -100,5 +108,20 @@ impl Group {
             creator: Creator::PartitionFile,
             memberships: Vec::new(alloc),
         }
+    }
+
+    /// Its MGID.
+    pub(crate) fn mgid(&self) -> u128
+        ensures { result ≡ self.now.mgid }
+    {
+        self.mgid
+    }
+
+    /// What is fixed for it.
+    pub(crate) fn parameters(&self) -> GroupParameters
+        ensures value { parameters_of result ≡ self.now.parameters }
+        ensures fit { is_fit_group self.now.parameters ≡ true }
+    {
+        self.parameters
     }
 }

@@ -1,17 +1,21 @@
 //! What is kept for a port.
 
-ghost use Rattle.std.specs.Prelude.{◌≡◌, ◌-◌, ◌++◌, length, replicate, IfOk};
+ghost use Rattle.std.specs.Prelude.{◌≡◌, ◌-◌, ◌++◌, false, length, map, position, replicate, IfOk, OnOk, OnErr};
+ghost use Rattle.std.specs.List.{list_any};
 ghost use Rattle.mad_layout.specs.Layout.{Fits};
 ghost use Rattle.sa_records.specs.NodeRecord.{node_record, node_record_bytes};
 ghost use Rattle.fabric_parts.specs.NodeType.{node_type_code};
+ghost use Rattle.pkey_rules.specs.PKey.{base_of};
 ghost use Rattle.subnet_model.specs.declared.subnet_port.SubnetPort.{SubnetPort};
 ghost use Rattle.sa_services.specs.KeyOrder.{by_base};
 ghost use Rattle.sa_queries.specs.Shown.{node_record_of};
+ghost use Rattle.sa_services.specs.ServiceChange.{Deed, has_id, has_room};
+ghost use Rattle.sa_answer.specs.Deeds.{CanChange, is_of_base, services_in, with_deed};
 ghost use Rattle.sa_answer.specs.Kept.{at_the_start};
 ghost use Rattle.sa_answer.specs.Replying.{node_bytes, node_data};
 
 use crate::keys::by_base;
-use crate::services::{ServicesOfBase, no_services};
+use crate::services::{Service, ServicesOfBase, no_services};
 use attr_tables::NodeDescription;
 use mad_layout::{SA_DATA_BYTES, known_bytes};
 use pkey_rules::{PARTITIONS, PKey};
@@ -39,11 +43,12 @@ impl Model for KeptPort {
 
     ghost view = { λ kept. record { port = kept.port; services = kept.services.items; open_table = kept.open_table } };
 
-    ghost invariant = { λ kept. IsPrepared kept.port kept.keys.items kept.shown kept.bytes };
+    ghost invariant = { λ kept. IsPrepared kept.port kept.keys.items kept.shown kept.bytes kept.services.items };
 }
 
 impl KeptPort {
     /// A port that has no service, and no table open to it.
+    #[tactic(auto, using(crate::proofs::StartLemmas::same_bases))]
     pub(crate) fn new(alloc: Global, port: SubnetPort) -> Result<KeptPort, AllocError>
         ensures { IfOk result (λ kept. kept ≡ at_the_start port) }
     {
@@ -83,6 +88,14 @@ impl KeptPort {
         self.keys.as_slice()
     }
 
+    /// Its services, by base.
+    pub(crate) fn services(&self) -> &[ServicesOfBase]
+        ensures value { result.now ≡ self.now.services }
+        ensures places { map (λ place. place.base) result.now ≡ map base_of (by_base self.now.port.keys) }
+    {
+        self.services.as_slice()
+    }
+
     /// Its NodeRecord.
     pub(crate) fn shown(&self) -> &NodeRecord
         ensures { result.now ≡ node_record_of self.now.port }
@@ -106,6 +119,34 @@ impl KeptPort {
         data
     }
 
+    /// Puts a service among those of a base, in the place of one of its ServiceID. False, and nothing changes, where there is
+    /// no room.
+    pub(crate) fn set_service(&mut self, base: u16, service: Service) -> Result<bool, AllocError>
+        requires { CanChange base self.old }
+        ensures room { IfOk result (λ stored. stored ≡ has_room service.service_id (services_in base self.old.services)) }
+        ensures next { OnOk result (self.new ≡ with_deed base (Deed.sets service) self.old) }
+        ensures full { IfOk result (λ stored. stored ≡ false → self.new ≡ self.old) }
+        ensures err { OnErr result (self.new ≡ self.old) }
+    {
+        let Some(place) = place_of_base(&self.services, base) else {
+            unreachable!()
+        };
+        self.services[place].set(service)
+    }
+
+    /// Takes the service of a ServiceID away from those of a base. False where there is none.
+    pub(crate) fn delete_service(&mut self, base: u16, id: u64) -> bool
+        requires { CanChange base self.old }
+        ensures found { result ≡ list_any (has_id id) (services_in base self.old.services) }
+        ensures next { self.new ≡ with_deed base (Deed.deletes id) self.old }
+        ensures none { result ≡ false → self.new ≡ self.old }
+    {
+        let Some(place) = place_of_base(&self.services, base) else {
+            unreachable!()
+        };
+        self.services[place].delete(id)
+    }
+
     /// Opens this table to it, or none, in place of the one that was open.
     pub(crate) fn replace_table(&mut self, table: Option<Sender>) -> Option<Sender>
         ensures was { result ≡ self.old.open_table }
@@ -113,6 +154,13 @@ impl KeptPort {
     {
         std::mem::replace(&mut self.open_table, table)
     }
+}
+
+/// The place of a base.
+fn place_of_base(places: &[ServicesOfBase], base: u16) -> Option<usize>
+    ensures { result ≡ position (is_of_base base) places.now }
+{
+    places.iter().position(|place| place.base() == base)
 }
 
 /// What the node of a port says of itself.

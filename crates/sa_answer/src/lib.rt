@@ -2,18 +2,21 @@
 //!
 //! A [`Registry`] knows the ports and the partitions of a subnet and remembers groups, services and open tables. Its value is
 //! that of the definitions (`specs/Registry.antt`), and each MAD that it answers is answered as `sa_replies` defines
-//! (`specs/Answering.antt`): Get and GetTable of NodeRecord and PathRecord, segments and what acknowledges them, and what is
-//! refused whatever it asks for; IBA volume 1, 13.4.5, 15.2.1.1, 15.2.2 and 15.2.5. How it is stored is in
-//! `specs/Slots.antt` and `specs/Kept.antt`.
+//! (`specs/Answering.antt`): Get and GetTable of NodeRecord, PathRecord, MCMemberRecord and ServiceRecord, Set and Delete of
+//! ServiceRecord, segments and what acknowledges them, and what is refused whatever it asks for; IBA volume 1, 13.4.5, 15.2.1.1,
+//! 15.2.2 and 15.2.5. Joins and leaves are left to the caller. How it is stored is in `specs/Slots.antt` and `specs/Kept.antt`.
 #![tactic(auto)]
 
 mod answering;
 mod gid;
 mod group;
+mod groups;
 mod kept_port;
 mod keys;
+mod members;
 mod node_port;
 mod nodes;
+mod offers;
 mod outcome;
 mod paths;
 mod premises;
@@ -21,6 +24,7 @@ mod questions;
 mod registry;
 mod reply;
 mod request;
+mod service_requests;
 mod services;
 mod slots;
 mod transfers;

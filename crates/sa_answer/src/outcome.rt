@@ -3,7 +3,7 @@
 ghost use Rattle.std.specs.Prelude.{◌≡◌, false, Some, IfOk};
 ghost use Rattle.sa_queries.specs.Selected.{Query};
 ghost use Rattle.sa_replies.specs.Answer.{get_outcome, outcome, query_of, table_outcome};
-ghost use Rattle.sa_answer.specs.Answering.{Brings, CanBeTold, IsListed, is_left};
+ghost use Rattle.sa_answer.specs.Answering.{Brings, IsListed, is_change, is_join_or_leave};
 
 use crate::kept_port::KeptPort;
 use crate::nodes::{got_node, push_nodes};
@@ -11,7 +11,10 @@ use crate::paths::{got_path, path_refusal, push_paths};
 use crate::registry::Registry;
 use crate::request::Request;
 use mad_layout::{MadStatus, Method, SA_DATA_BYTES};
-use sa_records::{NODE_RECORD_OFFSET, NodeRecord, PATH_RECORD_OFFSET, PathRecord, SaAttribute};
+use sa_records::{
+    McMemberRecord, NODE_RECORD_OFFSET, NodeRecord, PATH_RECORD_OFFSET, PathRecord, SaAttribute,
+    ServiceRecord,
+};
 use std::alloc::AllocError;
 
 /// What a request brings that is not refused.
@@ -27,12 +30,12 @@ pub(crate) enum Success {
 pub(crate) type Outcome = Result<Success, MadStatus>;
 
 impl Registry {
-    /// What comes of a request that is about neither groups nor services.
+    /// What comes of a request that changes neither a service nor a membership in a group.
     pub(crate) fn outcome(&self, own: &KeptPort, request: &Request) -> Result<Outcome, AllocError>
-        requires { is_left request.now ≡ false }
-        ensures told { IsListed self.now.configuration.ports own.now.port → IfOk result CanBeTold }
-        ensures brings { let state = self.now.administration.remembered in
-            IfOk result (Brings state (outcome self.now.configuration.ports own.now.port state request.now)) }
+        requires left { is_join_or_leave request.now ≡ false }
+        requires change { is_change request.now ≡ false }
+        ensures { let state = self.now.administration.remembered in IsListed self.now.configuration.ports own.now.port
+            → IfOk result (Brings state (outcome self.now.configuration.ports own.now.port state request.now)) }
     {
         let method = request.header.method;
         if method == Method::Get.code() {
@@ -47,9 +50,8 @@ impl Registry {
     }
 
     fn get_outcome(&self, own: &KeptPort, request: &Request) -> Outcome
-        requires { is_left request.now ≡ false }
-        ensures { let state = self.now.administration.remembered in
-            Brings state (get_outcome self.now.configuration.ports own.now.port state (query_of request.now)) result }
+        ensures { let state = self.now.administration.remembered in IsListed self.now.configuration.ports own.now.port
+            → Brings state (get_outcome self.now.configuration.ports own.now.port state (query_of request.now)) result }
     {
         let mask = request.component_mask;
         match SaAttribute::from_code(request.header.attribute_id) {
@@ -63,15 +65,23 @@ impl Registry {
                 mask,
                 &PathRecord::read(&request.content),
             ),
+            Some(SaAttribute::McMemberRecord) => self.group(
+                own,
+                mask,
+                &McMemberRecord::read(&request.content),
+            ),
+            Some(SaAttribute::ServiceRecord) => self.service(
+                own,
+                mask,
+                &ServiceRecord::read(&request.content),
+            ),
             _ => Err(MadStatus::AttributeNotSupported),
         }
     }
 
     fn table_outcome(&self, own: &KeptPort, request: &Request) -> Result<Outcome, AllocError>
-        requires { is_left request.now ≡ false }
-        ensures told { IsListed self.now.configuration.ports own.now.port → IfOk result CanBeTold }
-        ensures brings { let state = self.now.administration.remembered in
-            IfOk result (Brings state (table_outcome self.now.configuration.ports own.now.port state (query_of request.now))) }
+        ensures { let state = self.now.administration.remembered in IsListed self.now.configuration.ports own.now.port
+            → IfOk result (Brings state (table_outcome self.now.configuration.ports own.now.port state (query_of request.now))) }
     {
         let mask = request.component_mask;
         match SaAttribute::from_code(request.header.attribute_id) {
@@ -84,6 +94,16 @@ impl Registry {
                 own,
                 mask,
                 &PathRecord::read(&request.content),
+            ),
+            Some(SaAttribute::McMemberRecord) => self.groups(
+                own,
+                mask,
+                &McMemberRecord::read(&request.content),
+            ),
+            Some(SaAttribute::ServiceRecord) => self.services(
+                own,
+                mask,
+                &ServiceRecord::read(&request.content),
             ),
             _ => Ok(Err(MadStatus::AttributeNotSupported)),
         }
@@ -118,9 +138,7 @@ impl Registry {
 
     /// A GetTable by NodeRecord.
     fn nodes(&self, own: &KeptPort, mask: u64, asked: &NodeRecord) -> Result<Outcome, AllocError>
-        ensures told { IsListed self.now.configuration.ports own.now.port → IfOk result CanBeTold }
-        ensures brings { let state = self.now.administration.remembered in
-            IfOk result (Brings state
+        ensures { let state = self.now.administration.remembered in IfOk result (Brings state
             (table_outcome self.now.configuration.ports own.now.port state (Some (Query.for_nodes mask asked.now)))) }
     {
         let nodes = self.nodes_asked(mask, asked);
@@ -134,9 +152,7 @@ impl Registry {
 
     /// A GetTable by PathRecord.
     fn paths(&self, own: &KeptPort, mask: u64, asked: &PathRecord) -> Result<Outcome, AllocError>
-        ensures told { IsListed self.now.configuration.ports own.now.port → IfOk result CanBeTold }
-        ensures brings { let state = self.now.administration.remembered in
-            IfOk result (Brings state
+        ensures { let state = self.now.administration.remembered in IfOk result (Brings state
             (table_outcome self.now.configuration.ports own.now.port state (Some (Query.for_paths mask asked.now)))) }
     {
         if let Some(status) = path_refusal(own.port(), mask, asked) {

@@ -38,7 +38,7 @@ const MTU: u64 = 0b11 << 16;
 const RATE: u64 = 0b11 << 18;
 
 /// The selector that says that a value is this very one.
-const EXACTLY: u8 = 2;
+pub(crate) const EXACTLY: u8 = 2;
 
 /// How long packets of ours may be on their way.
 const PACKET_LIFE_TIME: u8 = 18;

@@ -1,6 +1,6 @@
 //! Whether ports and their keys are those of a subnet as every subnet is configured.
 
-ghost use Rattle.std.specs.Prelude.{◌≡◌, true, ◌==◌, not};
+ghost use Rattle.std.specs.Prelude.{◌≡◌, true, ◌==◌, not, length};
 ghost use Rattle.std.specs.List.{list_all, list_any};
 ghost use Rattle.subnet_model.specs.Configured.{IsConfigured, is_known_key};
 ghost use Rattle.sa_groups.specs.Sound.{pairwise};
@@ -12,11 +12,12 @@ use fabric_parts::{ADAPTER_PORTS, SWITCHES};
 use partition_file::{Heading, Members};
 use pkey_rules::{KeyTable, PARTITIONS, PKey};
 
-/// Whether these are the ports and the keys of a subnet of ours: no two ports have one GUID, their LIDs count from 1 in
-/// their order, they are no more than a fabric has, and each holds at most one key of each partition, and no other key.
-/// So [`crate::Registry::new`] asks for it.
+/// Whether these are the ports and the keys of a subnet of ours: keys for each port, no two ports have one GUID, their LIDs
+/// count from 1 in their order, they are no more than a fabric has, and each holds at most one key of each partition, and no
+/// other key. So [`crate::Registry::new`] asks for it.
 pub fn are_configured(ports: &[NodePort], members: &Members) -> bool
     ensures value { result ≡ are_sound ports.now members.now.headings members.now.keys }
+    ensures each { result ≡ true → length members.now.keys ≡ length ports.now }
     ensures configured { result ≡ true → IsConfigured (configured ports.now members.now) }
 {
     are_sound(ports, members.headings(), members.keys())
@@ -25,7 +26,8 @@ pub fn are_configured(ports: &[NodePort], members: &Members) -> bool
 fn are_sound(ports: &[NodePort], headings: &[Heading], keys: &[KeyTable<PARTITIONS>]) -> bool
     ensures { result ≡ are_sound ports.now headings.now keys.now }
 {
-    have_own_guids(ports)
+    keys.len() == ports.len()
+        && have_own_guids(ports)
         && have_lids_in_order(ports)
         && ports.len() <= SWITCHES + ADAPTER_PORTS
         && all_hold_known_keys(headings, keys)

@@ -1,32 +1,41 @@
 //! What subnet administration knows of a subnet, and what it remembers.
 
-ghost use Rattle.std.specs.Prelude.{ℕ, ◌≡◌, ◌==◌, ◌≤◌, false, filter, length, map, Option, IfOk, nat_eq};
-ghost use Rattle.std.specs.List.{flat_map};
+ghost use Rattle.std.specs.Prelude.{ℕ, ◌≡◌, ◌==◌, ◌≤◌, true, false, filter, length, map, Option, IfOk, OnOk, OnErr, nat_eq};
+ghost use Rattle.std.specs.List.{flat_map, list_any};
+ghost use Rattle.std.specs.Option.{ForSome};
 ghost use Rattle.indexmap.specs.IndexMap.{get};
+ghost use Rattle.partition_file.specs.Members.{AreSoundHeadings};
 ghost use Rattle.subnet_model.specs.Configured.{IsConfigured};
 ghost use Rattle.subnet_model.specs.declared.subnet_port.SubnetPort.{SubnetPort};
-ghost use Rattle.sa_queries.specs.Selected.{few_paths};
+ghost use Rattle.sa_queries.specs.Selected.{few_paths, services_selected};
+ghost use Rattle.sa_queries.specs.Visible.{visible_services};
 ghost use Rattle.sa_groups.specs.Groups.{start_from};
-ghost use Rattle.sa_replies.specs.State.{at_start};
+ghost use Rattle.sa_replies.specs.State.{at_start, is_fit_service};
 ghost use Rattle.sa_replies.specs.Transfers.{table_of, with_table};
 ghost use Rattle.subnet_model.specs.Delivery.{port_with_guid};
 ghost use Rattle.sa_answer.specs.NodePorts.{all_with_keys, configured};
-ghost use Rattle.sa_answer.specs.Kept.{at_the_start, ports_of};
-ghost use Rattle.sa_answer.specs.Asked.{is_told, of_guid, of_lid};
-ghost use Rattle.sa_answer.specs.Registry.{Finds, place_with_guid};
+ghost use Rattle.sa_answer.specs.Kept.{at_the_start, ports_of, services_of};
+ghost use Rattle.sa_answer.specs.Asked.{is_told, of_guid, of_lid, of_port};
+ghost use Rattle.pkey_rules.specs.KeyTable.{has_base};
+ghost use Rattle.sa_services.specs.ServiceChange.{has_id, has_room};
+ghost use Rattle.sa_replies.specs.ServiceRequests.{services_at};
+ghost use Rattle.sa_answer.specs.Offers.{services_offered};
+ghost use Rattle.sa_answer.specs.Registry.{Finds, deleted_by, place_with_guid, set_by, with_change};
 
 use crate::gid::guid_in;
 use crate::kept_port::KeptPort;
 use crate::node_port::NodePort;
 use crate::nodes::LID;
+use crate::offers::SERVICE_GID;
 use crate::paths::{DGID, DLID};
 use crate::questions::asks;
+use crate::services::Service;
 use crate::slots::PartitionSlots;
 use indexmap::IndexMap;
 use partition_file::{Heading, Members};
 use pkey_rules::{KeyTable, PARTITIONS};
 use rmpp_core::Sender;
-use sa_records::{NodeRecord, PathRecord};
+use sa_records::{NodeRecord, PathRecord, ServiceRecord};
 use std::alloc::{AllocError, Global};
 use std::marker::Model;
 
@@ -53,7 +62,7 @@ impl Model for Registry {
 
     ghost view = { λ r. registry_in r.kept.items r.headings.items r.partitions.items r.is_broken };
 
-    ghost invariant = { λ r. IsRegistry r.kept.items r.headings.items (get nat_eq r.places) };
+    ghost invariant = { λ r. IsRegistry r.kept.items r.headings.items r.partitions.items (get nat_eq r.places) };
 }
 
 impl Registry {
@@ -78,6 +87,13 @@ impl Registry {
             partitions: partitions_at_start(alloc, members.headings())?,
             is_broken: false,
         })
+    }
+
+    /// The partitions, each with its groups.
+    pub(crate) fn partitions(&self) -> &[PartitionSlots]
+        ensures { result.now ≡ self.now.administration.remembered.partitions }
+    {
+        self.partitions.as_slice()
     }
 
     /// The place of the port of a GUID, if there is one.
@@ -105,6 +121,40 @@ impl Registry {
         self.kept[place].replace_table(table)
     }
 
+    /// Puts a service among those that the port of a GUID, which has that place, offers in a partition of its own. False, and
+    /// nothing changes, where there is no room.
+    pub(crate) fn set_service(
+        &mut self,
+        guid: u64,
+        place: usize,
+        base: u16,
+        service: Service,
+    ) -> Result<bool, AllocError>
+        requires place { place_with_guid self.old.configuration.ports guid ≡ Some place }
+        requires member { ForSome (port_with_guid self.old.configuration.ports guid) (λ own. has_base base own.keys ≡ true) }
+        requires fit { is_fit_service service ≡ true }
+        ensures room { IfOk result (λ stored. stored ≡ has_room service.service_id
+            (services_at (set_by guid base service) self.old.administration.remembered.services)) }
+        ensures next { OnOk result (self.new ≡ with_change (set_by guid base service) self.old) }
+        ensures full { IfOk result (λ stored. stored ≡ false → self.new ≡ self.old) }
+        ensures err { OnErr result (self.new ≡ self.old) }
+    {
+        self.kept[place].set_service(base, service)
+    }
+
+    /// Takes the service of a ServiceID away from those that the port of a GUID, which has that place, offers in a partition of
+    /// its own. False where there is none.
+    pub(crate) fn delete_service(&mut self, guid: u64, place: usize, base: u16, id: u64) -> bool
+        requires place { place_with_guid self.old.configuration.ports guid ≡ Some place }
+        requires member { ForSome (port_with_guid self.old.configuration.ports guid) (λ own. has_base base own.keys ≡ true) }
+        ensures found { result ≡ list_any (has_id id)
+            (services_at (deleted_by guid base id) self.old.administration.remembered.services) }
+        ensures next { self.new ≡ with_change (deleted_by guid base id) self.old }
+        ensures none { result ≡ false → self.new ≡ self.old }
+    {
+        self.kept[place].delete_service(base, id)
+    }
+
     /// What is kept for the port of a GUID, which has that place.
     pub(crate) fn kept_at(&self, guid: u64, place: usize) -> &KeptPort
         requires { place_with_guid self.now.configuration.ports guid ≡ Some place }
@@ -126,7 +176,8 @@ impl Registry {
 
     /// The port of a GUID alone, or none.
     fn of_guid(&self, guid: u64) -> &[KeptPort]
-        ensures { ports_of result.now ≡ of_guid guid self.now.configuration.ports }
+        ensures ports { ports_of result.now ≡ of_guid guid self.now.configuration.ports }
+        ensures services { services_of result.now ≡ of_port guid self.now.administration.remembered.services }
     {
         match self.place_of(guid) {
             Some(place) => &self.kept[place..place + 1],
@@ -160,6 +211,21 @@ impl Registry {
             return self.of_lid(asked.dlid);
         }
         self.kept.as_slice()
+    }
+
+    /// The ports whose services a request can name: that of the GID that it asks, or all.
+    pub(crate) fn offerers_asked(&self, mask: u64, asked: &ServiceRecord) -> &[KeptPort]
+        ensures { (own : SubnetPort) → port_with_guid self.now.configuration.ports own.guid ≡ Some own
+            → flat_map (services_offered own mask asked.now) result.now ≡ services_selected mask asked.now
+            (visible_services self.now.configuration.ports own self.now.administration.remembered.services) }
+    {
+        let all = self.kept.as_slice();
+        if asks(mask, SERVICE_GID)
+            && let Some(guid) = guid_in(asked.service_gid)
+        {
+            return self.of_guid(guid);
+        }
+        all
     }
 }
 
@@ -196,7 +262,7 @@ fn partitions_at_start(
     alloc: Global,
     headings: &[Heading],
 ) -> Result<Vec<PartitionSlots>, AllocError>
-    requires { length headings.now ≤ PARTITIONS }
+    requires { AreSoundHeadings headings.now }
     ensures { IfOk result (λ partitions. partitions.items ≡ start_from 0 headings.now) }
 {
     let mut partitions = Vec::new(alloc);

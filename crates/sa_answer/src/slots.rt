@@ -1,16 +1,23 @@
 //! The multicast groups of a partition, in slots.
 
-ghost use Rattle.std.specs.Prelude.{◌≡◌, ◌∷◌, None, replicate, IfOk};
-ghost use Rattle.sa_groups.specs.Groups.{file_groups};
-ghost use Rattle.sa_answer.specs.Slots.{file_group};
+ghost use Rattle.std.specs.Prelude.{◌≡◌, ◌<◌, ◌+◌, ◌∷◌, true, None, length, replicate, IfOk};
+ghost use Rattle.partition_file.specs.Sound.{has_fit_group};
+ghost use Rattle.pkey_rules.specs.PKey.{is_base};
+ghost use Rattle.sa_groups.specs.Groups.{file_groups, first_mlid};
+ghost use Rattle.sa_groups.specs.Sound.{is_in_range};
+ghost use Rattle.sa_answer.specs.Slots.{file_group, partition_in};
 
 use crate::group::Group;
 use partition_file::Heading;
+use pkey_rules::PARTITIONS;
 use std::alloc::{AllocError, Global};
 use std::marker::Model;
 
 /// How many MLIDs a partition has of its own, and so how many slots.
 pub(crate) const SLOTS: usize = 32;
+
+/// The MLID of the first slot of the first partition.
+const FIRST_MLID: u16 = 0xc000;
 
 /// The groups of the partition of this number and base. The one of its MLID `j`, counted from 0, stands in slot `j`, with
 /// its memberships beneath it; and bit `j` of a set says whether that slot is free.
@@ -30,7 +37,7 @@ impl Model for PartitionSlots {
 
     ghost view = { λ partition. partition_in partition.number partition.base partition.slots.items };
 
-    ghost invariant = { λ partition. AreSlots partition.slots.items partition.free };
+    ghost invariant = { λ partition. AreSlots partition.number partition.base partition.slots.items partition.free };
 }
 
 impl PartitionSlots {
@@ -40,6 +47,9 @@ impl PartitionSlots {
         number: u16,
         heading: &Heading,
     ) -> Result<PartitionSlots, AllocError>
+        requires number { number < PARTITIONS }
+        requires base { is_base heading.now.base ≡ true }
+        requires group { has_fit_group heading.now.group ≡ true }
         ensures { IfOk result (λ partition. partition
             ≡ record { number = number; base = heading.now.base; groups = file_groups number heading.now.base heading.now.group }) }
     {
@@ -56,10 +66,50 @@ impl PartitionSlots {
             free,
         })
     }
+
+    /// The base of the partition.
+    pub(crate) fn base(&self) -> u16
+        ensures value { result ≡ self.now.base }
+        ensures within { result < 0x8000 }
+    {
+        self.base
+    }
+
+    /// The slots.
+    pub(crate) fn as_slice(&self) -> &[Option<Group>]
+        ensures value { self.now ≡ partition_in self.now.number self.now.base result.now }
+        ensures all { length result.now ≡ 32 }
+    {
+        self.slots.as_slice()
+    }
+
+    /// The MLID of the group in a slot.
+    pub(crate) fn mlid_of(&self, place: usize) -> u16
+        requires { place < 32 }
+        ensures { result ≡ first_mlid self.now.number + place }
+    {
+        self.first_mlid() + place as u16
+    }
+
+    /// Whether an MLID is one of those of the partition.
+    pub(crate) fn has_mlid(&self, mlid: u16) -> bool
+        ensures { result ≡ is_in_range self.now.number mlid }
+    {
+        let first = self.first_mlid();
+        first <= mlid && mlid < first + SLOTS as u16
+    }
+
+    fn first_mlid(&self) -> u16
+        ensures value { result ≡ first_mlid self.now.number }
+        ensures within { result < 0xc400 }
+    {
+        FIRST_MLID + SLOTS as u16 * self.number
+    }
 }
 
 /// The group that the partition file makes in a partition.
 fn file_group(alloc: Global, heading: &Heading) -> Option<Group>
+    requires { has_fit_group heading.now.group ≡ true }
     ensures { result ≡ file_group heading.now.base heading.now.group }
 {
     match (heading.mgid(), &heading.group) {

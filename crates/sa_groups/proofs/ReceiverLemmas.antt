@@ -1,9 +1,8 @@
 -- The receivers of groups, in their order, and where a join changes them.
 use Rattle.std.proofs.Common.{◌≡◌, ℕ, ◌+◌, ◌<◌, ◌≤◌, Bool, true, false, not, ◌==◌, ◌&&◌, ◌||◌, nat_lt, nat_le, List, [], ◌∷◌, ◌++◌, length, map, filter, Some, refl, sym, ◌∙◌, ap, subst, inl, inr, arith}
 use Rattle.std.specs.List.{flat_map, list_all, list_any, range_with_len}
-use Rattle.std.proofs.lemmas.Bool.{and_from, and_parts, both_ways, cases_Bool, eq-eqb, eqb-true, le-leb, leb-true, lt-ltb, not_from_false, or_parts}
+use Rattle.std.proofs.lemmas.Bool.{and_from, and_parts, both_ways, cases_Bool, eq-eqb, eqb-true, le-leb, leb-true, lt-ltb, not-true, not_from_false, or_cases, or_left, or_parts, or_right}
 use Rattle.std.proofs.lemmas.Bool.Decides.{nat_tests}
-use Rattle.std.proofs.lemmas.List.Folds.{list_any-append}
 use Rattle.result_words.proofs.ListLemmas.{all_joined, list_all_weaker, list_any_weaker, any_none, any_flat, any_map}
 use Rattle.fabric_parts.specs.NodeType.{is_switch_type}
 use Rattle.subnet_model.specs.Configured.{HaveLidsInOrder}
@@ -13,7 +12,7 @@ use Rattle.subnet_model.specs.declared.subnet_port.SubnetPort.{SubnetPort}
 use Rattle.sa_groups.specs.Delivery.{receives, receives_in}
 use Rattle.sa_groups.specs.Groups.{MulticastGroup, PartitionGroups}
 use Rattle.sa_groups.specs.Joining.{Join, joined, joined_in, may_join}
-use Rattle.sa_groups.specs.ReceiverLaws.{JoinsChangeOne, NothingChangesAlone, ReceiversAreReached, ReceiversStandInOrder, comes_first, is_number_of, is_of_adapter, same_answer, ChangesAreTold}
+use Rattle.sa_groups.specs.ReceiverLaws.{JoinsChangeOne, NothingChangesAlone, ReceiversAreReached, ReceiversStandInOrder, comes_first, is_number_of, is_of_adapter, same_answer, ChangesAreTold, OnlyChangesAreTold, has_number}
 use Rattle.sa_groups.specs.Receivers.{are_same_receivers, group_receivers, is_among, is_same_receiver, receives_group, receivers_in, receivers_of}
 use Rattle.sa_groups.specs.Sound.{is_in_range, is_sound_group, lower_mlid, pairwise}
 use Rattle.sa_groups.proofs.ListLemmas.{pairwise_append}
@@ -318,6 +317,70 @@ changes_are_told ports before after number one there differ = told before there
         | inr untold ↦ rw untold (told some (rw other at there_is))
       ]
     ]
+
+-- lists that are not the same: one has what the other has not
+is_itself : (one : GroupReceiver) → is_same_receiver one one ≡ true
+is_itself one = and_from _ _ (eq-eqb one.mlid one.mlid refl) (eq-eqb one.lid one.lid refl)
+
+pub record Missing (xs ys : List GroupReceiver) : Type 0 where
+  pub one : GroupReceiver
+  pub there : is_among xs one ≡ true
+  pub missing : is_among ys one ≡ false
+
+one_missing : (xs ys : List GroupReceiver) → list_all (is_among ys) xs ≡ false → Missing xs ys
+one_missing [] ys some = absurd (cc)
+one_missing (x ∷ xs) ys some = elim (cases_Bool (is_among ys x)) [
+  | inl in_ys ↦
+      let later = one_missing xs ys (rw in_ys at some) in
+      record { one = later.one; there = or_right (is_same_receiver later.one x) (is_among xs later.one) later.there; missing = later.missing }
+  | inr not_in ↦ record { one = x; there = or_left (is_same_receiver x x) (is_among xs x) (is_itself x); missing = not_in }
+]
+
+pub record Differing (xs ys : List GroupReceiver) : Type 0 where
+  pub one : GroupReceiver
+  pub differs : same_answer (is_among xs one) (is_among ys one) ≡ false
+
+one_differs : (xs ys : List GroupReceiver) → not (are_same_receivers xs ys) ≡ true → Differing xs ys
+one_differs xs ys other = elim (cases_Bool (list_all (is_among ys) xs)) [
+  | inl all ↦ elim (cases_Bool (list_all (is_among xs) ys)) [
+    | inl all_too ↦
+        absurd (both_ways (are_same_receivers xs ys) (not-true (are_same_receivers xs ys) other) (and_from _ _ all all_too))
+    | inr some ↦
+        let comes = one_missing ys xs some in
+        record { one = comes.one; differs = rw (comes.missing, comes.there) refl }
+  ]
+  | inr some ↦
+      let goes = one_missing xs ys some in
+      record { one = goes.one; differs = rw (goes.there, goes.missing) refl }
+]
+
+abbrev changes_at : List SubnetPort → List PartitionGroups → List PartitionGroups → ℕ → Bool
+changes_at ports before after number = not (are_same_receivers (receivers_of ports number before) (receivers_of ports number after))
+
+told_there : (changes : ℕ → Bool) (number : ℕ) (some : List PartitionGroups)
+    → list_any (λ n. n == number) (filter changes (map (λ partition. partition.number) some)) ≡ true
+    → (has_number number some ≡ true) × (changes number ≡ true)
+told_there changes number [] told = absurd (cc)
+told_there changes number (partition ∷ some) told = elim (cases_Bool (changes partition.number)) [
+  | inl changed ↦ elim (or_cases (partition.number == number) _ (rw changed at told)) [
+    | inl this ↦ (
+      or_left (partition.number == number) (has_number number some) this,
+      subst (λ (n : ℕ). changes n ≡ true) (eqb-true partition.number number this) changed,
+    )
+    | inr later ↦
+        let rest = told_there changes number some later in
+        (or_right (partition.number == number) (has_number number some) rest.0, rest.1)
+  ]
+  | inr same ↦
+      let rest = told_there changes number some (rw same at told) in
+      (or_right (partition.number == number) (has_number number some) rest.0, rest.1)
+]
+
+pub only_changes_are_told : OnlyChangesAreTold
+only_changes_are_told ports before after number told =
+    let found = told_there (changes_at ports before after) number before told in
+    let changed = one_differs (receivers_of ports number before) (receivers_of ports number after) found.1 in
+    record { there = found.0; one = changed.one; differs = changed.differs }
 
 -- a join changes nothing of a number that is none of its base
 untouched : (ports : List SubnetPort) (join : Join) (number : ℕ) (partitions : List PartitionGroups) → is_number_of join.base partitions number ≡ false

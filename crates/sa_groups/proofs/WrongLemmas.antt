@@ -1,5 +1,5 @@
 -- Two states that are alike to a port, and that a wrong rule tells apart.
-use Rattle.std.proofs.Common.{◌==◌, true, false, List, [], ◌∷◌, ◌≡◌, ap, refl}
+use Rattle.std.proofs.Common.{◌==◌, Bool, true, false, List, [], ◌∷◌, ◌≡◌, ap, refl}
 use Rattle.std.specs.List.{list_any}
 use Rattle.subnet_model.specs.declared.subnet_port.SubnetPort.{SubnetPort}
 use Rattle.sa_groups.specs.JoinState.{JoinState}
@@ -7,7 +7,9 @@ use Rattle.sa_groups.specs.Groups.{PartitionGroups}
 use Rattle.sa_groups.specs.Joining.{joined}
 use Rattle.sa_groups.specs.Sight.{Alike}
 use Rattle.sa_groups.specs.Examples.{adapter, full_member, parameters, ports, nobody, both, mgid, join_of, leave_of, mlids}
-use Rattle.sa_groups.specs.WrongRules.{OnePoolIsSeen, MgidsAloneAreSeen, LimitedKeepersAreSeen, SendersAreReached, ComersAreTold}
+use Rattle.sa_groups.specs.WrongRules.{OnePoolIsSeen, MgidsAloneAreSeen, LimitedKeepersAreSeen, SendersAreReached, ComersAreTold, AllNumbersAreTold}
+use Rattle.sa_groups.specs.ReceiverLaws.{same_answer}
+use Rattle.sa_groups.specs.Receivers.{is_among, receivers_of}
 
 -- two ports, each alone in its partition
 abbrev apart : List SubnetPort
@@ -66,3 +68,13 @@ pub comers_are_told : ComersAreTold
 comers_are_told law =
     let same : false ≡ true = law together made with_receiver 1 (record { mlid = 0xc020; lid = 3 }) refl refl in
     absurd (cc)
+
+-- nothing changes, and so no receiver is told apart
+no_difference : (b : Bool) → same_answer b b ≡ false → ⊥
+no_difference true e = let told : true ≡ false = e in absurd (cc)
+no_difference false e = let told : true ≡ false = e in absurd (cc)
+
+pub all_numbers_are_told : AllNumbersAreTold
+all_numbers_are_told law =
+    let told = law together made made 1 refl in
+    no_difference (is_among (receivers_of together 1 made) told.one) told.differs

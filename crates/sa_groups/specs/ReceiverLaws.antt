@@ -73,6 +73,20 @@ ChangesAreToldBy rule =
 abbrev pub ChangesAreTold : Type 0
 ChangesAreTold = ChangesAreToldBy changed_numbers
 
+-- and no other: of a number that is told there is a partition, of whose receivers one comes or goes
+pub record HasChanged (ports : List SubnetPort) (before after : List PartitionGroups) (number : ℕ) : Type 0 where
+  pub there : has_number number before ≡ true
+  pub one : GroupReceiver
+  pub differs : same_answer (is_among (receivers_of ports number before) one) (is_among (receivers_of ports number after) one) ≡ false
+
+abbrev pub OnlyChangesAreToldBy : NumberRule → Type 0
+OnlyChangesAreToldBy rule =
+    (ports : List SubnetPort) (before after : List PartitionGroups) (number : ℕ)
+    → list_any (λ told. told == number) (rule ports before after) ≡ true → HasChanged ports before after number
+
+abbrev pub OnlyChangesAreTold : Type 0
+OnlyChangesAreTold = OnlyChangesAreToldBy changed_numbers
+
 -- a join changes the receivers of the partition of its base alone
 abbrev pub is_number_of : ℕ → List PartitionGroups → ℕ → Bool
 is_number_of base partitions number = list_any (λ partition. (partition.number == number) && (partition.base == base)) partitions

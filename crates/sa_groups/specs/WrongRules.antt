@@ -11,7 +11,7 @@ use Rattle.sa_groups.specs.Joining.{Join, may_create, has_mgid, is_of, with_crea
 use Rattle.sa_groups.specs.Leaving.{Leave, left_group}
 use Rattle.sa_groups.specs.Sight.{Alike, seen}
 use Rattle.sa_groups.specs.Receivers.{is_among, receivers_of}
-use Rattle.sa_groups.specs.ReceiverLaws.{ReceiversAreReachedBy, ChangesAreToldBy}
+use Rattle.sa_groups.specs.ReceiverLaws.{ReceiversAreReachedBy, ChangesAreToldBy, OnlyChangesAreToldBy}
 
 -- ---- what a rule for joins, or for leaves, has to keep for a port p
 abbrev pub JoinRule : Type 0
@@ -88,6 +88,10 @@ numbers_of_goers ports before after =
     filter (λ number. not (list_all (is_among (receivers_of ports number after)) (receivers_of ports number before)))
     (map (λ partition. partition.number) before)
 
+-- ---- the number of every partition, whether its receivers change or not
+abbrev pub numbers_of_all : List SubnetPort → List PartitionGroups → List PartitionGroups → List ℕ
+numbers_of_all ports before after = map (λ partition. partition.number) before
+
 -- ---- none of them keeps it
 abbrev pub OnePoolIsSeen : Type 0
 OnePoolIsSeen = JoinsAreSeenAlikeBy joined_from_pool → ⊥
@@ -104,3 +108,6 @@ SendersAreReached = ReceiversAreReachedBy members_in → ⊥
 
 abbrev pub ComersAreTold : Type 0
 ComersAreTold = ChangesAreToldBy numbers_of_goers → ⊥
+
+abbrev pub AllNumbersAreTold : Type 0
+AllNumbersAreTold = OnlyChangesAreToldBy numbers_of_all → ⊥

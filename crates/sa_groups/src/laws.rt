@@ -3,7 +3,7 @@
 
 ghost use Rattle.sa_groups.specs.Laws.{FarJoinsAreNotSeen, FarLeavesAreNotSeen, GroupsDependOnNear, JoinsKeepSound, LeavesAreSeenAlike, LeavesKeepSound, MlidsTellPartitions, NearJoinsAreSeenAlike, PacketsReachAlike, PacketsReachThoseNear, PartitionsStay, StartsAreSound};
 ghost use Rattle.sa_groups.specs.FreeMlid.{TheLeastFreeIsGiven};
-ghost use Rattle.sa_groups.specs.ReceiverLaws.{ChangesAreTold, JoinsChangeOne, NothingChangesAlone, ReceiversAreReached, ReceiversStandInOrder};
+ghost use Rattle.sa_groups.specs.ReceiverLaws.{ChangesAreTold, JoinsChangeOne, NothingChangesAlone, OnlyChangesAreTold, ReceiversAreReached, ReceiversStandInOrder};
 
 /// At the start the groups of every partition are sound.
 pub fn starts_are_sound()
@@ -90,6 +90,11 @@ pub fn nothing_changes_alone()
 /// Where a receiver of a partition comes or goes, the partition's number is told.
 pub fn changes_are_told()
     ensures { ChangesAreTold }
+{}
+
+/// A number that is told is that of a partition of whose receivers one comes or goes.
+pub fn only_changes_are_told()
+    ensures { OnlyChangesAreTold }
 {}
 
 /// A join changes the receivers of the partition of its base alone.

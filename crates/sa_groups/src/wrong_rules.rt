@@ -1,7 +1,7 @@
 //! Wrong rules for groups, and the law that each breaks, so that a reader sees that the laws say something. Each
 //! function does nothing: its contract is the law.
 
-ghost use Rattle.sa_groups.specs.WrongRules.{ComersAreTold, LimitedKeepersAreSeen, MgidsAloneAreSeen, OnePoolIsSeen, SendersAreReached};
+ghost use Rattle.sa_groups.specs.WrongRules.{AllNumbersAreTold, ComersAreTold, LimitedKeepersAreSeen, MgidsAloneAreSeen, OnePoolIsSeen, SendersAreReached};
 
 /// With one pool of MLIDs for all partitions, the MLID of a group tells of groups of other partitions.
 pub fn one_pool_is_seen()
@@ -27,4 +27,9 @@ pub fn senders_are_reached()
 /// With a partition told only where a receiver goes, one to which a receiver comes is left out.
 pub fn comers_are_told()
     ensures { ComersAreTold }
+{}
+
+/// With the number of every partition told, one whose receivers stay is told too.
+pub fn all_numbers_are_told()
+    ensures { AllNumbersAreTold }
 {}

@@ -21,6 +21,7 @@ use Rattle.sa_groups.specs.Sound.{is_sound}
 use Rattle.sa_groups.specs.Sight.{seen}
 use Rattle.sa_groups.proofs.ChangeLemmas.{every_run_is_seen_alike}
 use Rattle.sa_services.specs.Services.{no_services}
+use Rattle.sa_services.specs.ServiceChange.{services_after, service_changes_near}
 use Rattle.sa_services.specs.ServiceSight.{services_seen}
 use Rattle.sa_services.proofs.ServiceLemmas.{services_depend, shown_of_near}
 use Rattle.sa_queries.specs.Visible.{SaState, paths_to, visible_nodes, visible_groups, services_of, visible_services}
@@ -29,7 +30,7 @@ use Rattle.sa_queries.specs.Shown.{node_entry, path_entry, group_entry, service_
 use Rattle.sa_queries.specs.Selected.{Query, at_most, paths_selected, few_paths, groups_selected, services_selected, paths_wanted, selected}
 use Rattle.sa_queries.specs.Refusals.{refusal}
 use Rattle.sa_queries.specs.Outcome.{unless_status, the_only_one}
-use Rattle.sa_queries.specs.Laws.{SelectedAlike, QueriesEndAlike, QueriesDependOnNear, state_after, state_near}
+use Rattle.sa_queries.specs.Laws.{ServicesAreShownAlike, SelectedAlike, QueriesEndAlike, QueriesDependOnNear, state_after, state_near}
 use Rattle.sa_queries.specs.Laws.{is_source_near, come_from_near, AnswersComeFromNear}
 use Rattle.sa_queries.proofs.NearLemmas.{each_leads_near, all_flat, visible_from_near}
 use Rattle.sa_queries.proofs.VisibleLemmas.{trimmed, visible_of_seen, filter_alike}
@@ -43,6 +44,9 @@ groups_of_seen ports own mask asked found partitions =
     ∙ filter_alike group_entry (λ one. mc_member_record_selected mask (group_record_of one) asked) (trimmed ports own.guid) (λ one. refl) (λ one. refl)
     (visible_groups own partitions)
 
+pub services_shown_alike : ServicesAreShownAlike
+services_shown_alike ports own s t found same = ap (λ places. map service_entry (flat_map services_of places)) same
+
 pub selected_alike : SelectedAlike
 selected_alike most ports own s t (Query.for_nodes mask asked) found same = refl
 selected_alike most ports own s t (Query.for_paths mask asked) found same = refl
@@ -51,8 +55,7 @@ selected_alike most ports own s t (Query.for_groups mask asked) found same =
     ∙ (ap (λ partitions. map group_entry (groups_selected mask asked (visible_groups own partitions))) same.groups
     ∙ groups_of_seen ports own mask asked found t.partitions)
 selected_alike most ports own s t (Query.for_services mask asked) found same =
-    ap (λ places. map service_entry (services_selected mask asked (flat_map services_of places)))
-    (sym (shown_of_near ports own.guid s.services) ∙ (ap (services_seen ports own.guid) same.services ∙ shown_of_near ports own.guid t.services))
+    ap (λ places. map service_entry (services_selected mask asked (flat_map services_of places))) same.services
 
 pub queries_end_alike : QueriesEndAlike
 queries_end_alike ports own s t query found same = record {
@@ -65,7 +68,10 @@ queries_depend configuration own changes service_changes query found =
     queries_end_alike configuration.ports own (state_after configuration changes service_changes) (state_near configuration own.guid changes service_changes) query found
     (record {
       groups = (every_run_is_seen_alike configuration own.guid changes).same;
-      services = services_depend configuration.ports own.guid (no_services configuration.ports) service_changes;
+      services = sym (shown_of_near configuration.ports own.guid (services_after (no_services configuration.ports) service_changes))
+          ∙ (ap (services_seen configuration.ports own.guid) (services_depend configuration.ports own.guid (no_services configuration.ports) service_changes)
+          ∙ shown_of_near configuration.ports own.guid
+          (services_after (no_services configuration.ports) (service_changes_near configuration.ports own.guid service_changes)));
     })
 
 -- ---- where what is selected comes from

@@ -49,7 +49,7 @@ none_behind guid test port (other ∷ ports) this apart =
     let different : (other.guid == guid) ≡ false = turned other.guid guid ∙ (ap (λ (n : ℕ). n == other.guid) (sym same) ∙ apart.0) in
     rw different (none_behind guid test port ports this apart.1)
 
-of_one_port : (guid : ℕ) (test : SubnetPort → Bool) (ports : List SubnetPort) (port : SubnetPort) → IsDistinct same_guid ports
+pub of_one_port : (guid : ℕ) (test : SubnetPort → Bool) (ports : List SubnetPort) (port : SubnetPort) → IsDistinct same_guid ports
     → port_with_guid ports guid ≡ Some port → list_any (λ other. (other.guid == guid) && test other) ports ≡ test port
 of_one_port guid test [] port once found = absurd (cc)
 of_one_port guid test (first ∷ ports) port once found = elim (cases_Bool (first.guid == guid)) [

@@ -1,5 +1,5 @@
 -- What is selected says what it comes from.
-use Rattle.std.proofs.Common.{ℕ, Bool, true, ◌==◌, ◌&&◌, List, [], ◌∷◌, ◌++◌, filter, map}
+use Rattle.std.proofs.Common.{ℕ, Bool, true, ◌==◌, ◌&&◌, List, [], ◌∷◌, filter, map}
 use Rattle.std.proofs.Common.{◌≡◌, refl, inl, inr}
 use Rattle.std.specs.List.{AllByRecursion, flat_map, list_any}
 use Rattle.std.proofs.lemmas.Bool.{and_from, cases_Bool, eq-eqb, or_left, or_right}

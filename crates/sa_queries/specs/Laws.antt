@@ -9,10 +9,11 @@ use Rattle.sa_groups.specs.Groups.{Creator, PartitionGroups, start_of}
 use Rattle.sa_groups.specs.Changes.{Change, after_changes, changes_near}
 use Rattle.sa_groups.specs.Sound.{is_sound}
 use Rattle.sa_groups.specs.Sight.{seen}
-use Rattle.sa_services.specs.Services.{no_services}
+use Rattle.sa_services.specs.Services.{PortServices, no_services}
 use Rattle.sa_services.specs.ServiceChange.{ServiceChange, services_after, service_changes_near}
-use Rattle.sa_services.specs.ServiceSight.{services_near}
-use Rattle.sa_queries.specs.Visible.{SaState, GroupOfBase, visible_nodes, visible_paths, visible_groups, visible_services}
+use Rattle.sa_services.specs.ServiceLaws.{ServiceSight}
+use Rattle.sa_services.specs.ServiceSight.{services_seen}
+use Rattle.sa_queries.specs.Visible.{SaState, GroupOfBase, ServiceOfPort, visible_nodes, visible_paths, visible_groups, visible_services}
 use Rattle.sa_queries.specs.Shown.{Entry, node_entry, path_entry, group_entry, service_entry}
 use Rattle.sa_queries.specs.Selected.{Query, selected}
 use Rattle.sa_queries.specs.Outcome.{got, table}
@@ -29,16 +30,29 @@ ShowsAlike sight =
 abbrev pub GroupsAreShownAlike : Type 0
 GroupsAreShownAlike = ShowsAlike visible_groups
 
+-- ---- and of services: where those that it may be shown are the same
+abbrev pub ServiceRule : Type 0
+ServiceRule = List SubnetPort → SubnetPort → List PortServices → List ServiceOfPort
+
+abbrev pub ShowsServicesAlike : ServiceRule → Type 0
+ShowsServicesAlike rule =
+    (ports : List SubnetPort) (own : SubnetPort) (s t : List PortServices) → port_with_guid ports own.guid ≡ Some own
+    → services_seen ports own.guid s ≡ services_seen ports own.guid t
+    → map service_entry (rule ports own s) ≡ map service_entry (rule ports own t)
+
+abbrev pub ServicesAreShownAlike : Type 0
+ServicesAreShownAlike = ShowsServicesAlike visible_services
+
 -- ---- so it is with what a request selects, and with what comes of it
--- the port of this GUID sees the same in both states
-pub record SeesSame (ports : List SubnetPort) (p : ℕ) (s t : SaState) : Type 0 where
+-- the port of this GUID sees the same in both states, of services as this rule says
+pub record SeesSame (sight : ServiceSight) (ports : List SubnetPort) (p : ℕ) (s t : SaState) : Type 0 where
   pub groups : seen ports p s.partitions ≡ seen ports p t.partitions
-  pub services : services_near ports p s.services ≡ services_near ports p t.services
+  pub services : sight ports p s.services ≡ sight ports p t.services
 
 abbrev pub SelectedAlike : Type 0
 SelectedAlike =
     (most : Option ℕ) (ports : List SubnetPort) (own : SubnetPort) (s t : SaState) (query : Query)
-    → port_with_guid ports own.guid ≡ Some own → SeesSame ports own.guid s t
+    → port_with_guid ports own.guid ≡ Some own → SeesSame services_seen ports own.guid s t
     → selected most ports own s query ≡ selected most ports own t query
 
 pub record SameOutcomes (ports : List SubnetPort) (own : SubnetPort) (s t : SaState) (query : Query) : Type 0 where
@@ -48,7 +62,7 @@ pub record SameOutcomes (ports : List SubnetPort) (own : SubnetPort) (s t : SaSt
 abbrev pub QueriesEndAlike : Type 0
 QueriesEndAlike =
     (ports : List SubnetPort) (own : SubnetPort) (s t : SaState) (query : Query) → port_with_guid ports own.guid ≡ Some own
-    → SeesSame ports own.guid s t → SameOutcomes ports own s t query
+    → SeesSame services_seen ports own.guid s t → SameOutcomes ports own s t query
 
 -- the state after joins and leaves, and after Sets and Deletes of services
 abbrev pub state_after : ConfigurationState → List Change → List ServiceChange → SaState

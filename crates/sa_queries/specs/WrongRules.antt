@@ -1,4 +1,4 @@
--- Rules for what a port is shown that tell it too much, and what each of them breaks.
+-- Wrong rules for what a port is shown, most of which tell it too much, and what each of them breaks.
 use Rattle.std.specs.Prelude.{◌≡◌, ◌==◌, true, not, List, ◌++◌, Some, None, filter, map}
 use Rattle.std.specs.List.{list_all, flat_map}
 use Rattle.pkey_rules.specs.PKey.{base_of}
@@ -12,13 +12,14 @@ use Rattle.sa_groups.specs.Groups.{Creator, PartitionGroups}
 use Rattle.sa_groups.specs.Sound.{pairwise}
 use Rattle.sa_services.specs.KeyOrder.{by_base}
 use Rattle.sa_services.specs.ServiceChange.{port_and_base}
+use Rattle.sa_services.specs.ServiceSight.{services_near}
 use Rattle.sa_services.specs.ServiceSound.{are_sound_services}
 use Rattle.sa_services.specs.Services.{PortServices, no_services}
 use Rattle.sa_queries.specs.Order.{is_offered_before}
-use Rattle.sa_queries.specs.Visible.{GroupOfBase, ServiceOfPort, keys_to, paths_under, groups_of, visible_services}
+use Rattle.sa_queries.specs.Visible.{GroupOfBase, keys_to, paths_under, groups_of, services_of, visible_services}
 use Rattle.sa_queries.specs.Shown.{Entry}
 use Rattle.sa_queries.specs.Selected.{selected}
-use Rattle.sa_queries.specs.Laws.{ShowsAlike}
+use Rattle.sa_queries.specs.Laws.{ServiceRule, ShowsAlike, ShowsServicesAlike}
 use Rattle.sa_queries.specs.Shares.{PathRule, SharesBases}
 use Rattle.sa_queries.specs.NamedSources.{SelectRule, SaysTheSource}
 
@@ -51,6 +52,13 @@ groups_of_all own partitions = flat_map groups_of partitions
 abbrev pub GroupsOfAllTell : Type 0
 GroupsOfAllTell = ShowsAlike groups_of_all → ⊥
 
+-- ---- services of the ports near it, also of a partition in which both are limited members
+abbrev pub services_of_ports_near : ServiceRule
+services_of_ports_near ports own services = flat_map services_of (services_near ports own.guid services)
+
+abbrev pub ServicesOfPortsNearTell : Type 0
+ServicesOfPortsNearTell = ShowsServicesAlike services_of_ports_near → ⊥
+
 -- ---- to say of each record that it comes from the partition file: then nothing comes from far
 abbrev pub selected_of_file : SelectRule
 selected_of_file ports own state query =
@@ -60,9 +68,6 @@ abbrev pub AllOfFileIsWrong : Type 0
 AllOfFileIsWrong = SaysTheSource selected_of_file → ⊥
 
 -- ---- in which order services are shown: by LID, base and ServiceID
-abbrev pub ServiceRule : Type 0
-ServiceRule = List SubnetPort → SubnetPort → List PortServices → List ServiceOfPort
-
 abbrev pub ShowsInOrder : ServiceRule → Type 0
 ShowsInOrder rule =
     (configuration : ConfigurationState) (own : SubnetPort) (services : List PortServices) → IsConfigured configuration

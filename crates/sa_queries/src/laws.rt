@@ -1,7 +1,7 @@
 //! The laws of requests for records, over the definitions alone. Each function does nothing: its contract
 //! is the law.
 
-ghost use Rattle.sa_queries.specs.Laws.{AnswersComeFromNear, GroupsAreShownAlike, QueriesDependOnNear, QueriesEndAlike, SelectedAlike, VisibleComesFromNear};
+ghost use Rattle.sa_queries.specs.Laws.{AnswersComeFromNear, GroupsAreShownAlike, QueriesDependOnNear, QueriesEndAlike, SelectedAlike, ServicesAreShownAlike, VisibleComesFromNear};
 ghost use Rattle.sa_queries.specs.NamedSources.{SelectedSayTheirSource};
 ghost use Rattle.sa_queries.specs.Order.{VisibleStandsInOrder};
 ghost use Rattle.sa_queries.specs.Shares.{SharingIsOneThing};
@@ -10,6 +10,11 @@ ghost use Rattle.sa_queries.specs.WrongRules.{PathsLeadToNear, ServicesStandInOr
 /// Where a port sees the same of the groups of two states, it is shown the same of them.
 pub fn groups_are_shown_alike()
     ensures { GroupsAreShownAlike }
+{}
+
+/// Where the services that a port may be shown are the same in two states, it is shown the same of them.
+pub fn services_are_shown_alike()
+    ensures { ServicesAreShownAlike }
 {}
 
 /// Where a port sees the same in two states, a request of it selects the same.

@@ -16,7 +16,9 @@ pub use crate::examples::{
 };
 pub use crate::laws::{
     answers_come_from_near, groups_are_shown_alike, paths_lead_to_near, queries_depend_on_near,
-    queries_end_alike, selected_alike, selected_say_their_source, visible_comes_from_near,
-    visible_stands_in_order,
+    queries_end_alike, selected_alike, selected_say_their_source, services_are_shown_alike,
+    visible_comes_from_near, visible_stands_in_order,
 };
-pub use crate::wrong_rules::{all_of_file_is_wrong, groups_of_all_tell, paths_by_base_tell};
+pub use crate::wrong_rules::{
+    all_of_file_is_wrong, groups_of_all_tell, paths_by_base_tell, services_of_ports_near_tell,
+};

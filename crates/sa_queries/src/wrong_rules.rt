@@ -1,7 +1,7 @@
-//! Rules for what is shown that break isolation, or order, so that a reader sees that the laws say something. Each
+//! Wrong rules for what is shown, and the law that each breaks, so that a reader sees that the laws say something. Each
 //! function does nothing: its contract is the law.
 
-ghost use Rattle.sa_queries.specs.WrongRules.{AllOfFileIsWrong, CommonBasesAreNotShared, GroupsOfAllTell, OwnFirstIsOutOfOrder, PathsByBaseTell};
+ghost use Rattle.sa_queries.specs.WrongRules.{AllOfFileIsWrong, CommonBasesAreNotShared, GroupsOfAllTell, OwnFirstIsOutOfOrder, PathsByBaseTell, ServicesOfPortsNearTell};
 
 /// With a path in each common partition, one limited member is told of another.
 pub fn paths_by_base_tell()
@@ -16,6 +16,11 @@ pub fn common_bases_are_not_shared()
 /// Where groups of all partitions are shown, a port is told of what it has no part in.
 pub fn groups_of_all_tell()
     ensures { GroupsOfAllTell }
+{}
+
+/// Where a port is shown all services of the ports near it, one limited member is told of another's services.
+pub fn services_of_ports_near_tell()
+    ensures { ServicesOfPortsNearTell }
 {}
 
 /// To say of each record that it comes from the partition file is refused: a node comes from its port.

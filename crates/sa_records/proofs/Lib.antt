@@ -1,3 +1,4 @@
 mod SpeedLemmas
 mod ReadLemmas
 mod AskedLemmas
+mod NumberLemmas

@@ -1,5 +1,5 @@
 -- What is so of all records.
-use Rattle.std.specs.Prelude.{ℕ, ◌≡◌, ◌==◌, Bool, true, ◌&&◌, nat_lt, List, [], ◌∷◌, ◌++◌, length, bit_and}
+use Rattle.std.specs.Prelude.{ℕ, ◌≡◌, ◌==◌, Bool, true, not, ◌&&◌, nat_lt, List, [], ◌∷◌, ◌++◌, length, map, bit_and}
 use Rattle.std.specs.Int.Digits.{AllBelowBase}
 use Rattle.std.specs.List.{list_all, list_any}
 use Rattle.attr_tables.specs.declared.rate.Rate.{Rate}
@@ -14,6 +14,7 @@ use Rattle.sa_records.specs.Speed.{rates, speed}
 use Rattle.sa_records.specs.NodeRecord.{node_in, node_record, node_record_asked, node_record_bytes}
 use Rattle.sa_records.specs.PathRecord.{path_in, path_record, path_record_asked, path_record_bytes}
 use Rattle.sa_records.specs.McMemberRecord.{group_in, mc_member_record, mc_member_record_asked, mc_member_record_bytes}
+use Rattle.sa_records.specs.ServiceMask as service_mask
 use Rattle.sa_records.specs.ServiceRecord.{service_in, service_record, service_record_asked, service_data_asked, service_record_bytes}
 
 -- ---- a record that is written is read again, whatever follows its bytes
@@ -51,16 +52,20 @@ pub record RatesAreInOrder : Type 0 where
   pub rise : are_faster 0 rates ≡ true
   pub all : (rate : Rate) → list_any (λ one. rate_code one == rate_code rate) rates ≡ true
 
--- ---- no two fields have a bit of the ComponentMask in common
-abbrev pub has_own_bits : List Asked → Asked → Bool
-has_own_bits others one = list_all (λ other. bit_and one.bits other.bits == 0) others
+-- ---- each field that a record is asked by has bits of the ComponentMask, and no two have one in common
+abbrev pub bits_apart : List ℕ → ℕ → Bool
+bits_apart others bits = list_all (λ other. bit_and bits other == 0) others
 
-abbrev pub have_own_bits : List Asked → Bool
+abbrev pub have_own_bits : List ℕ → Bool
 have_own_bits [] = true
-have_own_bits (one ∷ rest) = has_own_bits rest one && have_own_bits rest
+have_own_bits (bits ∷ rest) = not (bits == 0) && (bits_apart rest bits && have_own_bits rest)
 
+abbrev pub mask_bits : List Asked → List ℕ
+mask_bits fields = map (λ one. one.bits) fields
+
+-- a service is asked by its ServiceName too, which is no number
 pub record FieldsHaveOwnBits : Type 0 where
-  pub nodes : have_own_bits node_record_asked ≡ true
-  pub paths : have_own_bits path_record_asked ≡ true
-  pub groups : have_own_bits mc_member_record_asked ≡ true
-  pub services : have_own_bits (service_record_asked ++ service_data_asked) ≡ true
+  pub nodes : have_own_bits (mask_bits node_record_asked) ≡ true
+  pub paths : have_own_bits (mask_bits path_record_asked) ≡ true
+  pub groups : have_own_bits (mask_bits mc_member_record_asked) ≡ true
+  pub services : have_own_bits (service_mask.service_name ∷ mask_bits (service_record_asked ++ service_data_asked)) ≡ true

@@ -1,6 +1,6 @@
 -- ServiceRecord (IBA volume 1, 15.2.5.14): the places of its fields.
-use Rattle.std.specs.Prelude.{ℕ, Bool, ◌==◌, ◌&&◌, List, [], ◌∷◌, replicate, codes, slice_range}
-use Rattle.mad_layout.specs.Bits.{field, number}
+use Rattle.std.specs.Prelude.{ℕ, Bool, ◌==◌, ◌&&◌, bit_and, if◌then◌else◌, List, [], ◌∷◌, filter, map, replicate, codes, slice_range}
+use Rattle.mad_layout.specs.Bits.{field, number, put_field}
 use Rattle.mad_layout.specs.Layout.{Field, at, put_all}
 use Rattle.sa_records.specs.declared.service_record.ServiceRecord.{ServiceRecord}
 use Rattle.std.specs.Str.{bytes_eq}
@@ -185,3 +185,16 @@ service_data_asked =
     ∷ by (codes "data64_1") 34359738368 384 64
     ∷ by (codes "data64_2") 68719476736 448 64
     ∷ []
+
+-- ---- the numbers in ServiceData that the mask names, as they are given; all others are 0
+abbrev pub is_named : ℕ → Asked → Bool
+is_named mask one = bit_and mask one.bits == one.bits
+
+abbrev pub numbers_asked : ℕ → List ℕ → List ℕ
+numbers_asked mask numbers =
+    put_all (replicate 64 0) (map (λ one. at one.off one.len (field numbers one.off one.len)) (filter (is_named mask) service_data_asked))
+
+-- one of them
+unfoldable pub with_number_named : ℕ → (numbers : List ℕ) → (bits off len : ℕ) → List ℕ → List ℕ
+with_number_named mask numbers bits off len bytes =
+    if bit_and mask bits == bits then put_field bytes off len (field numbers off len) else bytes

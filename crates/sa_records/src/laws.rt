@@ -27,7 +27,8 @@ pub fn service_records_read_back()
     ensures { ServiceRecordsReadBack }
 {}
 
-/// No two fields that a record is asked by have a bit of the ComponentMask in common.
+/// Each field that a record is asked by has bits of the ComponentMask, ServiceName too, and no two fields have one in
+/// common.
 pub fn fields_have_own_bits()
     ensures { FieldsHaveOwnBits }
 {}

@@ -1,14 +1,15 @@
 //! ServiceRecord.
 
-ghost use Rattle.std.specs.Prelude.{◌≡◌, replicate};
-ghost use Rattle.mad_layout.specs.Layout.{Holds, Fits, put_all, Spells};
+ghost use Rattle.std.specs.Prelude.{◌≡◌, ◌≤◌, ◌+◌, filter, map, replicate};
+ghost use Rattle.mad_layout.specs.Bits.{field};
+ghost use Rattle.mad_layout.specs.Layout.{Holds, Fits, at, put_all, Spells};
 ghost use Rattle.std.specs.Option.{option_or};
 ghost use Rattle.sa_records.specs.Asked.{asked_by, bits_of, with_number, with_value};
-ghost use Rattle.sa_records.specs.ServiceRecord.{service_in, service_record, service_fields, service_record_asked, service_data_asked, service_record_bytes, service_record_selected, names_selected, data8_front_selected, data8_back_selected, data16_selected, data32_selected, data64_selected};
+ghost use Rattle.sa_records.specs.ServiceRecord.{is_named, numbers_asked, with_number_named, service_in, service_record, service_fields, service_record_asked, service_data_asked, service_record_bytes, service_record_selected, names_selected, data8_front_selected, data8_back_selected, data16_selected, data32_selected, data64_selected};
 
 use crate::asked::{component_agrees, is_word, selected, set_asked, set_field, set_number};
 use crate::component::{agrees, same_base, same_part};
-use mad_layout::{SA_DATA_BYTES, put_bits, read_fields, write_fields};
+use mad_layout::{SA_DATA_BYTES, get_bits, put_bits, read_fields, write_fields};
 
 /// How many bytes a ServiceRecord fills in a table.
 pub const SERVICE_RECORD_BYTES: usize = 176;
@@ -107,6 +108,15 @@ macro_rules! service_data_components {
     };
 }
 
+/// Copies each number that a mask names: `TABLE!(copy_named!(bytes mask numbers))`.
+macro_rules! copy_named {
+    ($bytes:ident $mask:ident $numbers:ident; $($word:literal, $bits:expr, $off:literal, $len:literal;)+) => {
+        {
+            $(copy_number::<$off, $len>($bytes, $mask, $bits, $numbers);)+
+        }
+    };
+}
+
 impl ServiceRecord {
     /// Reads the record that the data of a MAD of subnet administration begin with; bits outside its fields are not
     /// looked at.
@@ -180,6 +190,15 @@ impl ServiceRecord {
         NAME_BIT
     }
 
+    /// The numbers in ServiceData that the mask names; all others are 0.
+    pub fn numbers_asked(&self, mask: u64) -> [u8; 64]
+        ensures { result ≡ numbers_asked mask self.now.service_data }
+    {
+        let mut bytes = [0; 64];
+        copy_numbers(&mut bytes, mask, &self.service_data);
+        bytes
+    }
+
     /// Asks by the field of this name, as `ask_by` does, where it is no data.
     #[tactic(auto, unfolding(crate::specs::Asked::asked_by))]
     fn ask_by_field(&mut self, field: &[u8], value: u128) -> Option<u64>
@@ -208,6 +227,32 @@ fn ask_by_number(numbers: &mut [u8; 64], field: &[u8], value: u128) -> Option<u6
     ensures set { numbers.new ≡ with_number value (asked_by field.now value service_data_asked) numbers.old }
 {
     service_data_components!(set_number!(numbers field value))
+}
+
+/// Copies each number that the mask names.
+fn copy_numbers(bytes: &mut [u8; 64], mask: u64, numbers: &[u8; 64])
+    ensures { bytes.new ≡ put_all bytes.old (map (λ one. at one.off one.len (field numbers.now one.off one.len))
+        (filter (is_named mask) service_data_asked)) }
+{
+    service_data_components!(copy_named!(bytes mask numbers))
+}
+
+/// Copies one number, if the mask names it.
+#[tactic(auto, unfolding(crate::specs::ServiceRecord::with_number_named))]
+fn copy_number<const OFF: usize, const LEN: usize>(
+    bytes: &mut [u8; 64],
+    mask: u64,
+    bits: u64,
+    numbers: &[u8; 64],
+)
+    requires some { 1 ≤ LEN }
+    requires narrow { LEN ≤ 64 }
+    requires within { OFF + LEN ≤ 512 }
+    ensures { bytes.new ≡ with_number_named mask numbers.now bits OFF LEN bytes.old }
+{
+    if mask & bits == bits {
+        put_bits::<OFF, LEN>(bytes, get_bits::<OFF, LEN>(numbers));
+    }
 }
 
 /// Whether the first 8 numbers of 8 bits agree that the mask names.

@@ -31,9 +31,10 @@ use Rattle.result_words.proofs.FilterLemmas.{any_within, any_map_same}
 use Rattle.sa_groups.proofs.SightLemmas.{near_leave}
 use Rattle.sa_groups.proofs.JoinSightLemmas.{free_seen, near_join}
 use Rattle.sa_services.specs.Services.{PortServices}
-use Rattle.sa_services.specs.ServiceChange.{Deed, is_place}
-use Rattle.sa_services.specs.ServiceSight.{services_near}
-use Rattle.sa_services.proofs.ServiceLemmas.{services_alike}
+use Rattle.sa_services.specs.ServiceChange.{Deed, ServiceChange, is_place}
+use Rattle.sa_services.specs.ServiceLaws.{ServiceSight}
+use Rattle.sa_services.specs.ServiceSight.{services_seen}
+use Rattle.sa_services.proofs.ServiceLemmas.{KeepsShown, PlaceRule, kept_by, near_keeps_shown, near_place, of_place, shown_keeps_shown, shown_place, stays_alike}
 use Rattle.sa_services.proofs.DeedLemmas.{filter_within}
 use Rattle.sa_queries.specs.Visible.{SaState}
 use Rattle.sa_queries.specs.Shown.{Entry, group_record_of}
@@ -59,7 +60,7 @@ use Rattle.sa_replies.specs.ServiceRequests.{owner_questions, service_asked, cha
 use Rattle.sa_replies.specs.Answer.{Administration, Answered, query_of, one_record, all_records, get_outcome, table_outcome}
 use Rattle.sa_records.specs.SaRecord.{record_bytes}
 use Rattle.sa_replies.specs.Answer.{set_or_refused, delete_or_refused, outcome, answered_with, after_rmpp, answer_to, answer}
-use Rattle.sa_replies.specs.Laws.{SeesAlike, RequestersAreAnsweredAlike}
+use Rattle.sa_replies.specs.Laws.{RequestersAreAnsweredAlikeBy, SeesAlike, RequestersAreAnsweredAlike}
 
 -- ---- what is looked for is kept
 find_within : {X : Type 0} (test keep : X → Bool) → ((x : X) → test x ≡ true → keep x ≡ true) → (xs : List X) → find test (filter keep xs) ≡ find test xs
@@ -185,18 +186,21 @@ takes_seen ports leave partitions sound =
     ∙ any_of_kept (is_sound_partition ports) (taken_in leave) (λ partition. is_member ports partition.base leave.port)
     (λ x e outside. outside_not_taken ports leave x outside e) partitions sound
 
--- ---- the services of a port, by what it sees
-services_at_seen : (ports : List SubnetPort) (own : SubnetPort) (asked : ServiceRecord) (deed : Deed) (places : List PortServices)
-    → services_at (change_asked own asked deed) (services_near ports own.guid places) ≡ services_at (change_asked own asked deed) places
-services_at_seen ports own asked deed places =
-    ap (flat_map (λ place. place.services)) (filter_within (is_place (change_asked own asked deed)) (λ place. is_near ports own.guid place.port)
-    (λ place e. or_left (place.port == own.guid) (ports_share ports own.guid place.port)
-    (and_parts (place.port == own.guid) (place.base == base_of asked.service_p_key) e).0) places)
+-- ---- the services of a port, by those that a rule keeps
+pub kept_services : (keeps : PlaceRule) (ports : List SubnetPort) (p : ℕ) (change : ServiceChange) (places : List PortServices)
+    → keeps ports p change.port change.base ≡ true
+    → services_at change (kept_by keeps ports p places) ≡ services_at change places
+kept_services keeps ports p change places kept =
+    ap (flat_map (λ place. place.services)) (filter_within (is_place change) (λ place. keeps ports p place.port place.base)
+    (λ place e. of_place keeps ports p change place e ∙ kept) places)
 
-services_at_alike : (ports : List SubnetPort) (own : SubnetPort) (asked : ServiceRecord) (deed : Deed) (s t : List PortServices)
-    → services_near ports own.guid s ≡ services_near ports own.guid t → services_at (change_asked own asked deed) s ≡ services_at (change_asked own asked deed) t
-services_at_alike ports own asked deed s t same =
-    sym (services_at_seen ports own asked deed s) ∙ (ap (services_at (change_asked own asked deed)) same ∙ services_at_seen ports own asked deed t)
+services_at_alike : (keeps : PlaceRule) → KeepsShown keeps → (ports : List SubnetPort) (own : SubnetPort) (asked : ServiceRecord) (deed : Deed)
+    (s t : List PortServices) → kept_by keeps ports own.guid s ≡ kept_by keeps ports own.guid t
+    → services_at (change_asked own asked deed) s ≡ services_at (change_asked own asked deed) t
+services_at_alike keeps rule ports own asked deed s t same =
+    let own_kept = rule.own ports own.guid (base_of asked.service_p_key) in
+    sym (kept_services keeps ports own.guid (change_asked own asked deed) s own_kept)
+    ∙ (ap (services_at (change_asked own asked deed)) same ∙ kept_services keeps ports own.guid (change_asked own asked deed) t own_kept)
 
 -- ---- outcomes that are alike to the requester
 abbrev Same : (SaState → SaState → Type 0) → Result Success MadStatus → Result Success MadStatus → Type 0
@@ -261,114 +265,7 @@ all_same A query (Err x) (Err y) e = let told : x ≡ y = cc in told
 all_same A query (Ok xs) (Err y) e = absurd (cc)
 all_same A query (Err x) (Ok ys) e = absurd (cc)
 
--- ---- each request
-pub record Alikes (ports : List SubnetPort) (own : SubnetPort) (s t : SaState) : Type 0 where
-  pub found : port_with_guid ports own.guid ≡ Some own
-  pub left_sound : is_sound ports s.partitions ≡ true
-  pub right_sound : is_sound ports t.partitions ≡ true
-  pub same : SeesSame ports own.guid s t
-
-get_same : (ports : List SubnetPort) (own : SubnetPort) (s t : SaState) (query : Option Query) → Alikes ports own s t
-    → Same (SeesSame ports own.guid) (get_outcome ports own s query) (get_outcome ports own t query)
-get_same ports own s t (Some query) a =
-    one_same (SeesSame ports own.guid) s t (got ports own s query) (got ports own t query) (queries_end_alike ports own s t query a.found a.same).got a.same
-get_same ports own s t None a = refl
-
-table_same : (ports : List SubnetPort) (own : SubnetPort) (s t : SaState) (query : Option Query) → Alikes ports own s t
-    → Same (SeesSame ports own.guid) (table_outcome ports own s query) (table_outcome ports own t query)
-table_same ports own s t (Some query) a =
-    all_same (SeesSame ports own.guid) query (table ports own s query) (table ports own t query) (queries_end_alike ports own s t query a.found a.same).table
-table_same ports own s t None a = refl
-
-groups_alike : (ports : List SubnetPort) (own : SubnetPort) (s t : SaState) → Alikes ports own s t → Alike ports own.guid s.partitions t.partitions
-groups_alike ports own s t a = record { left_sound = a.left_sound; right_sound = a.right_sound; same = a.same.groups }
-
-pub join_is_in : (own : SubnetPort) (mask : ℕ) (asked : McMemberRecord) → first_refusal (join_questions own mask asked) ≡ None
-    → is_in own (base_of asked.p_key) ≡ true
-join_is_in own mask asked e = unless_not (is_in own (base_of asked.p_key)) (none_so 3 (join_questions own mask asked) e)
-
-join_same : (ports : List SubnetPort) (own : SubnetPort) (s t : SaState) (mask : ℕ) (asked : McMemberRecord) → Alikes ports own s t
-    → Same (SeesSame ports own.guid) (join_outcome ports own s mask asked) (join_outcome ports own t mask asked)
-join_same ports own s t mask asked a =
-    let join = join_asked own mask asked in
-    let base = base_of asked.p_key in
-    let after = near_join ports own.guid join s.partitions t.partitions (or_left (own.guid == own.guid) (ports_share ports own.guid own.guid) (eq-eqb own.guid own.guid refl)) (groups_alike ports own s t a) in
-    unless_then (SeesSame ports own.guid) (first_refusal (join_questions own mask asked)) _ _ (λ e.
-    let member = member_if_in ports own base a.found (join_is_in own mask asked e) in
-    unless_same (SeesSame ports own.guid) (join_refusal ports own mask asked s.partitions) (join_refusal ports own mask asked t.partitions) (Ok (join_done own join (after_join ports join s))) (Ok (join_done own join (after_join ports join t)))
-    (ap first_refusal (sym (questions_seen ports own.guid own mask asked s.partitions member)
-    ∙ (ap (λ seen_ones. group_questions ports own mask asked seen_ones (group_named base asked.mgid seen_ones)) a.same.groups
-    ∙ questions_seen ports own.guid own mask asked t.partitions member))) (
-      sym (member_seen ports own base asked.mgid (joined ports join s.partitions) member)
-          ∙ (ap (λ seen_ones. member_bytes own base (group_named base asked.mgid seen_ones)) after.same
-          ∙ member_seen ports own base asked.mgid (joined ports join t.partitions) member),
-      record { groups = after.same; services = a.same.services },
-    ))
-
-leave_same : (ports : List SubnetPort) (own : SubnetPort) (s t : SaState) (mask : ℕ) (asked : McMemberRecord) (content : List ℕ) → Alikes ports own s t
-    → Same (SeesSame ports own.guid) (leave_outcome ports own s mask asked content) (leave_outcome ports own t mask asked content)
-leave_same ports own s t mask asked content a =
-    let leave = leave_asked own mask asked in
-    let takes : takes_some leave s.partitions ≡ takes_some leave t.partitions =
-    sym (takes_seen ports leave s.partitions a.left_sound) ∙ (ap (takes_some leave) a.same.groups ∙ takes_seen ports leave t.partitions a.right_sound) in
-    unless_same (SeesSame ports own.guid) (first_refusal (leave_questions own s mask asked)) (first_refusal (leave_questions own t mask asked)) _ _
-    (ap (λ some. first_refusal (leaving_by own mask asked some)) takes)
-    (refl, record { groups = (near_leave ports own.guid leave s.partitions t.partitions (groups_alike ports own s t a)).same; services = a.same.services })
-
-set_same : (ports : List SubnetPort) (own : SubnetPort) (s t : SaState) (mask : ℕ) (asked : ServiceRecord) → Alikes ports own s t
-    → Same (SeesSame ports own.guid) (service_set own s mask asked) (service_set own t mask asked)
-set_same ports own s t mask asked a =
-    let service = service_asked mask asked in
-    let change = change_asked own asked (Deed.sets service) in
-    unless_same (SeesSame ports own.guid) (first_refusal (owner_questions own mask asked)) (first_refusal (owner_questions own mask asked)) _ _ refl
-    (unless_same (SeesSame ports own.guid) _ _ _ _
-    (ap (λ services. first_refusal (refused_if (not (has_room service.service_id services)) NoResources ∷ []))
-    (services_at_alike ports own asked (Deed.sets service) s.services t.services a.same.services))
-    (refl, record { groups = a.same.groups; services = services_alike ports own.guid s.services t.services change a.same.services }))
-
-delete_same : (ports : List SubnetPort) (own : SubnetPort) (s t : SaState) (mask : ℕ) (asked : ServiceRecord) (content : List ℕ) → Alikes ports own s t
-    → Same (SeesSame ports own.guid) (service_deleted own s mask asked content) (service_deleted own t mask asked content)
-delete_same ports own s t mask asked content a =
-    let change = change_asked own asked (Deed.deletes asked.service_id) in
-    unless_same (SeesSame ports own.guid) (first_refusal (owner_questions own mask asked)) (first_refusal (owner_questions own mask asked)) _ _ refl
-    (unless_same (SeesSame ports own.guid) _ _ _ _
-    (ap (λ services. first_refusal (refused_if (not (list_any (has_id asked.service_id) services)) NoRecords ∷ []))
-    (services_at_alike ports own asked (Deed.deletes asked.service_id) s.services t.services a.same.services))
-    (refl, record { groups = a.same.groups; services = services_alike ports own.guid s.services t.services change a.same.services }))
-
-set_or_refused_same : (ports : List SubnetPort) (own : SubnetPort) (s t : SaState) (request : Request) → Alikes ports own s t
-    → Same (SeesSame ports own.guid) (set_or_refused ports own s request) (set_or_refused ports own t request)
-set_or_refused_same ports own s t request a =
-    same_if (SeesSame ports own.guid) (is_about sa_attribute.McMemberRecord request) _ _ _ _
-    (join_same ports own s t request.component_mask (group_in request.content) a)
-    (same_if (SeesSame ports own.guid) (is_about sa_attribute.ServiceRecord request) _ _ _ _
-    (set_same ports own s t request.component_mask (service_in request.content) a) refl)
-
-delete_or_refused_same : (ports : List SubnetPort) (own : SubnetPort) (s t : SaState) (request : Request) → Alikes ports own s t
-    → Same (SeesSame ports own.guid) (delete_or_refused ports own s request) (delete_or_refused ports own t request)
-delete_or_refused_same ports own s t request a =
-    same_if (SeesSame ports own.guid) (is_about sa_attribute.McMemberRecord request) _ _ _ _
-    (leave_same ports own s t request.component_mask (group_in request.content) request.content a)
-    (same_if (SeesSame ports own.guid) (is_about sa_attribute.ServiceRecord request) _ _ _ _
-    (delete_same ports own s t request.component_mask (service_in request.content) request.content a) refl)
-
-outcome_same : (ports : List SubnetPort) (own : SubnetPort) (s t : SaState) (request : Request) → Alikes ports own s t
-    → Same (SeesSame ports own.guid) (outcome ports own s request) (outcome ports own t request)
-outcome_same ports own s t request a =
-    same_if (SeesSame ports own.guid) (request.header.method == method_code Get) _ _ _ _ (get_same ports own s t (query_of request) a)
-    (same_if (SeesSame ports own.guid) (request.header.method == method_code GetTable) _ _ _ _ (table_same ports own s t (query_of request) a)
-    (same_if (SeesSame ports own.guid) (request.header.method == method_code Set) _ _ _ _ (set_or_refused_same ports own s t request a)
-    (same_if (SeesSame ports own.guid) (request.header.method == method_code Delete) _ _ _ _ (delete_or_refused_same ports own s t request a) refl)))
-
--- ---- and so is it answered
-abbrev Told : List SubnetPort → ℕ → Answered → Answered → Type 0
-Told ports p a b = (a.0 ≡ b.0) × SeesAlike ports p a.1 b.1
-
-told_if : (ports : List SubnetPort) (p : ℕ) (test : Bool) (a b c d : Answered) → Told ports p a c → Told ports p b d
-    → Told ports p (if test then a else b) (if test then c else d)
-told_if ports p true a b c d first second = first
-told_if ports p false a b c d first second = second
-
+-- ---- a table that a port opens, or that closes
 pub own_place : (p : ℕ) (table : Option Transfer) (transfers : List PortTransfer)
     → table_place p (with_table p table transfers) ≡ option_map (λ place. record { port = p; open_table = table }) (table_place p transfers)
 own_place p table [] = refl
@@ -382,57 +279,173 @@ with_table_alike : (p : ℕ) (table : Option Transfer) (s t : List PortTransfer)
 with_table_alike p table s t same =
     own_place p table s ∙ (ap (option_map (λ place. record { port = p; open_table = table })) same ∙ sym (own_place p table t))
 
-told_same : (ports : List SubnetPort) (own : SubnetPort) (request : Request) (s t : Administration) (r q : Result Success MadStatus) → SeesAlike ports own.guid s t
-    → Same (SeesSame ports own.guid) r q → Told ports own.guid (answered_with own request s r) (answered_with own request t q)
-told_same ports own request s t (Err x) (Err y) same e = (ap (λ status. refusal_reply request status ∷ []) e, same)
-told_same ports own request s t (Err x) (Ok (Success.one_reply c m)) same e = absurd e
-told_same ports own request s t (Err x) (Ok (Success.whole_table o c)) same e = absurd e
-told_same ports own request s t (Ok (Success.one_reply b n)) (Err y) same e = absurd e
-told_same ports own request s t (Ok (Success.one_reply b n)) (Ok (Success.one_reply c m)) same e =
-    (ap (λ bytes. reply request bytes ∷ []) e.0, record { remembered = e.1; own_table = same.own_table })
-told_same ports own request s t (Ok (Success.one_reply b n)) (Ok (Success.whole_table o c)) same e = absurd e
-told_same ports own request s t (Ok (Success.whole_table o b)) (Err y) same e = absurd e
-told_same ports own request s t (Ok (Success.whole_table o b)) (Ok (Success.one_reply c m)) same e = absurd e
-told_same ports own request s t (Ok (Success.whole_table o b)) (Ok (Success.whole_table q c)) same e =
-    let opened_same : opened (table_header request o) b ≡ opened (table_header request q) c =
-    ap (λ offset. opened (table_header request offset) b) e.0 ∙ ap (λ bytes. opened (table_header request q) bytes) e.1 in (
-      ap (λ table. segment_mad table 1 ∷ []) opened_same,
-      record {
-        remembered = same.remembered;
-        own_table = with_table_alike own.guid (Some (opened (table_header request o) b)) s.transfers t.transfers same.own_table
-            ∙ ap (λ table. table_place own.guid (with_table own.guid (Some table) t.transfers)) opened_same;
-      },
-    )
+-- ---- each request
+pub join_is_in : (own : SubnetPort) (mask : ℕ) (asked : McMemberRecord) → first_refusal (join_questions own mask asked) ≡ None
+    → is_in own (base_of asked.p_key) ≡ true
+join_is_in own mask asked e = unless_not (is_in own (base_of asked.p_key)) (none_so 3 (join_questions own mask asked) e)
 
-rmpp_same : (ports : List SubnetPort) (own : SubnetPort) (request : Request) (s t : Administration) → SeesAlike ports own.guid s t
-    → Told ports own.guid (after_rmpp own s (on_rmpp request (table_of own.guid s.transfers))) (after_rmpp own t (on_rmpp request (table_of own.guid t.transfers)))
-rmpp_same ports own request s t same =
-    let answers : on_rmpp request (table_of own.guid s.transfers) ≡ on_rmpp request (table_of own.guid t.transfers) =
-    ap (λ place. on_rmpp request (table_at place)) same.own_table in (
-      ap (λ answered. answered.0) answers,
-      record {
-        remembered = same.remembered;
-        own_table = with_table_alike own.guid (on_rmpp request (table_of own.guid s.transfers)).1 s.transfers t.transfers same.own_table
-            ∙ ap (λ answered. table_place own.guid (with_table own.guid answered.1 t.transfers)) answers;
-      },
-    )
+pub record Alikes (sight : ServiceSight) (ports : List SubnetPort) (own : SubnetPort) (s t : SaState) : Type 0 where
+  pub found : port_with_guid ports own.guid ≡ Some own
+  pub left_sound : is_sound ports s.partitions ≡ true
+  pub right_sound : is_sound ports t.partitions ≡ true
+  pub same : SeesSame sight ports own.guid s t
 
-answer_to_same : (ports : List SubnetPort) (own : SubnetPort) (request : Request) (s t : Administration) → SeesAlike ports own.guid s t
-    → Alikes ports own s.remembered t.remembered → Told ports own.guid (answer_to ports own request s) (answer_to ports own request t)
-answer_to_same ports own request s t same a =
-    told_if ports own.guid (not (has_versions request.header)) _ _ _ _ (refl, same)
-    (told_if ports own.guid (bit_and request.rmpp.flags 1 == 1) _ _ _ _ (rmpp_same ports own request s t same)
-    (told_if ports own.guid (is_response request.header) _ _ _ _ (refl, same)
-    (told_same ports own request s t (outcome ports own s.remembered request) (outcome ports own t.remembered request) same
-    (outcome_same ports own s.remembered t.remembered request a))))
+-- ---- whatever of services the rule keeps, if it keeps what is shown
+module _ (keeps : PlaceRule) (rule : KeepsShown keeps) where
+  shown_same : (ports : List SubnetPort) (p : ℕ) (s t : SaState) → SeesSame (kept_by keeps) ports p s t → SeesSame services_seen ports p s t
+  shown_same ports p s t same = record { groups = same.groups; services = rule.shown ports p s.services t.services same.services }
 
-answer_same : (ports : List SubnetPort) (own : SubnetPort) (payload : List ℕ) (s t : Administration) → SeesAlike ports own.guid s t
-    → Alikes ports own s.remembered t.remembered → Told ports own.guid (answer ports own payload s) (answer ports own payload t)
-answer_same ports own payload s t same a =
-    told_if ports own.guid ((length payload == 256) && (field payload 8 8 == 3)) _ _ _ _ (answer_to_same ports own (request_in payload) s t same a) (refl, same)
+  get_same : (ports : List SubnetPort) (own : SubnetPort) (s t : SaState) (query : Option Query) → Alikes (kept_by keeps) ports own s t
+      → Same (SeesSame (kept_by keeps) ports own.guid) (get_outcome ports own s query) (get_outcome ports own t query)
+  get_same ports own s t (Some query) a =
+      one_same (SeesSame (kept_by keeps) ports own.guid) s t (got ports own s query) (got ports own t query) (queries_end_alike ports own s t query a.found (shown_same ports own.guid s t a.same)).got a.same
+  get_same ports own s t None a = refl
 
-pub answered_alike : RequestersAreAnsweredAlike
-answered_alike ports own payload s t found left_sound right_sound same =
-    let both = answer_same ports own payload s t same
-    (record { found = found; left_sound = left_sound; right_sound = right_sound; same = same.remembered }) in
-    record { mads = both.0; after = both.1 }
+  table_same : (ports : List SubnetPort) (own : SubnetPort) (s t : SaState) (query : Option Query) → Alikes (kept_by keeps) ports own s t
+      → Same (SeesSame (kept_by keeps) ports own.guid) (table_outcome ports own s query) (table_outcome ports own t query)
+  table_same ports own s t (Some query) a =
+      all_same (SeesSame (kept_by keeps) ports own.guid) query (table ports own s query) (table ports own t query) (queries_end_alike ports own s t query a.found (shown_same ports own.guid s t a.same)).table
+  table_same ports own s t None a = refl
+
+  groups_alike : (ports : List SubnetPort) (own : SubnetPort) (s t : SaState) → Alikes (kept_by keeps) ports own s t → Alike ports own.guid s.partitions t.partitions
+  groups_alike ports own s t a = record { left_sound = a.left_sound; right_sound = a.right_sound; same = a.same.groups }
+
+  join_same : (ports : List SubnetPort) (own : SubnetPort) (s t : SaState) (mask : ℕ) (asked : McMemberRecord) → Alikes (kept_by keeps) ports own s t
+      → Same (SeesSame (kept_by keeps) ports own.guid) (join_outcome ports own s mask asked) (join_outcome ports own t mask asked)
+  join_same ports own s t mask asked a =
+      let join = join_asked own mask asked in
+      let base = base_of asked.p_key in
+      let after = near_join ports own.guid join s.partitions t.partitions (or_left (own.guid == own.guid) (ports_share ports own.guid own.guid) (eq-eqb own.guid own.guid refl)) (groups_alike ports own s t a) in
+      unless_then (SeesSame (kept_by keeps) ports own.guid) (first_refusal (join_questions own mask asked)) _ _ (λ e.
+      let member = member_if_in ports own base a.found (join_is_in own mask asked e) in
+      unless_same (SeesSame (kept_by keeps) ports own.guid) (join_refusal ports own mask asked s.partitions) (join_refusal ports own mask asked t.partitions) (Ok (join_done own join (after_join ports join s))) (Ok (join_done own join (after_join ports join t)))
+      (ap first_refusal (sym (questions_seen ports own.guid own mask asked s.partitions member)
+      ∙ (ap (λ seen_ones. group_questions ports own mask asked seen_ones (group_named base asked.mgid seen_ones)) a.same.groups
+      ∙ questions_seen ports own.guid own mask asked t.partitions member))) (
+        sym (member_seen ports own base asked.mgid (joined ports join s.partitions) member)
+            ∙ (ap (λ seen_ones. member_bytes own base (group_named base asked.mgid seen_ones)) after.same
+            ∙ member_seen ports own base asked.mgid (joined ports join t.partitions) member),
+        record { groups = after.same; services = a.same.services },
+      ))
+
+  leave_same : (ports : List SubnetPort) (own : SubnetPort) (s t : SaState) (mask : ℕ) (asked : McMemberRecord) (content : List ℕ) → Alikes (kept_by keeps) ports own s t
+      → Same (SeesSame (kept_by keeps) ports own.guid) (leave_outcome ports own s mask asked content) (leave_outcome ports own t mask asked content)
+  leave_same ports own s t mask asked content a =
+      let leave = leave_asked own mask asked in
+      let takes : takes_some leave s.partitions ≡ takes_some leave t.partitions =
+      sym (takes_seen ports leave s.partitions a.left_sound) ∙ (ap (takes_some leave) a.same.groups ∙ takes_seen ports leave t.partitions a.right_sound) in
+      unless_same (SeesSame (kept_by keeps) ports own.guid) (first_refusal (leave_questions own s mask asked)) (first_refusal (leave_questions own t mask asked)) _ _
+      (ap (λ some. first_refusal (leaving_by own mask asked some)) takes)
+      (refl, record { groups = (near_leave ports own.guid leave s.partitions t.partitions (groups_alike ports own s t a)).same; services = a.same.services })
+
+  set_same : (ports : List SubnetPort) (own : SubnetPort) (s t : SaState) (mask : ℕ) (asked : ServiceRecord) → Alikes (kept_by keeps) ports own s t
+      → Same (SeesSame (kept_by keeps) ports own.guid) (service_set own s mask asked) (service_set own t mask asked)
+  set_same ports own s t mask asked a =
+      let service = service_asked mask asked in
+      let change = change_asked own asked (Deed.sets service) in
+      unless_same (SeesSame (kept_by keeps) ports own.guid) (first_refusal (owner_questions own mask asked)) (first_refusal (owner_questions own mask asked)) _ _ refl
+      (unless_same (SeesSame (kept_by keeps) ports own.guid) _ _ _ _
+      (ap (λ services. first_refusal (refused_if (not (has_room service.service_id services)) NoResources ∷ []))
+      (services_at_alike keeps rule ports own asked (Deed.sets service) s.services t.services a.same.services))
+      (refl, record { groups = a.same.groups; services = stays_alike keeps ports own.guid s.services t.services change a.same.services }))
+
+  delete_same : (ports : List SubnetPort) (own : SubnetPort) (s t : SaState) (mask : ℕ) (asked : ServiceRecord) (content : List ℕ) → Alikes (kept_by keeps) ports own s t
+      → Same (SeesSame (kept_by keeps) ports own.guid) (service_deleted own s mask asked content) (service_deleted own t mask asked content)
+  delete_same ports own s t mask asked content a =
+      let change = change_asked own asked (Deed.deletes asked.service_id) in
+      unless_same (SeesSame (kept_by keeps) ports own.guid) (first_refusal (owner_questions own mask asked)) (first_refusal (owner_questions own mask asked)) _ _ refl
+      (unless_same (SeesSame (kept_by keeps) ports own.guid) _ _ _ _
+      (ap (λ services. first_refusal (refused_if (not (list_any (has_id asked.service_id) services)) NoRecords ∷ []))
+      (services_at_alike keeps rule ports own asked (Deed.deletes asked.service_id) s.services t.services a.same.services))
+      (refl, record { groups = a.same.groups; services = stays_alike keeps ports own.guid s.services t.services change a.same.services }))
+
+  set_or_refused_same : (ports : List SubnetPort) (own : SubnetPort) (s t : SaState) (request : Request) → Alikes (kept_by keeps) ports own s t
+      → Same (SeesSame (kept_by keeps) ports own.guid) (set_or_refused ports own s request) (set_or_refused ports own t request)
+  set_or_refused_same ports own s t request a =
+      same_if (SeesSame (kept_by keeps) ports own.guid) (is_about sa_attribute.McMemberRecord request) _ _ _ _
+      (join_same ports own s t request.component_mask (group_in request.content) a)
+      (same_if (SeesSame (kept_by keeps) ports own.guid) (is_about sa_attribute.ServiceRecord request) _ _ _ _
+      (set_same ports own s t request.component_mask (service_in request.content) a) refl)
+
+  delete_or_refused_same : (ports : List SubnetPort) (own : SubnetPort) (s t : SaState) (request : Request) → Alikes (kept_by keeps) ports own s t
+      → Same (SeesSame (kept_by keeps) ports own.guid) (delete_or_refused ports own s request) (delete_or_refused ports own t request)
+  delete_or_refused_same ports own s t request a =
+      same_if (SeesSame (kept_by keeps) ports own.guid) (is_about sa_attribute.McMemberRecord request) _ _ _ _
+      (leave_same ports own s t request.component_mask (group_in request.content) request.content a)
+      (same_if (SeesSame (kept_by keeps) ports own.guid) (is_about sa_attribute.ServiceRecord request) _ _ _ _
+      (delete_same ports own s t request.component_mask (service_in request.content) request.content a) refl)
+
+  outcome_same : (ports : List SubnetPort) (own : SubnetPort) (s t : SaState) (request : Request) → Alikes (kept_by keeps) ports own s t
+      → Same (SeesSame (kept_by keeps) ports own.guid) (outcome ports own s request) (outcome ports own t request)
+  outcome_same ports own s t request a =
+      same_if (SeesSame (kept_by keeps) ports own.guid) (request.header.method == method_code Get) _ _ _ _ (get_same ports own s t (query_of request) a)
+      (same_if (SeesSame (kept_by keeps) ports own.guid) (request.header.method == method_code GetTable) _ _ _ _ (table_same ports own s t (query_of request) a)
+      (same_if (SeesSame (kept_by keeps) ports own.guid) (request.header.method == method_code Set) _ _ _ _ (set_or_refused_same ports own s t request a)
+      (same_if (SeesSame (kept_by keeps) ports own.guid) (request.header.method == method_code Delete) _ _ _ _ (delete_or_refused_same ports own s t request a) refl)))
+
+  -- ---- and so is it answered
+  abbrev Told : List SubnetPort → ℕ → Answered → Answered → Type 0
+  Told ports p a b = (a.0 ≡ b.0) × SeesAlike (kept_by keeps) ports p a.1 b.1
+
+  told_if : (ports : List SubnetPort) (p : ℕ) (test : Bool) (a b c d : Answered) → Told ports p a c → Told ports p b d
+      → Told ports p (if test then a else b) (if test then c else d)
+  told_if ports p true a b c d first second = first
+  told_if ports p false a b c d first second = second
+
+  told_same : (ports : List SubnetPort) (own : SubnetPort) (request : Request) (s t : Administration) (r q : Result Success MadStatus) → SeesAlike (kept_by keeps) ports own.guid s t
+      → Same (SeesSame (kept_by keeps) ports own.guid) r q → Told ports own.guid (answered_with own request s r) (answered_with own request t q)
+  told_same ports own request s t (Err x) (Err y) same e = (ap (λ status. refusal_reply request status ∷ []) e, same)
+  told_same ports own request s t (Err x) (Ok (Success.one_reply c m)) same e = absurd e
+  told_same ports own request s t (Err x) (Ok (Success.whole_table o c)) same e = absurd e
+  told_same ports own request s t (Ok (Success.one_reply b n)) (Err y) same e = absurd e
+  told_same ports own request s t (Ok (Success.one_reply b n)) (Ok (Success.one_reply c m)) same e =
+      (ap (λ bytes. reply request bytes ∷ []) e.0, record { remembered = e.1; own_table = same.own_table })
+  told_same ports own request s t (Ok (Success.one_reply b n)) (Ok (Success.whole_table o c)) same e = absurd e
+  told_same ports own request s t (Ok (Success.whole_table o b)) (Err y) same e = absurd e
+  told_same ports own request s t (Ok (Success.whole_table o b)) (Ok (Success.one_reply c m)) same e = absurd e
+  told_same ports own request s t (Ok (Success.whole_table o b)) (Ok (Success.whole_table q c)) same e =
+      let opened_same : opened (table_header request o) b ≡ opened (table_header request q) c =
+      ap (λ offset. opened (table_header request offset) b) e.0 ∙ ap (λ bytes. opened (table_header request q) bytes) e.1 in (
+        ap (λ table. segment_mad table 1 ∷ []) opened_same,
+        record {
+          remembered = same.remembered;
+          own_table = with_table_alike own.guid (Some (opened (table_header request o) b)) s.transfers t.transfers same.own_table
+              ∙ ap (λ table. table_place own.guid (with_table own.guid (Some table) t.transfers)) opened_same;
+        },
+      )
+
+  rmpp_same : (ports : List SubnetPort) (own : SubnetPort) (request : Request) (s t : Administration) → SeesAlike (kept_by keeps) ports own.guid s t
+      → Told ports own.guid (after_rmpp own s (on_rmpp request (table_of own.guid s.transfers))) (after_rmpp own t (on_rmpp request (table_of own.guid t.transfers)))
+  rmpp_same ports own request s t same =
+      let answers : on_rmpp request (table_of own.guid s.transfers) ≡ on_rmpp request (table_of own.guid t.transfers) =
+      ap (λ place. on_rmpp request (table_at place)) same.own_table in (
+        ap (λ answered. answered.0) answers,
+        record {
+          remembered = same.remembered;
+          own_table = with_table_alike own.guid (on_rmpp request (table_of own.guid s.transfers)).1 s.transfers t.transfers same.own_table
+              ∙ ap (λ answered. table_place own.guid (with_table own.guid answered.1 t.transfers)) answers;
+        },
+      )
+
+  answer_to_same : (ports : List SubnetPort) (own : SubnetPort) (request : Request) (s t : Administration) → SeesAlike (kept_by keeps) ports own.guid s t
+      → Alikes (kept_by keeps) ports own s.remembered t.remembered → Told ports own.guid (answer_to ports own request s) (answer_to ports own request t)
+  answer_to_same ports own request s t same a =
+      told_if ports own.guid (not (has_versions request.header)) _ _ _ _ (refl, same)
+      (told_if ports own.guid (bit_and request.rmpp.flags 1 == 1) _ _ _ _ (rmpp_same ports own request s t same)
+      (told_if ports own.guid (is_response request.header) _ _ _ _ (refl, same)
+      (told_same ports own request s t (outcome ports own s.remembered request) (outcome ports own t.remembered request) same
+      (outcome_same ports own s.remembered t.remembered request a))))
+
+  answer_same : (ports : List SubnetPort) (own : SubnetPort) (payload : List ℕ) (s t : Administration) → SeesAlike (kept_by keeps) ports own.guid s t
+      → Alikes (kept_by keeps) ports own s.remembered t.remembered → Told ports own.guid (answer ports own payload s) (answer ports own payload t)
+  answer_same ports own payload s t same a =
+      told_if ports own.guid ((length payload == 256) && (field payload 8 8 == 3)) _ _ _ _ (answer_to_same ports own (request_in payload) s t same a) (refl, same)
+
+  pub answered_alike : RequestersAreAnsweredAlikeBy (kept_by keeps)
+  answered_alike ports own payload s t found left_sound right_sound same =
+      let both = answer_same ports own payload s t same
+      (record { found = found; left_sound = left_sound; right_sound = right_sound; same = same.remembered }) in
+      record { mads = both.0; after = both.1 }
+
+pub requesters_alike : RequestersAreAnsweredAlike
+requesters_alike = record { shown = answered_alike shown_place shown_keeps_shown; near = answered_alike near_place near_keeps_shown }

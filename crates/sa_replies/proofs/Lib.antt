@@ -12,6 +12,7 @@ pub mod OtherLemmas
 pub mod JoinedLemmas
 pub mod ReplySourceLemmas
 pub mod NoteLemmas
+pub mod FitLemmas
 pub mod NamedNoteLemmas
 pub mod NotedDataLemmas
 pub mod OneReplyLemmas

@@ -6,7 +6,7 @@ use Rattle.std.specs.List.{AllByRecursion, flat_map, list_any, range_with_len}
 use Rattle.std.proofs.lemmas.Bool.{both_ways, cases_Bool, eq-eqb, eqb-true}
 use Rattle.std.proofs.lemmas.List.{drop-map, length-replicate, map-append, take-map}
 use Rattle.mad_layout.proofs.AlignedLemmas.{bytes_stand}
-use Rattle.mad_layout.proofs.LayoutLemmas.{spelled_below, zeros_below}
+use Rattle.mad_layout.proofs.LayoutLemmas.{zeros_below}
 use Rattle.mad_layout.proofs.NumberLemmas.{below_append}
 use Rattle.mad_layout.specs.Bits.{field}
 use Rattle.mad_layout.specs.Layout.{Fits}
@@ -30,7 +30,7 @@ use Rattle.rmpp_core.proofs.WholeLemmas.{active_set}
 use Rattle.rmpp_core.specs.Acks.{abort_mad, abort_rmpp, abort_sa, after_ack}
 use Rattle.rmpp_core.specs.Laws.{IsTransfer}
 use Rattle.rmpp_core.specs.Receiving.{is_data}
-use Rattle.rmpp_core.specs.Reply.{reply_bytes, reply_fields}
+use Rattle.rmpp_core.specs.Reply.{reply_bytes}
 use Rattle.rmpp_core.specs.Segments.{Transfer, opened, payload_size, segment_count, segment_mad, segment_of, segment_rmpp}
 use Rattle.rmpp_core.specs.declared.abort.AbortCause.{AbortCause}
 use Rattle.rmpp_core.specs.declared.abort.AbortCause.TheVariants.{WindowTooSmall, SegmentTooBig}

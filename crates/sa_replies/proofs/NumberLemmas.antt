@@ -10,7 +10,7 @@ use Rattle.sa_records.specs.Asked.{Asked}
 use Rattle.sa_records.specs.ServiceRecord.{service_data_asked}
 use Rattle.sa_queries.specs.Selected.{asks}
 use Rattle.sa_replies.specs.Numbers.{IsAsAsked, NumbersAreAsAsked}
-use Rattle.sa_replies.specs.ServiceRequests.{numbers_asked}
+use Rattle.sa_records.specs.ServiceRecord.{numbers_asked}
 use Rattle.sa_replies.proofs.StateLemmas.{numbers_long}
 
 -- a row with what these bytes have at its place

@@ -29,9 +29,10 @@ use Rattle.sa_replies.proofs.StatusLemmas.{AreData, IsCopied, code_low, content_
 -- ---- what stands in a MAD with a reply's header
 says : (payload mad : List ℕ) (status : ℕ) (rmpp : RmppHeader) (fields : SaMad) → length mad ≡ 256
     → Holds mad (reply_fields (reply_header (request_in payload) status) rmpp fields) → fields.component_mask ≡ (request_in payload).component_mask
+    → fields.sm_key ≡ 0 → ((status == 0) ≡ false → fields.attribute_offset ≡ 0)
     → ((status == 0) ≡ false → data_in mad ≡ replicate 200 0) → IsResponseTo payload mad
 unfolding request_in
-says payload mad status rmpp fields long h mask none =
+says payload mad status rmpp fields long h mask key offset none =
     let copied = h.1.1.1.1.1.1 in
     record {
       size = long;
@@ -39,9 +40,12 @@ says payload mad status rmpp fields long h mask none =
       mgmt_class = sym h.1.0;
       class_version = sym h.1.1.0;
       method = sym h.1.1.1.0;
+      class_specific = sym h.1.1.1.1.1.0;
       transaction_id = sym copied.0;
       attribute_id = sym copied.1.0;
       attribute_modifier = sym copied.1.1.0;
+      sm_key = sym copied.1.1.1.1.1.1.1.1.1.1.0 ∙ key;
+      no_offset = λ e. sym copied.1.1.1.1.1.1.1.1.1.1.1.0 ∙ offset (ap (λ (n : ℕ). n == 0) h.1.1.1.1.0 ∙ e);
       component_mask = sym copied.1.1.1.1.1.1.1.1.1.1.1.1.0 ∙ mask;
       no_data = λ e. none (ap (λ (n : ℕ). n == 0) h.1.1.1.1.0 ∙ e);
     }
@@ -57,7 +61,7 @@ reply_says payload status bytes copied low are empty =
     (omega arith, (omega arith, (omega arith, (omega arith, (omega arith, (omega arith, (omega arith, tt)))))))
     (omega arith, (omega arith, (copied.mask, (padded_number bytes are, tt)))) in
     says payload (reply_bytes header no_rmpp fields) status no_rmpp fields (reply_long header no_rmpp fields)
-    (reply_spelled header no_rmpp fields fits).fields refl
+    (reply_spelled header no_rmpp fields fits).fields refl refl (λ e. refl)
     (λ e. (reply_reads request status bytes copied low are).content
     ∙ ap (λ (some : List ℕ). some ++ replicate (200 - length some) 0) (empty e))
 
@@ -69,7 +73,7 @@ first_says payload offset bytes is =
     let zero_is : (0 == 0) ≡ true = refl in
     says payload (segment_mad transfer 1) 0 (segment_rmpp bytes 1) (segment_sa transfer 1)
     (reply_long (reply_header request 0) (segment_rmpp bytes 1) (segment_sa transfer 1))
-    (segment_held transfer 1 is (omega arith) (omega arith)) refl (λ e. absurd (cc))
+    (segment_held transfer 1 is (omega arith) (omega arith)) refl refl (λ e. absurd (cc)) (λ e. absurd (cc))
 
 -- ---- a request that is told, or whose version is refused
 told_once : (own : SubnetPort) (payload : List ℕ) (state : Administration) (result : Result Success MadStatus) → IsCopied (request_in payload)

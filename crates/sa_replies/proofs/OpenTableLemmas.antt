@@ -65,7 +65,7 @@ use Rattle.sa_replies.proofs.RefusalLemmas.{Ends, IsGot, IsOneReply, IsReply, de
 use Rattle.sa_replies.proofs.StatusLemmas.{IsCopied, is_copied, record_is_data, records_below}
 
 -- ---- how many there are
-filter_few : {X : Type 0} (test : X → Bool) (xs : List X) → length (filter test xs) ≤ length xs
+pub filter_few : {X : Type 0} (test : X → Bool) (xs : List X) → length (filter test xs) ≤ length xs
 filter_few test [] = omega arith
 filter_few test (x ∷ xs) = elim (cases_Bool (test x)) [
   | inl passes ↦ rw passes (let rest = filter_few test xs in omega arith)

@@ -10,6 +10,7 @@ use Rattle.sa_groups.proofs.JoinSoundLemmas.{joined_sound}
 use Rattle.sa_groups.proofs.LeaveSoundLemmas.{left_sound}
 use Rattle.sa_groups.proofs.JoinSightLemmas.{far_join}
 use Rattle.sa_groups.proofs.SightLemmas.{far_leave}
+use Rattle.sa_services.specs.ServiceSight.{services_near}
 use Rattle.sa_services.proofs.ServiceLemmas.{far_not_near}
 use Rattle.sa_services.proofs.ServiceSoundLemmas.{services_stay_sound}
 use Rattle.sa_replies.specs.Request.{Request, request_in, has_versions}
@@ -44,7 +45,7 @@ other_table p q table (x ∷ xs) other = elim (cases_Bool (x.port == q)) [
 
 pub far_requests : FarRequestsAreNotSeen
 far_requests ports p own payload state far sound =
-    answer_leaves (λ next. SeesAlike ports p next state) ports own payload state
+    answer_leaves (λ next. SeesAlike services_near ports p next state) ports own payload state
     (λ table. record {
       remembered = record { groups = refl; services = refl };
       own_table = other_table p own.guid table state.transfers (or_parts (own.guid == p) (ports_share ports p own.guid) far).0;
@@ -76,7 +77,7 @@ far_requests ports p own payload state far sound =
 
 -- a MAD of a transfer is seen by its sender alone
 pub transfers_are_unseen : (ports : List SubnetPort) (p : ℕ) (own : SubnetPort) (payload : List ℕ) (state : Administration) → (own.guid == p) ≡ false
-    → (bit_and (request_in payload).rmpp.flags 1 == 1) ≡ true → SeesAlike ports p (answer ports own payload state).1 state
+    → (bit_and (request_in payload).rmpp.flags 1 == 1) ≡ true → SeesAlike services_near ports p (answer ports own payload state).1 state
 transfers_are_unseen ports p own payload state other active =
     second_if Seen ((length payload == 256) && (field payload 8 8 == 3)) (answer_to ports own request state) ([], state)
     (second_if Seen (not (has_versions request.header)) (version_refused request, state) _ same
@@ -90,7 +91,7 @@ transfers_are_unseen ports p own payload state other active =
     request = request_in payload
 
     Seen : Administration → Type 0
-    Seen next = SeesAlike ports p next state
+    Seen next = SeesAlike services_near ports p next state
 
-    same : SeesAlike ports p state state
+    same : SeesAlike services_near ports p state state
     same = record { remembered = record { groups = refl; services = refl }; own_table = refl }

@@ -40,7 +40,8 @@ use Rattle.sa_queries.specs.Selected.{asks}
 use Rattle.sa_queries.specs.Visible.{SaState}
 use Rattle.sa_replies.specs.Request.{request_in}
 use Rattle.sa_replies.specs.Joins.{join_asked, life_taken, mtu_taken, or_zero, rate_taken}
-use Rattle.sa_replies.specs.ServiceRequests.{numbers_asked, service_asked}
+use Rattle.sa_replies.specs.ServiceRequests.{service_asked}
+use Rattle.sa_records.specs.ServiceRecord.{numbers_asked}
 use Rattle.sa_replies.specs.Answer.{Administration, answer}
 use Rattle.sa_replies.specs.State.{IsRememberedOf, are_fit_groups, are_fit_services, is_fit_group, is_fit_service}
 use Rattle.sa_replies.proofs.AnswerLemmas.{AsksFor, KeptBy, answer_leaves_by}
@@ -149,11 +150,11 @@ join_fits own mask content =
     and_from _ _ mtu (and_from _ _ rate (and_from _ _ life (and_from _ _ level (and_from _ _ flow scope))))
 
 -- ---- services
-abbrev FitDeed : Deed → Type 0
+abbrev pub FitDeed : Deed → Type 0
 FitDeed (Deed.sets service) = is_fit_service service ≡ true
 FitDeed (Deed.deletes id) = Unit {0}
 
-abbrev FitChange : ServiceChange → Type 0
+abbrev pub FitChange : ServiceChange → Type 0
 FitChange change = FitDeed change.deed
 
 some_fit : (test : Service → Bool) (some : List Service) → list_all is_fit_service some ≡ true → list_all is_fit_service (filter test some) ≡ true
@@ -237,6 +238,17 @@ starts_remembered configuration configured = record {
   fit_services = no_services_fit configuration.ports;
 }
 
+pub change_remembered : (configuration : ConfigurationState) (state : SaState) (change : ServiceChange) → FitChange change → IsRememberedOf configuration state
+    → IsRememberedOf configuration (record state { services = services_changed state.services change })
+change_remembered configuration state change fit is = record {
+  partitions = is.partitions;
+  groups = is.groups;
+  fit_groups = is.fit_groups;
+  places = places_stay state.services change ∙ is.places;
+  services = services.services_stay_sound configuration.ports state.services change is.services;
+  fit_services = changes_fit change state.services fit is.fit_services;
+}
+
 kept : (configuration : ConfigurationState) (own : SubnetPort) (state : SaState) → IsRememberedOf configuration state
     → KeptBy configuration.ports own state FitJoin FitChange (IsRememberedOf configuration)
 kept configuration own state is = record {
@@ -257,14 +269,7 @@ kept configuration own state is = record {
     services = is.services;
     fit_services = is.fit_services;
   };
-  changes = λ change e fit. record {
-    partitions = is.partitions;
-    groups = is.groups;
-    fit_groups = is.fit_groups;
-    places = places_stay state.services change ∙ is.places;
-    services = services.services_stay_sound configuration.ports state.services change is.services;
-    fit_services = changes_fit change state.services fit is.fit_services;
-  };
+  changes = λ change e fit. change_remembered configuration state change fit is;
 }
 
 abbrev RemembersOf : ConfigurationState → Administration → Type 0

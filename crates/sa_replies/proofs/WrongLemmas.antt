@@ -1,4 +1,4 @@
--- A table that one limited member opens, and that another could see, or that tells of the other.
+-- A table that one limited member opens, and that another could see, or that tells of the other; and notes that name no source.
 use Rattle.std.proofs.Common.{Bool, true, false, ◌==◌, List, [], ◌∷◌, Option, Some, None, ◌≡◌, ap, refl, arith, inl, inr}
 use Rattle.std.specs.Int.Digits.{AllBelowBase}
 use Rattle.mad_layout.specs.Bits.{field, number, put_field}
@@ -9,14 +9,17 @@ use Rattle.sa_groups.specs.Examples.{ports}
 use Rattle.sa_records.specs.PathRecord.{path_record_bytes, path_record_selected, path_in}
 use Rattle.sa_records.specs.Speed.{speed_of}
 use Rattle.sa_records.specs.NodeRecord.{node_record_bytes, node_record_selected, node_in}
-use Rattle.sa_queries.specs.Examples.{limited}
+use Rattle.sa_records.specs.McMemberRecord.{mc_member_record_bytes, mc_member_record_selected, group_in}
+use Rattle.sa_records.specs.ServiceRecord.{service_in, service_record_bytes}
+use Rattle.sa_groups.specs.Groups.{Creator}
+use Rattle.sa_queries.specs.Examples.{full, limited}
 use Rattle.sa_queries.specs.Shown.{Entry}
 use Rattle.sa_replies.specs.Request.{request_in}
 use Rattle.sa_replies.specs.Transfers.{table_at}
-use Rattle.sa_replies.specs.Examples.{at_first, nodes_wanted, path_wanted}
+use Rattle.sa_replies.specs.Examples.{after, at_first, by, joining, making, nodes_wanted, path_wanted, service_asked_by, with_services}
 use Rattle.rmpp_core.proofs.ReadBackLemmas.{reply_below}
 use Rattle.sa_replies.specs.Notes.{no_notes}
-use Rattle.sa_replies.specs.WrongRules.{AllNodesTell, NothingNotedIsLess, OneTableTells, TheFileIsNoSource}
+use Rattle.sa_replies.specs.WrongRules.{AllNodesTell, DeletesAreNotOfFile, JoinsAreOfTheMaker, NothingNotedIsLess, OneTableTells, SetsAreNotOfFile, TheFileIsNoSource}
 
 abbrev is_there : Option Transfer → Bool
 is_there None = false
@@ -53,5 +56,29 @@ pub the_file_is_no_source : TheFileIsNoSource
 unfolding field put_field reply_bytes request_in node_in node_record_bytes node_record_selected
 the_file_is_no_source law = elim ((law ports limited (nodes_wanted 5) at_first no_notes).noted_for 0x121) [
   | inl same ↦ let none : false ≡ true = ap is_empty same in absurd (cc)
-  | inr named ↦ let file : true ≡ false = ap is_by_file named.0 in absurd (cc)
+  | inr named ↦ let file : true ≡ false = ap is_by_file named.each.0 in absurd (cc)
 ]
+
+-- ---- a limited member sets a service, deletes one, and joins a group that the full member made
+pub sets_are_not_of_file : SetsAreNotOfFile
+unfolding field put_field reply_bytes request_in service_in service_record_bytes
+sets_are_not_of_file law =
+    let file : true ≡ false = ap is_by_file (((law ports limited (service_asked_by 2 7) at_first no_notes).set refl).0 refl).0 in
+    absurd (cc)
+
+pub deletes_are_not_of_file : DeletesAreNotOfFile
+unfolding field put_field reply_bytes request_in service_in service_record_bytes
+deletes_are_not_of_file law =
+    let file : true ≡ false = ap is_by_file (((law ports limited (service_asked_by 0x15 1) (with_services 1) no_notes).deleted refl).0 refl).0 in
+    absurd (cc)
+
+abbrev is_of_full : Creator → Bool
+is_of_full (Creator.Port guid) = guid == 0x111
+is_of_full Creator.PartitionFile = false
+
+pub joins_are_of_the_maker : JoinsAreOfTheMaker
+unfolding field put_field reply_bytes request_in group_in mc_member_record_bytes mc_member_record_selected speed_of
+joins_are_of_the_maker law =
+    let maker : false ≡ true = ap is_of_full
+    (((law ports limited (joining 0x121 0x0001) (after (by full (making 0x111 0x8001) ∷ [])) no_notes).joined _ refl refl).0 refl).0 in
+    absurd (cc)

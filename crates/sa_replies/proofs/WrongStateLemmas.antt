@@ -1,5 +1,5 @@
 -- A subnet of one port: an answer that loses its place for a table, one that comes twice, and one that keeps data.
-use Rattle.std.proofs.Common.{◌≡◌, ℕ, ◌==◌, true, false, List, [], ◌∷◌, ap, refl, None, nat_eq, arith, length}
+use Rattle.std.proofs.Common.{◌≡◌, ℕ, ◌==◌, true, false, List, [], ◌∷◌, ap, refl, None, nat_eq, arith, length, replicate}
 use Rattle.std.specs.Int.Digits.{AllBelowBase}
 use Rattle.std.proofs.lemmas.Bool.{false≢true}
 use Rattle.std.proofs.lemmas.List.Elements.{All-from_recursion}
@@ -16,7 +16,7 @@ use Rattle.sa_replies.specs.Examples.{asking, header_of}
 use Rattle.sa_replies.specs.Reply.{no_rmpp}
 use Rattle.sa_replies.specs.Request.{request_in}
 use Rattle.sa_replies.specs.State.{at_start}
-use Rattle.sa_replies.specs.WrongRules.{LostPlacesAreMissed, OthersAreAnswered, RefusalsKeepNoData, TwiceIsNotOnce}
+use Rattle.sa_replies.specs.WrongRules.{KeysAreNotSentBack, LostPlacesAreMissed, OthersAreAnswered, RefusalsKeepNoData, TwiceIsNotOnce}
 use Rattle.rmpp_core.proofs.ReadBackLemmas.{reply_below}
 use Rattle.sa_replies.proofs.OpenTableLemmas.{starts_are_states}
 
@@ -60,6 +60,21 @@ unfolding unknown_wanted field put_field reply_bytes request_in
 refusals_keep_no_data law =
     let one = law alone (adapter 1 0x101 (0xffff ∷ [])) unknown_wanted (at_start alone) is_configured refl (starts_are_states alone is_configured) unknown_below refl in
     let zeros : false ≡ true = ap (λ bytes. number bytes == 0) (one.no_data refl) in
+    absurd (cc)
+
+-- such a request with a key
+abbrev keyed : List ℕ
+keyed =
+    reply_bytes (header_of 0x13 6 0) no_rmpp (record { sm_key = 5; attribute_offset = 0; component_mask = 0; «data» = replicate 200 0 })
+
+keyed_below : AllBelowBase 256 keyed
+keyed_below = reply_below _ _ _
+
+pub keys_are_not_sent_back : KeysAreNotSentBack
+unfolding field put_field reply_bytes request_in
+keys_are_not_sent_back law =
+    let one = law alone (adapter 1 0x101 (0xffff ∷ [])) keyed (at_start alone) is_configured refl (starts_are_states alone is_configured) keyed_below refl in
+    let key : false ≡ true = ap (λ (n : ℕ). n == 0) one.sm_key in
     absurd (cc)
 
 -- what is no MAD, for one

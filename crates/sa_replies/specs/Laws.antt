@@ -14,7 +14,8 @@ use Rattle.subnet_model.specs.Delivery.{port_with_guid}
 use Rattle.subnet_model.specs.Near.{is_near}
 use Rattle.sa_groups.specs.Sound.{is_sound}
 use Rattle.sa_services.specs.Services.{PortServices}
-use Rattle.sa_services.specs.ServiceLaws.{is_of, IsSet, IsDeleted}
+use Rattle.sa_services.specs.ServiceLaws.{ServiceSight, is_of, IsSet, IsDeleted}
+use Rattle.sa_services.specs.ServiceSight.{services_near, services_seen}
 use Rattle.sa_services.specs.ServiceSound.{are_sound_services}
 use Rattle.sa_queries.specs.Laws.{SeesSame}
 use Rattle.sa_queries.specs.Visible.{SaState}
@@ -107,12 +108,13 @@ ServicesDeletedAreGone =
     → are_refusals (answer ports own payload state).0 ≡ false
     → IsServiceDeleted own (request_in payload) state.remembered (answer ports own payload state).1.remembered
 
--- ---- p sees the same in both states: of groups and services, and of its own table
-pub record SeesAlike (ports : List SubnetPort) (p : ℕ) (s t : Administration) : Type 0 where
-  pub remembered : SeesSame ports p s.remembered t.remembered
+-- ---- p sees the same in both states: of groups, of services as this rule says, and of its own table
+pub record SeesAlike (sight : ServiceSight) (ports : List SubnetPort) (p : ℕ) (s t : Administration) : Type 0 where
+  pub remembered : SeesSame sight ports p s.remembered t.remembered
   pub own_table : table_place p s.transfers ≡ table_place p t.transfers
 
--- ---- what a rule for answers owes to a port p: whatever a port sends that is far from it, it sees the same after
+-- ---- what a rule for answers owes to a port p: whatever a port sends that is far from it, it sees the same after, of services
+-- all those of the ports near it, shown to it or not
 abbrev pub AnswerRule : Type 0
 AnswerRule = List SubnetPort → SubnetPort → List ℕ → Administration → Answered
 
@@ -120,27 +122,37 @@ abbrev pub HidesFarRequests : AnswerRule → Type 0
 HidesFarRequests rule =
     (ports : List SubnetPort) (p : ℕ) (own : SubnetPort) (payload : List ℕ) (state : Administration)
     → is_near ports p own.guid ≡ false → is_sound ports state.remembered.partitions ≡ true
-    → SeesAlike ports p (rule ports own payload state).1 state
+    → SeesAlike services_near ports p (rule ports own payload state).1 state
 
 -- ours pays it
 abbrev pub FarRequestsAreNotSeen : Type 0
 FarRequestsAreNotSeen = HidesFarRequests answer
 
--- where a port sees the same in two states, what it sends is answered by the same MADs, and it sees the same after
-pub record AnsweredAlike (ports : List SubnetPort) (own : SubnetPort) (payload : List ℕ) (s t : Administration) : Type 0 where
+-- ---- where a port sees the same in two states, what it sends is answered by the same MADs, and it sees the same after
+pub record AnsweredAlike (sight : ServiceSight) (ports : List SubnetPort) (own : SubnetPort) (payload : List ℕ)
+    (s t : Administration) : Type 0 where
   pub mads : (answer ports own payload s).0 ≡ (answer ports own payload t).0
-  pub after : SeesAlike ports own.guid (answer ports own payload s).1 (answer ports own payload t).1
+  pub after : SeesAlike sight ports own.guid (answer ports own payload s).1 (answer ports own payload t).1
 
-abbrev pub RequestersAreAnsweredAlike : Type 0
-RequestersAreAnsweredAlike =
+abbrev pub RequestersAreAnsweredAlikeBy : ServiceSight → Type 0
+RequestersAreAnsweredAlikeBy sight =
     (ports : List SubnetPort) (own : SubnetPort) (payload : List ℕ) (s t : Administration)
     → port_with_guid ports own.guid ≡ Some own → is_sound ports s.remembered.partitions ≡ true
-    → is_sound ports t.remembered.partitions ≡ true → SeesAlike ports own.guid s t → AnsweredAlike ports own payload s t
+    → is_sound ports t.remembered.partitions ≡ true → SeesAlike sight ports own.guid s t → AnsweredAlike sight ports own payload s t
 
--- whatever a port sends, who sees the same in two states sees the same after
-abbrev pub AnswersAreSeenAlike : Type 0
-AnswersAreSeenAlike =
+-- whether of services those that it may be shown are the same, or all those of the ports near it
+pub record RequestersAreAnsweredAlike : Type 0 where
+  pub shown : RequestersAreAnsweredAlikeBy services_seen
+  pub near : RequestersAreAnsweredAlikeBy services_near
+
+-- ---- whatever a port sends, who sees the same in two states sees the same after
+abbrev pub AnswersAreSeenAlikeBy : ServiceSight → Type 0
+AnswersAreSeenAlikeBy sight =
     (ports : List SubnetPort) (p : ℕ) (own : SubnetPort) (payload : List ℕ) (s t : Administration)
     → port_with_guid ports own.guid ≡ Some own → is_sound ports s.remembered.partitions ≡ true
-    → is_sound ports t.remembered.partitions ≡ true → SeesAlike ports p s t
-    → SeesAlike ports p (answer ports own payload s).1 (answer ports own payload t).1
+    → is_sound ports t.remembered.partitions ≡ true → SeesAlike sight ports p s t
+    → SeesAlike sight ports p (answer ports own payload s).1 (answer ports own payload t).1
+
+pub record AnswersAreSeenAlike : Type 0 where
+  pub shown : AnswersAreSeenAlikeBy services_seen
+  pub near : AnswersAreSeenAlikeBy services_near

@@ -5,7 +5,7 @@ use Rattle.mad_layout.specs.Bits.{field}
 use Rattle.sa_records.specs.Asked.{Asked}
 use Rattle.sa_records.specs.ServiceRecord.{service_data_asked}
 use Rattle.sa_queries.specs.Selected.{asks}
-use Rattle.sa_replies.specs.ServiceRequests.{numbers_asked}
+use Rattle.sa_records.specs.ServiceRecord.{numbers_asked}
 
 -- each number is as it is asked, and 0 where the mask does not ask it
 abbrev pub IsAsAsked : ℕ → List ℕ → Asked → Type 0

@@ -22,16 +22,20 @@ asks_something payload =
 abbrev pub response_method : ℕ → ℕ
 response_method method = if method == 2 then 0x81 else method + 0x80
 
--- a MAD of our versions and class that repeats what tells the request; where its status is not 0 it has no data
+-- a MAD of our versions and class that repeats what tells the request. ClassSpecific and SM_Key are 0; where its status is
+-- not 0 it has no data, and AttributeOffset is 0 too
 pub record IsResponseTo (payload mad : List ℕ) : Type 0 where
   pub size : length mad ≡ 256
   pub base_version : field mad 0 8 ≡ 1
   pub mgmt_class : field mad 8 8 ≡ 3
   pub class_version : field mad 16 8 ≡ 2
   pub method : field mad 24 8 ≡ response_method (field payload 24 8)
+  pub class_specific : field mad 48 16 ≡ 0
   pub transaction_id : field mad 64 64 ≡ field payload 64 64
   pub attribute_id : field mad 128 16 ≡ field payload 128 16
   pub attribute_modifier : field mad 160 32 ≡ field payload 160 32
+  pub sm_key : field mad 288 64 ≡ 0
+  pub no_offset : (field mad 32 16 == 0) ≡ false → field mad 352 16 ≡ 0
   pub component_mask : field mad 384 64 ≡ field payload 384 64
   pub no_data : (field mad 32 16 == 0) ≡ false → data_in mad ≡ replicate 200 0
 

@@ -1,13 +1,11 @@
 -- What a Set and a Delete of a ServiceRecord do (IBA volume 1, 15.2.2 and 15.2.5.14).
-use Rattle.std.specs.Prelude.{ℕ, ◌+◌, ◌==◌, not, if◌then◌else◌, List, [], ◌∷◌, map, filter, replicate, Result, Ok}
+use Rattle.std.specs.Prelude.{ℕ, ◌+◌, ◌==◌, not, if◌then◌else◌, List, [], ◌∷◌, filter, replicate, Result, Ok}
 use Rattle.std.specs.List.{flat_map, list_any}
-use Rattle.mad_layout.specs.Bits.{field}
-use Rattle.mad_layout.specs.Layout.{at, put_all}
 use Rattle.mad_layout.specs.declared.status.MadStatus.{MadStatus}
 use Rattle.mad_layout.specs.declared.status.MadStatus.TheVariants.{RequestInvalid, InvalidGid, InsufficientComponents, NoResources, NoRecords}
 use Rattle.pkey_rules.specs.PKey.{base_of}
 use Rattle.sa_records.specs.declared.service_record.ServiceRecord.{ServiceRecord}
-use Rattle.sa_records.specs.ServiceRecord.{service_record_bytes, service_data_asked}
+use Rattle.sa_records.specs.ServiceRecord.{numbers_asked, service_record_bytes}
 use Rattle.sa_records.specs.ServiceMask as service_mask
 use Rattle.sa_groups.specs.Members.{is_in}
 use Rattle.subnet_model.specs.declared.subnet_port.SubnetPort.{SubnetPort}
@@ -22,11 +20,6 @@ use Rattle.sa_queries.specs.Outcome.{unless_status}
 use Rattle.sa_replies.specs.Success.{Success}
 
 -- ---- the service that is set: what the mask does not ask is 0
-abbrev pub numbers_asked : ℕ → List ℕ → List ℕ
-numbers_asked mask numbers =
-    put_all (replicate 64 0)
-    (map (λ one. at one.off one.len (field numbers one.off one.len)) (filter (λ one. asks mask one.bits) service_data_asked))
-
 abbrev pub service_asked : ℕ → ServiceRecord → Service
 service_asked mask asked = record {
   service_id = asked.service_id;

@@ -1,8 +1,9 @@
--- Rules for answers that do not keep partitions apart.
+-- Wrong rules for answers: some do not keep partitions apart, others note, answer or remember what they should not.
 use Rattle.std.specs.Prelude.{ℕ, ◌==◌, Bool, ◌&&◌, if◌then◌else◌, List, [], ◌∷◌, ◌++◌, map, take, drop, Ok}
 use Rattle.std.specs.List.{flat_map}
 use Rattle.mad_layout.specs.Method.{method_code}
-use Rattle.mad_layout.specs.declared.method.Method.TheVariants.{GetTable}
+use Rattle.mad_layout.specs.declared.method.Method.{Method}
+use Rattle.mad_layout.specs.declared.method.Method.TheVariants.{Set, GetTable, Delete}
 use Rattle.mad_layout.specs.declared.status.MadStatus.TheVariants.{BadVersion}
 use Rattle.sa_records.specs.declared.node_record.TheConstants.{NODE_RECORD_OFFSET}
 use Rattle.sa_records.specs.declared.sa_attribute.SaAttribute.TheVariants as sa_attribute
@@ -14,8 +15,8 @@ use Rattle.sa_replies.specs.Success.{Success}
 use Rattle.sa_replies.specs.Transfers.{table_of}
 use Rattle.sa_replies.specs.Answer.{Administration, Answered, answer, answered_with}
 use Rattle.sa_records.specs.SaRecord.{record_bytes}
-use Rattle.sa_replies.specs.Laws.{AnswerRule, HidesFarRequests, are_refusals}
-use Rattle.sa_replies.specs.Notes.{NotedByte, Notes, NotedAnswer, answer_noted, in_segment, is_request, noted_records, with_notes}
+use Rattle.sa_replies.specs.Laws.{AnswerRule, HidesFarRequests, are_refusals, asks_by}
+use Rattle.sa_replies.specs.Notes.{NotedByte, NotedMad, Notes, NotedAnswer, answer_noted, in_segment, is_request, noted_records, with_notes}
 use Rattle.sa_groups.specs.Groups.{Creator}
 use Rattle.sa_replies.specs.NamedNotes.{NamesSources}
 use Rattle.sa_replies.specs.State.{KeepsStates}
@@ -92,6 +93,28 @@ answer_noting_the_file ports own payload state notes = record {
 abbrev pub TheFileIsNoSource : Type 0
 TheFileIsNoSource = NamesSources answer_noting_the_file → ⊥
 
+-- ---- to note of the replies to requests by one method alone that all in them comes from this source
+abbrev pub from_alone : Creator → NotedMad → NotedMad
+from_alone source one = record {
+  mad = one.mad;
+  bytes = map (λ (noted : NotedByte). record { byte = noted.byte; source = source }) one.bytes;
+}
+
+abbrev pub answer_noting_by : Method → (SubnetPort → Creator) → NotedRule
+answer_noting_by method source ports own payload state notes = record (answer_noted ports own payload state notes) {
+  mads = map (λ one. if asks_by method payload then from_alone (source own) one else one) (answer_noted ports own payload state notes).mads;
+}
+
+-- of a Set or a Delete the partition file, of a Set also the port that asks, who need not have made the group
+abbrev pub SetsAreNotOfFile : Type 0
+SetsAreNotOfFile = NamesSources (answer_noting_by Set (λ own. Creator.PartitionFile)) → ⊥
+
+abbrev pub DeletesAreNotOfFile : Type 0
+DeletesAreNotOfFile = NamesSources (answer_noting_by Delete (λ own. Creator.PartitionFile)) → ⊥
+
+abbrev pub JoinsAreOfTheMaker : Type 0
+JoinsAreOfTheMaker = NamesSources (answer_noting_by Set (λ own. Creator.Port own.guid)) → ⊥
+
 -- ---- an answer after which there is no place for any table
 abbrev pub answer_losing_places : AnswerRule
 answer_losing_places ports own payload state =
@@ -122,6 +145,17 @@ answer_keeping_data ports own payload state = (
 
 abbrev pub RefusalsKeepNoData : Type 0
 RefusalsKeepNoData = AnswersOnce answer_keeping_data → ⊥
+
+-- ---- an answer with the SM_Key of the request
+abbrev pub with_key_of : List ℕ → List ℕ → List ℕ
+with_key_of payload mad = take 36 mad ++ (take 8 (drop 36 payload) ++ drop 44 mad)
+
+abbrev pub answer_sending_the_key_back : AnswerRule
+answer_sending_the_key_back ports own payload state =
+    (map (with_key_of payload) (answer ports own payload state).0, (answer ports own payload state).1)
+
+abbrev pub KeysAreNotSentBack : Type 0
+KeysAreNotSentBack = AnswersOnce answer_sending_the_key_back → ⊥
 
 -- ---- an answer to whatever has no other, as if it asked in another version
 abbrev pub answer_always : AnswerRule

@@ -32,8 +32,8 @@ pub fn refused_change_nothing()
 {}
 
 /// In each state of a run each request is answered by one MAD: with the versions and the class that are ours, the method of
-/// its response, the TransactionID, AttributeID, AttributeModifier and ComponentMask of the request, and, where its status
-/// is not 0, no data.
+/// its response, the TransactionID, AttributeID, AttributeModifier and ComponentMask of the request, ClassSpecific and
+/// SM_Key 0, and, where its status is not 0, AttributeOffset 0 and no data.
 pub fn requests_are_answered_once()
     ensures { RequestsAreAnsweredOnce }
 {}
@@ -88,12 +88,13 @@ pub fn far_requests_are_not_seen()
 {}
 
 /// Where a port sees the same in two states, what it sends is answered by the same MADs, and it sees the
-/// same after.
+/// same after: of services those that it may be shown, and so all those of the ports near it.
 pub fn requesters_are_answered_alike()
     ensures { RequestersAreAnsweredAlike }
 {}
 
-/// Whatever a port sends, who sees the same in two states sees the same after.
+/// Whatever a port sends, who sees the same in two states sees the same after: of services those that it may be shown,
+/// and so all those of the ports near it.
 pub fn answers_are_seen_alike()
     ensures { AnswersAreSeenAlike }
 {}
@@ -115,8 +116,10 @@ pub fn data_is_noted()
     ensures { DataIsNoted }
 {}
 
-/// The records that are noted of a table come from the sources that they themselves name, when it is opened; its segments
-/// have their parts of these, byte for byte with the source; and so it is with the record that answers a Get.
+/// The records that are noted of a table come from the sources that they themselves name, when it is opened, and fit their
+/// fields where all that is visible to the port does; its segments have their parts of these, byte for byte with the
+/// source; and so it is with the record that answers a Get. The reply to a join comes from who made the group, and the
+/// replies to the Set of a service and to a Delete from the port that asks.
 pub fn notes_name_sources()
     ensures { NotesNameSources }
 {}

@@ -1,7 +1,7 @@
-//! Rules for answers that break isolation, so that a reader sees that the laws say something. Each function
-//! does nothing: its contract is the law.
+//! Wrong rules for answers, and the law that each breaks, so that a reader sees that the laws say something. Each
+//! function does nothing: its contract is the law.
 
-ghost use Rattle.sa_replies.specs.WrongRules.{AllNodesTell, LostPlacesAreMissed, NothingNotedIsLess, OneTableTells, OthersAreAnswered, RefusalsKeepNoData, TheFileIsNoSource, TwiceIsNotOnce};
+ghost use Rattle.sa_replies.specs.WrongRules.{AllNodesTell, DeletesAreNotOfFile, JoinsAreOfTheMaker, KeysAreNotSentBack, LostPlacesAreMissed, NothingNotedIsLess, OneTableTells, OthersAreAnswered, RefusalsKeepNoData, SetsAreNotOfFile, TheFileIsNoSource, TwiceIsNotOnce};
 
 /// With one open table for all ports, a port is told that a port far from it asked for one.
 pub fn one_table_tells()
@@ -23,6 +23,21 @@ pub fn the_file_is_no_source()
     ensures { TheFileIsNoSource }
 {}
 
+/// Where the reply to a Set is noted as the partition file's, a service that is set does not come from its port.
+pub fn sets_are_not_of_file()
+    ensures { SetsAreNotOfFile }
+{}
+
+/// Where the reply to a Delete is noted as the partition file's, it does not come from the port that asks.
+pub fn deletes_are_not_of_file()
+    ensures { DeletesAreNotOfFile }
+{}
+
+/// Where the reply to a Set is noted as that of the port that asks, a group that it joins does not come from who made it.
+pub fn joins_are_of_the_maker()
+    ensures { JoinsAreOfTheMaker }
+{}
+
 /// An answer after which no port has a place for a table leaves no state of the configuration.
 pub fn lost_places_are_missed()
     ensures { LostPlacesAreMissed }
@@ -36,6 +51,11 @@ pub fn twice_is_not_once()
 /// A refusal that keeps the data of the request is no answer to it.
 pub fn refusals_keep_no_data()
     ensures { RefusalsKeepNoData }
+{}
+
+/// An answer with the SM_Key of the request is none to it.
+pub fn keys_are_not_sent_back()
+    ensures { KeysAreNotSentBack }
 {}
 
 /// An answer to what asks for nothing is refused.

@@ -14,6 +14,7 @@ use Rattle.subnet_model.specs.Configuration.{ConfigurationState}
 use Rattle.subnet_model.specs.Report.{answered_in_turn}
 use Rattle.sa_replies.proofs.SightLemmas.{transfers_are_unseen}
 use Rattle.sa_replies.specs.Answer.{Administration, answer}
+use Rattle.sa_services.specs.ServiceSight.{services_near}
 use Rattle.sa_replies.specs.Laws.{SeesAlike}
 use Rattle.sa_replies.specs.Request.{request_in}
 use Rattle.sa_runs.proofs.AckReadLemmas.{ack_held}
@@ -35,18 +36,18 @@ is_active mad count number low =
     ap (λ (r : RmppHeader). bit_and r.flags 1 == 1) rmpp
 
 -- ---- so another sees the same after as many as a table has segments
-through : (ports : List SubnetPort) (p : ℕ) (a s t : Administration) → SeesAlike ports p a s → SeesAlike ports p s t → SeesAlike ports p a t
+through : (ports : List SubnetPort) (p : ℕ) (a s t : Administration) → SeesAlike services_near ports p a s → SeesAlike services_near ports p s t → SeesAlike services_near ports p a t
 through ports p a s t x y = record {
   remembered = record { groups = x.remembered.groups ∙ y.remembered.groups; services = x.remembered.services ∙ y.remembered.services };
   own_table = x.own_table ∙ y.own_table;
 }
 
-nothing_changed : (ports : List SubnetPort) (p : ℕ) (s : Administration) → SeesAlike ports p s s
+nothing_changed : (ports : List SubnetPort) (p : ℕ) (s : Administration) → SeesAlike services_near ports p s s
 nothing_changed ports p s = record { remembered = record { groups = refl; services = refl }; own_table = refl }
 
 acks_unseen : (configuration : ConfigurationState) (p : ℕ) (own : SubnetPort) (mad : List ℕ) (count first left : ℕ) (s : Administration) → (own.guid == p) ≡ false
     → first + left < 2 ^ 32
-    → SeesAlike configuration.ports p
+    → SeesAlike services_near configuration.ports p
     (answered_in_turn (λ sent state. answer configuration.ports own sent state) (map (ack_mad (header_in mad) count) (range_with_len first left)) s).1 s
 acks_unseen configuration p own mad count first zero s other low = nothing_changed configuration.ports p s
 acks_unseen configuration p own mad count first (suc left) s other low =
@@ -60,7 +61,7 @@ few : (length : ℕ) → length < 2 ^ 32 → 1 + segments_told length < 2 ^ 32
 few length low = omega (arith, low)
 
 pub acknowledged_unseen : (configuration : ConfigurationState) (p : ℕ) (own : SubnetPort) (mads : List (List ℕ)) (s : Administration) → (own.guid == p) ≡ false
-    → SeesAlike configuration.ports p (answered_in_turn (λ sent state. answer configuration.ports own sent state) (acknowledgements mads) s).1 s
+    → SeesAlike services_near configuration.ports p (answered_in_turn (λ sent state. answer configuration.ports own sent state) (acknowledgements mads) s).1 s
 acknowledged_unseen configuration p own [] s other = nothing_changed configuration.ports p s
 acknowledged_unseen configuration p own (mad ∷ mads) s other = by (is_first_segment (rmpp_in mad))
   where
@@ -68,7 +69,7 @@ acknowledged_unseen configuration p own (mad ∷ mads) s other = by (is_first_se
     count = segments_told (field mad 256 32)
 
     by : (told : Bool)
-        → SeesAlike configuration.ports p
+        → SeesAlike services_near configuration.ports p
         (answered_in_turn (λ sent state. answer configuration.ports own sent state) (if told then map (ack_mad (header_in mad) count) (range_with_len 1 count) else []) s).1 s
     by true = acks_unseen configuration p own mad count 1 count s other (few (field mad 256 32) (field_narrow mad 256 32))
     by false = nothing_changed configuration.ports p s

@@ -12,9 +12,10 @@ use Rattle.sa_groups.specs.Groups.{start_of}
 use Rattle.sa_groups.specs.Sound.{is_sound}
 use Rattle.sa_services.proofs.ServiceSoundLemmas.{start_sound}
 use Rattle.sa_services.specs.Services.{no_services}
+use Rattle.sa_services.specs.ServiceSight.{services_near}
 use Rattle.sa_services.specs.ServiceSound.{are_sound_services}
-use Rattle.sa_replies.proofs.AlikeLemmas.{answered_alike}
-use Rattle.sa_replies.proofs.OtherLemmas.{answers_seen}
+use Rattle.sa_replies.proofs.AlikeLemmas.{requesters_alike}
+use Rattle.sa_replies.proofs.OtherLemmas.{answers_alike}
 use Rattle.sa_replies.proofs.SightLemmas.{answers_keep_sound, far_requests}
 use Rattle.sa_replies.specs.Answer.{Administration, answer}
 use Rattle.sa_replies.specs.Laws.{IsSound, SeesAlike}
@@ -33,13 +34,13 @@ sound_whole : (configuration : ConfigurationState) (s : Administration) → IsSo
 sound_whole configuration s sound =
     and_from (is_sound configuration.ports s.remembered.partitions) (are_sound_services configuration.ports s.remembered.services) sound.groups sound.services
 
-pub seen_parts : (configuration : ConfigurationState) (p : ℕ) (s t : Administration) → sees configuration p s ≡ sees configuration p t → SeesAlike configuration.ports p s t
+pub seen_parts : (configuration : ConfigurationState) (p : ℕ) (s t : Administration) → sees configuration p s ≡ sees configuration p t → SeesAlike services_near configuration.ports p s t
 seen_parts configuration p s t same = record {
   remembered = record { groups = ap (λ (seen : Seen). seen.groups) same; services = ap (λ (seen : Seen). seen.services) same };
   own_table = ap (λ (seen : Seen). seen.own_table) same;
 }
 
-seen_whole : (configuration : ConfigurationState) (p : ℕ) (s t : Administration) → SeesAlike configuration.ports p s t → sees configuration p s ≡ sees configuration p t
+seen_whole : (configuration : ConfigurationState) (p : ℕ) (s t : Administration) → SeesAlike services_near configuration.ports p s t → sees configuration p s ≡ sees configuration p t
 seen_whole configuration p s t alike = λ place. record {
   groups = alike.remembered.groups place;
   services = alike.remembered.services place;
@@ -55,11 +56,11 @@ administration_keeps_apart configuration = record {
   far_unseen = λ p own mad s far sound.
       seen_whole configuration p (answer configuration.ports own mad s).1 s (far_requests configuration.ports p own mad s far (sound_parts configuration s sound).groups);
   same_answers = λ own mad s t found alike.
-      (answered_alike configuration.ports own mad s t found (left own.guid s t alike).groups (right own.guid s t alike).groups
+      (requesters_alike.near configuration.ports own mad s t found (left own.guid s t alike).groups (right own.guid s t alike).groups
       (seen_parts configuration own.guid s t alike.same)).mads;
   same_after = λ p own mad s t found alike.
       seen_whole configuration p (answer configuration.ports own mad s).1 (answer configuration.ports own mad t).1
-      (answers_seen configuration.ports p own mad s t found (left p s t alike).groups (right p s t alike).groups (seen_parts configuration p s t alike.same));
+      (answers_alike.near configuration.ports p own mad s t found (left p s t alike).groups (right p s t alike).groups (seen_parts configuration p s t alike.same));
   same_groups = λ p mlid s t alike.
       receives_alike configuration.ports p mlid s.remembered.partitions t.remembered.partitions
       (record {

@@ -1,8 +1,8 @@
 -- What ports do to services keeps them sound, and is seen by ports near alone.
-use Rattle.std.proofs.Common.{ℕ, true, false, ◌==◌, ◌&&◌, List, [], ◌∷◌, map}
+use Rattle.std.proofs.Common.{ℕ, Bool, true, false, ◌==◌, ◌&&◌, ◌||◌, List, [], ◌∷◌, filter, map}
 use Rattle.std.proofs.Common.{◌≡◌, ◌∙◌, ap, refl, sym, inl, inr}
 use Rattle.std.specs.List.{list_any}
-use Rattle.std.proofs.lemmas.Bool.{cases_Bool, both_ways, and_from, and_parts, or_cases, or_left, or_right, eqb-true}
+use Rattle.std.proofs.lemmas.Bool.{cases_Bool, both_ways, and_from, and_parts, or_cases, or_left, or_right, eq-eqb, eqb-true}
 use Rattle.result_words.proofs.ListLemmas.{list_any_weaker}
 use Rattle.pkey_rules.specs.PKey.{base_of, matches}
 use Rattle.pkey_rules.specs.KeyTable.{accepts, shares, shares_base}
@@ -12,6 +12,7 @@ use Rattle.result_words.proofs.FilterLemmas.{filter_map_same, filter_map_absorbs
 use Rattle.sa_services.specs.Services.{PortServices}
 use Rattle.sa_services.specs.ServiceChange.{ServiceChange, is_place, changed_in, services_changed, services_after, service_changes_near, port_and_base}
 use Rattle.sa_services.proofs.DeedLemmas.{filter_within}
+use Rattle.sa_services.specs.ServiceLaws.{ServiceSight, StaysAlike}
 use Rattle.sa_services.specs.ServiceSight.{shares_base_with, ports_share_base, is_shown, services_near, services_seen}
 
 -- ---- whose services they are stays
@@ -48,50 +49,66 @@ shown_is_near ports p place e = elim (or_cases (place.port == p) (ports_share_ba
   | inr shared ↦ sharing_base_is_near ports place.base p place.port shared
 ]
 
--- ---- what is seen
-changed_shown : (ports : List SubnetPort) (p : ℕ) (change : ServiceChange) (place : PortServices)
-    → is_shown ports p (changed_in change place) ≡ is_shown ports p place
-changed_shown ports p change place = elim (cases_Bool (is_place change place)) [
+-- ---- those that are kept by their port and base, as what p is shown and those of the ports near p are
+abbrev pub PlaceRule : Type 0
+PlaceRule = List SubnetPort → ℕ → ℕ → ℕ → Bool
+
+abbrev pub kept_by : PlaceRule → ServiceSight
+kept_by keeps ports p services = filter (λ place. keeps ports p place.port place.base) services
+
+abbrev pub shown_place : PlaceRule
+shown_place ports p port base = (port == p) || ports_share_base ports base p port
+
+abbrev pub near_place : PlaceRule
+near_place ports p port base = is_near ports p port
+
+kept_as_before : (keeps : PlaceRule) (ports : List SubnetPort) (p : ℕ) (change : ServiceChange) (place : PortServices)
+    → keeps ports p (changed_in change place).port (changed_in change place).base ≡ keeps ports p place.port place.base
+kept_as_before keeps ports p change place = elim (cases_Bool (is_place change place)) [
   | inl this ↦ rw this refl
   | inr other ↦ rw other refl
 ]
 
-far_is_other : (ports : List SubnetPort) (p : ℕ) (change : ServiceChange) (place : PortServices) → is_near ports p change.port ≡ false
-    → is_shown ports p place ≡ true → changed_in change place ≡ place
-far_is_other ports p change place far shown = elim (cases_Bool (is_place change place)) [
-  | inl this ↦
-      let same : place.port ≡ change.port = eqb-true place.port change.port (and_parts (place.port == change.port) (place.base == change.base) this).0 in
-      absurd (both_ways (is_near ports p change.port) far (ap (is_near ports p) (sym same) ∙ shown_is_near ports p place shown))
-  | inr other ↦ rw other refl
-]
+-- the places of a change are all kept, or none
+pub of_place : (keeps : PlaceRule) (ports : List SubnetPort) (p : ℕ) (change : ServiceChange) (place : PortServices) → is_place change place ≡ true
+    → keeps ports p place.port place.base ≡ keeps ports p change.port change.base
+of_place keeps ports p change place this =
+    let parts = and_parts (place.port == change.port) (place.base == change.base) this in
+    ap (λ (port : ℕ). keeps ports p port place.base) (eqb-true place.port change.port parts.0)
+    ∙ ap (λ (base : ℕ). keeps ports p change.port base) (eqb-true place.base change.base parts.1)
 
+pub unkept_change : (keeps : PlaceRule) (ports : List SubnetPort) (p : ℕ) (services : List PortServices) (change : ServiceChange)
+    → keeps ports p change.port change.base ≡ false
+    → kept_by keeps ports p (services_changed services change) ≡ kept_by keeps ports p services
+unkept_change keeps ports p services change unkept =
+    filter_map_absorbs (λ place. keeps ports p place.port place.base) (changed_in change) (kept_as_before keeps ports p change) idle services
+  where
+    idle : (place : PortServices) → keeps ports p place.port place.base ≡ true → changed_in change place ≡ place
+    idle place kept = elim (cases_Bool (is_place change place)) [
+      | inl this ↦ absurd (both_ways (keeps ports p change.port change.base) unkept (sym (of_place keeps ports p change place this) ∙ kept))
+      | inr other ↦ rw other refl
+    ]
+
+kept_changes : (keeps : PlaceRule) (ports : List SubnetPort) (p : ℕ) (services : List PortServices) (change : ServiceChange)
+    → kept_by keeps ports p (services_changed services change) ≡ services_changed (kept_by keeps ports p services) change
+kept_changes keeps ports p services change =
+    filter_map_same (λ place. keeps ports p place.port place.base) (changed_in change) (kept_as_before keeps ports p change) services
+
+pub stays_alike : (keeps : PlaceRule) → StaysAlike (kept_by keeps)
+stays_alike keeps ports p s t change same =
+    kept_changes keeps ports p s change ∙ (ap (λ services. services_changed services change) same ∙ sym (kept_changes keeps ports p t change))
+
+-- ---- what a port that is far from p does to services is not shown to p, nor does it change those of the ports near p
 pub far_services : (ports : List SubnetPort) (p : ℕ) (services : List PortServices) (change : ServiceChange) → is_near ports p change.port ≡ false
     → services_seen ports p (services_changed services change) ≡ services_seen ports p services
-far_services ports p services change far =
-    filter_map_absorbs (is_shown ports p) (changed_in change) (changed_shown ports p change) (λ place shown. far_is_other ports p change place far shown) services
-
--- ---- those of the ports near p
-near_as_before : (ports : List SubnetPort) (p : ℕ) (change : ServiceChange) (place : PortServices)
-    → is_near ports p (changed_in change place).port ≡ is_near ports p place.port
-near_as_before ports p change place = elim (cases_Bool (is_place change place)) [
-  | inl this ↦ rw this refl
-  | inr other ↦ rw other refl
-]
-
-near_is_other : (ports : List SubnetPort) (p : ℕ) (change : ServiceChange) (place : PortServices) → is_near ports p change.port ≡ false
-    → is_near ports p place.port ≡ true → changed_in change place ≡ place
-near_is_other ports p change place far near = elim (cases_Bool (is_place change place)) [
-  | inl this ↦
-      let same : place.port ≡ change.port = eqb-true place.port change.port (and_parts (place.port == change.port) (place.base == change.base) this).0 in
-      absurd (both_ways (is_near ports p change.port) far (ap (is_near ports p) (sym same) ∙ near))
-  | inr other ↦ rw other refl
-]
+far_services ports p services change far = unkept_change shown_place ports p services change (elim (cases_Bool (shown_place ports p change.port change.base)) [
+  | inl shown ↦ absurd (both_ways (is_near ports p change.port) far (shown_is_near ports p (record { port = change.port; base = change.base; services = [] }) shown))
+  | inr hidden ↦ hidden
+])
 
 pub far_not_near : (ports : List SubnetPort) (p : ℕ) (services : List PortServices) (change : ServiceChange) → is_near ports p change.port ≡ false
     → services_near ports p (services_changed services change) ≡ services_near ports p services
-far_not_near ports p services change far =
-    filter_map_absorbs (λ place. is_near ports p place.port) (changed_in change) (near_as_before ports p change)
-    (λ place near. near_is_other ports p change place far near) services
+far_not_near ports p services change far = unkept_change near_place ports p services change far
 
 -- what is shown is told by them
 pub shown_of_near : (ports : List SubnetPort) (p : ℕ) (services : List PortServices)
@@ -99,21 +116,29 @@ pub shown_of_near : (ports : List SubnetPort) (p : ℕ) (services : List PortSer
 shown_of_near ports p services =
     filter_within (is_shown ports p) (λ place. is_near ports p place.port) (λ place shown. shown_is_near ports p place shown) services
 
-near_changes : (ports : List SubnetPort) (p : ℕ) (services : List PortServices) (change : ServiceChange)
-    → services_near ports p (services_changed services change) ≡ services_changed (services_near ports p services) change
-near_changes ports p services change =
-    filter_map_same (λ place. is_near ports p place.port) (changed_in change) (near_as_before ports p change) services
+-- a rule that keeps a port's own services, and with them all that it is shown: so do both of these
+pub record KeepsShown (keeps : PlaceRule) : Type 0 where
+  pub own : (ports : List SubnetPort) (p base : ℕ) → keeps ports p p base ≡ true
+  pub shown : (ports : List SubnetPort) (p : ℕ) (s t : List PortServices) → kept_by keeps ports p s ≡ kept_by keeps ports p t
+      → services_seen ports p s ≡ services_seen ports p t
 
-pub services_alike : (ports : List SubnetPort) (p : ℕ) (s t : List PortServices) (change : ServiceChange) → services_near ports p s ≡ services_near ports p t
-    → services_near ports p (services_changed s change) ≡ services_near ports p (services_changed t change)
-services_alike ports p s t change same =
-    near_changes ports p s change ∙ (ap (λ services. services_changed services change) same ∙ sym (near_changes ports p t change))
+pub shown_keeps_shown : KeepsShown shown_place
+shown_keeps_shown = record {
+  own = λ ports p base. or_left (p == p) (ports_share_base ports base p p) (eq-eqb p p refl);
+  shown = λ ports p s t same. same;
+}
+
+pub near_keeps_shown : KeepsShown near_place
+near_keeps_shown = record {
+  own = λ ports p base. or_left (p == p) (ports_share ports p p) (eq-eqb p p refl);
+  shown = λ ports p s t same. sym (shown_of_near ports p s) ∙ (ap (services_seen ports p) same ∙ shown_of_near ports p t);
+}
 
 after_alike : (ports : List SubnetPort) (p : ℕ) (changes : List ServiceChange) (s t : List PortServices) → services_near ports p s ≡ services_near ports p t
     → services_near ports p (services_after s changes) ≡ services_near ports p (services_after t (service_changes_near ports p changes))
 after_alike ports p [] s t same = same
 after_alike ports p (change ∷ changes) s t same = elim (cases_Bool (is_near ports p change.port)) [
-  | inl near ↦ rw near (after_alike ports p changes (services_changed s change) (services_changed t change) (services_alike ports p s t change same))
+  | inl near ↦ rw near (after_alike ports p changes (services_changed s change) (services_changed t change) (stays_alike near_place ports p s t change same))
   | inr far ↦ rw far (after_alike ports p changes (services_changed s change) t (far_not_near ports p s change far ∙ same))
 ]
 

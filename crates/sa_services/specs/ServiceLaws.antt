@@ -84,14 +84,22 @@ ShownServicesAreNear =
     (ports : List SubnetPort) (p : ℕ) (services : List PortServices)
     → services_seen ports p (services_near ports p services) ≡ services_seen ports p services
 
--- where these are the same before what any port does to services, they are the same after
-abbrev pub ServicesAreSeenAlike : Type 0
-ServicesAreSeenAlike =
+-- ---- and where p sees the same of services before what any port does to them, it sees the same after
+abbrev pub StaysAlike : ServiceSight → Type 0
+StaysAlike sight =
     (ports : List SubnetPort) (p : ℕ) (s t : List PortServices) (change : ServiceChange)
-    → services_near ports p s ≡ services_near ports p t
-    → services_near ports p (services_changed s change) ≡ services_near ports p (services_changed t change)
+    → sight ports p s ≡ sight ports p t
+    → sight ports p (services_changed s change) ≡ sight ports p (services_changed t change)
 
--- so whatever ports set and delete, they are what they would be after what the ports near p alone set and delete
+-- so it is with those that p is shown
+abbrev pub ServicesAreSeenAlike : Type 0
+ServicesAreSeenAlike = StaysAlike services_seen
+
+-- and with those of the ports near p
+abbrev pub NearServicesStayAlike : Type 0
+NearServicesStayAlike = StaysAlike services_near
+
+-- so whatever ports set and delete, these are what they would be after what the ports near p alone set and delete
 abbrev pub ServicesDependOnNear : Type 0
 ServicesDependOnNear =
     (ports : List SubnetPort) (p : ℕ) (services : List PortServices) (changes : List ServiceChange)

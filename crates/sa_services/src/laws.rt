@@ -2,7 +2,7 @@
 //! contract is the law.
 
 ghost use Rattle.sa_services.specs.KeyOrder.{KeysStandByBase};
-ghost use Rattle.sa_services.specs.ServiceLaws.{DeletedServicesAreGone, FarServicesAreNotNear, FarServicesAreNotSeen, NoServicesAreSound, PlacesStay, ServicesAreSeenAlike, ServicesDependOnNear, ServicesStaySound, SetServicesAreThere, ShownServicesAreNear};
+ghost use Rattle.sa_services.specs.ServiceLaws.{DeletedServicesAreGone, FarServicesAreNotNear, FarServicesAreNotSeen, NearServicesStayAlike, NoServicesAreSound, PlacesStay, ServicesAreSeenAlike, ServicesDependOnNear, ServicesStaySound, SetServicesAreThere, ShownServicesAreNear};
 
 /// A port's keys in the order of their bases are the same keys, and are in that order.
 pub fn keys_stand_by_base()
@@ -50,10 +50,15 @@ pub fn shown_services_are_near()
     ensures { ShownServicesAreNear }
 {}
 
-/// Where the services of the ports near a port are the same before a Set or a Delete of any port, they are the same
-/// after.
+/// Where a port is shown the same services before a Set or a Delete of any port, it is shown the same after.
 pub fn services_are_seen_alike()
     ensures { ServicesAreSeenAlike }
+{}
+
+/// Where the services of the ports near a port are the same before a Set or a Delete of any port, they are the same
+/// after.
+pub fn near_services_stay_alike()
+    ensures { NearServicesStayAlike }
 {}
 
 /// Whatever ports set and delete, the services of the ports near a port depend only on what these ports do.

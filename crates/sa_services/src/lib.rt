@@ -13,7 +13,8 @@ mod wrong_rules;
 pub use crate::examples::{how_many_services, who_deletes, who_sees_services};
 pub use crate::laws::{
     deleted_services_are_gone, far_services_are_not_near, far_services_are_not_seen,
-    keys_stand_by_base, no_services_are_sound, places_stay, services_are_seen_alike,
-    services_depend_on_near, services_stay_sound, set_services_are_there, shown_services_are_near,
+    keys_stand_by_base, near_services_stay_alike, no_services_are_sound, places_stay,
+    services_are_seen_alike, services_depend_on_near, services_stay_sound, set_services_are_there,
+    shown_services_are_near,
 };
 pub use crate::wrong_rules::services_of_partitions_tell;

@@ -132,7 +132,7 @@ fn digit_of(digit: u8) -> u8 {
 /// Each MAD is answered by these, in this order.
 pub fn talk(rt: &impl Abort, registry: &mut Registry, turns: &[Turn]) -> Result<(), Fail> {
     for (port, asked, answers) in turns {
-        let told = registry.answer_query(*port, &mad_of(*asked))?;
+        let told = registry.answer(*port, &mad_of(*asked))?;
         match told {
             Some(mads) => are_answers(rt, &mads, *answers),
             None => assert!(rt; false),

@@ -5,11 +5,15 @@
 #[cfg(test)]
 mod fixtures;
 #[cfg(test)]
+mod groups;
+#[cfg(test)]
 mod memory;
 #[cfg(test)]
 mod paths;
 #[cfg(test)]
 mod requests;
+#[cfg(test)]
+mod services;
 #[cfg(test)]
 mod speed;
 #[cfg(test)]

@@ -9,9 +9,9 @@ const ASKS: Parts = &[(0, "01030212 00000000 0000000000000007 0011")];
 
 fn answers(rt: &impl Abort, registry: &mut Registry) {
     let asks = mad_of(ASKS);
-    match registry.answer_query(H1, &asks) {
+    match registry.answer(H1, &asks) {
         Ok(told) => assert!(rt; told.is_some_and(|mads| mads.len() == 1)),
-        Err(_) => assert!(rt; registry.answer_query(H1, &asks).is_err()),
+        Err(_) => assert!(rt; registry.answer(H1, &asks).is_err()),
     }
 }
 

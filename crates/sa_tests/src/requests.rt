@@ -144,7 +144,7 @@ const ASKS: Parts = &[(0, "01030201 00000000 0000000000000001 0011")];
 
 /// A payload is not answered, and no table is.
 fn is_ignored(rt: &impl Abort, registry: &mut Registry, payload: &[u8]) -> Result<(), Fail> {
-    let told = registry.answer_query(H1, payload)?;
+    let told = registry.answer(H1, payload)?;
     assert!(rt; told.is_some_and(|mads| mads.is_empty()));
     Ok(())
 }
@@ -155,18 +155,4 @@ fn a_payload_of_255_bytes_is_no_mad(rt: HostRuntime) -> Result<(), Fail> {
     let mad = mad_of(ASKS);
     is_ignored(&rt, &mut registry, mad.get(..255).unwrap_or(&[]))?;
     is_ignored(&rt, &mut registry, &[])
-}
-
-const SERVICES: Parts = &[(0, "01030201 00000000 0000000000000001 0031")];
-
-const GROUPS: Parts = &[(0, "01030201 00000000 0000000000000001 0038")];
-
-#[test]
-fn groups_and_services_are_left(rt: HostRuntime) -> Result<(), Fail> {
-    let mut registry = registry(&rt, rt.alloc(), ONE_PARTITION);
-    let services = registry.answer_query(H1, &mad_of(SERVICES))?;
-    assert!(rt; services.is_none());
-    let groups = registry.answer_query(H1, &mad_of(GROUPS))?;
-    assert!(rt; groups.is_none());
-    Ok(())
 }

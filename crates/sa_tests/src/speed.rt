@@ -3,7 +3,7 @@
 use crate::fixtures::{Parts, mad_of};
 use fabric_parts::NodeType;
 use mad_layout::Mad;
-use partition_file::{Members, members};
+use partition_file::{Members, Partitions, members};
 use pkey_rules::EndPort;
 use sa_answer::{NodePort, Registry, are_configured};
 use std::alloc::Global;
@@ -23,7 +23,41 @@ const PATH: Parts = &[
 
 const NODE: Parts = &[(0, "01030201 00000000 0000000000000001 0011")];
 
+// The group of the last partition, by its MGID, by its MGID and P_Key, and by its MLID.
+const BY_MGID: Parts = &[
+    (0, "01030201 00000000 0000000000000001 0038"),
+    (48, "0000000000000001 ff12401b801f000000000000ffffffff"),
+];
+
+const BY_MGID_AND_P_KEY: Parts = &[
+    (0, "01030201 00000000 0000000000000001 0038"),
+    (48, "0000000000000081 ff12401b801f000000000000ffffffff"),
+    (96, "801f"),
+];
+
+const BY_MLID: Parts = &[
+    (0, "01030201 00000000 0000000000000001 0038"),
+    (48, "0000000000000008"),
+    (92, "c3e0"),
+];
+
 const NODES: Parts = &[(0, "01030212 00000000 0000000000000001 0011")];
+
+// A service with all its components, but for its ServiceID and the GUID in its ServiceGID; a service of LID 200, by its
+// ServiceID.
+const SERVICE: Parts = &[
+    (0, "01030202 00000000 0000000000000001 0031"),
+    (48, "0000001fffffffff"),
+    (64, "fe80000000000000 0000000000000000 ffff 0000 0000003c"),
+    (104, "646273"),
+    (168, "0102030405060708 090a0b0c0d0e0f10"),
+    (224, "0123456789abcdef"),
+];
+
+const SERVICE_BY_ID: Parts = &[
+    (0, "01030201 00000000 0000000000000001 0031"),
+    (48, "0000000000000001 000000000000c807"),
+];
 
 const ACK: Parts = &[(
     0,
@@ -58,8 +92,7 @@ fn ports(alloc: Global) -> Option<Vec<NodePort>> {
     Some(ports)
 }
 
-fn members_of(alloc: Global, ports: &[NodePort]) -> Option<Members> {
-    let partitions = partition_file::no_file(alloc).ok()?;
+fn members_of(alloc: Global, partitions: &Partitions, ports: &[NodePort]) -> Option<Members> {
     let mut end_ports = Vec::new(alloc);
     for port in ports {
         let end_port = EndPort {
@@ -69,28 +102,67 @@ fn members_of(alloc: Global, ports: &[NodePort]) -> Option<Members> {
         };
         end_ports.push(end_port).ok()?;
     }
-    members(alloc, &partitions, &end_ports).ok()
+    members(alloc, partitions, &end_ports).ok()
 }
 
-fn made(rt: &impl Abort, alloc: Global) -> Option<Registry> {
+fn made(rt: &impl Abort, alloc: Global, partitions: &Partitions) -> Option<Registry> {
     let ports = ports(alloc)?;
-    let members = members_of(alloc, &ports)?;
+    let members = members_of(alloc, partitions, &ports)?;
     assert!(rt; members.keys().len() == ports.len());
     assert!(rt; are_configured(&ports, &members));
     Registry::new(alloc, &ports, &members).ok()
 }
 
 fn fat_tree(rt: &impl Abort, alloc: Global) -> Registry {
-    made(rt, alloc).expect(rt, "there is memory")
+    let partitions = partition_file::no_file(alloc).expect(rt, "there is memory");
+    made(rt, alloc, &partitions).expect(rt, "there is memory")
+}
+
+/// Each port is in all of the 32 partitions, 31 of which have a broadcast group.
+fn with_groups(rt: &impl Abort, alloc: Global) -> Result<Registry, Fail> {
+    let mut file = String::new(alloc);
+    for base in 1..32u16 {
+        let line = format!(in alloc; "P={base}, ipoib: ALL=full;\n")?;
+        file.push_str(&line)?;
+    }
+    let partitions = partition_file::read(alloc, file.as_bytes()).expect(
+        rt,
+        "it is a partition file",
+    );
+    Ok(made(rt, alloc, &partitions).expect(rt, "there is memory"))
 }
 
 /// The port of LID 5 sends a MAD so often; it is answered each time.
 fn asked(rt: &impl Abort, registry: &mut Registry, mad: &Mad, times: usize) -> Result<(), Fail> {
+    asked_by(rt, registry, 5, mad, times)
+}
+
+/// The port of a LID does.
+fn asked_by(
+    rt: &impl Abort,
+    registry: &mut Registry,
+    lid: u16,
+    mad: &Mad,
+    times: usize,
+) -> Result<(), Fail> {
     for _time in 0..times {
-        let told = registry.answer_query(guid_of(5), mad)?;
+        let told = registry.answer(guid_of(lid), mad)?;
         assert!(rt; told.is_some_and(|mads| mads.len() == 1));
     }
     Ok(())
+}
+
+/// The Set of a service of this number by the port of a LID.
+fn set_of(lid: u16, number: u8) -> Mad {
+    let mut mad = mad_of(SERVICE);
+    let lid_bytes = lid.to_be_bytes();
+    let guid_bytes = guid_of(lid).to_be_bytes();
+    mad[61] = lid_bytes[0];
+    mad[62] = lid_bytes[1];
+    mad[63] = number;
+    mad[78] = guid_bytes[6];
+    mad[79] = guid_bytes[7];
+    mad
 }
 
 #[test]
@@ -110,6 +182,30 @@ fn a_path_is_got_1000_times(rt: HostRuntime) -> Result<(), Fail> {
 fn a_node_is_got_1000_times(rt: HostRuntime) -> Result<(), Fail> {
     let mut registry = fat_tree(&rt, rt.alloc());
     asked(&rt, &mut registry, &mad_of(NODE), 1000)
+}
+
+#[test]
+fn a_subnet_with_groups_is_made(rt: HostRuntime) -> Result<(), Fail> {
+    let mut registry = with_groups(&rt, rt.alloc())?;
+    asked(&rt, &mut registry, &mad_of(BY_MGID), 0)
+}
+
+#[test]
+fn a_group_is_got_by_mgid_1000_times(rt: HostRuntime) -> Result<(), Fail> {
+    let mut registry = with_groups(&rt, rt.alloc())?;
+    asked(&rt, &mut registry, &mad_of(BY_MGID), 1000)
+}
+
+#[test]
+fn a_group_is_got_by_mgid_and_p_key_1000_times(rt: HostRuntime) -> Result<(), Fail> {
+    let mut registry = with_groups(&rt, rt.alloc())?;
+    asked(&rt, &mut registry, &mad_of(BY_MGID_AND_P_KEY), 1000)
+}
+
+#[test]
+fn a_group_is_got_by_mlid_1000_times(rt: HostRuntime) -> Result<(), Fail> {
+    let mut registry = with_groups(&rt, rt.alloc())?;
+    asked(&rt, &mut registry, &mad_of(BY_MLID), 1000)
 }
 
 /// All 320 nodes, with each ACK of the 180 segments.
@@ -133,7 +229,37 @@ fn are_acknowledged(rt: &impl Abort, registry: &mut Registry) -> Result<(), Fail
     }
     ack[31] = 180;
     ack[35] = 180;
-    let told = registry.answer_query(guid_of(5), &ack)?;
+    let told = registry.answer(guid_of(5), &ack)?;
     assert!(rt; told.is_some_and(|mads| mads.is_empty()));
     Ok(())
+}
+
+/// Each of the 256 adapters offers 16 services; a ServiceID belongs to one of them.
+fn with_services(rt: &impl Abort, alloc: Global) -> Result<Registry, Fail> {
+    let mut registry = fat_tree(rt, alloc);
+    for lid in 1..257u16 {
+        for number in 0..16u8 {
+            asked_by(rt, &mut registry, lid, &set_of(lid, number), 1)?;
+        }
+    }
+    Ok(registry)
+}
+
+#[test]
+fn each_adapter_sets_16_services(rt: HostRuntime) -> Result<(), Fail> {
+    let mut registry = with_services(&rt, rt.alloc())?;
+    asked(&rt, &mut registry, &mad_of(SERVICE_BY_ID), 0)
+}
+
+/// The last of its port, again and again.
+#[test]
+fn a_service_is_set_1000_times(rt: HostRuntime) -> Result<(), Fail> {
+    let mut registry = with_services(&rt, rt.alloc())?;
+    asked(&rt, &mut registry, &set_of(5, 15), 1000)
+}
+
+#[test]
+fn a_service_is_got_1000_times(rt: HostRuntime) -> Result<(), Fail> {
+    let mut registry = with_services(&rt, rt.alloc())?;
+    asked(&rt, &mut registry, &mad_of(SERVICE_BY_ID), 1000)
 }

@@ -27,7 +27,7 @@ pub sweepable : (plan : TopologyState) → IsSound plan → IsSweepable (fabric_
 sweepable plan sound = record { good = good plan sound; links = links plan; joined = joined plan sound }
 
 pub laid_out : (over : FabricState) (graph : GraphState) → IsFound over graph → IsLaidOut over graph
-laid_out over graph found = record { layout = found.of.layout; joined = found.joined; near = found.near }
+laid_out over graph found = record { layout = found.of.layout; joined = found.joined; near = found.near; small = found.small }
 
 -- of a sweep's faults two may come
 pub unswept : (over : FabricState) (fault : SweepFault) → Fails over fault → (roots : List ℕ) → IsNotSetUp over roots (of_sweep fault)

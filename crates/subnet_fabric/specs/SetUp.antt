@@ -30,17 +30,19 @@ abbrev pub are_switches : FabricState → List ℕ → Bool
 are_switches fabric roots = list_all (has_switch fabric.nodes) roots
 
 -- ---- how it comes about
--- the layout of the fabric, each cable of which an SMP goes over: links join its switches
+-- the layout of the fabric, each cable of which an SMP goes over, and which is not too big: links join its switches
 pub record IsLaidOut (fabric : FabricState) (graph : GraphState) : Type 0 where
   pub layout : IsLayoutOf graph fabric
   pub joined : AllJoined graph.rows
   pub near : IsTooFar fabric → ⊥
+  pub small : IsTooBig fabric → ⊥
 
 -- and its graph, whose paths lead to its switches
 pub record IsFound (fabric : FabricState) (graph : GraphState) : Type 0 where
   pub of : IsGraphOf graph fabric
   pub joined : AllJoined graph.rows
   pub near : IsTooFar fabric → ⊥
+  pub small : IsTooBig fabric → ⊥
 
 -- LIDs as they are assigned
 pub record AreAssigned (graph : GraphState) (guids : List ℕ) : Type 0 where

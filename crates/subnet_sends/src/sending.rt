@@ -100,6 +100,7 @@ fn received(
     from: PortRef,
     packet: &Packet,
 ) -> Result<Vec<Event>, AllocError>
+    requires { is_some (adapter_at fabric.now.nodes from) ≡ true }
     ensures { IfOk result (λ events. (port_guid : ℕ) → guid_at fabric.now.nodes from ≡ Some port_guid
         → AreReceived fabric.now port_guid packet.now events.items) }
 {

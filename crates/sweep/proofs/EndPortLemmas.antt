@@ -109,11 +109,11 @@ switch_held fabric one switch = switch_by fabric one (slice_get fabric.nodes one
 abbrev shown : FabricState → PortRef → PortRef → Seen → GraphPort
 shown fabric at there seen = port_seen at (unwrap_or (name_at fabric there) []) seen
 
-record AdapterAt (fabric : FabricState) (there : PortRef) : Type 0 where
-  ports : List AdapterState
-  one : AdapterState
-  node : slice_get fabric.nodes there.node ≡ Some (Adapter ports)
-  held : adapter_port ports there.port ≡ Some one
+pub record AdapterAt (fabric : FabricState) (there : PortRef) : Type 0 where
+  pub ports : List AdapterState
+  pub one : AdapterState
+  pub node : slice_get fabric.nodes there.node ≡ Some (Adapter ports)
+  pub held : adapter_port ports there.port ≡ Some one
 
 seen_is : (fabric : FabricState) (there : PortRef) (is : AdapterAt fabric there) → seen_at fabric there ≡ Some (seen_of is.ports there.port is.one)
 seen_is fabric there is = rw (is.node, is.held) refl
@@ -249,11 +249,17 @@ to_switch fabric at back good adapter far =
         let three = and_parts (not (cable.first.node == cable.second.node)) _ two.1 in
         (three.1, turned (is_switch_at fabric.nodes cable.first.node) _ three.1)
 
-port_has : (fabric : FabricState) (found : List Found) (at : PortRef) (end : FabricPort) → IsGood fabric
+-- where the port of an adapter hangs: the place of the switch at the other end of its cable, and that switch's port
+pub record HangsAt (fabric : FabricState) (found : List Found) (at : PortRef) (there : AdapterAt fabric at) : Type 0 where
+  pub place : ℕ
+  pub number : ℕ
+  pub home : far_end fabric.cables (port (node_at found place) number) ≡ Some at
+  pub among : Contains (all_ports fabric found) (shown fabric (port place number) at (seen_of there.ports at.port there.one))
+
+pub hangs : (fabric : FabricState) (found : List Found) (at : PortRef) → IsGood fabric
     → ((node : ℕ) → is_among (nodes_of found) node ≡ is_switch_at fabric.nodes node) → is_switch_at fabric.nodes at.node ≡ false
-    → is_end_port_of fabric at ≡ true → is_cabled fabric.cables at ≡ true → end_port_in fabric at ≡ Some end → AdapterAt fabric at
-    → Contains (map end_of_adapter (all_ports fabric found)) end
-port_has fabric found at end good all adapter is_end cabled is there =
+    → is_cabled fabric.cables at ≡ true → (there : AdapterAt fabric at) → HangsAt fabric found at there
+hangs fabric found at good all adapter cabled there =
     let far = far_of fabric.cables at cabled in
     let back = far.0 in
     let home : far_end fabric.cables (port back.node back.port) ≡ Some at = good_once fabric at back good far.1 in
@@ -263,18 +269,32 @@ port_has fabric found at end good all adapter is_end cabled is there =
     let node : node_at found place.0 ≡ back.node = node_of found place.0 one.0 one.1 ∙ one.2 in
     let seen = seen_of there.ports at.port there.one in
     let met = shown fabric (port place.0 back.port) at seen in
-    let same : end_of_adapter met ≡ end = same_Some _ end (sym (end_is fabric (port place.0 back.port) at there good is_end) ∙ is) in
+    let home_of : far_end fabric.cables (port (node_at found place.0) back.port) ≡ Some at =
+    ap (λ (n : ℕ). far_end fabric.cables (port n back.port)) node ∙ home in
     let here : Contains (option_map_or (port_to fabric (port place.0 back.port)) (far_end fabric.cables (port (node_at found place.0) back.port)) []) met =
-    subst (λ (n : ℕ). Contains (option_map_or (port_to fabric (port place.0 back.port)) (far_end fabric.cables (port n back.port)) []) met) (sym node)
-    (subst (λ (o : Option PortRef). Contains (option_map_or (port_to fabric (port place.0 back.port)) o []) met) (sym home)
+    subst (λ (o : Option PortRef). Contains (option_map_or (port_to fabric (port place.0 back.port)) o []) met) (sym home_of)
     (subst (λ (some : List GraphPort). Contains some met) (sym (port_is fabric (port place.0 back.port) at seen adapter (seen_is fabric at there)))
-    (there_is (met ∷ []) 0 met refl))) in
-    let among : Contains (all_ports fabric found) met =
-    in_all (λ place. ports_up_to fabric place (node_at found place) (ports_at fabric (node_at found place))) 0 (length found) place.0 met (omega arith)
-    (omega (arith, slice_get_within found place.0 one.0 one.1))
-    (in_all (λ number. option_map_or (port_to fabric (port place.0 number)) (far_end fabric.cables (port (node_at found place.0) number)) [])
-    1 (ports_at fabric (node_at found place.0)) back.port met range.0 (rw node (omega (arith, range.1))) here) in
-    let stood = stands (all_ports fabric found) met among in
+    (there_is (met ∷ []) 0 met refl)) in
+    record {
+      place = place.0;
+      number = back.port;
+      home = home_of;
+      among = in_all (λ place. ports_up_to fabric place (node_at found place) (ports_at fabric (node_at found place))) 0 (length found) place.0 met (omega arith)
+          (omega (arith, slice_get_within found place.0 one.0 one.1))
+          (in_all (λ number. option_map_or (port_to fabric (port place.0 number)) (far_end fabric.cables (port (node_at found place.0) number)) [])
+          1 (ports_at fabric (node_at found place.0)) back.port met range.0 (rw node (omega (arith, range.1))) here);
+    }
+
+port_has : (fabric : FabricState) (found : List Found) (at : PortRef) (end : FabricPort) → IsGood fabric
+    → ((node : ℕ) → is_among (nodes_of found) node ≡ is_switch_at fabric.nodes node) → is_switch_at fabric.nodes at.node ≡ false
+    → is_end_port_of fabric at ≡ true → is_cabled fabric.cables at ≡ true → end_port_in fabric at ≡ Some end → AdapterAt fabric at
+    → Contains (map end_of_adapter (all_ports fabric found)) end
+port_has fabric found at end good all adapter is_end cabled is there =
+    let at_switch = hangs fabric found at good all adapter cabled there in
+    let here = port at_switch.place at_switch.number in
+    let met = shown fabric here at (seen_of there.ports at.port there.one) in
+    let same : end_of_adapter met ≡ end = same_Some _ end (sym (end_is fabric here at there good is_end) ∙ is) in
+    let stood = stands (all_ports fabric found) met at_switch.among in
     subst (Contains (map end_of_adapter (all_ports fabric found))) same (makes end_of_adapter (all_ports fabric found) stood.0 met stood.1)
 
 -- ---- both

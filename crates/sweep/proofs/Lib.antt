@@ -21,4 +21,5 @@ pub mod NearLemmas
 pub mod GuidLemmas
 pub mod AdapterLemmas
 pub mod EndPortLemmas
+pub mod SmallLemmas
 pub mod JoinedLemmas

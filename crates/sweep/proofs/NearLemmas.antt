@@ -28,6 +28,7 @@ use Rattle.sweep.specs.declared.path.TheConstants.{PATH_HOPS}
 use Rattle.sweep.proofs.EndedLemmas.{each_found, graph_is}
 use Rattle.sweep.proofs.FoundLemmas.{among_place}
 use Rattle.sweep.proofs.LeastLemmas.{in_range}
+use Rattle.sweep.proofs.SmallLemmas.{not_too_big}
 use Rattle.sweep.proofs.WholeLemmas.{graph_is_whole, rows_joined}
 use Rattle.smp_wire.proofs.PresentLemmas.{present_once, present_right}
 
@@ -142,10 +143,13 @@ each_near fabric found survey sweepable progress far =
 pub finds : (fabric : FabricState) (found : List Found) (survey : SurveyState) (manager : ℕ) (graph : GraphState) → IsSweepable fabric
     → option_map (λ seen. seen.port_guid) (seen_at fabric fabric.manager) ≡ Some manager → IsAllAsked fabric found survey
     → graph ≡ graph_with manager survey.switches survey.rows survey.ports → IsFoundWhole fabric graph
-finds fabric found survey manager graph sweepable is all same = rw same (record {
-  graph_is = graph_is fabric found survey manager sweepable is all;
-  near = λ far. each_near fabric (found ++ all.more) survey sweepable all.progress far;
-})
+finds fabric found survey manager graph sweepable is all same =
+    let of = graph_is fabric found survey manager sweepable is all in
+    rw same (record {
+      graph_is = of;
+      near = λ far. each_near fabric (found ++ all.more) survey sweepable all.progress far;
+      small = λ big. not_too_big fabric _ sweepable.good (graph_is_whole fabric found survey manager sweepable is all) of.layout big;
+    })
 
 -- replies never contradict one another
 pub no_contradiction : (fabric : FabricState) (found : List Found) (survey : SurveyState) (manager : ℕ) (fault : SweepFault) → IsSweepable fabric

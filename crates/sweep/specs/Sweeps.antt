@@ -88,10 +88,12 @@ pub record IsAllAsked (fabric : FabricState) (found : List Found) (survey : Surv
   pub more : List Found
   pub progress : IsProgress fabric (found ++ more) (length (found ++ more)) 0 survey []
 
--- ---- the whole sweep: the graph of the fabric, each cable of which has an end that an SMP comes to
+-- ---- the whole sweep: the graph of the fabric, each cable of which has an end that an SMP comes to, and which is not too
+-- big for a graph
 pub record IsFoundWhole (fabric : FabricState) (graph : GraphState) : Type 0 where
   pub graph_is : IsGraphOf graph fabric
   pub near : IsTooFar fabric → ⊥
+  pub small : IsTooBig fabric → ⊥
 
 abbrev pub Finds : FabricState → Result GraphState SweepFault → Type 0
 Finds fabric = Comes fabric (IsFoundWhole fabric)

@@ -13,7 +13,7 @@ returns c = λ most own.
     let asked = c.args.asked.now in
     let guid = c.in-Some.guid in
     let is : guid_in asked.dgid ≡ Some guid = sym c.in-Some.ensures in
-    ap (λ (ports : List SubnetPort). flat_map (few_paths most mask asked own) ports) c.of_guid.ensures
+    ap (λ (ports : List SubnetPort). flat_map (few_paths most mask asked own) ports) c.of_guid.ensures.ports
     ∙ flat_of_some (few_paths most mask asked own) (λ (port : SubnetPort). port.guid == guid)
     (λ port other. guid_out most mask asked own port guid (sym c.asks.ensures ∙ c.if-asks.true) is other) c.args.self.now.configuration.ports
 

@@ -1,15 +1,13 @@
-use Rattle.std.proofs.Common.{◌≡◌, None, filter, map, subst, refl, ◌∙◌, ap}
+use Rattle.std.proofs.Common.{◌≡◌, filter, map, refl, ◌∙◌, ap}
 use Rattle.std.specs.List.{flat_map}
 use Rattle.sa_answer.specs.Asked.{is_told}
 use Rattle.sa_answer.specs.Kept.{ports_of}
 use Rattle.sa_answer.specs.Replying.{node_bytes}
-use Rattle.subnet_model.specs.Configured.{IsConfigured}
 use Rattle.sa_records.specs.SaRecord.{record_bytes}
-use Rattle.sa_queries.specs.Selected.{Query, nodes_selected}
+use Rattle.sa_queries.specs.Selected.{nodes_selected}
 use Rattle.sa_queries.specs.Shown.{node_entry}
 use Rattle.sa_queries.specs.Visible.{visible_nodes}
-use Rattle.sa_answer.specs.Registry.{RegistryState}
-use Rattle.sa_answer.proofs.BroughtLemmas.{nodes_shown, selected_low}
+use Rattle.sa_answer.proofs.BroughtLemmas.{nodes_shown}
 use Rattle.sa_answer.proofs.registry.Registry.nodes.Goals as goal
 
 pushed_is : (c : goal.In_ok-push_nodes) → c.push_nodes.new.bytes.items
@@ -22,10 +20,5 @@ pushed_is c =
     rw (c.new-bytes.ensures.items, c.port.ensures) at c.in_ok-push_nodes.ensures in
     pushed ∙ ap (flat_map node_bytes) (c.nodes_asked-nodes.ensures own) ∙ nodes_shown c.args.self.now.configuration.ports own mask asked
 
-pub returns-clause-brings : goal.returns-clause-brings
-returns-clause-brings c = (refl, pushed_is c)
-
-pub returns-clause-told : goal.returns-clause-told
-returns-clause-told c = λ listed.
-    let configured = subst (λ (s : RegistryState). IsConfigured s.configuration) c.self.view_is c.self.invariant.configured in
-    selected_low None c.args.self.now.configuration c.args.own.now.port (Query.for_nodes c.args.mask c.args.asked.now) c.push_nodes.new.bytes.items configured listed (pushed_is c)
+pub returns : goal.returns
+returns c = (refl, pushed_is c)

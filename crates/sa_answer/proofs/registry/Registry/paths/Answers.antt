@@ -1,13 +1,10 @@
-use Rattle.std.proofs.Common.{◌≡◌, None, subst, sym, ◌∙◌, ap}
+use Rattle.std.proofs.Common.{◌≡◌, None, sym, ◌∙◌, ap}
 use Rattle.std.specs.List.{flat_map}
 use Rattle.sa_queries.specs.Refusals.{refusal}
 use Rattle.sa_queries.specs.Selected.{Query, few_paths, paths_wanted}
 use Rattle.sa_answer.specs.Kept.{ports_of}
 use Rattle.sa_answer.specs.Replying.{path_bytes}
-use Rattle.subnet_model.specs.Configured.{IsConfigured}
-use Rattle.sa_queries.specs.Shown.{path_entry}
-use Rattle.sa_answer.specs.Registry.{RegistryState}
-use Rattle.sa_answer.proofs.BroughtLemmas.{bytes_of_shown, paths_brought, selected_low}
+use Rattle.sa_answer.proofs.BroughtLemmas.{paths_brought}
 use Rattle.sa_answer.proofs.registry.Registry.paths.Goals as goal
 
 pushed_is : (c : goal.In_ok-push_paths) → c.push_paths.new.bytes.items
@@ -20,18 +17,10 @@ pushed_is c =
     rw c.new-bytes.ensures.items at c.in_ok-push_paths.ensures in
     pushed ∙ ap (flat_map path_bytes) (c.destinations_asked-others.ensures (paths_wanted (Query.for_paths mask asked)) own)
 
-pub returns-clause-brings : goal.returns-clause-brings
-returns-clause-brings c =
+pub returns : goal.returns
+returns c =
     let own = c.args.own.now.port in
     let mask = c.args.mask in
     let asked = c.args.asked.now in
     let none : refusal own (Query.for_paths mask asked) ≡ None = rw c.port.ensures at (sym c.in_default.ensures) in
     paths_brought c.args.self.now.configuration.ports own c.args.self.now.administration.remembered mask asked c.push_paths.new.bytes none (pushed_is c)
-
-pub returns-clause-told : goal.returns-clause-told
-returns-clause-told c = λ listed.
-    let own = c.args.own.now.port in
-    let query = Query.for_paths c.args.mask c.args.asked.now in
-    let configured = subst (λ (s : RegistryState). IsConfigured s.configuration) c.self.view_is c.self.invariant.configured in
-    selected_low (paths_wanted query) c.args.self.now.configuration own query c.push_paths.new.bytes.items configured listed
-    (pushed_is c ∙ sym (bytes_of_shown path_entry (flat_map (few_paths (paths_wanted query) c.args.mask c.args.asked.now own) c.args.self.now.configuration.ports)))

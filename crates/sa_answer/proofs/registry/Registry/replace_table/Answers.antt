@@ -19,7 +19,7 @@ then_there c = c.replace_table.ensures.next ∙ ap (λ (one : KeptPort). with_op
 pub invariant_of-self : goal.invariant_of-self
 invariant_of-self c =
     let kept = c.self.inside.kept.items in
-    rw (then_there c) (stays_registry c.args.table kept c.args.place c.index_mut.result.now c.self.inside.headings.items _ (at_place c).within c.self.invariant)
+    rw (then_there c) (stays_registry c.args.table kept c.args.place c.index_mut.result.now c.self.inside.headings.items c.self.inside.partitions.items _ (at_place c).within c.self.invariant)
 
 pub returns-clause-was : goal.returns-clause-was
 returns-clause-was c =

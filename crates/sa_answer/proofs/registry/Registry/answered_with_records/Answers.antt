@@ -1,11 +1,15 @@
-use Rattle.std.proofs.Common.{◌≡◌, ℕ, List, Some, sym, ◌∙◌, ap}
+use Rattle.std.proofs.Common.{◌≡◌, ℕ, List, Some, Ok, sym, subst, ◌∙◌, ap}
+use Rattle.subnet_model.specs.Configured.{IsConfigured}
+use Rattle.sa_replies.specs.State.{IsRememberedOf}
+use Rattle.sa_answer.specs.Registry.{RegistryState}
+use Rattle.sa_answer.specs.declared.outcome.Success.TheVariants.{Table}
 use Rattle.subnet_model.specs.Delivery.{port_with_guid}
 use Rattle.subnet_model.specs.declared.subnet_port.SubnetPort.{SubnetPort}
 use Rattle.sa_replies.specs.Answer.{outcome}
 use Rattle.sa_answer.specs.Answering.{IsListed}
 use Rattle.sa_answer.specs.Kept.{KeptPort}
-use Rattle.sa_answer.proofs.AnswerLemmas.{guid_of_found, refused_answers, refused_is, replied_answers, replied_is, tabled_answers, tabled_is}
-use Rattle.sa_answer.proofs.registry.Registry.answered_with.Goals as goal
+use Rattle.sa_answer.proofs.AnswerLemmas.{guid_of_found, refused_answers, refused_is, replied_answers, replied_is, tabled_answers, tabled_is, told_of}
+use Rattle.sa_answer.proofs.registry.Registry.answered_with_records.Goals as goal
 
 -- what is kept there is kept for the port
 same_port : (kept : KeptPort) (ports : List SubnetPort) (guid : ℕ) (own : SubnetPort) → Some kept.port ≡ port_with_guid ports guid
@@ -18,15 +22,20 @@ listed_port kept ports guid here =
 
 pub open-requires : goal.open-requires
 open-requires c =
-    let listed = listed_port c.kept_at.result.now c.args.self.now.configuration.ports c.args.port c.kept_at.ensures in
-    let told = rw (c.in-Ok-Table.is, c.in-Ok-Table.field-0-is) at (c.in_ok-status.ensures.told listed) in
-    rw c.deref.ensures.value told
+    let state = c.args.self.now in
+    let own = c.kept_at.result.now.port in
+    let listed = listed_port c.kept_at.result.now state.configuration.ports c.args.port c.kept_at.ensures in
+    let configured = subst (λ (s : RegistryState). IsConfigured s.configuration) c.self.view_is c.self.invariant.configured in
+    let remembered = subst (λ (s : RegistryState). IsRememberedOf s.configuration s.administration.remembered) c.self.view_is c.self.invariant.remembered in
+    let brings = rw (c.in-Ok-Table.is, c.in-Ok-Table.field-0-is) at (c.in_ok-status.ensures listed) in
+    rw c.deref.ensures.value
+    (told_of state.configuration own state.administration.remembered c.args.request.now (Ok (Table c.in-Ok-Table.spacing c.in-Ok-Table.bytes)) configured listed remembered brings)
 
 pub returns-in_ok-mads-in-Err-clause-answers : goal.returns-in_ok-mads-in-Err-clause-answers
 returns-in_ok-mads-in-Err-clause-answers c = λ own found.
     let state = c.args.self.now in
     let same = same_port c.kept_at.result.now state.configuration.ports c.args.port own c.kept_at.ensures found in
-    let brings = rw (same, c.in-Err.is) at c.in_ok-status.ensures.brings in
+    let brings = rw (same, c.in-Err.is) at (c.in_ok-status.ensures (listed_port c.kept_at.result.now state.configuration.ports c.args.port c.kept_at.ensures)) in
     let brought = refused_is state.administration.remembered (outcome state.configuration.ports own state.administration.remembered c.args.request.now) c.in-Err.status brings in
     refused_answers own c.args.request.now state _ _ c.in-Err.status brought (rw c.refusal_reply.ensures at c.in_ok-mads-in-Err.ensures)
 
@@ -34,7 +43,7 @@ pub returns-in_ok-mads-in-Ok-Reply-clause-answers : goal.returns-in_ok-mads-in-O
 returns-in_ok-mads-in-Ok-Reply-clause-answers c = λ own found.
     let state = c.args.self.now in
     let same = same_port c.kept_at.result.now state.configuration.ports c.args.port own c.kept_at.ensures found in
-    let brings = rw (same, c.in-Ok-Reply.is, c.in-Ok-Reply.field-0-is) at c.in_ok-status.ensures.brings in
+    let brings = rw (same, c.in-Ok-Reply.is, c.in-Ok-Reply.field-0-is) at (c.in_ok-status.ensures (listed_port c.kept_at.result.now state.configuration.ports c.args.port c.kept_at.ensures)) in
     let replied = replied_is state.administration.remembered (outcome state.configuration.ports own state.administration.remembered c.args.request.now) c.in-Ok-Reply.data brings in
     replied_answers own c.args.request.now state _ _ c.in-Ok-Reply.data replied (rw c.reply.ensures at c.in_ok-mads-in-Ok-Reply.ensures)
 
@@ -42,7 +51,7 @@ pub returns-in_ok-mads-in-Ok-Table-clause-answers : goal.returns-in_ok-mads-in-O
 returns-in_ok-mads-in-Ok-Table-clause-answers c = λ own found.
     let state = c.args.self.now in
     let same = same_port c.kept_at.result.now state.configuration.ports c.args.port own c.kept_at.ensures found in
-    let brings = rw (same, c.in-Ok-Table.is, c.in-Ok-Table.field-0-is) at c.in_ok-status.ensures.brings in
+    let brings = rw (same, c.in-Ok-Table.is, c.in-Ok-Table.field-0-is) at (c.in_ok-status.ensures (listed_port c.kept_at.result.now state.configuration.ports c.args.port c.kept_at.ensures)) in
     let brought = tabled_is state.administration.remembered (outcome state.configuration.ports own state.administration.remembered c.args.request.now) c.in-Ok-Table.spacing c.in-Ok-Table.bytes brings in
     let sender = rw (c.table_header.ensures, c.deref.ensures.value) at c.in_ok-sender-in-Ok-Table.ensures in
     let told = rw (c.segment.ensures.bytes, sender) at c.in_ok-mads-in-Ok-Table.ensures in

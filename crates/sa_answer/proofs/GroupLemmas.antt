@@ -1,0 +1,270 @@
+-- Groups of partitions, as they are gone through: what is passed over does not agree, and what a slot more brings.
+use Rattle.std.proofs.Common.{◌≡◌, ℕ, ◌+◌, ◌^◌, ◌<◌, ◌≤◌, ◌==◌, Bool, true, false, not, ◌&&◌, ◌||◌, bit_and, nat_le, nat_lt, List, [], ◌∷◌, ◌++◌, length, map, take, drop, get_or, Option, Some, None, Result, Ok, Vec, Global}
+use Rattle.std.proofs.Common.{refl, sym, ◌∙◌, ap, inl, inr, arith, append-nil, append_assoc}
+use Rattle.std.specs.List.{flat_map, list_all}
+use Rattle.std.proofs.lemmas.Bool.{and_parts, cases_Bool, false≢true, le-leb, lt-ltb, ltb-true, ne_eqb}
+use Rattle.std.proofs.lemmas.List.{length-append, length-take-le, map-append, take-append-drop, take_more}
+use Rattle.std.proofs.lemmas.List.Concat.{flat_map-append}
+use Rattle.std.proofs.lemmas.List.Elements.{filter-append}
+use Rattle.std.proofs.lemmas.List.Folds.{list_all-map, list_all_at}
+use Rattle.partition_file.specs.Members.{AreSoundHeadings}
+use Rattle.partition_file.specs.declared.heading.Heading.{Heading}
+use Rattle.pkey_rules.specs.PKey.{is_base, key_of}
+use Rattle.pkey_rules.specs.KeyTable.{same_base}
+use Rattle.sa_records.specs.Component.{on, passes}
+use Rattle.sa_records.specs.McMemberRecord.{mc_member_record_selected}
+use Rattle.sa_records.specs.declared.mc_member_record.McMemberRecord.{McMemberRecord}
+use Rattle.subnet_model.specs.declared.subnet_port.SubnetPort.{SubnetPort}
+use Rattle.sa_groups.specs.Groups.{GroupParameters, PartitionGroups, first_mlid}
+use Rattle.sa_groups.specs.Members.{is_in}
+use Rattle.sa_groups.specs.Sound.{is_in_range}
+use Rattle.mad_layout.specs.declared.status.MadStatus.{MadStatus}
+use Rattle.sa_records.specs.declared.mc_member_record.TheConstants.{MC_MEMBER_RECORD_OFFSET}
+use Rattle.sa_queries.specs.Outcome.{the_only_one}
+use Rattle.sa_queries.specs.Refusals.{refusal}
+use Rattle.sa_queries.specs.Selected.{Query, groups_selected}
+use Rattle.sa_queries.specs.Shown.{group_entry, group_record_of}
+use Rattle.sa_queries.specs.Visible.{GroupOfBase, SaState, groups_of, visible_groups}
+use Rattle.sa_replies.specs.Answer.{get_outcome, one_record, table_outcome}
+use Rattle.sa_replies.specs.State.{is_fit_group}
+use Rattle.sa_answer.specs.Answering.{Brings}
+use Rattle.sa_answer.specs.Groups.{group_bytes, group_data, group_of, groups_agreeing, groups_shown, is_named, is_searched}
+use Rattle.sa_answer.specs.Replying.{only_one}
+use Rattle.sa_answer.specs.declared.outcome.Success.TheVariants.{Table}
+use Rattle.sa_answer.proofs.BroughtLemmas.{as_reply, bytes_of_shown, get_taken, table_taken}
+use Rattle.sa_answer.specs.Slots.{SlotGroup, groups_in, partition_in, with_mlid}
+
+-- ---- each of the partitions of a file has a base, and a group that fits
+pub passed_at : {X : Type 0} (test : X → Bool) (xs : List X) (i : ℕ) (x : X) → i < length xs → x ≡ get_or xs i x → list_all test xs ≡ true → test x ≡ true
+passed_at test xs i x within is all = elim (cases_Bool (test x)) [
+  | inl does ↦ does
+  | inr fails ↦ absurd (false≢true (sym (list_all_at test xs i x within (ap test (sym is) ∙ fails)) ∙ all))
+]
+
+pub heading_based : (headings : List Heading) (i : ℕ) (heading : Heading) → AreSoundHeadings headings → i < length headings → heading ≡ get_or headings i heading
+    → is_base heading.base ≡ true
+heading_based headings i heading sound within is =
+    passed_at (λ (one : Heading). is_base one.base) headings i heading within is
+    (sym (list_all-map is_base (λ (one : Heading). one.base) headings) ∙ sound.bases.valid)
+
+-- ---- what is fixed for a group fits the fields of its record
+pub record IsNarrow (parameters : GroupParameters) : Type 0 where
+  pub mtu : parameters.mtu < 64
+  pub rate : parameters.rate < 64
+  pub life : parameters.packet_life_time < 64
+  pub level : parameters.service_level < 16
+  pub flow : parameters.flow_label < 2 ^ 20
+  pub scope : parameters.scope < 16
+
+pub narrow : (parameters : GroupParameters) → is_fit_group parameters ≡ true → IsNarrow parameters
+narrow parameters fit =
+    let mtu = and_parts (nat_lt parameters.mtu 64) _ fit in
+    let rate = and_parts (nat_lt parameters.rate 64) _ mtu.1 in
+    let life = and_parts (nat_lt parameters.packet_life_time 64) _ rate.1 in
+    let level = and_parts (nat_lt parameters.service_level 16) _ life.1 in
+    let flow = and_parts (nat_lt parameters.flow_label (2 ^ 20)) _ level.1 in
+    record {
+      mtu = ltb-true parameters.mtu 64 mtu.0;
+      rate = ltb-true parameters.rate 64 rate.0;
+      life = ltb-true parameters.packet_life_time 64 life.0;
+      level = ltb-true parameters.service_level 16 level.0;
+      flow = ltb-true parameters.flow_label (2 ^ 20) flow.0;
+      scope = ltb-true parameters.scope 16 flow.1;
+    }
+
+-- ---- a group that is passed over does not agree
+abbrev pub agrees : ℕ → McMemberRecord → GroupOfBase → Bool
+agrees mask asked one = mc_member_record_selected mask (group_record_of one) asked
+
+out : (a b : Bool) → b ≡ false → a && b ≡ false
+out true b h = h
+out false b h = refl
+
+and_fourth : (a b c d : Bool) → (a && (b && (c && (false && d)))) ≡ false
+and_fourth a b c d = out a _ (out b _ (out c _ refl))
+
+and_seventh : (a b c d e f g : Bool) → (a && (b && (c && (d && (e && (f && (false && g))))))) ≡ false
+and_seventh a b c d e f g = out a _ (out b _ (out c _ (out d _ (out e _ (out f _ refl)))))
+
+other_mgid : (mask : ℕ) (asked : McMemberRecord) (one : GroupOfBase) → passes mask (on 1 (one.group.mgid == asked.mgid)) ≡ false → agrees mask asked one ≡ false
+unfolding mc_member_record_selected
+other_mgid mask asked one other = rw other refl
+
+other_mlid : (mask : ℕ) (asked : McMemberRecord) (one : GroupOfBase) → passes mask (on 8 (one.group.mlid == asked.mlid)) ≡ false → agrees mask asked one ≡ false
+unfolding mc_member_record_selected
+other_mlid mask asked one other = rw other (search and_fourth)
+
+other_key : (mask : ℕ) (asked : McMemberRecord) (one : GroupOfBase) → passes mask (on 128 (same_base (key_of one.base true) asked.p_key)) ≡ false
+    → agrees mask asked one ≡ false
+unfolding mc_member_record_selected
+other_key mask asked one other = rw other (search and_seventh)
+
+-- ---- nor does what is in a slot or in a partition that is passed over
+pub not_named : (mask : ℕ) (asked : McMemberRecord) (base mlid : ℕ) (slot : Option SlotGroup) → is_named mask asked mlid slot ≡ false
+    → groups_agreeing mask asked base mlid (slot ∷ []) ≡ []
+not_named mask asked base mlid None other = refl
+not_named mask asked base mlid (Some group) other =
+    let one = group_of base (with_mlid mlid group) in
+    elim (cases_Bool (passes mask (on 1 (group.mgid == asked.mgid)))) [
+      | inl same ↦ let differs : agrees mask asked one ≡ false = other_mlid mask asked one (rw same at other) in rw differs refl
+      | inr apart ↦ let differs : agrees mask asked one ≡ false = other_mgid mask asked one apart in rw differs refl
+    ]
+
+none_of_key : (mask : ℕ) (asked : McMemberRecord) (base mlid : ℕ) (slots : List (Option SlotGroup))
+    → passes mask (on 128 (same_base (key_of base true) asked.p_key)) ≡ false → groups_agreeing mask asked base mlid slots ≡ []
+none_of_key mask asked base mlid [] other = refl
+none_of_key mask asked base mlid (None ∷ slots) other = none_of_key mask asked base (mlid + 1) slots other
+none_of_key mask asked base mlid (Some group ∷ slots) other =
+    let differs : agrees mask asked (group_of base (with_mlid mlid group)) ≡ false = other_key mask asked (group_of base (with_mlid mlid group)) other in
+    rw differs (none_of_key mask asked base (mlid + 1) slots other)
+
+asked_parts : (a b : Bool) → (not a || b) ≡ false → (a ≡ true) × (b ≡ false)
+asked_parts true b h = (refl, h)
+asked_parts false b h = absurd (cc)
+
+none_of_mlid : (mask : ℕ) (asked : McMemberRecord) (base mlid : ℕ) (slots : List (Option SlotGroup))
+    → ((n : ℕ) → mlid ≤ n → n < mlid + length slots → passes mask (on 8 (n == asked.mlid)) ≡ false) → groups_agreeing mask asked base mlid slots ≡ []
+none_of_mlid mask asked base mlid [] apart = refl
+none_of_mlid mask asked base mlid (None ∷ slots) apart =
+    none_of_mlid mask asked base (mlid + 1) slots (λ n above below. apart n (omega arith) (omega arith))
+none_of_mlid mask asked base mlid (Some group ∷ slots) apart =
+    let differs : agrees mask asked (group_of base (with_mlid mlid group)) ≡ false =
+    other_mlid mask asked (group_of base (with_mlid mlid group)) (apart mlid (omega arith) (omega arith)) in
+    rw differs (none_of_mlid mask asked base (mlid + 1) slots (λ n above below. apart n (omega arith) (omega arith)))
+
+none_in_range : (mask : ℕ) (asked : McMemberRecord) (number base : ℕ) (slots : List (Option SlotGroup)) → length slots ≡ 32
+    → passes mask (on 8 (is_in_range number asked.mlid)) ≡ false → groups_agreeing mask asked base (first_mlid number) slots ≡ []
+none_in_range mask asked number base slots all other =
+    let parts = asked_parts (bit_and mask 8 == 8) (is_in_range number asked.mlid) other in
+    none_of_mlid mask asked base (first_mlid number) slots (λ n above below.
+    let apart : (n == asked.mlid) ≡ false = ne_eqb n asked.mlid (λ same. absurd (
+    let low : nat_le (first_mlid number) asked.mlid ≡ true = le-leb (first_mlid number) asked.mlid (omega (arith, same, above)) in
+    let high : nat_lt asked.mlid (first_mlid number + 32) ≡ true = lt-ltb asked.mlid (first_mlid number + 32) (omega (arith, same, below, all)) in
+    false≢true (sym parts.1 ∙ rw (low, high) refl))) in
+    rw (parts.0, apart) refl)
+
+slots_are : (mask : ℕ) (asked : McMemberRecord) (partition : PartitionGroups) (slots : List (Option SlotGroup))
+    → partition ≡ partition_in partition.number partition.base slots
+    → groups_selected mask asked (groups_of partition) ≡ groups_agreeing mask asked partition.base (first_mlid partition.number) slots
+slots_are mask asked partition slots is = ap (λ (one : PartitionGroups). groups_selected mask asked (map (group_of partition.base) one.groups)) is
+
+pub searched : (own : SubnetPort) (mask : ℕ) (asked : McMemberRecord) (partition : PartitionGroups) (slots : List (Option SlotGroup))
+    → partition ≡ partition_in partition.number partition.base slots → is_searched own mask asked partition ≡ true
+    → groups_shown own mask asked partition ≡ groups_agreeing mask asked partition.base (first_mlid partition.number) slots
+searched own mask asked partition slots is so =
+    let rest = and_parts (passes mask (on 128 (same_base (key_of partition.base true) asked.p_key))) _ so in
+    let member = and_parts (passes mask (on 8 (is_in_range partition.number asked.mlid))) (is_in own partition.base) rest.1 in
+    rw member.1 (slots_are mask asked partition slots is)
+
+pub not_searched : (own : SubnetPort) (mask : ℕ) (asked : McMemberRecord) (partition : PartitionGroups) (slots : List (Option SlotGroup))
+    → partition ≡ partition_in partition.number partition.base slots → length slots ≡ 32 → is_searched own mask asked partition ≡ false
+    → groups_shown own mask asked partition ≡ []
+not_searched own mask asked partition slots is all not_so = elim (cases_Bool (is_in own partition.base)) [
+  | inr foreign ↦ rw foreign refl
+  | inl member ↦ elim (cases_Bool (passes mask (on 128 (same_base (key_of partition.base true) asked.p_key)))) [
+    | inr other ↦ rw member (slots_are mask asked partition slots is ∙ none_of_key mask asked partition.base (first_mlid partition.number) slots other)
+    | inl same ↦
+        let apart : passes mask (on 8 (is_in_range partition.number asked.mlid)) ≡ false = only_second _ (rw (same, member) at not_so) in
+        rw member (slots_are mask asked partition slots is ∙ none_in_range mask asked partition.number partition.base slots all apart)
+  ]
+]
+  where
+    only_second : (a : Bool) → a && true ≡ false → a ≡ false
+    only_second true h = h
+    only_second false h = refl
+
+-- ---- one slot more
+groups_joined : (mlid next : ℕ) (xs ys : List (Option SlotGroup)) → next ≡ mlid + length xs → groups_in mlid (xs ++ ys) ≡ groups_in mlid xs ++ groups_in next ys
+groups_joined mlid next [] ys is = let e : next ≡ mlid = omega arith in rw e refl
+groups_joined mlid next (None ∷ xs) ys is = groups_joined (mlid + 1) next xs ys (omega arith)
+groups_joined mlid next (Some group ∷ xs) ys is = ap (λ rest. with_mlid mlid group ∷ rest) (groups_joined (mlid + 1) next xs ys (omega arith))
+
+agreeing_joined : (mask : ℕ) (asked : McMemberRecord) (base mlid next : ℕ) (xs ys : List (Option SlotGroup)) → next ≡ mlid + length xs
+    → groups_agreeing mask asked base mlid (xs ++ ys) ≡ groups_agreeing mask asked base mlid xs ++ groups_agreeing mask asked base next ys
+agreeing_joined mask asked base mlid next xs ys is =
+    ap (λ groups. groups_selected mask asked (map (group_of base) groups)) (groups_joined mlid next xs ys is)
+    ∙ (ap (groups_selected mask asked) (map-append (group_of base) (groups_in mlid xs) (groups_in next ys))
+    ∙ filter-append (agrees mask asked) (map (group_of base) (groups_in mlid xs)) (map (group_of base) (groups_in next ys)))
+
+pub slot_more : (mask : ℕ) (asked : McMemberRecord) (base mlid : ℕ) (slots : List (Option SlotGroup)) (i : ℕ) (slot : Option SlotGroup) → i < length slots
+    → slot ≡ get_or slots i slot
+    → groups_agreeing mask asked base mlid (take (i + 1) slots) ≡ groups_agreeing mask asked base mlid (take i slots) ++ groups_agreeing mask asked base (mlid + i) (slot ∷ [])
+slot_more mask asked base mlid slots i slot within is =
+    let long = length-take-le i slots (omega arith) in
+    ap (groups_agreeing mask asked base mlid) (take_more slots i slot within ∙ ap (λ (one : Option SlotGroup). take i slots ++ one ∷ []) (sym is))
+    ∙ agreeing_joined mask asked base mlid (mlid + i) (take i slots) (slot ∷ []) (omega arith)
+
+pub slot_empty : (mask : ℕ) (asked : McMemberRecord) (base mlid : ℕ) (slots : List (Option SlotGroup)) (i : ℕ) (slot : Option SlotGroup) → i < length slots
+    → slot ≡ get_or slots i slot → groups_agreeing mask asked base (mlid + i) (slot ∷ []) ≡ []
+    → groups_agreeing mask asked base mlid (take (i + 1) slots) ≡ groups_agreeing mask asked base mlid (take i slots)
+slot_empty mask asked base mlid slots i slot within is none =
+    slot_more mask asked base mlid slots i slot within is
+    ∙ (ap (λ some. groups_agreeing mask asked base mlid (take i slots) ++ some) none ∙ append-nil (groups_agreeing mask asked base mlid (take i slots)))
+
+-- and so there are as many at least
+pub slots_low : (mask : ℕ) (asked : McMemberRecord) (base mlid : ℕ) (slots : List (Option SlotGroup)) (i : ℕ) → i ≤ length slots
+    → length (groups_agreeing mask asked base mlid (take i slots)) ≤ length (groups_agreeing mask asked base mlid slots)
+slots_low mask asked base mlid slots i within =
+    let long = length-take-le i slots within in
+    let parts = agreeing_joined mask asked base mlid (mlid + i) (take i slots) (drop i slots) (omega arith) in
+    let cut = ap (groups_agreeing mask asked base mlid) (take-append-drop i slots) in
+    let both = length-append (groups_agreeing mask asked base mlid (take i slots)) (groups_agreeing mask asked base (mlid + i) (drop i slots)) in
+    let whole : length (groups_agreeing mask asked base mlid slots) ≡ length (groups_agreeing mask asked base mlid (take i slots) ++ groups_agreeing mask asked base (mlid + i) (drop i slots)) =
+    ap length (sym cut ∙ parts) in
+    omega arith
+
+-- what shows nothing is nothing
+pub nothing_told : (groups : List GroupOfBase) → [] ≡ map group_bytes groups → groups ≡ []
+nothing_told [] h = refl
+nothing_told (one ∷ groups) h = absurd (cc)
+
+-- the bytes of what a slot shows
+pub bytes_more : (first bytes : List ℕ) (before here : List GroupOfBase) (shown : List ℕ) → bytes ≡ first ++ flat_map group_bytes before
+    → shown ∷ [] ≡ map group_bytes here → bytes ++ shown ≡ first ++ flat_map group_bytes (before ++ here)
+bytes_more first bytes before here shown is told =
+    ap (λ (some : List ℕ). some ++ shown) is
+    ∙ (append_assoc first (flat_map group_bytes before) shown
+    ∙ ap (λ (some : List ℕ). first ++ some) (ap (λ (some : List ℕ). flat_map group_bytes before ++ some) (one here told) ∙ sym (flat_map-append group_bytes before here)))
+  where
+    one : (groups : List GroupOfBase) → shown ∷ [] ≡ map group_bytes groups → shown ≡ flat_map group_bytes groups
+    one [] h = absurd (cc)
+    one (group ∷ []) h = let e : shown ≡ group_bytes group = cc in e ∙ sym (append-nil (group_bytes group))
+    one (group ∷ other ∷ groups) h = absurd (cc)
+
+-- ---- what is shown partition by partition is what is visible of all
+pub shown_is : (own : SubnetPort) (mask : ℕ) (asked : McMemberRecord) (partitions : List PartitionGroups)
+    → flat_map (groups_shown own mask asked) partitions ≡ groups_selected mask asked (visible_groups own partitions)
+shown_is own mask asked [] = refl
+shown_is own mask asked (partition ∷ partitions) =
+    let rest = shown_is own mask asked partitions in
+    elim (cases_Bool (is_in own partition.base)) [
+      | inl member ↦
+          rw member
+          (ap (λ (more : List GroupOfBase). groups_selected mask asked (groups_of partition) ++ more) rest
+          ∙ sym (filter-append (agrees mask asked) (groups_of partition) (visible_groups own partitions)))
+      | inr foreign ↦ rw foreign rest
+    ]
+
+-- ---- what requests bring
+one_group : (state : SaState) (groups : List GroupOfBase)
+    → Brings state (one_record state (the_only_one (map group_entry groups))) (as_reply (only_one group_data groups))
+one_group state [] = refl
+one_group state (one ∷ []) = (refl, refl)
+one_group state (one ∷ other ∷ groups) = refl
+
+pub group_brought : (ports : List SubnetPort) (own : SubnetPort) (state : SaState) (mask : ℕ) (asked : McMemberRecord) (found : Result (List ℕ) MadStatus)
+    → refusal own (Query.for_groups mask asked) ≡ None
+    → found ≡ only_one group_data (flat_map (groups_shown own mask asked) state.partitions)
+    → Brings state (get_outcome ports own state (Some (Query.for_groups mask asked))) (as_reply found)
+group_brought ports own state mask asked found none is =
+    let told : found ≡ only_one group_data (groups_selected mask asked (visible_groups own state.partitions)) =
+    is ∙ ap (only_one group_data) (shown_is own mask asked state.partitions) in
+    rw (get_taken ports own state (Query.for_groups mask asked) none, told) (one_group state (groups_selected mask asked (visible_groups own state.partitions)))
+
+pub groups_brought : (ports : List SubnetPort) (own : SubnetPort) (state : SaState) (mask : ℕ) (asked : McMemberRecord) (bytes : Vec ℕ Global)
+    → refusal own (Query.for_groups mask asked) ≡ None
+    → bytes.items ≡ flat_map group_bytes (flat_map (groups_shown own mask asked) state.partitions)
+    → Brings state (table_outcome ports own state (Some (Query.for_groups mask asked))) (Ok (Table MC_MEMBER_RECORD_OFFSET bytes))
+groups_brought ports own state mask asked bytes none is =
+    rw (table_taken ports own state (Query.for_groups mask asked) none)
+    (refl, is ∙ ap (flat_map group_bytes) (shown_is own mask asked state.partitions) ∙ sym (bytes_of_shown group_entry (groups_selected mask asked (visible_groups own state.partitions))))

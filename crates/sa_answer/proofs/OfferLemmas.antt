@@ -1,0 +1,224 @@
+-- What is offered port by port is what is visible of the services of all.
+use Rattle.std.proofs.Common.{◌≡◌, ℕ, zero, suc, ◌+◌, ◌-◌, ◌==◌, Bool, true, false, ◌&&◌, ◌||◌, List, [], ◌∷◌, ◌++◌, map, take, drop, get_or, Some, None, Result}
+use Rattle.std.proofs.Common.{refl, sym, ◌∙◌, ap, subst, inl, inr, arith, append-nil}
+use Rattle.std.specs.List.{AllByRecursion, IsDistinct, flat_map, position_from}
+use Rattle.std.proofs.lemmas.Bool.{cases_Bool, eq-eqb}
+use Rattle.std.proofs.lemmas.List.Concat.{flat_map-append}
+use Rattle.std.proofs.lemmas.List.Elements.{filter-append}
+use Rattle.std.proofs.lemmas.Map.Keys.{IsDistinct-head, IsDistinct-tail}
+use Rattle.pkey_rules.specs.KeyTable.{shares_base}
+use Rattle.sa_records.specs.ServiceRecord.{names_selected, service_record_selected}
+use Rattle.sa_records.specs.declared.service_record.ServiceRecord.{ServiceRecord}
+use Rattle.subnet_model.specs.Configured.{same_guid}
+use Rattle.subnet_model.specs.Delivery.{port_with_guid}
+use Rattle.subnet_model.specs.declared.subnet_port.SubnetPort.{SubnetPort}
+use Rattle.sa_services.specs.Services.{PortServices, Service}
+use Rattle.sa_services.specs.ServiceSight.{is_shown, ports_share_base, services_seen, shares_base_with}
+use Rattle.sa_queries.proofs.SourceLemmas.{all_filtered}
+use Rattle.sa_queries.proofs.ShareLemmas.{of_one_port}
+use Rattle.sa_queries.specs.Gid.{gid_of}
+use Rattle.sa_queries.specs.Outcome.{the_only_one}
+use Rattle.sa_queries.specs.Selected.{Query, asks, services_selected}
+use Rattle.sa_queries.specs.Shown.{service_entry}
+use Rattle.sa_replies.specs.Answer.{get_outcome, one_record}
+use Rattle.sa_records.specs.SaRecord.{record_bytes}
+use Rattle.mad_layout.specs.declared.status.MadStatus.{MadStatus}
+use Rattle.sa_queries.specs.Visible.{SaState, ServiceOfPort, visible_services}
+use Rattle.sa_queries.specs.Visible as visible
+use Rattle.sa_answer.specs.Answering.{Brings, IsListed}
+use Rattle.sa_answer.specs.Kept.{KeptPort, ServicesOfBase, ports_of, services_of, services_of_port}
+use Rattle.sa_answer.specs.Asked.{guid_in, of_guid, of_port}
+use Rattle.sa_answer.specs.Registry.{place_with_guid}
+use Rattle.sa_answer.specs.Offers.{is_offered, offer, offers_of, offers_shown, service_bytes, service_data, services_offered}
+use Rattle.sa_answer.specs.Replying.{only_one}
+use Rattle.sa_answer.proofs.BroughtLemmas.{as_reply, bytes_of_shown}
+use Rattle.sa_answer.proofs.FoundLemmas.{agrees}
+use Rattle.sa_answer.proofs.OutLemmas.{gids_differ}
+use Rattle.sa_answer.proofs.PlaceLemmas.{AreOthers, IsAt, further, is_at, one_of, place_is, rest_others}
+
+-- ---- what of a port is shown to another
+shown_alike : (ports : List SubnetPort) (own other : SubnetPort) (place : PortServices) → IsDistinct same_guid ports → IsListed ports own → IsListed ports other
+    → place.port ≡ other.guid → is_shown ports own.guid place ≡ is_offered own other place.base
+shown_alike ports own other place once own_listed listed is =
+    let shared : ports_share_base ports place.base own.guid other.guid ≡ shares_base place.base own.keys other.keys =
+    of_one_port own.guid (λ port. shares_base_with ports place.base port other.guid) ports own once own_listed
+    ∙ of_one_port other.guid (λ port. shares_base place.base own.keys port.keys) ports other once listed in
+    rw is (ap (λ (b : Bool). (other.guid == own.guid) || b) shared)
+
+abbrev pub place_of : SubnetPort → ServicesOfBase → PortServices
+place_of port place = record { port = port.guid; base = place.base; services = place.services }
+
+-- the services of some places that a request selects
+abbrev pub selected_at : ℕ → ServiceRecord → List PortServices → List ServiceOfPort
+selected_at mask asked places = services_selected mask asked (flat_map visible.services_of places)
+
+selected_joined : (mask : ℕ) (asked : ServiceRecord) (xs ys : List PortServices)
+    → selected_at mask asked (xs ++ ys) ≡ selected_at mask asked xs ++ selected_at mask asked ys
+selected_joined mask asked xs ys =
+    ap (services_selected mask asked) (flat_map-append visible.services_of xs ys)
+    ∙ filter-append (agrees mask asked) (flat_map visible.services_of xs) (flat_map visible.services_of ys)
+
+port_offers : (ports : List SubnetPort) (own other : SubnetPort) (mask : ℕ) (asked : ServiceRecord) → IsDistinct same_guid ports → IsListed ports own
+    → IsListed ports other → (places : List ServicesOfBase)
+    → flat_map (offers_shown own mask asked other) places ≡ selected_at mask asked (services_seen ports own.guid (map (place_of other) places))
+port_offers ports own other mask asked once own_listed listed [] = refl
+port_offers ports own other mask asked once own_listed listed (place ∷ places) =
+    let alike = shown_alike ports own other (place_of other place) once own_listed listed refl in
+    let rest = port_offers ports own other mask asked once own_listed listed places in
+    elim (cases_Bool (is_offered own other place.base)) [
+      | inl shown ↦
+          let seen : is_shown ports own.guid (place_of other place) ≡ true = alike ∙ shown in
+          rw (shown, seen)
+          (ap (λ (more : List ServiceOfPort). offers_of mask asked other.guid place ++ more) rest
+          ∙ sym (filter-append (agrees mask asked) (visible.services_of (place_of other place)) (flat_map visible.services_of (services_seen ports own.guid (map (place_of other) places)))))
+      | inr hidden ↦
+          let unseen : is_shown ports own.guid (place_of other place) ≡ false = alike ∙ hidden in
+          rw (hidden, unseen) rest
+    ]
+
+offered_among : (ports : List SubnetPort) (own : SubnetPort) (mask : ℕ) (asked : ServiceRecord) → IsDistinct same_guid ports → IsListed ports own
+    → (kept : List KeptPort) → AllByRecursion (IsListed ports) (ports_of kept)
+    → flat_map (services_offered own mask asked) kept ≡ services_selected mask asked (visible_services ports own (services_of kept))
+offered_among ports own mask asked once own_listed [] listed = refl
+offered_among ports own mask asked once own_listed (one ∷ kept) listed =
+    let here = port_offers ports own one.port mask asked once own_listed listed.0 one.services in
+    let rest = offered_among ports own mask asked once own_listed kept listed.1 in
+    let both = filter-append (is_shown ports own.guid) (services_of_port one) (services_of kept) in
+    let joined = selected_joined mask asked (services_seen ports own.guid (services_of_port one)) (services_seen ports own.guid (services_of kept)) in
+    ap (λ (some : List ServiceOfPort). some ++ flat_map (services_offered own mask asked) kept) here
+    ∙ (ap (λ (some : List ServiceOfPort). selected_at mask asked (services_seen ports own.guid (services_of_port one)) ++ some) rest
+    ∙ (sym joined ∙ ap (selected_at mask asked) (sym both)))
+
+-- ---- each of some ports that have GUIDs of their own is the port of its GUID
+all_listed : (ports : List SubnetPort) → IsDistinct same_guid ports → AllByRecursion (IsListed ports) ports
+all_listed [] once = tt
+all_listed (first ∷ ports) once =
+    (rw (eq-eqb first.guid first.guid refl) refl, further_on ports (IsDistinct-head same_guid first ports once) (all_listed ports (IsDistinct-tail same_guid first ports once)))
+  where
+    further_on : (some : List SubnetPort) → AllByRecursion (λ other. same_guid first other ≡ false) some → AllByRecursion (IsListed ports) some
+        → AllByRecursion (IsListed (first ∷ ports)) some
+    further_on [] apart listed = tt
+    further_on (one ∷ some) apart listed = (rw apart.0 listed.0, further_on some apart.1 listed.1)
+
+pub offered_is : (kept : List KeptPort) (own : SubnetPort) (mask : ℕ) (asked : ServiceRecord) → IsDistinct same_guid (ports_of kept)
+    → port_with_guid (ports_of kept) own.guid ≡ Some own
+    → flat_map (services_offered own mask asked) kept ≡ services_selected mask asked (visible_services (ports_of kept) own (services_of kept))
+offered_is kept own mask asked once listed = offered_among (ports_of kept) own mask asked once listed kept (all_listed (ports_of kept) once)
+
+-- ---- the services of the port of a GUID
+all_of_port : (guid : ℕ) (port : SubnetPort) (places : List ServicesOfBase) → (port.guid == guid) ≡ true
+    → of_port guid (map (place_of port) places) ≡ map (place_of port) places
+all_of_port guid port [] this = refl
+all_of_port guid port (place ∷ places) this = rw this (ap (λ (rest : List PortServices). place_of port place ∷ rest) (all_of_port guid port places this))
+
+none_of_port : (guid : ℕ) (port : SubnetPort) (places : List ServicesOfBase) → (port.guid == guid) ≡ false → of_port guid (map (place_of port) places) ≡ []
+none_of_port guid port [] other = refl
+none_of_port guid port (place ∷ places) other = rw other (none_of_port guid port places other)
+
+none_of_others : (guid : ℕ) (kept : List KeptPort) → AreOthers guid kept → of_port guid (services_of kept) ≡ []
+none_of_others guid [] others = refl
+none_of_others guid (one ∷ kept) others =
+    filter-append (λ (place : PortServices). place.port == guid) (services_of_port one) (services_of kept)
+    ∙ (ap (λ (some : List PortServices). some ++ of_port guid (services_of kept)) (none_of_port guid one.port one.services others.0) ∙ none_of_others guid kept others.1)
+
+services_at : (guid : ℕ) (kept : List KeptPort) (i : ℕ) (d : KeptPort) → IsAt guid kept i d
+    → of_port guid (services_of kept) ≡ services_of_port (get_or kept i d)
+services_at guid [] i d at = absurd (let w = at.within in omega arith)
+services_at guid (one ∷ kept) zero d at =
+    filter-append (λ (place : PortServices). place.port == guid) (services_of_port one) (services_of kept)
+    ∙ (ap (λ (some : List PortServices). some ++ of_port guid (services_of kept)) (all_of_port guid one.port one.services at.is)
+    ∙ (ap (λ (some : List PortServices). services_of_port one ++ some) (none_of_others guid kept (rest_others guid one kept d at)) ∙ append-nil (services_of_port one)))
+services_at guid (one ∷ kept) (suc i) d at =
+    let on = further guid one kept i d at in
+    filter-append (λ (place : PortServices). place.port == guid) (services_of_port one) (services_of kept)
+    ∙ (ap (λ (some : List PortServices). some ++ of_port guid (services_of kept)) (none_of_port guid one.port one.services on.0) ∙ services_at guid kept i d on.1)
+
+pub guid_services : (guid : ℕ) (kept : List KeptPort) (i : ℕ) → IsDistinct same_guid (ports_of kept) → place_with_guid (ports_of kept) guid ≡ Some i
+    → services_of (take (i + 1 - i) (drop i kept)) ≡ of_port guid (services_of kept)
+guid_services guid [] i once h = absurd (cc)
+guid_services guid (d ∷ others) i once h =
+    let kept : List KeptPort = d ∷ others in
+    let at = is_at guid kept i d once h in
+    ap services_of (one_of kept i d at.within) ∙ (append-nil (services_of_port (get_or kept i d)) ∙ sym (services_at guid kept i d at))
+
+pub no_services : (guid : ℕ) (kept : List KeptPort) → place_with_guid (ports_of kept) guid ≡ None → of_port guid (services_of kept) ≡ []
+no_services guid kept h = none_from 0 kept (sym (place_is guid kept) ∙ h)
+  where
+    none_from : (from : ℕ) (some : List KeptPort) → position_from (λ one. one.port.guid == guid) from some ≡ None → of_port guid (services_of some) ≡ []
+    none_from from [] h = refl
+    none_from from (one ∷ some) h = elim (cases_Bool (one.port.guid == guid)) [
+      | inl here ↦ absurd (let e : Some from ≡ None = rw here at h in cc)
+      | inr other ↦
+          filter-append (λ (place : PortServices). place.port == guid) (services_of_port one) (services_of some)
+          ∙ (ap (λ (places : List PortServices). places ++ of_port guid (services_of some)) (none_of_port guid one.port one.services other) ∙ none_from (from + 1) some (rw other at h))
+    ]
+
+-- ---- where a ServiceGID is asked, the services of all other ports agree with nothing
+and_second : (a b : Bool) → ((a && false) && b) ≡ false
+and_second true b = refl
+and_second false b = refl
+
+other_gid : (mask : ℕ) (asked : ServiceRecord) (one : ServiceOfPort) → asks mask 2 ≡ true → (gid_of one.port == asked.service_gid) ≡ false
+    → agrees mask asked one ≡ false
+unfolding service_record_selected names_selected
+other_gid mask asked one named other = rw (named, other) (and_second _ _)
+
+none_agree : (mask : ℕ) (asked : ServiceRecord) (place : PortServices) → asks mask 2 ≡ true → (gid_of place.port == asked.service_gid) ≡ false
+    → selected_at mask asked (place ∷ []) ≡ []
+none_agree mask asked place named other = ap (services_selected mask asked) (append-nil (visible.services_of place)) ∙ none_of place.services
+  where
+    none_of : (services : List Service) → services_selected mask asked (map (offer place.port place.base) services) ≡ []
+    none_of [] = refl
+    none_of (service ∷ services) = rw (other_gid mask asked (offer place.port place.base service) named other) (none_of services)
+
+left_out : (ports : List SubnetPort) (own : SubnetPort) (mask : ℕ) (asked : ServiceRecord) (guid : ℕ) → asks mask 2 ≡ true
+    → guid_in asked.service_gid ≡ Some guid → (services : List PortServices)
+    → services_selected mask asked (visible_services ports own (of_port guid services)) ≡ services_selected mask asked (visible_services ports own services)
+left_out ports own mask asked guid named is [] = refl
+left_out ports own mask asked guid named is (place ∷ services) =
+    let rest = left_out ports own mask asked guid named is services in
+    let seen = services_seen ports own.guid services in
+    let kept = services_seen ports own.guid (of_port guid services) in
+    elim (cases_Bool (place.port == guid)) [
+      | inl this ↦ elim (cases_Bool (is_shown ports own.guid place)) [
+        | inl shown ↦
+            rw (this, shown)
+            (selected_joined mask asked (place ∷ []) kept
+            ∙ (ap (λ (some : List ServiceOfPort). selected_at mask asked (place ∷ []) ++ some) rest ∙ sym (selected_joined mask asked (place ∷ []) seen)))
+        | inr hidden ↦ rw (this, hidden) rest
+      ]
+      | inr other ↦ elim (cases_Bool (is_shown ports own.guid place)) [
+        | inl shown ↦
+            let none = none_agree mask asked place named (gids_differ guid asked.service_gid place.port is other) in
+            rw (other, shown)
+            (rest ∙ sym (selected_joined mask asked (place ∷ []) seen ∙ ap (λ (some : List ServiceOfPort). some ++ selected_at mask asked seen) none))
+        | inr hidden ↦ rw (other, hidden) rest
+      ]
+    ]
+
+pub offered_by : (ports : List SubnetPort) (own : SubnetPort) (mask : ℕ) (asked : ServiceRecord) (guid : ℕ) (kept : List KeptPort) (services : List PortServices)
+    → IsDistinct same_guid ports → IsListed ports own → asks mask 2 ≡ true → guid_in asked.service_gid ≡ Some guid → ports_of kept ≡ of_guid guid ports
+    → services_of kept ≡ of_port guid services
+    → flat_map (services_offered own mask asked) kept ≡ services_selected mask asked (visible_services ports own services)
+offered_by ports own mask asked guid kept services once own_listed named is ports_are services_are =
+    let listed = all_filtered (IsListed ports) (λ port. port.guid == guid) ports (all_listed ports once) in
+    offered_among ports own mask asked once own_listed kept (subst (AllByRecursion (IsListed ports)) (sym ports_are) listed)
+    ∙ (ap (λ (some : List PortServices). services_selected mask asked (visible_services ports own some)) services_are
+    ∙ left_out ports own mask asked guid named is services)
+
+-- ---- what requests bring
+one_service : (state : SaState) (services : List ServiceOfPort)
+    → Brings state (one_record state (the_only_one (map service_entry services))) (as_reply (only_one service_data services))
+one_service state [] = refl
+one_service state (one ∷ []) = (refl, refl)
+one_service state (one ∷ other ∷ services) = refl
+
+pub service_brought : (ports : List SubnetPort) (own : SubnetPort) (state : SaState) (mask : ℕ) (asked : ServiceRecord) (offered : List ServiceOfPort)
+    (found : Result (List ℕ) MadStatus) → offered ≡ services_selected mask asked (visible_services ports own state.services)
+    → found ≡ only_one service_data offered
+    → Brings state (get_outcome ports own state (Some (Query.for_services mask asked))) (as_reply found)
+service_brought ports own state mask asked offered found offered_are is =
+    rw (is, offered_are) (one_service state (services_selected mask asked (visible_services ports own state.services)))
+
+pub services_shown : (services : List ServiceOfPort) → flat_map service_bytes services ≡ flat_map (λ one. record_bytes one.shown) (map service_entry services)
+services_shown services = sym (bytes_of_shown service_entry services)

@@ -1,0 +1,135 @@
+-- What comes of a Set and a Delete of a ServiceRecord.
+use Rattle.std.proofs.Common.{◌≡◌, ℕ, ◌+◌, ◌<◌, ◌==◌, ◌&&◌, ◌||◌, Bool, true, false, not, List, [], ◌∷◌, Option, Some, None, Ok, Err, refl, sym, ◌∙◌, ap, inl, inr, arith}
+use Rattle.std.specs.List.{list_any}
+use Rattle.std.proofs.lemmas.Bool.{and_parts, cases_Bool, eqb-true, le-leb, ne_eqb}
+use Rattle.std.proofs.Common.{length}
+use Rattle.std.proofs.lemmas.List.{append-nil}
+use Rattle.std.proofs.lemmas.Option.{same_Some}
+use Rattle.sa_answer.specs.Replying.{padded}
+use Rattle.mad_layout.specs.declared.status.MadStatus.{MadStatus}
+use Rattle.mad_layout.specs.declared.status.MadStatus.TheVariants.{InsufficientComponents, InvalidGid, NoRecords, NoResources, RequestInvalid}
+use Rattle.pkey_rules.specs.KeyTable.{accepts, has_base}
+use Rattle.pkey_rules.specs.PKey.{base_of, is_full, key_of, matches}
+use Rattle.sa_records.specs.declared.service_record.ServiceRecord.{ServiceRecord}
+use Rattle.subnet_model.specs.declared.subnet_port.SubnetPort.{SubnetPort}
+use Rattle.sa_groups.specs.Members.{is_in}
+use Rattle.sa_records.specs.ServiceMask as service_mask
+use Rattle.sa_queries.specs.Gid.{gid_of}
+use Rattle.sa_queries.specs.Selected.{asks}
+use Rattle.sa_queries.specs.Refusals.{first_refusal, refused_if}
+use Rattle.sa_queries.specs.Visible.{SaState}
+use Rattle.sa_services.specs.ServiceChange.{Deed, has_id, has_room}
+use Rattle.sa_records.specs.ServiceRecord.{service_in}
+use Rattle.sa_records.specs.declared.sa_attribute.SaAttribute.TheVariants as sa_attribute
+use Rattle.sa_replies.specs.Answer.{outcome}
+use Rattle.sa_replies.specs.Request.{Request, is_about}
+use Rattle.sa_answer.specs.Answering.{is_change}
+use Rattle.sa_replies.specs.ServiceRequests.{after_change, change_asked, owner_questions, service_asked, service_deleted, service_set, services_at, shown_bytes}
+use Rattle.sa_replies.specs.Success.{Success}
+
+-- ---- who is in the partition of a base
+low_base : (base : ℕ) → base < 32768 → base_of (key_of base true) ≡ base
+low_base base low = omega (arith, low)
+
+one_matches : (base held : ℕ) → base < 32768 → matches held (key_of base true) ≡ ((base_of held == base) && not (base == 0))
+one_matches base held low = elim (cases_Bool (base_of held == base)) [
+  | inl same ↦
+      let here : base_of held ≡ base = eqb-true (base_of held) base same in
+      let full : is_full (key_of base true) ≡ true = le-leb 32768 (base + 32768) (omega arith) in
+      let own = low_base base low in
+      rw (own, same, here, full) (by (not (base == 0)) (is_full held))
+  | inr other ↦ let own = low_base base low in rw (own, other) refl
+]
+  where
+    by : (a b : Bool) → a && (b || true) ≡ a
+    by true true = refl
+    by true false = refl
+    by false b = refl
+
+both_or : (a b c : Bool) → (a && c) || (b && c) ≡ (a || b) && c
+both_or true true true = refl
+both_or true true false = refl
+both_or true false true = refl
+both_or true false false = refl
+both_or false b c = refl
+
+any_matches : (base : ℕ) (keys : List ℕ) → base < 32768 → accepts (key_of base true) keys ≡ (has_base base keys && not (base == 0))
+any_matches base [] low = refl
+any_matches base (key ∷ keys) low =
+    (λ i. one_matches base key low i || any_matches base keys low i) ∙ both_or (base_of key == base) (has_base base keys) (not (base == 0))
+
+turned : (a b : Bool) → a && b ≡ b && a
+turned true true = refl
+turned true false = refl
+turned false true = refl
+turned false false = refl
+
+pub in_base : (own : SubnetPort) (base : ℕ) → base < 32768 → is_in own base ≡ (not (base == 0) && has_base base own.keys)
+in_base own base low = any_matches base own.keys low ∙ turned (has_base base own.keys) (not (base == 0))
+
+pub holds_base : (own : SubnetPort) (base : ℕ) → base < 32768 → is_in own base ≡ true → has_base base own.keys ≡ true
+holds_base own base low within = (and_parts (not (base == 0)) (has_base base own.keys) (sym (in_base own base low) ∙ within)).1
+
+-- ---- a port that may set and delete
+pub may : (given : Option MadStatus) (port own : SubnetPort) (found : Option SubnetPort) (mask : ℕ) (asked : ServiceRecord) → Some port ≡ found → found ≡ Some own
+    → given ≡ first_refusal (owner_questions port mask asked) → given ≡ None → first_refusal (owner_questions own mask asked) ≡ None
+may given port own found mask asked is found_is told none =
+    let same : port ≡ own = same_Some port own (is ∙ found_is) in
+    ap (λ (one : SubnetPort). first_refusal (owner_questions one mask asked)) (sym same) ∙ sym told ∙ none
+
+third : (a b c : Bool) (r s t : MadStatus) → first_refusal (refused_if a r ∷ refused_if b s ∷ refused_if (not c) t ∷ []) ≡ None → c ≡ true
+third true b c r s t none = absurd (cc)
+third false true c r s t none = absurd (cc)
+third false false true r s t none = refl
+third false false false r s t none = absurd (cc)
+
+pub is_member : (own : SubnetPort) (mask : ℕ) (asked : ServiceRecord) → first_refusal (owner_questions own mask asked) ≡ None
+    → is_in own (base_of asked.service_p_key) ≡ true
+is_member own mask asked none =
+    third (not (asks mask (service_mask.service_id + service_mask.service_gid + service_mask.service_p_key))) (not (asked.service_gid == gid_of own.guid))
+    (is_in own (base_of asked.service_p_key)) InsufficientComponents InvalidGid RequestInvalid none
+
+-- ---- what comes of it
+pub set_full : (own : SubnetPort) (state : SaState) (mask : ℕ) (asked : ServiceRecord) → first_refusal (owner_questions own mask asked) ≡ None
+    → has_room (service_asked mask asked).service_id (services_at (change_asked own asked (Deed.sets (service_asked mask asked))) state.services) ≡ false
+    → service_set own state mask asked ≡ Err NoResources
+set_full own state mask asked none full = rw (none, full) refl
+
+pub set_done : (own : SubnetPort) (state : SaState) (mask : ℕ) (asked : ServiceRecord) → first_refusal (owner_questions own mask asked) ≡ None
+    → has_room (service_asked mask asked).service_id (services_at (change_asked own asked (Deed.sets (service_asked mask asked))) state.services) ≡ true
+    → service_set own state mask asked
+    ≡ Ok (Success.one_reply (shown_bytes own asked (service_asked mask asked)) (after_change state (change_asked own asked (Deed.sets (service_asked mask asked)))))
+set_done own state mask asked none room = rw (none, room) refl
+
+pub deleted_none : (own : SubnetPort) (state : SaState) (mask : ℕ) (asked : ServiceRecord) (content : List ℕ)
+    → first_refusal (owner_questions own mask asked) ≡ None
+    → list_any (has_id asked.service_id) (services_at (change_asked own asked (Deed.deletes asked.service_id)) state.services) ≡ false
+    → service_deleted own state mask asked content ≡ Err NoRecords
+deleted_none own state mask asked content none absent = rw (none, absent) refl
+
+pub deleted_done : (own : SubnetPort) (state : SaState) (mask : ℕ) (asked : ServiceRecord) (content : List ℕ)
+    → first_refusal (owner_questions own mask asked) ≡ None
+    → list_any (has_id asked.service_id) (services_at (change_asked own asked (Deed.deletes asked.service_id)) state.services) ≡ true
+    → service_deleted own state mask asked content ≡ Ok (Success.one_reply content (after_change state (change_asked own asked (Deed.deletes asked.service_id))))
+deleted_done own state mask asked content none there = rw (none, there) refl
+
+-- all the data of a request
+pub whole_content : (content : List ℕ) → length content ≡ 200 → padded content ≡ content
+whole_content content long = rw long (append-nil content)
+
+-- ---- which of both a request is
+pub is_set : (ports : List SubnetPort) (own : SubnetPort) (state : SaState) (request : Request) → is_change request ≡ true → request.header.method ≡ 2
+    → outcome ports own state request ≡ service_set own state request.component_mask (service_in request.content)
+is_set ports own state request change method =
+    let parts = and_parts (is_about sa_attribute.ServiceRecord request) _ change in
+    let attribute : request.header.attribute_id ≡ 0x31 = eqb-true request.header.attribute_id 0x31 parts.0 in
+    rw (method, attribute) refl
+
+pub is_deleted : (ports : List SubnetPort) (own : SubnetPort) (state : SaState) (request : Request) → is_change request ≡ true → (request.header.method ≡ 2 → ⊥)
+    → outcome ports own state request ≡ service_deleted own state request.component_mask (service_in request.content) request.content
+is_deleted ports own state request change other =
+    let parts = and_parts (is_about sa_attribute.ServiceRecord request) _ change in
+    let attribute : request.header.attribute_id ≡ 0x31 = eqb-true request.header.attribute_id 0x31 parts.0 in
+    let no_set : (request.header.method == 2) ≡ false = ne_eqb request.header.method 2 other in
+    let method : request.header.method ≡ 0x15 = eqb-true request.header.method 0x15 (rw no_set at parts.1) in
+    rw (method, attribute) refl
