@@ -1,5 +1,7 @@
 -- What comes of what a port sends, in words that code computes.
-use Rattle.std.specs.Prelude.{ℕ, ◌≡◌, ◌==◌, ◌<◌, ◌^◌, Bool, ◌&&◌, ◌||◌, bit_and, not, List, [], Option, Some, None, Result, Ok, Err}
+use Rattle.std.specs.Prelude.{ℕ, ◌≡◌, ◌==◌, ◌<◌, ◌^◌, Bool, ◌&&◌, ◌||◌, bit_and, not, List, [], length, Option, Some, None, Result, Ok, Err}
+use Rattle.std.specs.Option.{is_some}
+use Rattle.mad_layout.specs.Bits.{field}
 use Rattle.mad_layout.specs.Method.{method_code}
 use Rattle.mad_layout.specs.declared.method.Method.TheVariants.{Set, Delete}
 use Rattle.mad_layout.specs.declared.status.MadStatus.{MadStatus}
@@ -10,11 +12,11 @@ use Rattle.subnet_model.specs.Delivery.{port_with_guid}
 use Rattle.subnet_model.specs.declared.subnet_port.SubnetPort.{SubnetPort}
 use Rattle.sa_queries.specs.Visible.{SaState}
 use Rattle.sa_replies.specs.Answer.{Administration, Answered, answer}
-use Rattle.sa_replies.specs.Request.{Request, has_versions, is_about}
+use Rattle.sa_replies.specs.Request.{Request, has_versions, is_about, request_in}
 use Rattle.sa_replies.specs.Success.{Success as Brought}
 use Rattle.sa_answer.specs.declared.outcome.Success.{Success}
 use Rattle.sa_answer.specs.declared.outcome.Success.TheVariants.{Reply, Table}
-use Rattle.sa_answer.specs.Registry.{RegistryState, with_remembered}
+use Rattle.sa_answer.specs.Registry.{RegistryState, place_with_guid, with_remembered}
 use Rattle.sa_answer.specs.Replying.{padded}
 
 -- ---- a Set or a Delete
@@ -63,6 +65,11 @@ CanBeTold (Ok (Reply content)) = Unit {0}
 CanBeTold (Err status) = Unit {0}
 
 -- ---- what a port of a GUID sends; what comes from none is not answered
+-- what is left of it: only a MAD of subnet administration that a port of the subnet sends
+abbrev pub is_left_of : List SubnetPort → ℕ → List ℕ → Bool
+is_left_of ports guid payload =
+    is_some (place_with_guid ports guid) && (((length payload == 256) && (field payload 8 8 == 3)) && is_left (request_in payload))
+
 abbrev pub answer_from : List SubnetPort → Option SubnetPort → List ℕ → Administration → Answered
 answer_from ports (Some own) payload state = answer ports own payload state
 answer_from ports None payload state = ([], state)

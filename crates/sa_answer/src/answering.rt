@@ -1,14 +1,14 @@
 //! What comes of what ports send to subnet administration.
 
 ghost use Rattle.std.specs.Prelude.{◌≡◌, ◌==◌, ◌&&◌, ◌<◌, true, false, length, Some, None, is_some, option_map};
-ghost use Rattle.std.specs.Prelude.{if◌then◌else◌, IfOk, IfSome, OnErr, IsErr};
+ghost use Rattle.std.specs.Prelude.{if◌then◌else◌, not, IfOk, IfSome, OnErr, IsErr};
 ghost use Rattle.mad_layout.specs.Bits.{field};
 ghost use Rattle.subnet_model.specs.Delivery.{port_with_guid};
 ghost use Rattle.subnet_model.specs.declared.subnet_port.SubnetPort.{SubnetPort};
 ghost use Rattle.sa_replies.specs.Answer.{after_rmpp, answer_to, answered_with, outcome, version_refused};
 ghost use Rattle.sa_replies.specs.Request.{request_in};
 ghost use Rattle.sa_replies.specs.Transfers.{on_rmpp, table_of};
-ghost use Rattle.sa_answer.specs.Answering.{Answers, answer_to_port, is_change, is_change_of, is_join_or_leave, is_left};
+ghost use Rattle.sa_answer.specs.Answering.{Answers, answer_to_port, is_change, is_change_of, is_join_or_leave, is_left, is_left_of};
 ghost use Rattle.sa_answer.specs.Registry.{place_with_guid};
 
 use crate::outcome::Success;
@@ -31,7 +31,7 @@ impl Registry {
         ensures answers { IfOk result (λ answered. IfSome answered (λ mads.
             Answers (answer_to_port self.old.configuration.ports port payload.now self.old.administration) mads.items self.old self.new)) }
         ensures left { IfOk result (λ answered. answered ≡ None → self.new ≡ self.old) }
-        ensures all { is_left (request_in payload.now) ≡ false → IfOk result (λ answered. is_some answered ≡ true) }
+        ensures all { IfOk result (λ answered. is_some answered ≡ not (is_left_of self.old.configuration.ports port payload.now)) }
         ensures broken { self.old.is_broken ≡ true → IsErr result }
         ensures for_good { OnErr result (self.new.is_broken ≡ true) }
         ensures stays { self.old.is_broken ≡ true → self.new ≡ self.old }
@@ -53,7 +53,7 @@ impl Registry {
         ensures answers { IfOk result (λ answered. IfSome answered (λ mads.
             Answers (answer_to_port self.old.configuration.ports port payload.now self.old.administration) mads.items self.old self.new)) }
         ensures left { IfOk result (λ answered. answered ≡ None → self.new ≡ self.old) }
-        ensures all { is_left (request_in payload.now) ≡ false → IfOk result (λ answered. is_some answered ≡ true) }
+        ensures all { IfOk result (λ answered. is_some answered ≡ not (is_left_of self.old.configuration.ports port payload.now)) }
         ensures configuration { self.new.configuration ≡ self.old.configuration }
     {
         let Some(place) = self.place_of(port) else {
@@ -81,7 +81,7 @@ impl Registry {
             → IfOk result (λ answered. IfSome answered (λ mads.
             Answers (answer_to self.old.configuration.ports own request.now self.old.administration) mads.items self.old self.new)) }
         ensures left { IfOk result (λ answered. answered ≡ None → self.new ≡ self.old) }
-        ensures all { is_left request.now ≡ false → IfOk result (λ answered. is_some answered ≡ true) }
+        ensures all { IfOk result (λ answered. is_some answered ≡ not (is_left request.now)) }
         ensures configuration { self.new.configuration ≡ self.old.configuration }
     {
         if !request.has_versions() {

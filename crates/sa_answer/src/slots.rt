@@ -8,6 +8,7 @@ ghost use Rattle.sa_groups.specs.Sound.{is_in_range};
 ghost use Rattle.sa_answer.specs.Slots.{file_group, partition_in};
 
 use crate::group::Group;
+use fabric_parts::FIRST_MULTICAST_LID;
 use partition_file::Heading;
 use pkey_rules::PARTITIONS;
 use std::alloc::{AllocError, Global};
@@ -15,9 +16,6 @@ use std::marker::Model;
 
 /// How many MLIDs a partition has of its own, and so how many slots.
 pub(crate) const SLOTS: usize = 32;
-
-/// The MLID of the first slot of the first partition.
-const FIRST_MLID: u16 = 0xc000;
 
 /// The groups of the partition of this number and base. The one of its MLID `j`, counted from 0, stands in slot `j`, with
 /// its memberships beneath it; and bit `j` of a set says whether that slot is free.
@@ -103,7 +101,7 @@ impl PartitionSlots {
         ensures value { result ≡ first_mlid self.now.number }
         ensures within { result < 0xc400 }
     {
-        FIRST_MLID + SLOTS as u16 * self.number
+        FIRST_MULTICAST_LID + SLOTS as u16 * self.number
     }
 }
 
