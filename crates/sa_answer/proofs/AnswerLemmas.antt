@@ -144,3 +144,10 @@ answered_as ports guid own mad payload state found h =
     let test = is.0 in
     let same = is.1 in
     rw (found, test, same) refl
+
+pub ignored_as : (ports : List SubnetPort) (guid : ℕ) (own : SubnetPort) (payload : List ℕ) (state : Administration) → port_with_guid ports guid ≡ Some own
+    → None ≡ (if (length payload == 256) && (field payload 8 8 == 3) then Some payload else None) → answer_to_port ports guid payload state ≡ ([], state)
+ignored_as ports guid own payload state found none = elim (cases_Bool ((length payload == 256) && (field payload 8 8 == 3))) [
+  | inl is ↦ absurd (let e : None ≡ Some payload = rw is at none in cc)
+  | inr other ↦ rw (found, other) refl
+]

@@ -174,7 +174,7 @@ not_searched own mask asked partition slots is all not_so = elim (cases_Bool (is
     only_second false h = refl
 
 -- ---- one slot more
-groups_joined : (mlid next : ℕ) (xs ys : List (Option SlotGroup)) → next ≡ mlid + length xs → groups_in mlid (xs ++ ys) ≡ groups_in mlid xs ++ groups_in next ys
+pub groups_joined : (mlid next : ℕ) (xs ys : List (Option SlotGroup)) → next ≡ mlid + length xs → groups_in mlid (xs ++ ys) ≡ groups_in mlid xs ++ groups_in next ys
 groups_joined mlid next [] ys is = let e : next ≡ mlid = omega arith in rw e refl
 groups_joined mlid next (None ∷ xs) ys is = groups_joined (mlid + 1) next xs ys (omega arith)
 groups_joined mlid next (Some group ∷ xs) ys is = ap (λ rest. with_mlid mlid group ∷ rest) (groups_joined (mlid + 1) next xs ys (omega arith))

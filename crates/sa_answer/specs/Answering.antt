@@ -1,7 +1,5 @@
 -- What comes of what a port sends, in words that code computes.
-use Rattle.std.specs.Prelude.{ℕ, ◌≡◌, ◌==◌, ◌<◌, ◌^◌, Bool, ◌&&◌, ◌||◌, bit_and, not, List, [], length, Option, Some, None, Result, Ok, Err}
-use Rattle.std.specs.Option.{is_some}
-use Rattle.mad_layout.specs.Bits.{field}
+use Rattle.std.specs.Prelude.{ℕ, ◌≡◌, ◌==◌, ◌<◌, ◌^◌, Bool, ◌&&◌, ◌||◌, List, [], Option, Some, None, Result, Ok, Err}
 use Rattle.mad_layout.specs.Method.{method_code}
 use Rattle.mad_layout.specs.declared.method.Method.TheVariants.{Set, Delete}
 use Rattle.mad_layout.specs.declared.status.MadStatus.{MadStatus}
@@ -12,11 +10,13 @@ use Rattle.subnet_model.specs.Delivery.{port_with_guid}
 use Rattle.subnet_model.specs.declared.subnet_port.SubnetPort.{SubnetPort}
 use Rattle.sa_queries.specs.Visible.{SaState}
 use Rattle.sa_replies.specs.Answer.{Administration, Answered, answer}
-use Rattle.sa_replies.specs.Request.{Request, has_versions, is_about, request_in}
+use Rattle.sa_replies.specs.Request.{Request, is_about}
 use Rattle.sa_replies.specs.Success.{Success as Brought}
 use Rattle.sa_answer.specs.declared.outcome.Success.{Success}
 use Rattle.sa_answer.specs.declared.outcome.Success.TheVariants.{Reply, Table}
-use Rattle.sa_answer.specs.Registry.{RegistryState, place_with_guid, with_remembered}
+use Rattle.sa_answer.specs.declared.group_requests.Change.{Change}
+use Rattle.sa_answer.specs.declared.reaction.Reaction.{Reaction}
+use Rattle.sa_answer.specs.Registry.{RegistryState, changed_between, with_remembered}
 use Rattle.sa_answer.specs.Replying.{padded}
 
 -- ---- a Set or a Delete
@@ -31,10 +31,6 @@ is_change request = is_change_of sa_attribute.ServiceRecord request
 -- of a membership in a group: a join or a leave
 abbrev pub is_join_or_leave : Request → Bool
 is_join_or_leave request = is_change_of sa_attribute.McMemberRecord request
-
--- what is left: a join or a leave of our versions that is no MAD of a transfer; a response has neither method
-abbrev pub is_left : Request → Bool
-is_left request = (has_versions request.header && not (bit_and request.rmpp.flags 1 == 1)) && is_join_or_leave request
 
 -- ---- the same comes of a request, in the data of a reply or in the bytes of a table; what is remembered stays
 abbrev pub IsBrought : SaState → Brought → Success → Type 0
@@ -54,6 +50,13 @@ BringsAbout old (Ok (Brought.one_reply bytes next)) (Ok content) new = (content 
 BringsAbout old (Err status) (Err told) new = (told ≡ status) × (new ≡ old)
 BringsAbout old _ _ new = ⊥
 
+-- so does a join or a leave, with the numbers of the partitions whose receivers are others then
+abbrev pub BringsChange : RegistryState → Result Brought MadStatus → Result Change MadStatus → RegistryState → Type 0
+BringsChange old (Ok (Brought.one_reply bytes next)) (Ok change) new =
+    (change.«data» ≡ padded bytes) × ((new ≡ with_remembered next old) × (change.numbers.items ≡ changed_between old new))
+BringsChange old (Err status) (Err told) new = (told ≡ status) × (new ≡ old)
+BringsChange old _ _ new = ⊥
+
 -- the port is one of these, and the first of its GUID
 abbrev pub IsListed : List SubnetPort → SubnetPort → Type 0
 IsListed ports own = port_with_guid ports own.guid ≡ Some own
@@ -65,11 +68,6 @@ CanBeTold (Ok (Reply content)) = Unit {0}
 CanBeTold (Err status) = Unit {0}
 
 -- ---- what a port of a GUID sends; what comes from none is not answered
--- what is left of it: only a MAD of subnet administration that a port of the subnet sends
-abbrev pub is_left_of : List SubnetPort → ℕ → List ℕ → Bool
-is_left_of ports guid payload =
-    is_some (place_with_guid ports guid) && (((length payload == 256) && (field payload 8 8 == 3)) && is_left (request_in payload))
-
 abbrev pub answer_from : List SubnetPort → Option SubnetPort → List ℕ → Administration → Answered
 answer_from ports (Some own) payload state = answer ports own payload state
 answer_from ports None payload state = ([], state)
@@ -81,3 +79,8 @@ answer_to_port ports guid payload state = answer_from ports (port_with_guid port
 pub record Answers (answered : Answered) (mads : List (List ℕ)) (old new : RegistryState) : Type 0 where
   pub mads_are : mads ≡ answered.0
   pub next : new ≡ record old { administration = answered.1 }
+
+-- so are these replies, and the numbers are those of the partitions whose receivers are others then
+pub record Reacts (answered : Answered) (reaction : Reaction) (old new : RegistryState) : Type 0 where
+  pub answers : Answers answered reaction.replies.items old new
+  pub changed : reaction.changed.items ≡ changed_between old new

@@ -9,3 +9,7 @@ pub mod Answering
 pub mod Premises
 pub mod Offers
 pub mod Groups
+pub mod Joined
+pub mod Left
+pub mod Receiving
+pub mod Members

@@ -5,6 +5,7 @@ use Rattle.subnet_model.specs.Configuration.{ConfigurationState}
 use Rattle.subnet_model.specs.Configured.{IsConfigured}
 use Rattle.subnet_model.specs.declared.subnet_port.SubnetPort.{SubnetPort}
 use Rattle.sa_groups.specs.Groups.{PartitionGroups}
+use Rattle.sa_groups.specs.Receivers.{changed_numbers}
 use Rattle.sa_services.specs.ServiceChange.{Deed, ServiceChange}
 use Rattle.sa_services.specs.Services.{Service}
 use Rattle.sa_queries.specs.Visible.{SaState}
@@ -64,3 +65,12 @@ with_remembered remembered state = record state { administration = record state.
 
 abbrev pub with_change : ServiceChange → RegistryState → RegistryState
 with_change change state = with_remembered (after_change state.administration.remembered change) state
+
+-- ---- after what a port does to memberships in groups
+abbrev pub with_partitions : List PartitionGroups → RegistryState → RegistryState
+with_partitions partitions state = with_remembered (record state.administration.remembered { partitions = partitions }) state
+
+-- the numbers of the partitions whose receivers are others then
+abbrev pub changed_between : RegistryState → RegistryState → List ℕ
+changed_between old new =
+    changed_numbers old.configuration.ports old.administration.remembered.partitions new.administration.remembered.partitions

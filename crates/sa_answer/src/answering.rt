@@ -1,17 +1,17 @@
 //! What comes of what ports send to subnet administration.
 
-ghost use Rattle.std.specs.Prelude.{◌≡◌, ◌==◌, ◌&&◌, ◌<◌, true, false, length, Some, None, is_some, option_map};
-ghost use Rattle.std.specs.Prelude.{if◌then◌else◌, not, IfOk, IfSome, OnErr, IsErr};
+ghost use Rattle.std.specs.Prelude.{◌≡◌, ◌==◌, ◌&&◌, ◌<◌, true, false, length, Some, None, option_map};
+ghost use Rattle.std.specs.Prelude.{if◌then◌else◌, IfOk, OnErr, IsErr};
 ghost use Rattle.mad_layout.specs.Bits.{field};
 ghost use Rattle.subnet_model.specs.Delivery.{port_with_guid};
 ghost use Rattle.subnet_model.specs.declared.subnet_port.SubnetPort.{SubnetPort};
 ghost use Rattle.sa_replies.specs.Answer.{after_rmpp, answer_to, answered_with, outcome, version_refused};
-ghost use Rattle.sa_replies.specs.Request.{request_in};
 ghost use Rattle.sa_replies.specs.Transfers.{on_rmpp, table_of};
-ghost use Rattle.sa_answer.specs.Answering.{Answers, answer_to_port, is_change, is_change_of, is_join_or_leave, is_left, is_left_of};
+ghost use Rattle.sa_answer.specs.Answering.{Answers, Reacts, answer_to_port, is_change, is_change_of, is_join_or_leave};
 ghost use Rattle.sa_answer.specs.Registry.{place_with_guid};
 
 use crate::outcome::Success;
+use crate::reaction::Reaction;
 use crate::registry::Registry;
 use crate::reply::{refusal_reply, reply, table_header};
 use crate::request::{Request, SA_CLASS};
@@ -22,16 +22,13 @@ use sa_records::SaAttribute;
 use std::alloc::AllocError;
 
 impl Registry {
-    /// Answers what the port of a GUID sends: requests for records of all kinds, Sets and Deletes of services, MADs of a transfer,
-    /// and what is refused or ignored whatever its attribute. None for a join or a leave, which this call leaves: a Set or a
-    /// Delete by MCMemberRecord.
+    /// Takes what the port of a GUID sends, and answers it. What is no MAD of subnet administration, or comes from no port of
+    /// the subnet, is not answered.
     ///
     /// Memory alone can be refused, and then for good.
-    pub fn answer(&mut self, port: u64, payload: &[u8]) -> Result<Option<Vec<Mad>>, AllocError>
-        ensures answers { IfOk result (λ answered. IfSome answered (λ mads.
-            Answers (answer_to_port self.old.configuration.ports port payload.now self.old.administration) mads.items self.old self.new)) }
-        ensures left { IfOk result (λ answered. answered ≡ None → self.new ≡ self.old) }
-        ensures all { IfOk result (λ answered. is_some answered ≡ not (is_left_of self.old.configuration.ports port payload.now)) }
+    pub fn handle(&mut self, port: u64, payload: &[u8]) -> Result<Reaction, AllocError>
+        ensures reacts { IfOk result (λ reaction.
+            Reacts (answer_to_port self.old.configuration.ports port payload.now self.old.administration) reaction self.old self.new) }
         ensures broken { self.old.is_broken ≡ true → IsErr result }
         ensures for_good { OnErr result (self.new.is_broken ≡ true) }
         ensures stays { self.old.is_broken ≡ true → self.new ≡ self.old }
@@ -40,8 +37,8 @@ impl Registry {
         if self.is_broken {
             return Err(AllocError);
         }
-        match self.answered(port, payload) {
-            Ok(answered) => Ok(answered),
+        match self.reaction(port, payload) {
+            Ok(reaction) => Ok(reaction),
             Err(error) => {
                 self.is_broken = true;
                 Err(error)
@@ -49,54 +46,50 @@ impl Registry {
         }
     }
 
-    fn answered(&mut self, port: u64, payload: &[u8]) -> Result<Option<Vec<Mad>>, AllocError>
-        ensures answers { IfOk result (λ answered. IfSome answered (λ mads.
-            Answers (answer_to_port self.old.configuration.ports port payload.now self.old.administration) mads.items self.old self.new)) }
-        ensures left { IfOk result (λ answered. answered ≡ None → self.new ≡ self.old) }
-        ensures all { IfOk result (λ answered. is_some answered ≡ not (is_left_of self.old.configuration.ports port payload.now)) }
+    fn reaction(&mut self, port: u64, payload: &[u8]) -> Result<Reaction, AllocError>
+        ensures reacts { IfOk result (λ reaction.
+            Reacts (answer_to_port self.old.configuration.ports port payload.now self.old.administration) reaction self.old self.new) }
         ensures configuration { self.new.configuration ≡ self.old.configuration }
     {
         let Some(place) = self.place_of(port) else {
-            return Ok(Some(Vec::new(self.alloc)));
+            return Ok(Reaction::answered(Vec::new(self.alloc)));
         };
         match sa_mad_of(payload) {
             Some(mad) => {
-                let answered = self.answer_to(port, place, &Request::read(mad))?;
-                Ok(answered)
+                let reaction = self.reaction_to(port, place, &Request::read(mad))?;
+                Ok(reaction)
             }
-            None => Ok(Some(Vec::new(self.alloc))),
+            None => Ok(Reaction::answered(Vec::new(self.alloc))),
         }
     }
 
-    /// Answers a MAD of subnet administration, by the first of these cases that holds: a version that is not ours, a MAD of a
+    /// Takes a MAD of subnet administration, by the first of these cases that holds: a version that is not ours, a MAD of a
     /// transfer, a response, a request.
-    fn answer_to(
+    fn reaction_to(
         &mut self,
         port: u64,
         place: usize,
         request: &Request,
-    ) -> Result<Option<Vec<Mad>>, AllocError>
+    ) -> Result<Reaction, AllocError>
         requires { place_with_guid self.old.configuration.ports port ≡ Some place }
-        ensures answers { (own : SubnetPort) → port_with_guid self.old.configuration.ports port ≡ Some own
-            → IfOk result (λ answered. IfSome answered (λ mads.
-            Answers (answer_to self.old.configuration.ports own request.now self.old.administration) mads.items self.old self.new)) }
-        ensures left { IfOk result (λ answered. answered ≡ None → self.new ≡ self.old) }
-        ensures all { IfOk result (λ answered. is_some answered ≡ not (is_left request.now)) }
+        ensures reacts { (own : SubnetPort) → port_with_guid self.old.configuration.ports port ≡ Some own
+            → IfOk result (λ reaction.
+            Reacts (answer_to self.old.configuration.ports own request.now self.old.administration) reaction self.old self.new) }
         ensures configuration { self.new.configuration ≡ self.old.configuration }
     {
         if !request.has_versions() {
-            return Ok(Some(self.version_refused(request)?));
+            return Ok(Reaction::answered(self.version_refused(request)?));
         }
         if request.is_active() {
-            return Ok(Some(self.after_rmpp(port, place, request)?));
+            return Ok(Reaction::answered(self.after_rmpp(port, place, request)?));
         }
         if request.is_response() {
-            return Ok(Some(Vec::new(self.alloc)));
+            return Ok(Reaction::answered(Vec::new(self.alloc)));
         }
         if is_join_or_leave(request) {
-            return Ok(None);
+            return self.answered_with_membership(port, place, request);
         }
-        Ok(Some(self.answered_with(port, place, request)?))
+        Ok(Reaction::answered(self.answered_with(port, place, request)?))
     }
 
     /// Refuses a request of a version that is not ours.

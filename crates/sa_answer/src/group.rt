@@ -39,8 +39,8 @@ pub(crate) struct GroupParameters {
 /// The port of this GUID takes part in a group.
 #[derive(Debug, Drop)]
 pub(crate) struct Membership {
-    port: u64,
-    join_state: JoinState,
+    pub(crate) port: u64,
+    pub(crate) join_state: JoinState,
 }
 
 impl Model for Membership {
@@ -55,10 +55,10 @@ impl Model for Membership {
 /// A group in its slot: all of it but its MLID, which its slot tells.
 #[derive(Debug, Drop)]
 pub(crate) struct Group {
-    mgid: u128,
-    parameters: GroupParameters,
-    creator: Creator,
-    memberships: Vec<Membership>,
+    pub(crate) mgid: u128,
+    pub(crate) parameters: GroupParameters,
+    pub(crate) creator: Creator,
+    pub(crate) memberships: Vec<Membership>,
 }
 
 impl Model for Group {
@@ -79,7 +79,7 @@ impl Model for Group {
 }
 
 /// How long packets of the partition file's groups may be on their way.
-const PACKET_LIFE_TIME: u8 = 18;
+pub(crate) const PACKET_LIFE_TIME: u8 = 18;
 
 impl Group {
     /// The group that a partition file makes, in which nobody is yet.

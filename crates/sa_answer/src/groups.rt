@@ -237,7 +237,7 @@ fn agreeing(
 }
 
 /// The record of a group of the partition of a base that has an MLID.
-fn group_record(group: &Group, base: u16, mlid: u16) -> McMemberRecord
+pub(crate) fn group_record(group: &Group, base: u16, mlid: u16) -> McMemberRecord
     requires { base < 0x8000 }
     ensures value { result ≡ group_record_of (group_of base (with_mlid mlid group.now)) }
     ensures fits { Fits (mc_member_record result) }
@@ -266,7 +266,7 @@ fn group_record(group: &Group, base: u16, mlid: u16) -> McMemberRecord
 }
 
 /// The bytes of a record.
-fn bytes_of(group: &McMemberRecord) -> [u8; MC_MEMBER_RECORD_BYTES]
+pub(crate) fn bytes_of(group: &McMemberRecord) -> [u8; MC_MEMBER_RECORD_BYTES]
     requires { Fits (mc_member_record group.now) }
     ensures { result ≡ mc_member_record_bytes group.now }
 {
@@ -276,7 +276,7 @@ fn bytes_of(group: &McMemberRecord) -> [u8; MC_MEMBER_RECORD_BYTES]
 }
 
 /// The data of a reply with the record of these bytes.
-fn data_of(bytes: &[u8; MC_MEMBER_RECORD_BYTES]) -> [u8; SA_DATA_BYTES]
+pub(crate) fn data_of(bytes: &[u8; MC_MEMBER_RECORD_BYTES]) -> [u8; SA_DATA_BYTES]
     ensures { result ≡ padded bytes.now }
 {
     let mut data = [0; SA_DATA_BYTES];

@@ -46,10 +46,10 @@ use std::marker::Model;
 #[derive(Drop)]
 pub struct Registry {
     pub(crate) alloc: Global,
-    kept: Vec<KeptPort>,
-    places: IndexMap<u64, usize>,
+    pub(crate) kept: Vec<KeptPort>,
+    pub(crate) places: IndexMap<u64, usize>,
     headings: Vec<Heading>,
-    partitions: Vec<PartitionSlots>,
+    pub(crate) partitions: Vec<PartitionSlots>,
     pub(crate) is_broken: bool,
 }
 
@@ -94,6 +94,13 @@ impl Registry {
         ensures { result.now ≡ self.now.administration.remembered.partitions }
     {
         self.partitions.as_slice()
+    }
+
+    /// The ports by LID, with what is kept for each.
+    pub(crate) fn kept(&self) -> &[KeptPort]
+        ensures { ports_of result.now ≡ self.now.configuration.ports }
+    {
+        self.kept.as_slice()
     }
 
     /// The place of the port of a GUID, if there is one.

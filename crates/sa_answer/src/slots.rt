@@ -23,8 +23,8 @@ pub(crate) const SLOTS: usize = 32;
 pub(crate) struct PartitionSlots {
     number: u16,
     base: u16,
-    slots: Vec<Option<Group>>,
-    free: u32,
+    pub(crate) slots: Vec<Option<Group>>,
+    pub(crate) free: u32,
 }
 
 impl Model for PartitionSlots {
@@ -63,6 +63,13 @@ impl PartitionSlots {
             slots: slots_from(alloc, first)?,
             free,
         })
+    }
+
+    /// The number of the partition.
+    pub(crate) fn number(&self) -> u16
+        ensures { result ≡ self.now.number }
+    {
+        self.number
     }
 
     /// The base of the partition.

@@ -53,7 +53,7 @@ table_leaves state (Success.one_reply bytes next) is = absurd is
 table_leaves state (Success.whole_table offset bytes) is = tt
 
 -- where the request is for groups, it is no Set and no Delete
-abbrev IsNone : Request → Type 0
+abbrev pub IsNone : Request → Type 0
 IsNone request =
     (((request.header.method == method_code Set) && (is_about sa_attribute.McMemberRecord request))
     || ((request.header.method == method_code Delete) && (is_about sa_attribute.McMemberRecord request))) ≡ false
@@ -81,11 +81,16 @@ outcome_leaves ports own state request none =
     (deletion_leaves own state request.component_mask (service_in request.content) request.content) tt))
     (λ no_deletion. tt))))
 
-told_leaves : (own : SubnetPort) (request : Request) (state : Administration) (result : Result Success MadStatus) → Ends (LeavesPartitions state.remembered) result
+answered_leaves : (own : SubnetPort) (request : Request) (state : Administration) (result : Result Success MadStatus) → Ends (LeavesPartitions state.remembered) result
     → (answered_with own request state result).1.remembered.partitions ≡ state.remembered.partitions
-told_leaves own request state (Err status) leaves = refl
-told_leaves own request state (Ok (Success.one_reply bytes next)) leaves = leaves
-told_leaves own request state (Ok (Success.whole_table offset bytes)) leaves = refl
+answered_leaves own request state (Err status) leaves = refl
+answered_leaves own request state (Ok (Success.one_reply bytes next)) leaves = leaves
+answered_leaves own request state (Ok (Success.whole_table offset bytes)) leaves = refl
+
+pub others_leave : (ports : List SubnetPort) (own : SubnetPort) (request : Request) (state : Administration) → IsNone request
+    → (answered_with own request state (outcome ports own state.remembered request)).1.remembered.partitions ≡ state.remembered.partitions
+others_leave ports own request state none =
+    answered_leaves own request state (outcome ports own state.remembered request) (outcome_leaves ports own state.remembered request none)
 
 partitions_same : (ports : List SubnetPort) (own : SubnetPort) (payload : List ℕ) (state : Administration) → joins_or_leaves payload ≡ false
     → (answer ports own payload state).1.remembered.partitions ≡ state.remembered.partitions
@@ -93,8 +98,7 @@ partitions_same ports own payload state none = elim (cases_Bool (is_of_transfer 
   | inl of_transfer ↦ ap (λ (s : SaState). s.partitions) ((requests_leave_the_rest ports own payload state).by_transfer of_transfer)
   | inr apart ↦
       by_request ports own payload state (λ answered. answered.1.remembered.partitions ≡ state.remembered.partitions) apart (λ mads are. refl)
-      (λ asks. told_leaves own (request_in payload) state (outcome ports own state.remembered (request_in payload))
-      (outcome_leaves ports own state.remembered (request_in payload) (rw apart at none)))
+      (λ asks. others_leave ports own (request_in payload) state (rw apart at none))
 ]
 
 pub others_change_no_receivers : OthersChangeNoReceivers

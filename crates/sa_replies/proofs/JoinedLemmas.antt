@@ -54,7 +54,7 @@ too_high : (n : ℕ) → is_join_state (eight_more n) ≡ false
 too_high n = grind (arith, nat_tests)
 
 -- a JoinState from 1 to 7 has one
-some_bit : (bits : ℕ) → is_join_state bits ≡ true → is_joined (join_state_of bits) ≡ true
+pub some_bit : (bits : ℕ) → is_join_state bits ≡ true → is_joined (join_state_of bits) ≡ true
 some_bit zero e = absurd (cc)
 some_bit (suc zero) e = refl
 some_bit (suc (suc zero)) e = refl

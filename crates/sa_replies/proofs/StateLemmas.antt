@@ -39,7 +39,7 @@ use Rattle.sa_services.proofs.ServiceSoundLemmas as services
 use Rattle.sa_queries.specs.Selected.{asks}
 use Rattle.sa_queries.specs.Visible.{SaState}
 use Rattle.sa_replies.specs.Request.{request_in}
-use Rattle.sa_replies.specs.Joins.{join_asked, life_taken, mtu_taken, or_zero, rate_taken}
+use Rattle.sa_replies.specs.Joins.{life_taken, mtu_taken, or_zero, parameters_asked, rate_taken}
 use Rattle.sa_replies.specs.ServiceRequests.{service_asked}
 use Rattle.sa_records.specs.ServiceRecord.{numbers_asked}
 use Rattle.sa_replies.specs.Answer.{Administration, answer}
@@ -136,9 +136,9 @@ scope_small : (test : Bool) (asked own : ℕ) → nat_lt asked 16 ≡ true → n
 scope_small true asked own small = small
 scope_small false asked own small = lt-ltb (own % 16) 16 (omega arith)
 
-join_fits : (own : SubnetPort) (mask : ℕ) (content : List ℕ) → FitJoin (join_asked own mask (group_in content))
+pub parameters_fit : (mask : ℕ) (content : List ℕ) → is_fit_group (parameters_asked mask (group_in content)) ≡ true
 unfolding group_in
-join_fits own mask content =
+parameters_fit mask content =
     let asked = group_in content in
     let mtu : nat_lt (or_zero (mtu_taken mask asked)) 64 ≡ true = taken_small (λ mtu. not (asks mask member_mask.mtu) || satisfies asked.mtu_selector mtu asked.mtu) (4 ∷ 3 ∷ 2 ∷ 1 ∷ []) refl in
     let rate : nat_lt (or_zero (rate_taken mask asked)) 64 ≡ true = taken_small (λ rate. not (asks mask member_mask.rate) || rate_satisfies asked.rate_selector rate asked.rate) (3 ∷ 5 ∷ 2 ∷ []) refl in
@@ -221,7 +221,7 @@ content_long payload whole =
 
 asks_fit : (own : SubnetPort) (payload : List ℕ) → (length payload == 256) ≡ true → AsksFor own (request_in payload) FitJoin FitChange
 asks_fit own payload whole = record {
-  join = join_fits own (request_in payload).component_mask (request_in payload).content;
+  join = parameters_fit (request_in payload).component_mask (request_in payload).content;
   set = set_fits (request_in payload).component_mask (request_in payload).content (content_long payload whole);
   deletion = tt;
 }
@@ -249,26 +249,34 @@ change_remembered configuration state change fit is = record {
   fit_services = changes_fit change state.services fit is.fit_services;
 }
 
+pub join_remembered : (configuration : ConfigurationState) (state : SaState) (join : Join) → FitJoin join → IsRememberedOf configuration state
+    → IsRememberedOf configuration (record state { partitions = joined configuration.ports join state.partitions })
+join_remembered configuration state join fit is = record {
+  partitions = partitions_stay configuration.ports state.partitions (Change.joins join) ∙ is.partitions;
+  groups = joined_sound configuration.ports join state.partitions is.groups;
+  fit_groups = joins_fit configuration.ports join state.partitions fit is.fit_groups;
+  places = is.places;
+  services = is.services;
+  fit_services = is.fit_services;
+}
+
+pub leave_remembered : (configuration : ConfigurationState) (state : SaState) (leave : Leave) → IsRememberedOf configuration state
+    → IsRememberedOf configuration (record state { partitions = left configuration.ports leave state.partitions })
+leave_remembered configuration state leave is = record {
+  partitions = partitions_stay configuration.ports state.partitions (Change.leaves leave) ∙ is.partitions;
+  groups = left_sound configuration.ports leave state.partitions is.groups;
+  fit_groups = leaves_fit configuration.ports leave state.partitions is.fit_groups;
+  places = is.places;
+  services = is.services;
+  fit_services = is.fit_services;
+}
+
 kept : (configuration : ConfigurationState) (own : SubnetPort) (state : SaState) → IsRememberedOf configuration state
     → KeptBy configuration.ports own state FitJoin FitChange (IsRememberedOf configuration)
 kept configuration own state is = record {
   same = is;
-  joins = λ join e fit. record {
-    partitions = partitions_stay configuration.ports state.partitions (Change.joins join) ∙ is.partitions;
-    groups = joined_sound configuration.ports join state.partitions is.groups;
-    fit_groups = joins_fit configuration.ports join state.partitions fit is.fit_groups;
-    places = is.places;
-    services = is.services;
-    fit_services = is.fit_services;
-  };
-  leaves = λ leave e. record {
-    partitions = partitions_stay configuration.ports state.partitions (Change.leaves leave) ∙ is.partitions;
-    groups = left_sound configuration.ports leave state.partitions is.groups;
-    fit_groups = leaves_fit configuration.ports leave state.partitions is.fit_groups;
-    places = is.places;
-    services = is.services;
-    fit_services = is.fit_services;
-  };
+  joins = λ join e fit. join_remembered configuration state join fit is;
+  leaves = λ leave e. leave_remembered configuration state leave is;
   changes = λ change e fit. change_remembered configuration state change fit is;
 }
 

@@ -129,15 +129,26 @@ fn digit_of(digit: u8) -> u8 {
     }
 }
 
-/// Each MAD is answered by these, in this order.
+/// Each MAD is answered by these, in this order, and every group has the receivers that it had.
 pub fn talk(rt: &impl Abort, registry: &mut Registry, turns: &[Turn]) -> Result<(), Fail> {
     for (port, asked, answers) in turns {
-        let told = registry.answer(*port, &mad_of(*asked))?;
-        match told {
-            Some(mads) => are_answers(rt, &mads, *answers),
-            None => assert!(rt; false),
-        }
+        reacts(rt, registry, *port, *asked, *answers, &[])?;
     }
+    Ok(())
+}
+
+/// A MAD is answered by these, and the partitions of these numbers have other receivers then.
+pub fn reacts(
+    rt: &impl Abort,
+    registry: &mut Registry,
+    port: u64,
+    asked: Parts,
+    answers: &[Parts],
+    changed: &[u16],
+) -> Result<(), Fail> {
+    let reaction = registry.handle(port, &mad_of(asked))?;
+    are_answers(rt, &reaction.replies, answers);
+    assert_eq!(rt; reaction.changed.as_slice(), changed);
     Ok(())
 }
 

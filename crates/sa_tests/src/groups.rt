@@ -1,6 +1,6 @@
 //! Groups, as ports are shown them.
 
-use crate::fixtures::{H0, H1, H2, H3, ONE_PARTITION, Parts, Turn, mad_of, registry, talk};
+use crate::fixtures::{H0, H1, H2, H3, Turn, registry, talk};
 use std::test::Fail;
 
 /// h1 and h2 are in two partitions with a broadcast group each, h3 in the first alone, and h0 in neither.
@@ -162,18 +162,4 @@ const TABLES: [Turn; 4] = [
 fn a_table_has_all_groups_of_the_partitions_of_its_port(rt: HostRuntime) -> Result<(), Fail> {
     let mut registry = registry(&rt, rt.alloc(), TWO_GROUPS);
     talk(&rt, &mut registry, &TABLES)
-}
-
-const JOIN: Parts = &[(0, "01030202 00000000 0000000000000001 0038")];
-
-const LEAVE: Parts = &[(0, "01030215 00000000 0000000000000001 0038")];
-
-#[test]
-fn joins_and_leaves_are_left(rt: HostRuntime) -> Result<(), Fail> {
-    let mut registry = registry(&rt, rt.alloc(), ONE_PARTITION);
-    let joined = registry.answer(H1, &mad_of(JOIN))?;
-    assert!(rt; joined.is_none());
-    let left = registry.answer(H1, &mad_of(LEAVE))?;
-    assert!(rt; left.is_none());
-    Ok(())
 }

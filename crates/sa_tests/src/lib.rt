@@ -7,6 +7,8 @@ mod fixtures;
 #[cfg(test)]
 mod groups;
 #[cfg(test)]
+mod memberships;
+#[cfg(test)]
 mod memory;
 #[cfg(test)]
 mod paths;

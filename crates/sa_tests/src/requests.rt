@@ -1,8 +1,6 @@
 //! What is refused or ignored whatever it asks for, and Gets of nodes.
 
-use crate::fixtures::{H0, H1, H2, ONE_PARTITION, Parts, Turn, mad_of, registry, talk};
-use sa_answer::Registry;
-use std::process::Abort;
+use crate::fixtures::{H0, H1, H2, ONE_PARTITION, Turn, registry, talk};
 use std::test::Fail;
 
 const NODES: [Turn; 5] = [
@@ -138,21 +136,4 @@ const REFUSED: [Turn; 12] = [
 fn what_is_no_request_of_ours_is_refused_or_ignored(rt: HostRuntime) -> Result<(), Fail> {
     let mut registry = registry(&rt, rt.alloc(), ONE_PARTITION);
     talk(&rt, &mut registry, &REFUSED)
-}
-
-const ASKS: Parts = &[(0, "01030201 00000000 0000000000000001 0011")];
-
-/// A payload is not answered, and no table is.
-fn is_ignored(rt: &impl Abort, registry: &mut Registry, payload: &[u8]) -> Result<(), Fail> {
-    let told = registry.answer(H1, payload)?;
-    assert!(rt; told.is_some_and(|mads| mads.is_empty()));
-    Ok(())
-}
-
-#[test]
-fn a_payload_of_255_bytes_is_no_mad(rt: HostRuntime) -> Result<(), Fail> {
-    let mut registry = registry(&rt, rt.alloc(), ONE_PARTITION);
-    let mad = mad_of(ASKS);
-    is_ignored(&rt, &mut registry, mad.get(..255).unwrap_or(&[]))?;
-    is_ignored(&rt, &mut registry, &[])
 }

@@ -308,14 +308,10 @@ fn is_answered(
     asks: &Mad,
     answer: &Mad,
 ) -> Result<(), Fail> {
-    match registry.answer(H2, asks)? {
-        Some(mads) => {
-            assert_eq!(rt; mads.len(), 1);
-            for mad in &mads {
-                assert_eq!(rt; *mad, *answer);
-            }
-        }
-        None => assert!(rt; false),
+    let reaction = registry.handle(H2, asks)?;
+    assert_eq!(rt; reaction.replies.len(), 1);
+    for mad in &reaction.replies {
+        assert_eq!(rt; *mad, *answer);
     }
     Ok(())
 }

@@ -41,6 +41,40 @@ const BY_MLID: Parts = &[
     (92, "c3e0"),
 ];
 
+// A group with all that one is made with, but for its MGID, the GID of its port and its P_Key; a join to it; leaves of it, by
+// the P_Key and without one.
+const MADE: Parts = &[
+    (0, "01030202 00000000 0000000000000001 0038"),
+    (48, "00000000000130c7"),
+    (56, "ff12000000000000"),
+    (72, "fe80000000000000"),
+    (104, "01"),
+];
+
+const JOINED: Parts = &[
+    (0, "01030202 00000000 0000000000000001 0038"),
+    (48, "0000000000010083"),
+    (56, "ff12000000000000"),
+    (72, "fe80000000000000"),
+    (104, "01"),
+];
+
+const LEFT: Parts = &[
+    (0, "01030215 00000000 0000000000000001 0038"),
+    (48, "0000000000010083"),
+    (56, "ff12000000000000"),
+    (72, "fe80000000000000"),
+    (104, "01"),
+];
+
+const LEFT_EVERYWHERE: Parts = &[
+    (0, "01030215 00000000 0000000000000001 0038"),
+    (48, "0000000000010003"),
+    (56, "ff12000000000000"),
+    (72, "fe80000000000000"),
+    (104, "01"),
+];
+
 const NODES: Parts = &[(0, "01030212 00000000 0000000000000001 0011")];
 
 // A service with all its components, but for its ServiceID and the GUID in its ServiceGID; a service of LID 200, by its
@@ -146,8 +180,8 @@ fn asked_by(
     times: usize,
 ) -> Result<(), Fail> {
     for _time in 0..times {
-        let told = registry.answer(guid_of(lid), mad)?;
-        assert!(rt; told.is_some_and(|mads| mads.len() == 1));
+        let reaction = registry.handle(guid_of(lid), mad)?;
+        assert!(rt; reaction.replies.len() == 1);
     }
     Ok(())
 }
@@ -229,8 +263,8 @@ fn are_acknowledged(rt: &impl Abort, registry: &mut Registry) -> Result<(), Fail
     }
     ack[31] = 180;
     ack[35] = 180;
-    let told = registry.answer(guid_of(5), &ack)?;
-    assert!(rt; told.is_some_and(|mads| mads.is_empty()));
+    let reaction = registry.handle(guid_of(5), &ack)?;
+    assert!(rt; reaction.replies.is_empty());
     Ok(())
 }
 
@@ -262,4 +296,136 @@ fn a_service_is_set_1000_times(rt: HostRuntime) -> Result<(), Fail> {
 fn a_service_is_got_1000_times(rt: HostRuntime) -> Result<(), Fail> {
     let mut registry = with_services(&rt, rt.alloc())?;
     asked(&rt, &mut registry, &mad_of(SERVICE_BY_ID), 1000)
+}
+
+/// The port of a LID asks that of the group of this number in the partition of a base.
+fn membership_of(parts: Parts, lid: u16, base: u16, number: u8) -> Mad {
+    let mut mad = mad_of(parts);
+    let guid_bytes = guid_of(lid).to_be_bytes();
+    let base_bytes = base.to_be_bytes();
+    mad[71] = number;
+    mad[86] = guid_bytes[6];
+    mad[87] = guid_bytes[7];
+    mad[96] = base_bytes[0] | 0x80;
+    mad[97] = base_bytes[1];
+    mad
+}
+
+/// The base of the partition of a number, where a file gives the bases from 1 on.
+fn base_of(number: u16) -> u16 {
+    if number == 0 { 0x7fff } else { number }
+}
+
+/// Each port is in all of the 32 partitions, and that of LID 1 makes 32 groups in each, of the same MGIDs.
+fn with_all_groups(rt: &impl Abort, alloc: Global) -> Result<Registry, Fail> {
+    let mut file = String::new(alloc);
+    for base in 1..32u16 {
+        let line = format!(in alloc; "P={base}: ALL=full;\n")?;
+        file.push_str(&line)?;
+    }
+    let partitions = partition_file::read(alloc, file.as_bytes()).expect(
+        rt,
+        "it is a partition file",
+    );
+    let mut registry = made(rt, alloc, &partitions).expect(rt, "there is memory");
+    for number in 0..32u16 {
+        groups_are_made(rt, &mut registry, base_of(number))?;
+    }
+    Ok(registry)
+}
+
+fn groups_are_made(rt: &impl Abort, registry: &mut Registry, base: u16) -> Result<(), Fail> {
+    for number in 0..32u8 {
+        asked_by(rt, registry, 1, &membership_of(MADE, 1, base, number), 1)?;
+    }
+    Ok(())
+}
+
+/// All other adapters join the last group of the last partition.
+fn all_join(rt: &impl Abort, registry: &mut Registry) -> Result<(), Fail> {
+    for lid in 2..257u16 {
+        asked_by(rt, registry, lid, &membership_of(JOINED, lid, 31, 31), 1)?;
+    }
+    Ok(())
+}
+
+#[test]
+fn all_groups_are_made(rt: HostRuntime) -> Result<(), Fail> {
+    let mut registry = with_all_groups(&rt, rt.alloc())?;
+    all_join(&rt, &mut registry)
+}
+
+#[test]
+fn a_group_of_1024_is_got_1000_times(rt: HostRuntime) -> Result<(), Fail> {
+    let mut registry = with_all_groups(&rt, rt.alloc())?;
+    all_join(&rt, &mut registry)?;
+    let mut asks = membership_of(JOINED, 5, 31, 31);
+    asks[3] = 1;
+    asks[53] = 0;
+    asks[55] = 0x81;
+    asked(&rt, &mut registry, &asks, 1000)
+}
+
+/// The last of 256 members leaves and joins.
+#[test]
+fn a_member_leaves_and_joins_1000_times(rt: HostRuntime) -> Result<(), Fail> {
+    let mut registry = with_all_groups(&rt, rt.alloc())?;
+    all_join(&rt, &mut registry)?;
+    for _time in 0..1000 {
+        asked_by(
+            &rt,
+            &mut registry,
+            256,
+            &membership_of(LEFT, 256, 31, 31),
+            1,
+        )?;
+        asked_by(
+            &rt,
+            &mut registry,
+            256,
+            &membership_of(JOINED, 256, 31, 31),
+            1,
+        )?;
+    }
+    Ok(())
+}
+
+/// A port joins the last group of each partition.
+fn joins_everywhere(rt: &impl Abort, registry: &mut Registry) -> Result<(), Fail> {
+    for number in 0..32u16 {
+        asked_by(
+            rt,
+            registry,
+            256,
+            &membership_of(JOINED, 256, base_of(number), 31),
+            1,
+        )?;
+    }
+    Ok(())
+}
+
+#[test]
+fn a_port_joins_everywhere_10_times(rt: HostRuntime) -> Result<(), Fail> {
+    let mut registry = with_all_groups(&rt, rt.alloc())?;
+    for _time in 0..10 {
+        joins_everywhere(&rt, &mut registry)?;
+    }
+    Ok(())
+}
+
+/// It leaves by one MAD each time.
+#[test]
+fn a_port_joins_and_leaves_everywhere_10_times(rt: HostRuntime) -> Result<(), Fail> {
+    let mut registry = with_all_groups(&rt, rt.alloc())?;
+    for _time in 0..10 {
+        joins_everywhere(&rt, &mut registry)?;
+        asked_by(
+            &rt,
+            &mut registry,
+            256,
+            &membership_of(LEFT_EVERYWHERE, 256, 1, 31),
+            1,
+        )?;
+    }
+    Ok(())
 }

@@ -1,0 +1,114 @@
+-- What comes of a join and of a leave, and of all else that ports send.
+use Rattle.std.proofs.Common.{◌≡◌, ℕ, ◌==◌, ◌&&◌, ◌||◌, Bool, true, false, List, [], ◌∷◌, Option, Some, None, Result, Ok, Err, refl, sym, ◌∙◌, ap}
+use Rattle.std.proofs.lemmas.Bool.{and_parts, eqb-true, ne_eqb}
+use Rattle.std.proofs.lemmas.Option.{same_Some}
+use Rattle.mad_layout.specs.declared.status.MadStatus.{MadStatus}
+use Rattle.sa_records.specs.declared.mc_member_record.McMemberRecord.{McMemberRecord}
+use Rattle.sa_records.specs.McMemberRecord.{group_in}
+use Rattle.sa_records.specs.declared.sa_attribute.SaAttribute.TheVariants as sa_attribute
+use Rattle.subnet_model.specs.declared.subnet_port.SubnetPort.{SubnetPort}
+use Rattle.sa_groups.specs.Leaving.{left}
+use Rattle.sa_groups.specs.Receivers.{changed_numbers}
+use Rattle.sa_groups.proofs.ReceiverLemmas.{nothing_changes_alone}
+use Rattle.sa_queries.specs.Refusals.{Question, first_refusal}
+use Rattle.sa_queries.specs.Visible.{SaState}
+use Rattle.sa_replies.specs.Answer.{Administration, Answered, answered_with, outcome}
+use Rattle.sa_replies.specs.Joins.{join_outcome, leave_asked, leave_outcome, leave_questions}
+use Rattle.sa_replies.specs.Reply.{refusal_reply}
+use Rattle.sa_replies.specs.Request.{Request, is_about}
+use Rattle.sa_replies.specs.Success.{Success}
+use Rattle.sa_replies.proofs.ChangedLemmas.{IsNone, others_leave}
+use Rattle.sa_answer.specs.Answering.{Answers, BringsChange, Reacts, is_join_or_leave}
+use Rattle.sa_answer.specs.Registry.{RegistryState, changed_between}
+use Rattle.sa_answer.specs.Replying.{reply_with}
+use Rattle.sa_answer.specs.declared.group_requests.Change.{Change}
+use Rattle.sa_answer.specs.declared.reaction.Reaction.{Reaction}
+
+-- ---- who asks is the port that is found
+pub asked_by : (questions : SubnetPort → List Question) (given : Option MadStatus) (port own : SubnetPort) (found : Option SubnetPort) → Some port ≡ found
+    → found ≡ Some own → given ≡ first_refusal (questions port) → given ≡ first_refusal (questions own)
+asked_by questions given port own found is found_is told =
+    let same : port ≡ own = same_Some port own (is ∙ found_is) in
+    told ∙ ap (λ (one : SubnetPort). first_refusal (questions one)) same
+
+-- ---- a leave
+pub leave_refused : (ports : List SubnetPort) (own : SubnetPort) (state : SaState) (mask : ℕ) (asked : McMemberRecord) (content : List ℕ) (status : MadStatus)
+    → first_refusal (leave_questions own state mask asked) ≡ Some status → leave_outcome ports own state mask asked content ≡ Err status
+leave_refused ports own state mask asked content status refused = rw refused refl
+
+pub leave_is_done : (ports : List SubnetPort) (own : SubnetPort) (state : SaState) (mask : ℕ) (asked : McMemberRecord) (content : List ℕ)
+    → first_refusal (leave_questions own state mask asked) ≡ None
+    → leave_outcome ports own state mask asked content
+    ≡ Ok (Success.one_reply content (record state { partitions = left ports (leave_asked own mask asked) state.partitions }))
+leave_is_done ports own state mask asked content none = rw none refl
+
+-- ---- which of both a request is
+pub is_join : (ports : List SubnetPort) (own : SubnetPort) (state : SaState) (request : Request) → is_join_or_leave request ≡ true → request.header.method ≡ 2
+    → outcome ports own state request ≡ join_outcome ports own state request.component_mask (group_in request.content)
+is_join ports own state request change method =
+    let parts = and_parts (is_about sa_attribute.McMemberRecord request) _ change in
+    let attribute : request.header.attribute_id ≡ 0x38 = eqb-true request.header.attribute_id 0x38 parts.0 in
+    rw (method, attribute) refl
+
+pub is_leave : (ports : List SubnetPort) (own : SubnetPort) (state : SaState) (request : Request) → is_join_or_leave request ≡ true
+    → (request.header.method ≡ 2 → ⊥)
+    → outcome ports own state request ≡ leave_outcome ports own state request.component_mask (group_in request.content) request.content
+is_leave ports own state request change other =
+    let parts = and_parts (is_about sa_attribute.McMemberRecord request) _ change in
+    let attribute : request.header.attribute_id ≡ 0x38 = eqb-true request.header.attribute_id 0x38 parts.0 in
+    let no_set : (request.header.method == 2) ≡ false = ne_eqb request.header.method 2 other in
+    let method : request.header.method ≡ 0x15 = eqb-true request.header.method 0x15 (rw no_set at parts.1) in
+    rw (method, attribute) refl
+
+-- ---- what comes of a change
+nothing_alone : (old new : RegistryState) → new ≡ old → [] ≡ changed_between old new
+nothing_alone old new same =
+    sym (ap (changed_between old) same ∙ nothing_changes_alone old.configuration.ports old.administration.remembered.partitions)
+
+pub refused_reacts : (own : SubnetPort) (request : Request) (old new : RegistryState) (brought : Result Success MadStatus) (status : MadStatus) (reaction : Reaction)
+    → BringsChange old brought (Err status) new → reaction.replies.items ≡ refusal_reply request status ∷ [] → reaction.changed.items ≡ []
+    → Reacts (answered_with own request old.administration brought) reaction old new
+refused_reacts own request old new (Ok (Success.whole_table offset bytes)) status reaction h told none = absurd h
+refused_reacts own request old new (Ok (Success.one_reply bytes next)) status reaction h told none = absurd h
+refused_reacts own request old new (Err other) status reaction h told none =
+    let same = h.0 in
+    record { answers = record { mads_are = rw same at told; next = h.1 }; changed = none ∙ nothing_alone old new h.1 }
+
+pub change_reacts : (own : SubnetPort) (request : Request) (old new : RegistryState) (brought : Result Success MadStatus) (change : Change) (reaction : Reaction)
+    → BringsChange old brought (Ok change) new → reaction.replies.items ≡ reply_with request 0 change.«data» ∷ [] → reaction.changed.items ≡ change.numbers.items
+    → Reacts (answered_with own request old.administration brought) reaction old new
+change_reacts own request old new (Err status) change reaction h told numbers = absurd h
+change_reacts own request old new (Ok (Success.whole_table offset bytes)) change reaction h told numbers = absurd h
+change_reacts own request old new (Ok (Success.one_reply bytes next)) change reaction h told numbers =
+    let whole = h.0 in
+    record { answers = record { mads_are = rw whole at told; next = h.1.0 }; changed = numbers ∙ h.1.1 }
+
+-- ---- what leaves the partitions changes no receivers
+pub quiet : (answered : Answered) (reaction : Reaction) (old new : RegistryState) → Answers answered reaction.replies.items old new → reaction.changed.items ≡ []
+    → answered.1.remembered.partitions ≡ old.administration.remembered.partitions → Reacts answered reaction old new
+quiet answered reaction old new answers none same = record {
+  answers = answers;
+  changed = none
+      ∙ sym (ap (changed_between old) answers.next
+      ∙ ap (changed_numbers old.configuration.ports old.administration.remembered.partitions) same
+      ∙ nothing_changes_alone old.configuration.ports old.administration.remembered.partitions);
+}
+
+pub same_replies : (answered : Answered) (mads replies : List (List ℕ)) (old new : RegistryState) → replies ≡ mads → Answers answered mads old new
+    → Answers answered replies old new
+same_replies answered mads replies old new same answers = record { mads_are = same ∙ answers.mads_are; next = answers.next }
+
+no_change : (about set deletion : Bool) → about && (set || deletion) ≡ false → (set && about) || (deletion && about) ≡ false
+no_change false true true none = refl
+no_change false true false none = refl
+no_change false false true none = refl
+no_change false false false none = refl
+no_change true true deletion none = none
+no_change true false true none = none
+no_change true false false none = refl
+
+pub others_stay : (ports : List SubnetPort) (own : SubnetPort) (request : Request) (state : Administration) → is_join_or_leave request ≡ false
+    → (answered_with own request state (outcome ports own state.remembered request)).1.remembered.partitions ≡ state.remembered.partitions
+others_stay ports own request state none =
+    let neither : IsNone request = no_change (is_about sa_attribute.McMemberRecord request) (request.header.method == 2) (request.header.method == 0x15) none in
+    others_leave ports own request state neither
