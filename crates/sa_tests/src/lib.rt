@@ -3,6 +3,8 @@
 #![tactic(auto)]
 
 #[cfg(test)]
+mod chance;
+#[cfg(test)]
 mod fixtures;
 #[cfg(test)]
 mod groups;
