@@ -1,5 +1,5 @@
 -- What clap's answer says of the words.
-use Rattle.std.proofs.Common.{◌≡◌, ◌≢◌, ◌∙◌, Bool, true, false, not, ◌&&◌, List, [], ◌∷◌, Option, Some, None, Err, ap, refl, sym, inl, inr}
+use Rattle.std.proofs.Common.{◌≡◌, ◌≢◌, ◌∙◌, Bool, true, false, not, ◌&&◌, List, [], ◌∷◌, Option, Err, ap, refl, sym, inl, inr}
 use Rattle.clap.specs.declared.builder.command.Command.{Command}
 use Rattle.clap.specs.Words.{AddsSubcommand, App, HasKind, HasMatchesOf, IsAmong, Kinds, Text, app_of, fault_of}
 use Rattle.clap.specs.Words.{is_simple, is_simple_and_free, kind_of, subcommand_of, subcommand_rows_of, with_subcommand}

@@ -1,5 +1,5 @@
 -- The names of files are words as they stand.
-use Rattle.std.proofs.Common.{ℕ, ◌≡◌, ◌∙◌, Ok, ap, Bool, true, false, List, [], ◌∷◌, ◌++◌, Option, Some, None, option_map, codes, refl, subst, if◌then◌else◌}
+use Rattle.std.proofs.Common.{ℕ, ◌≡◌, ◌∙◌, Ok, ap, Bool, true, false, List, [], Option, Some, None, option_map, codes, refl, subst, if◌then◌else◌}
 use Rattle.std.specs.List.{All}
 use Rattle.std.specs.Option.{option_to_list}
 use Rattle.std.specs.Str.{bytes_eq}
@@ -9,7 +9,7 @@ use Rattle.clap.proofs.OnLiterals.{clap_on_literals}
 use Rattle.code_texts.specs.declared.code.Code.{Code}
 use Rattle.call_words.specs.Laws.{FilesAreNamedAsGiven, IsWordOf, NamesKeepTheirBlanks}
 use Rattle.call_words.specs.Words.{Names, all_names, asked_by, asked_by_command, asked_of, asked_or, call_in, diff_by, explain_by, file_in, in_subnet, packet_by, run_by}
-use Rattle.call_words.specs.Words.{subcommand_in, text_for, trace_by, work_names}
+use Rattle.call_words.specs.Words.{subcommand_in, text_for, work_names}
 use Rattle.call_words.specs.declared.call.Call.{Call}
 use Rattle.call_words.specs.declared.call.Call.TheVariants.{Explain, Subnet}
 use Rattle.call_words.specs.declared.call.Work.{Work}

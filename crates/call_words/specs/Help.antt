@@ -56,7 +56,7 @@ abbrev pub help_of_sender : List ℕ
 help_of_sender = codes "The port that sends, of a channel adapter: `h1/1`"
 
 abbrev pub help_of_dlid : List ℕ
-help_of_dlid = codes "The LID that it is sent to: a number of 16 bits, as `5` or `0x0005`, no multicast LID"
+help_of_dlid = codes "The LID that it is sent to: a number of 16 bits, as `5` or `0x0005`"
 
 abbrev pub help_of_key : List ℕ
 help_of_key = codes "The key under which it is sent: a number of 16 bits, as `0x8001`"

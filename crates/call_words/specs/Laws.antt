@@ -1,11 +1,9 @@
 -- What holds of all words: the statements of the laws of `src/laws.rt`.
-use Rattle.std.specs.Prelude.{ℕ, ◌≡◌, ◌∷◌, [], List, Ok, Some, None, codes, Option}
-use Rattle.std.specs.Option.{option_map_or}
+use Rattle.std.specs.Prelude.{◌≡◌, ◌∷◌, [], List, Ok, Some, codes}
 use Rattle.std.specs.List.{All}
 use Rattle.clap.specs.Words.{Row, Text, first_of}
 use Rattle.call_words.specs.Words.{Names, all_names, asked_by_clap, asked_in, opened_for}
 use Rattle.call_words.specs.declared.call.Call.TheVariants.{Subnet}
-use Rattle.call_words.specs.declared.call.Subcommand.{Subcommand}
 
 -- the name is the word of an argument, as it stands
 abbrev pub IsWordOf : List Row → Text → Type 0

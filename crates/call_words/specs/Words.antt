@@ -22,7 +22,6 @@ use Rattle.call_words.specs.declared.call.Subcommand.{Subcommand}
 use Rattle.call_words.specs.declared.call.Subcommand.TheVariants as command
 use Rattle.call_words.specs.declared.help.TheConstants.{NO_SUCH_CODE, NO_SUCH_NUMBER}
 use Rattle.call_words.specs.declared.call.Work.TheVariants.{Check, Diff, Inspect, Run, Shares}
-use Rattle.fabric_parts.specs.Lid.{is_multicast}
 use Rattle.text_words.specs.Number.{u16_in}
 
 -- ---- what is asked for, with the names of the files as texts
@@ -78,17 +77,13 @@ run_by script = option_map (λ name. Run name) script
 abbrev pub u16_by : Option Text → Option ℕ
 u16_by word = option_and_then u16_in word
 
--- the LID of a packet that a trace can follow: not one of multicast groups
-abbrev pub lid_by : Option Text → Option ℕ
-lid_by word = option_and_then (λ lid. if is_multicast lid then None else Some lid) (u16_by word)
-
 abbrev pub packet_by : Option Text → Option ℕ → Option ℕ → Option (Work Text Text)
 packet_by (Some port) (Some dlid) (Some p_key) = Some (Inspect (Trace port dlid p_key))
 packet_by _ _ _ = None
 
 abbrev pub trace_by : List Row → Option (Work Text Text)
 trace_by rows =
-    packet_by (first_of (codes "PORT") rows) (lid_by (first_of (codes "DLID") rows)) (u16_by (first_of (codes "PKEY") rows))
+    packet_by (first_of (codes "PORT") rows) (u16_by (first_of (codes "DLID") rows)) (u16_by (first_of (codes "PKEY") rows))
 
 abbrev pub asked_by : Option Text → Option Text → Option (Work Text Text) → Option (Call Names)
 asked_by (Some topology) (Some partitions) (Some work) =

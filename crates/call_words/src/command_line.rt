@@ -83,7 +83,7 @@ fn wanted_dlid<'a>(alloc: Global) -> Arg<'a>
     wanted(
         alloc,
         "DLID",
-        "The LID that it is sent to: a number of 16 bits, as `5` or `0x0005`, no multicast LID",
+        "The LID that it is sent to: a number of 16 bits, as `5` or `0x0005`",
     )
 }
 
@@ -232,7 +232,7 @@ fn run_command<'a>(alloc: Global) -> Result<Command<'a>, AllocError>
     Ok(command.about(ABOUT_RUN).after_help(REPORT))
 }
 
-/// The command that tells what codes mean.
+/// The command that says what codes mean.
 fn explain_command<'a>(alloc: Global) -> Result<Command<'a>, AllocError>
     ensures words { IfOk result (λ command. app_of command ≡ explain_command) }
     ensures about { IfOk result (λ command. text_in (fields_of command).about ≡ Some about_explain) }
@@ -268,7 +268,7 @@ fn fabric_command<'a>(alloc: Global) -> Result<Command<'a>, AllocError>
 /// What takes the words of a call apart, by the program's commands and their arguments, or refuses them.
 ///
 /// Its ghost member is what a contract may know of that: `shown` is the text that words are refused with, where it is
-/// told.
+/// known.
 pub trait Parser {
     /// Why words are refused, or what is shown of help or the version: its text is for the user.
     type Error: Display + Drop;

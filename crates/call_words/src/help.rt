@@ -63,8 +63,7 @@ pub(crate) const NO_SUCH_CODE: &str = "error: there is no such code
 For the list of all codes, try 'fabric explain'.
 ";
 
-pub(crate) const NO_SUCH_NUMBER: &str =
-    "error: DLID or PKEY is no number of 16 bits, or DLID is a multicast group's
+pub(crate) const NO_SUCH_NUMBER: &str = "error: DLID or PKEY is no number of 16 bits
 
 For what they are, try 'fabric trace --help'.
 ";
@@ -152,16 +151,19 @@ For example, for `P1=0x0001: 0x111=full, 0x121;` in PARTS:
 
 pub(crate) const TRACE: &str = with_statuses!(
     "The first line tells what the port makes of the packet, and each other one what becomes of it where
-it comes in; the first of these reasons that holds ends its way:
+it comes in, to a multicast LID once for each port by which it would leave; the first of these
+reasons that holds ends its way there:
   PORT stamps SLID DLID PKEY        the port sends it
   PORT refuses CODE                 the port does not
   NODE in IN drops inbound          the port lets nothing under this key in
   NODE in IN drops top              the LID is over LinearFDBTop
   NODE in IN drops entry ENTRY      the table's entry for it is no port of the switch
-  NODE in IN takes                  the LID is the switch's own
+  NODE in IN drops mask             no other port is in the masks of the multicast LID
+  NODE in IN takes                  the LID is the switch's own, or port 0 is in those masks
   NODE in IN out OUT drops outbound the port lets nothing under this key out
   NODE in IN out OUT no cable       the port leads nowhere
   NODE in IN again                  it came in there before
+  NODE in IN out OUT again          a copy of it came in before where that port leads
   NODE in IN out OUT                it goes on
   PORT accepts                      the port takes it
   PORT drops key                    no key of the port matches this one

@@ -3,7 +3,7 @@
 ghost use Rattle.std.specs.Prelude.{◌≡◌, Ok, Some, map, string_bytes, option_map, IfOk, IfErr};
 ghost use Rattle.clap.specs.Words.{first_of, found_of, rows_of, subcommand_rows_of};
 ghost use Rattle.call_words.specs.Refusals.{IsOfGiven, IsOfWords, TellsAll};
-ghost use Rattle.call_words.specs.Words.{asked_in, asked_of, call_in, diff_by, explain_by, file_in, given_items, in_subnet, lid_by};
+ghost use Rattle.call_words.specs.Words.{asked_in, asked_of, call_in, diff_by, explain_by, file_in, given_items, in_subnet};
 ghost use Rattle.call_words.specs.Words.{named_call, named_found};
 ghost use Rattle.call_words.specs.Words.{named_work, run_by, subcommand_in, text_for, trace_by, u16_by};
 
@@ -12,7 +12,6 @@ use crate::command_line::Parser;
 use crate::help::{NO_SUCH_CODE, NO_SUCH_NUMBER, NOT_TEXT};
 use clap::ArgMatches;
 use code_texts::Code;
-use fabric_parts::is_multicast;
 use std::alloc::Global;
 use std::env::Args;
 use std::fmt::Display;
@@ -162,22 +161,14 @@ fn run_by(script: Option<&str>) -> Option<Work<&str, &str>>
     Some(Work::Run(script?))
 }
 
-/// A packet from a port, if the numbers have 16 bits, and the LID is not one of multicast groups.
+/// A packet from a port, if the numbers have 16 bits.
 fn traced<'a>(found: &ArgMatches<'a>) -> Option<Work<&'a str, &'a str>>
     ensures { option_map named_work result ≡ trace_by (rows_of (found_of found.now)) }
 {
     let port = word_of(found, "PORT")?;
-    let dlid = lid_by(word_of(found, "DLID"))?;
+    let dlid = u16_by(word_of(found, "DLID"))?;
     let p_key = u16_by(word_of(found, "PKEY"))?;
     Some(Work::Inspect(Inspection::Trace(port, dlid, p_key)))
-}
-
-/// The LID of a packet that a trace can follow.
-fn lid_by(word: Option<&str>) -> Option<u16>
-    ensures { result ≡ lid_by (option_map (λ word. word.now) word.entry) }
-{
-    let lid = u16_by(word)?;
-    if is_multicast(lid) { None } else { Some(lid) }
 }
 
 fn u16_by(word: Option<&str>) -> Option<u16>

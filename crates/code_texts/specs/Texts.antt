@@ -1,4 +1,4 @@
--- What is told of each code. The texts themselves stand in the code, and here what holds of them.
+-- What is said of each code. The texts themselves stand in the code, and here what holds of them.
 use Rattle.std.specs.Prelude.{ℕ, Bool, List, ◌∷◌, [], ◌++◌, ◌==◌, length, take, Option, Some, None}
 use Rattle.std.specs.Str.{bytes_eq}
 use Rattle.std.specs.List.{before_first, flat_map}

@@ -204,7 +204,7 @@ impl Code {
         ALL.iter().copied().find(|code| code.spelling() == word)
     }
 
-    /// What is told of the code: its cause on a line that begins with it, what exactly is asked, a text that has it
+    /// What is said of the code: its cause on a line that begins with it, what exactly is asked, a text that has it
     /// and that text mended, if there is one.
     #[tactic(auto, using(crate::proofs::TextLemmas::begins_with_code))]
     pub fn text(self) -> &'static str

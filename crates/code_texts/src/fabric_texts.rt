@@ -1,4 +1,4 @@
-//! What is told where the fabric of a topology cannot be brought up: by the sweep that finds it (SW), by its routes
+//! What is said where the fabric of a topology cannot be brought up: by the sweep that finds it (SW), by its routes
 //! (UR), and by the push that sets its ports and tables (TP).
 
 pub const SW1: &str = "\

@@ -1,4 +1,4 @@
-//! What is told where the machine refuses: memory, a file, or the output.
+//! What is said where the machine refuses: memory, a file, or the output.
 
 pub const MEMORY: &str = "\
 memory: memory was refused

@@ -1,6 +1,6 @@
-//! What is told of the faults of a script, and of the refusals that a report tells.
+//! What is said of the faults of a script, and of the refusals that a report names.
 
-/// The text `$before`, then a script over a topology of a switch and two adapters: what it is told as, itself,
+/// The text `$before`, then a script over a topology of a switch and two adapters: the fault that it has, itself,
 /// and the script mended.
 macro_rules! with_script {
     ($before:literal, $told:literal, $script:literal, $mended:literal) => {

@@ -1,4 +1,4 @@
-//! What is told of the faults of a topology.
+//! What is said of the faults of a topology.
 
 pub const TF1: &str = "\
 TF1: the line is malformed

@@ -1,4 +1,4 @@
--- How a call ends, from what was written and told.
+-- How a call ends, from what was written to both streams.
 use Rattle.std.proofs.Common.{ℕ, ◌≡◌, ◌≢◌, ◌⊎◌, ◌∙◌, inl, inr, refl, sym, append-nil, arith, ap, Bool, List, [], Option, Some, None, IfSome}
 use Rattle.std.proofs.Common.{Result, Ok, Err, option_map, map, string_bytes, String, Global, Vec, subst}
 use Rattle.std.specs.Io.KnownBytes.{Appends, Keeps}
@@ -38,7 +38,7 @@ pub written_some : (judged : Result Bytes Ending) (output : List ℕ) (out out' 
 written_some judged output out out' is wrote =
     inr (for_ending judged (λ ending. ending ≡ complete output) (λ ending. AppendsPart out out' (output_in ending)) (λ ending same. rw same wrote) is)
 
--- a fault that is told, and is no refusal of the machine
+-- a fault that is printed, and is no refusal of the machine
 fault_ends : (judged : Result Bytes Ending) (line : List ℕ) (answer : ℕ) (out err err' : Option (List ℕ)) → ForEnding judged (λ ending. ending ≡ faulted 1 line)
     → answer ≡ 1 → Appends err err' line → EndsAs judged answer out out err err'
 fault_ends judged line answer out err err' is one told =
@@ -74,7 +74,7 @@ stop_ends judged (Run fault) answer out err err' is other told = run_ends judged
 stop_ends judged (Port cause) answer out err err' is other told = fault_ends judged _ answer out err err' is told.0 told.1
 stop_ends judged (Second line cause) answer out err err' is other told = fault_ends judged _ answer out err err' is told.0 told.1
 
--- it is told of files that were read
+-- it is said of files that were read
 pub is_told : (X : Type 0) (stop : Stop) (answer : ℕ) → answer ≢ 3 → answer ≡ status_of stop → let result : Result X Stop = Err stop in IsTold result
 is_told X (Words text) answer other is = tt
 is_told X NoMemory answer other is = absurd (other is)

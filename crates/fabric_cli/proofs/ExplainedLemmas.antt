@@ -1,4 +1,4 @@
--- Each code that the program tells is explained.
+-- Each code that the program prints is explained.
 use Rattle.std.proofs.Common.{ℕ, ◌≡◌, List, codes, refl, Some, true}
 use Rattle.code_texts.specs.Codes.{spelling, code_of}
 use Rattle.code_texts.specs.Texts.{begins_with}

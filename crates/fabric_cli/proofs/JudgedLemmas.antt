@@ -108,7 +108,7 @@ pub ok_then : {X E : Type 0} (P Q : X → Type 0) → ((x : X) → P x → Q x) 
 ok_then P Q f (Ok x) is = f x is
 ok_then P Q f (Err error) is = tt
 
--- a fault is told where it is no want of memory
+-- a fault is printed where it is no want of memory
 pub stopped_by : (judged : Result Bytes Ending) (fault : RunFault)
     → (fault_in fault ≡ Some fault → (run_status fault ≡ 1) × ForEnding judged (λ ending. ending ≡ faulted 1 (run_line fault))) → RunStops judged fault
 stopped_by judged run.NoMemory f = tt

@@ -1,4 +1,4 @@
--- What standard error is told at status 3.
+-- What stands on standard error at status 3.
 use Rattle.std.proofs.Common.{ℕ, ◌≡◌, ◌≢◌, ◌⊎◌, ◌∙◌, inl, inr, refl, sym, append-nil, arith, Bool, true, false, List, Option, Some, None, Result, IfSome, string_bytes}
 use Rattle.std.specs.Io.KnownBytes.{Keeps}
 use Rattle.subnet_core.specs.declared.fault.RunFault.{RunFault}
@@ -11,7 +11,7 @@ use Rattle.fabric_cli.specs.Serving.{AppendsSome, Bytes, Ending, complete, fault
 use Rattle.fabric_cli.specs.Writing.{AppendsPart, Writes}
 use Rattle.fabric_cli.proofs.JudgedLemmas.{for_ending}
 
--- a status other than 3 was told where the line can go out
+-- a status other than 3 was answered where the line can go out
 pub other_status : (status answer : ℕ) (b : Bool) → answer ≡ 3 → (b ≡ true → answer ≡ status) → status ≢ 3 → b ≢ true
 other_status status answer b three told other sure = other (sym (told sure) ∙ three)
 

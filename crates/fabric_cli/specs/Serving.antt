@@ -13,7 +13,7 @@ use Rattle.subnet_core.specs.Fault.{code_of as script_code}
 use Rattle.fabric_graph.specs.Graph.{graph_text}
 use Rattle.fabric_tables.specs.Keys.{keys_text}
 use Rattle.fabric_parts.specs.declared.cable.PortRef.{PortRef}
-use Rattle.fabric_tables.specs.Tables.{tables_text}
+use Rattle.fabric_tables.specs.Multicast.{tables_text}
 use Rattle.packet_trace.specs.Lines.{trace_text}
 use Rattle.partition_file.specs.Fault.{code_of as partitions_code}
 use Rattle.partition_changes.specs.Changes.{text_of_changes}

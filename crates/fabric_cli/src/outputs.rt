@@ -174,7 +174,7 @@ fn looked_at<'a>(
     }
 }
 
-/// The linear forwarding tables, with the paths of the sweep that brought the fabric up.
+/// The forwarding tables, with the paths of the sweep that brought the fabric up.
 fn tabled<'a>(alloc: Global, subnet: &Subnet) -> Result<Vec<u8>, Stop<'a>>
     ensures exact { ComesTo (λ text. text.items) (Err (looked_at subnet.now.roster (up_in subnet.now) IsTables)) result }
     ensures fault { IfErr result IsOfRun }

@@ -106,8 +106,8 @@ pub fn serve_by<P: Parser, F: Files, O: Output, E: Output>(
     }
 }
 
-/// Tells why a call does not complete, and answers the exit status. Where memory is refused, that is
-/// told, and where the whole line does not go out, the status is that of output not written.
+/// Writes why a call does not complete, and answers the exit status. Where memory is refused, that is
+/// written, and where the whole line does not go out, the status is that of output not written.
 fn told_stop<E: Output>(alloc: Global, stop: &Stop<'_>, err: &mut E) -> u8
     ensures whole { result ≢ 3
         → (result ≡ status_of stop.now) × Appends (E.contents err.old) (E.contents err.new) (line_of stop.now) }

@@ -86,5 +86,5 @@ port_table nodes fabric switches ports port =
     option_map_or (λ found. table_of switches ports port found.1) (node_of nodes fabric port) []
 
 -- end ports stand in the order of their LIDs
-abbrev pub tables_text : List PlannedNode → List SubnetPort → List GraphSwitch → FabricState → List ℕ
-tables_text nodes ports switches fabric = flat_map (port_table nodes fabric switches ports) ports
+abbrev pub linear_tables : List PlannedNode → List SubnetPort → List GraphSwitch → FabricState → List ℕ
+linear_tables nodes ports switches fabric = flat_map (port_table nodes fabric switches ports) ports

@@ -1,7 +1,7 @@
 //! Linear forwarding tables, as lines.
 
 ghost use Rattle.std.specs.Prelude.{◌≡◌, ◌==◌, ◌++◌, OnOk, IfOk, filter, flat_map, length};
-ghost use Rattle.fabric_tables.specs.Tables.{count_line, entry_line, head_line, hop_text, is_led_to, line_towards, path_to, port_table, port_text, port_towards, range_text, route_text, switch_text, table_of, table_text, tables_text, titles, type_text};
+ghost use Rattle.fabric_tables.specs.Tables.{count_line, entry_line, head_line, hop_text, is_led_to, line_towards, linear_tables, path_to, port_table, port_text, port_towards, range_text, route_text, switch_text, table_of, table_text, titles, type_text};
 
 use crate::digits::{push_short_hex, push_three_digits};
 use crate::nodes::node_of;
@@ -18,17 +18,14 @@ use topo_file::Topology;
 /// The linear forwarding table of each switch, in the order of their LIDs, as `dump_fts` prints it: the path by which a
 /// sweep found the switch, then a line for each of these end ports to which the table leads, with the port by which. Memory
 /// alone can be refused.
-///
-/// The tables are those that the fabric holds, whoever wrote them. Its nodes stand as the topology lists them; a switch that
-/// it does not list has no table here.
-pub fn tables_text(
+pub(crate) fn linear_tables(
     alloc: Global,
     topology: &Topology,
     ports: &[SubnetPort],
     graph: &Graph,
     fabric: &Fabric,
 ) -> Result<Vec<u8>, AllocError>
-    ensures { IfOk result (λ text. text.items ≡ tables_text topology.now.nodes ports.now graph.now.switches fabric.now) }
+    ensures { IfOk result (λ text. text.items ≡ linear_tables topology.now.nodes ports.now graph.now.switches fabric.now) }
 {
     let mut text = Vec::new(alloc);
     for port in ports {
@@ -104,7 +101,7 @@ fn push_titles(text: &mut Vec<u8>) -> Result<(), AllocError>
 }
 
 /// The path by which a sweep found the switch of that GUID.
-fn path_to(graph: &Graph, guid: u64) -> &[u8]
+pub(crate) fn path_to(graph: &Graph, guid: u64) -> &[u8]
     ensures { result.now ≡ path_to graph.now.switches guid }
 {
     match graph.switch(guid) {
@@ -113,7 +110,7 @@ fn path_to(graph: &Graph, guid: u64) -> &[u8]
     }
 }
 
-/// Adds the line that tells LinearFDBTop and the path to a switch.
+/// Adds the line with LinearFDBTop and the path to a switch.
 #[tactic(auto, unfolding(crate::specs::Tables::head_line))]
 fn push_head_line(
     text: &mut Vec<u8>,
@@ -142,14 +139,14 @@ fn push_range(
     text.extend_from_slice(b"]")
 }
 
-fn push_route(text: &mut Vec<u8>, path: &[u8]) -> Result<(), AllocError>
+pub(crate) fn push_route(text: &mut Vec<u8>, path: &[u8]) -> Result<(), AllocError>
     ensures { OnOk result (text.new.items ≡ text.old.items ++ route_text path.now) }
 {
     text.extend_from_slice(b" of switch DR path slid 0; dlid 0; 0")?;
     push_hops(text, path)
 }
 
-fn push_switch(text: &mut Vec<u8>, switch: &SubnetPort) -> Result<(), AllocError>
+pub(crate) fn push_switch(text: &mut Vec<u8>, switch: &SubnetPort) -> Result<(), AllocError>
     ensures { OnOk result (text.new.items ≡ text.old.items ++ switch_text switch.now) }
 {
     text.extend_from_slice(b" guid ")?;

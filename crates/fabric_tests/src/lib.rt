@@ -1,6 +1,6 @@
 //! Tests of the subnet manager on the simulated fabric, through public calls alone: sweeps, LIDs and routes.
 //!
-//! They say what no clause says: that the definitions mean what users were told, by byte vectors and
+//! They say what no clause says: that the definitions mean what the documents say, by byte vectors and
 //! worked requests.
 #![tactic(auto)]
 

@@ -2,6 +2,7 @@
 use Rattle.std.proofs.Common.{ℕ, ◌-◌, ◌≡◌, ◌==◌, ◌∙◌, refl, subst, sym, Bool, true, false, List, [], ◌∷◌, map, slice_get, Option, Some, None, option_map, if◌then◌else◌}
 use Rattle.std.specs.Option.{option_and_then}
 use Rattle.std.proofs.lemmas.Option.{same_Some}
+use Rattle.fabric_parts.specs.Lid.{is_multicast}
 use Rattle.fabric_parts.specs.declared.cable.PortRef.{PortRef}
 use Rattle.data_packet.specs.declared.packet.Packet.{Packet}
 use Rattle.port_model.specs.AdapterState.{AdapterState}
@@ -13,7 +14,7 @@ use Rattle.smp_wire.specs.Shape.{IsSameShape}
 use Rattle.smp_wire.specs.Walk.{exchange_after}
 use Rattle.smp_wire.specs.declared.node.Node.{Node}
 use Rattle.smp_wire.specs.declared.node.Node.TheVariants.{Switch, Adapter}
-use Rattle.packet_ways.specs.Deliveries.{AreDeliveries, IsDelivered, IsOwn, Reaches, adapter_ports, guid_at, numbers_of}
+use Rattle.packet_ways.specs.Deliveries.{AreDeliveries, IsDelivered, IsOwn, adapter_ports, guid_at, numbers_of}
 use Rattle.packet_ways.proofs.DeliveryLemmas.{no_delivery, one_delivery}
 use Rattle.fabric_wire.specs.AdapterPorts.{Finds}
 
@@ -51,17 +52,17 @@ still_finds fabric smp place_of finds guid at =
     (λ found. same ∙ (finds guid at).0 found, λ is. (finds guid at).1 (sym same ∙ is))
 
 -- no two ports have one GUID
-own : (nodes : List Node) (place_of : ℕ → Option PortRef) (guid : ℕ) → Finds nodes place_of → IsOwn nodes guid
+pub own : (nodes : List Node) (place_of : ℕ → Option PortRef) (guid : ℕ) → Finds nodes place_of → IsOwn nodes guid
 own nodes place_of guid finds a b first second =
     same_Some a b (sym ((finds guid a).1 first) ∙ (finds guid b).1 second)
 
 -- so what leaves by the port of a GUID is what that port sends
 pub is_delivered : (fabric : FabricState) (place_of : ℕ → Option PortRef) (sender : ℕ) (packet : Packet) (from : PortRef) (port : AdapterState)
-    → Finds fabric.nodes place_of → guid_at fabric.nodes from ≡ Some sender
+    → is_multicast packet.dlid ≡ false → Finds fabric.nodes place_of → guid_at fabric.nodes from ≡ Some sender
     → (at : PortRef) × IsDelivered fabric.nodes fabric.cables from packet at port
     → AreDeliveries fabric sender packet (record { port = port.port_guid; packet = packet } ∷ [])
-is_delivered fabric place_of sender packet from port finds sends delivered =
-    one_delivery fabric sender packet (numbers_of port) (own fabric.nodes place_of sender finds)
+is_delivered fabric place_of sender packet from port unicast finds sends delivered =
+    one_delivery fabric sender packet (numbers_of port) unicast (own fabric.nodes place_of sender finds)
     (record { from = from; sends = sends; at = delivered.0; port = port; delivered = delivered.1; receives = refl })
 
 pub reaches_nobody : (fabric : FabricState) (place_of : ℕ → Option PortRef) (sender : ℕ) (packet : Packet) (from : PortRef)

@@ -19,3 +19,5 @@ pub mod PowerUpLemmas
 pub mod RowLemmas
 pub mod EndPortLemmas
 pub mod KeptPortLemmas
+pub mod SpreadLemmas
+pub mod ReceiverLemmas

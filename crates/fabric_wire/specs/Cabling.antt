@@ -1,5 +1,5 @@
 -- Cables of which some are cut: how one is cut, and mended, and how the far ends of ports are looked up meanwhile.
-use Rattle.std.specs.Prelude.{ℕ, ◌≡◌, ◌≤◌, Bool, true, false, not, nat_lt, ◌&&◌, ◌||◌, if◌then◌else◌, List, [], ◌++◌, filter, flat_map, length, slice_get, take, Option}
+use Rattle.std.specs.Prelude.{ℕ, ◌≡◌, ◌≤◌, Bool, true, false, not, nat_lt, ◌&&◌, ◌||◌, List, [], ◌++◌, filter, flat_map, length, slice_get, take, Option}
 use Rattle.std.specs.List.{IsDistinct, list_all}
 use Rattle.std.specs.Option.{option_map_or}
 use Rattle.fabric_parts.specs.declared.cable.Cable.{Cable}

@@ -3,6 +3,7 @@ pub mod Cabling
 pub mod AdapterPorts
 pub mod Hopping
 pub mod HopByHop
+pub mod Spreading
 pub mod OfTopology
 pub mod TwoSwitches
 pub mod Laws

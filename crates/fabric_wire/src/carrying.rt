@@ -1,6 +1,7 @@
-//! Data packets on their way from node to node, by what switches hold.
+//! Unicast packets on their way from node to node, by what switches hold.
 
-ghost use Rattle.std.specs.Prelude.{◌≡◌, IfSome, None};
+ghost use Rattle.std.specs.Prelude.{◌≡◌, false, IfSome, None};
+ghost use Rattle.fabric_parts.specs.Lid.{is_multicast};
 ghost use Rattle.fabric_parts.specs.declared.cable.PortRef.{PortRef};
 ghost use Rattle.port_model.specs.AdapterState.{AdapterState};
 ghost use Rattle.packet_ways.specs.Deliveries.{IsDelivered};
@@ -35,6 +36,7 @@ pub(crate) fn end_of_way(
     packet: &Packet,
     first: PortRef,
 ) -> Option<PortRef>
+    requires unicast { is_multicast packet.now.dlid ≡ false }
     ensures some { IfSome result (λ last. IsEnd nodes.now cabling.now.cables packet.now first last) }
     ensures none { result ≡ None → (last : PortRef) → IsEnd nodes.now cabling.now.cables packet.now first last → ⊥ }
 {
@@ -48,13 +50,14 @@ pub(crate) fn end_of_way(
     None
 }
 
-/// The port that gets a packet which leaves by the port at `from`, if one does.
+/// The port that gets a unicast packet which leaves by the port at `from`, if one does.
 pub(crate) fn receiver<'a>(
     nodes: &'a [Node],
     cabling: &Cabling,
     packet: &Packet,
     from: PortRef,
 ) -> Option<&'a AdapterPort>
+    requires unicast { is_multicast packet.now.dlid ≡ false }
     ensures some { IfSome result (λ port. (at : PortRef) × IsDelivered nodes.now cabling.now.cables from packet.now at port.now) }
     ensures none { result ≡ None → (at : PortRef) (port : AdapterState) → IsDelivered nodes.now cabling.now.cables from packet.now at port → ⊥ }
 {

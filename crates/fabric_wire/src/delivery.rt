@@ -1,10 +1,11 @@
 //! A packet at a port that received it, which only the fabric makes.
 
-ghost use Rattle.std.specs.Prelude.{◌≡◌, IfOk};
+ghost use Rattle.std.specs.Prelude.{◌≡◌, map, IfOk};
 ghost use Rattle.packet_ways.specs.Deliveries.{DeliveryState};
 
 use data_packet::Packet;
-use std::alloc::AllocError;
+use packet_ways::Numbers;
+use std::alloc::{AllocError, Global};
 use std::marker::Model;
 
 /// A packet at the port of a channel adapter that gets it. [`Fabric::carry`](crate::Fabric::carry) alone makes one.
@@ -54,4 +55,19 @@ impl Delivery {
     {
         &self.packet
     }
+}
+
+/// A copy of the packet at each of these ports, in their order. Memory alone can be refused.
+pub(crate) fn at_each(
+    alloc: Global,
+    receivers: &[Numbers],
+    packet: &Packet,
+) -> Result<Vec<Delivery>, AllocError>
+    ensures { IfOk result (λ deliveries. deliveries.items ≡ map (λ one. record { port = one.guid; packet = packet.now }) receivers.now) }
+{
+    let mut deliveries = Vec::new(alloc);
+    for receiver in receivers {
+        deliveries.push(Delivery::at(receiver.guid, packet)?)?;
+    }
+    Ok(deliveries)
 }

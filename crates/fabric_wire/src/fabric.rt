@@ -4,6 +4,7 @@ ghost use Rattle.std.specs.Prelude.{ℕ, ◌≡◌, ◌*◌, ◌≤◌, ◌↔�
 ghost use Rattle.std.specs.Option.{ForSome};
 ghost use Rattle.data_packet.specs.declared.payload.TheConstants.{PAYLOAD_BYTES};
 ghost use Rattle.fabric_parts.specs.Cable.{far_end};
+ghost use Rattle.fabric_parts.specs.Lid.{is_multicast};
 ghost use Rattle.fabric_parts.specs.declared.cable.PortRef.{PortRef};
 ghost use Rattle.packet_ways.specs.Deliveries.{AreDeliveries, HasPort, adapter_at, guid_at};
 ghost use Rattle.port_model.specs.AdapterState.{AdapterState};
@@ -16,11 +17,12 @@ ghost use Rattle.fabric_wire.specs.OfTopology.{fabric_of};
 use crate::adapter_ports::{adapter_at, places_by_guid};
 use crate::cabling::Cabling;
 use crate::carrying::receiver;
-use crate::delivery::Delivery;
+use crate::delivery::{Delivery, at_each};
 use crate::hopping::{come_home, go_out};
 use crate::power_up::nodes_of;
+use crate::spreading::receivers;
 use data_packet::{Packet, QueuePair, Refusal};
-use fabric_parts::PortRef;
+use fabric_parts::{PortRef, is_multicast};
 use indexmap::IndexMap;
 use mad_layout::{Mad, known_bytes};
 use port_model::AdapterPort;
@@ -174,11 +176,29 @@ impl Fabric {
         ensures { IfOk result (λ deliveries. (port : ℕ) → guid_at self.now.nodes from ≡ Some port
             → AreDeliveries self.now port packet.now deliveries.items) }
     {
+        if is_multicast(packet.dlid) {
+            return self.spread_from(alloc, from, packet);
+        }
         let mut deliveries = Vec::new(alloc);
         if let Some(receiver) = receiver(&self.nodes, &self.cabling, packet, from) {
             deliveries.push(Delivery::at(receiver.port_guid(), packet)?)?;
         }
         Ok(deliveries)
+    }
+
+    /// What becomes of a packet to a multicast LID that the port there sends.
+    fn spread_from(
+        &self,
+        alloc: Global,
+        from: PortRef,
+        packet: &Packet,
+    ) -> Result<Vec<Delivery>, AllocError>
+        requires multicast { is_multicast packet.now.dlid ≡ true }
+        ensures { IfOk result (λ deliveries. (port : ℕ) → guid_at self.now.nodes from ≡ Some port
+            → AreDeliveries self.now port packet.now deliveries.items) }
+    {
+        let receivers = receivers(alloc, &self.nodes, &self.cabling, packet, from)?;
+        at_each(alloc, &receivers, packet)
     }
 
     /// What becomes of a packet that the port of that GUID sends. Where no port with a cable has that GUID, nobody

@@ -14,6 +14,7 @@ mod hopping;
 mod laws;
 mod power_up;
 mod rows;
+mod spreading;
 
 pub use crate::adapter_ports::adapter_at;
 pub use crate::delivery::Delivery;

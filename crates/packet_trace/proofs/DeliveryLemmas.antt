@@ -1,4 +1,4 @@
--- A packet is accepted in its trace exactly where it is delivered.
+-- A unicast packet is accepted in its trace exactly where it is delivered.
 use Rattle.std.proofs.Common.{ℕ, zero, suc, ◌+◌, ◌*◌, ◌≡◌, ◌-◌, ◌==◌, ◌||◌, ◌<◌, ◌⊎◌, ◌∙◌, inl, inr, ap, refl, sym, subst, arith, Bool, true, false, if◌then◌else◌, List, [], ◌∷◌, ◌++◌, length, is_some, slice_get, Option, Some, None}
 use Rattle.std.specs.List.{Contains, list_any, slice_index_or}
 use Rattle.std.specs.Option.{option_and_then, option_map_or}
@@ -6,10 +6,10 @@ use Rattle.std.proofs.lemmas.List.Elements.{Contains-append_cases, Contains-appe
 use Rattle.std.proofs.lemmas.Option.{same_Some}
 use Rattle.data_packet.specs.declared.packet.Packet.{Packet}
 use Rattle.fabric_parts.specs.Cable.{far_end, is_same_port}
+use Rattle.fabric_parts.specs.Lid.{is_multicast}
 use Rattle.fabric_parts.specs.declared.cable.Cable.{Cable}
 use Rattle.fabric_parts.specs.declared.cable.PortRef.{PortRef}
-use Rattle.packet_trace.specs.Laws.{AdaptersAccept, TracesTellDeliveries}
-use Rattle.packet_trace.specs.Trace.{next_after, step, steps_from, steps_of, turn_after, turn_at, turn_by, turn_in, turn_of_fate}
+use Rattle.packet_trace.specs.Trace.{next_after, step, steps_from, turn_after, turn_at, turn_by, turn_in, turn_of_fate, way_of}
 use Rattle.packet_trace.specs.declared.turn.Step.{Step}
 use Rattle.packet_trace.specs.declared.turn.Turn.TheVariants.{Accepts, DropsKey, GoesOut, NoCable}
 use Rattle.packet_ways.proofs.WayLemmas.{adapter_stops, few_hops, from_next, in_none, no_longer, to_next}
@@ -59,7 +59,7 @@ by_node cables packet here (Some (Switch held)) =
     ∙ ap (option_and_then (λ out. far_end cables (record { node = here.node; port = out }))) (sym (fates_tell_ways_out held here.port packet))
 by_node cables packet here (Some (Adapter ports)) = no_turn cables packet here (adapter_port ports here.port)
 
--- what a step tells leads where the packet goes
+-- what a step says leads where the packet goes
 turns_lead : (fabric : FabricState) (packet : Packet) (here : PortRef)
     → next_after fabric.cables here (turn_at fabric packet here) ≡ next_port fabric.nodes fabric.cables packet here
 unfolding turn_at
@@ -112,21 +112,21 @@ unfolding turn_at
 adapter_there fabric packet at is = by_its_node fabric.cables packet at (slice_get fabric.nodes at.node) is
 
 -- ---- in lists
-at_first : (first : Step) (later : List Step) → Contains (first ∷ later) first
+pub at_first : (first : Step) (later : List Step) → Contains (first ∷ later) first
 at_first first later = (0, omega arith, refl)
 
-in_one : (one x : Step) → Contains (one ∷ []) x → x ≡ one
+pub in_one : (one x : Step) → Contains (one ∷ []) x → x ≡ one
 in_one one x there = by there.0 there.1 there.2
   where
     by : (k : ℕ) → k < length (one ∷ []) → slice_index_or (one ∷ []) k x ≡ x → x ≡ one
     by zero low is = sym is
     by (suc k) low is = absurd (omega (arith, low))
 
-nothing_in : (x : Step) → Contains [] x → ⊥
+pub nothing_in : (x : Step) → Contains [] x → ⊥
 nothing_in x there = let low = there.1 in omega (arith, low)
 
 -- ---- from a trace to a way
-module _ (fabric : FabricState) (packet : Packet) (at : PortRef) where
+module _ (fabric : FabricState) (packet : Packet) (unicast : is_multicast packet.dlid ≡ false) (at : PortRef) where
   abbrev GoesBy : PortRef → List PortRef → Type 0
   GoesBy here way = Goes fabric.nodes fabric.cables packet here way at
 
@@ -151,7 +151,7 @@ module _ (fabric : FabricState) (packet : Packet) (at : PortRef) where
   leads_on before here next true was leads = let none = rw was at leads in absurd (cc)
   leads_on before here next false was leads =
       let on = rw was at leads in
-      from_next fabric.nodes fabric.cables packet here next (sym (turns_lead fabric packet here) ∙ on)
+      from_next fabric.nodes fabric.cables packet here next unicast (sym (turns_lead fabric packet here) ∙ on)
 
   abbrev now_at : List Step → PortRef → Step
   now_at before here = step here (turn_after fabric packet before here)
@@ -198,7 +198,7 @@ module _ (fabric : FabricState) (packet : Packet) (at : PortRef) where
       → (b || list_any (λ one. is_same_port one.at here) before) ≡ false
   apart one before way here true goes stops far same rest =
       let long = subst (λ (p : PortRef). GoesBy p far.0.0) (same_port one.at here same) far.0.1 in
-      let short = no_longer fabric.nodes fabric.cables packet far.0.0 way here at at long goes stops in
+      let short = no_longer fabric.nodes fabric.cables packet unicast far.0.0 way here at at long goes stops in
       let more = far.0.2 in
       absurd (omega (arith, short, more))
   apart one before way here false goes stops far other rest = rest
@@ -228,38 +228,35 @@ module _ (fabric : FabricState) (packet : Packet) (at : PortRef) where
       let now = step here (turn_after fabric packet before here) in
       let fresh = not_before before (next ∷ later) here goes stops far in
       let leads : next_after fabric.cables here (turn_after fabric packet before here) ≡ Some next =
-      rw fresh (turns_lead fabric packet here ∙ to_next fabric.nodes fabric.cables packet here next goes.0) in
+      rw fresh (turns_lead fabric packet here ∙ to_next fabric.nodes fabric.cables packet here next unicast goes.0) in
       let rest = told_on more (before ++ now ∷ []) next later goes.1 stops (far_more before next later now goes far) (omega (arith, low)) accepts in
       subst (λ (there : Option PortRef). Contains (now ∷ option_map_or (steps_from fabric packet more (before ++ now ∷ [])) there []) (step at Accepts)) (sym leads)
       (Contains-append_right (now ∷ []) (steps_from fabric packet more (before ++ now ∷ []) next) (step at Accepts) rest)
 
--- ---- the law
-pub traces_tell_deliveries : TracesTellDeliveries
-traces_tell_deliveries fabric packet from first at port unicast cable there = (to, back)
-  where
-    stops : next_port fabric.nodes fabric.cables packet at ≡ None
-    stops = adapter_stops fabric.nodes fabric.cables packet at port there
+-- ---- the laws
+module _ (fabric : FabricState) (packet : Packet) (unicast : is_multicast packet.dlid ≡ false) (first at : PortRef) where
+  pub told_of : (from : PortRef) (port : AdapterState) → far_end fabric.cables from ≡ Some first → adapter_at fabric.nodes at ≡ Some port
+      → IsDelivered fabric.nodes fabric.cables from packet at port → Contains (way_of fabric packet first) (step at Accepts)
+  told_of from port cable there is =
+      let stops = adapter_stops fabric.nodes fabric.cables packet at port there in
+      let first_is = same_Some is.first first (sym is.cable ∙ cable) in
+      let goes = subst (λ (p : PortRef). Goes fabric.nodes fabric.cables packet p is.way at) first_is is.goes in
+      let few = few_hops fabric.nodes fabric.cables packet unicast is.way first at goes stops in
+      told_on fabric packet unicast at (2 * length fabric.cables + 1) [] first is.way goes stops tt (omega (arith, few))
+      (turn_there fabric packet at port there ∙ rw is.accepts refl)
 
-    to : IsDelivered fabric.nodes fabric.cables from packet at port → Contains (steps_of fabric packet first) (step at Accepts)
-    to is =
-        let first_is = same_Some is.first first (sym is.cable ∙ cable) in
-        let goes = subst (λ (p : PortRef). Goes fabric.nodes fabric.cables packet p is.way at) first_is is.goes in
-        let few = few_hops fabric.nodes fabric.cables packet is.way first at goes stops in
-        told_on fabric packet at (2 * length fabric.cables + 1) [] first is.way goes stops tt (omega (arith, few))
-        (turn_there fabric packet at port there ∙ rw is.accepts refl)
+  pub delivered_of : (from : PortRef) (port : AdapterState) → far_end fabric.cables from ≡ Some first → adapter_at fabric.nodes at ≡ Some port
+      → Contains (way_of fabric packet first) (step at Accepts) → IsDelivered fabric.nodes fabric.cables from packet at port
+  delivered_of from port cable there told =
+      let is = told_from fabric packet unicast at (2 * length fabric.cables + 1) [] first told in
+      record {
+        first = first;
+        cable = cable;
+        way = is.way;
+        goes = is.goes;
+        there = there;
+        accepts = accepted_by (accepts_packet port packet) (sym (turn_there fabric packet at port there) ∙ is.accepts);
+      }
 
-    back : Contains (steps_of fabric packet first) (step at Accepts) → IsDelivered fabric.nodes fabric.cables from packet at port
-    back told =
-        let is = told_from fabric packet at (2 * length fabric.cables + 1) [] first told in
-        record {
-          first = first;
-          cable = cable;
-          way = is.way;
-          goes = is.goes;
-          there = there;
-          accepts = accepted_by (accepts_packet port packet) (sym (turn_there fabric packet at port there) ∙ is.accepts);
-        }
-
-pub adapters_accept : AdaptersAccept
-adapters_accept fabric packet first at told =
-    adapter_there fabric packet at (told_from fabric packet at (2 * length fabric.cables + 1) [] first told).accepts
+  pub adapter_of : Contains (way_of fabric packet first) (step at Accepts) → (port : AdapterState) × (adapter_at fabric.nodes at ≡ Some port)
+  adapter_of told = adapter_there fabric packet at (told_from fabric packet unicast at (2 * length fabric.cables + 1) [] first told).accepts

@@ -1,4 +1,4 @@
--- A trace has an end, at which the packet does not go out.
+-- The way of a unicast packet has an end, at which the packet does not go out.
 use Rattle.std.proofs.Common.{ℕ, zero, suc, ◌+◌, ◌*◌, ◌≡◌, ◌||◌, ◌≤◌, ◌∙◌, not, ap, refl, sym, arith, Bool, true, false, if◌then◌else◌, List, [], ◌∷◌, ◌++◌, flat_map, length, slice_get, Option, Some, None}
 use Rattle.std.specs.List.{list_any}
 use Rattle.std.specs.Option.{option_map_or}
@@ -9,11 +9,11 @@ use Rattle.data_packet.specs.declared.packet.Packet.{Packet}
 use Rattle.fabric_parts.specs.Cable.{far_end, is_same_port}
 use Rattle.fabric_parts.specs.declared.cable.Cable.{Cable}
 use Rattle.fabric_parts.specs.declared.cable.PortRef.{PortRef}
-use Rattle.packet_trace.specs.Laws.{HasEnd, TracesHaveAnEnd}
-use Rattle.packet_trace.specs.Trace.{leaves_by, next_after, step, steps_from, turn_after, turn_at, turn_by, turn_in, turn_of_fate}
+use Rattle.packet_trace.specs.Laws.{HasEnd}
+use Rattle.packet_trace.specs.Trace.{leaves_by, next_after, step, steps_from, turn_after, turn_at, turn_by, turn_in, turn_of_fate, way_of}
 use Rattle.packet_trace.specs.declared.turn.Step.{Step}
 use Rattle.packet_trace.specs.declared.turn.Turn.{Turn}
-use Rattle.packet_trace.specs.declared.turn.Turn.TheVariants.{Again, DropsInbound, DropsTop, DropsEntry, Takes, DropsOutbound, NoCable, GoesOut, Accepts, DropsKey}
+use Rattle.packet_trace.specs.declared.turn.Turn.TheVariants.{Again, DropsInbound, DropsTop, DropsEntry, DropsMask, Takes, DropsOutbound, NoCable, Meets, GoesOut, Accepts, DropsKey}
 use Rattle.port_model.specs.AdapterState.{AdapterState}
 use Rattle.port_model.specs.Packets.{accepts_packet}
 use Rattle.smp_wire.proofs.CableLemmas.{count_ends, far_is_end, ports_equiv, ports_turn}
@@ -94,9 +94,11 @@ module _ (cables : List Cable) where
   comes_to_an_end here there DropsInbound leads p same = absurd (cc)
   comes_to_an_end here there DropsTop leads p same = absurd (cc)
   comes_to_an_end here there (DropsEntry entry) leads p same = absurd (cc)
+  comes_to_an_end here there DropsMask leads p same = absurd (cc)
   comes_to_an_end here there Takes leads p same = absurd (cc)
   comes_to_an_end here there (DropsOutbound out) leads p same = absurd (cc)
   comes_to_an_end here there (NoCable out) leads p same = absurd (cc)
+  comes_to_an_end here there (Meets out) leads p same = absurd (cc)
   comes_to_an_end here there Accepts leads p same = absurd (cc)
   comes_to_an_end here there DropsKey leads p same = absurd (cc)
 
@@ -171,7 +173,8 @@ module _ (fabric : FabricState) (packet : Packet) where
       (omega (arith, count)))
 
 -- ---- the law
-pub traces_have_an_end : TracesHaveAnEnd
-traces_have_an_end fabric packet from first cable =
+pub way_has_an_end : (fabric : FabricState) (packet : Packet) (from first : PortRef) → far_end fabric.cables from ≡ Some first
+    → HasEnd (way_of fabric packet first)
+way_has_an_end fabric packet from first cable =
     has_end fabric packet (2 * length fabric.cables + 1) [] [] first
     (λ p. refl) refl (λ p among. absurd (cc)) (λ p same. far_is_end fabric.cables from first p same cable) (omega arith)

@@ -1,3 +1,5 @@
 pub mod TraceLemmas
 pub mod DeliveryLemmas
 pub mod EndLemmas
+pub mod SpreadLemmas
+pub mod LawLemmas

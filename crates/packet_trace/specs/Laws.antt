@@ -1,24 +1,25 @@
 -- What holds of all traces: the statements of the laws of `src/laws.rt`.
-use Rattle.std.specs.Prelude.{ℕ, ◌≡◌, ◌↔◌, false, List, [], ◌∷◌, ◌++◌, Some}
+use Rattle.std.specs.Prelude.{ℕ, ◌≡◌, ◌↔◌, true, false, List, [], ◌∷◌, ◌++◌, Some}
 use Rattle.std.specs.List.{Contains}
 use Rattle.data_packet.specs.declared.packet.Packet.{Packet}
 use Rattle.fabric_parts.specs.Cable.{far_end}
 use Rattle.fabric_parts.specs.declared.cable.PortRef.{PortRef}
 use Rattle.fabric_parts.specs.Lid.{is_multicast}
-use Rattle.packet_trace.specs.Trace.{step, steps_of}
+use Rattle.packet_trace.specs.Steps.{steps_of}
+use Rattle.packet_trace.specs.Trace.{step}
 use Rattle.packet_trace.specs.declared.turn.Step.{Step}
+use Rattle.packet_trace.specs.declared.turn.Turn.{Turn}
 use Rattle.packet_trace.specs.declared.turn.Turn.TheVariants.{Accepts, GoesOut}
-use Rattle.packet_ways.specs.Deliveries.{IsDelivered, adapter_at}
+use Rattle.packet_ways.specs.Deliveries.{Goes, IsDelivered, adapter_at}
 use Rattle.port_model.specs.AdapterState.{AdapterState}
 use Rattle.smp_wire.specs.FabricState.{FabricState}
 
--- a unicast packet that leaves by the port `from`, whose cable leads to `first`, is delivered at a port exactly
--- where that accepts it in the
--- trace
+-- a packet that leaves by the port `from`, whose cable leads to `first`, is delivered at a port exactly where that accepts it
+-- in the trace
 abbrev pub TracesTellDeliveries : Type 0
 TracesTellDeliveries =
     (fabric : FabricState) (packet : Packet) (from first at : PortRef) (port : AdapterState)
-    → is_multicast packet.dlid ≡ false → far_end fabric.cables from ≡ Some first → adapter_at fabric.nodes at ≡ Some port
+    → far_end fabric.cables from ≡ Some first → adapter_at fabric.nodes at ≡ Some port
     → IsDelivered fabric.nodes fabric.cables from packet at port ↔ Contains (steps_of fabric packet first) (step at Accepts)
 
 -- only a port of a channel adapter accepts a packet in a trace
@@ -27,7 +28,7 @@ AdaptersAccept =
     (fabric : FabricState) (packet : Packet) (first at : PortRef) → Contains (steps_of fabric packet first) (step at Accepts)
     → (port : AdapterState) × (adapter_at fabric.nodes at ≡ Some port)
 
--- there is a last step, and at its port the packet does not go out: so that step tells why the way ends
+-- there is a last step, and at its port the packet does not go out: so that step says why the way ends
 pub record HasEnd (trace : List Step) : Type 0 where
   pub before : List Step
   pub last : Step
@@ -38,4 +39,12 @@ pub record HasEnd (trace : List Step) : Type 0 where
 abbrev pub TracesHaveAnEnd : Type 0
 TracesHaveAnEnd =
     (fabric : FabricState) (packet : Packet) (from first : PortRef)
-    → far_end fabric.cables from ≡ Some first → HasEnd (steps_of fabric packet first)
+    → is_multicast packet.dlid ≡ false → far_end fabric.cables from ≡ Some first → HasEnd (steps_of fabric packet first)
+
+-- a packet to a multicast LID that comes in first at that port has a step at a port exactly where it comes in there, some way
+-- or other
+abbrev pub TracesShowAllWays : Type 0
+TracesShowAllWays =
+    (fabric : FabricState) (packet : Packet) (first at : PortRef) → is_multicast packet.dlid ≡ true
+    → ((turn : Turn) × Contains (steps_of fabric packet first) (step at turn))
+    ↔ ((way : List PortRef) × Goes fabric.nodes fabric.cables packet first way at)

@@ -1,4 +1,6 @@
 pub mod Trace
+pub mod Spread
+pub mod Steps
 pub mod Lines
 pub mod Laws
 pub mod Whole

@@ -1,4 +1,4 @@
--- The way of a packet, as lines.
+-- The ways of a packet, as lines.
 use Rattle.std.specs.Prelude.{ℕ, List, [], ◌∷◌, ◌++◌, codes, decimal, flat_map, Result, Ok, Err}
 use Rattle.std.specs.Int.{w16, to_be_bytes}
 use Rattle.std.specs.Option.{option_map_or}
@@ -8,11 +8,11 @@ use Rattle.data_packet.specs.declared.refusal.Refusal.{Refusal}
 use Rattle.fabric_parts.specs.Cable.{far_end}
 use Rattle.fabric_parts.specs.declared.cable.PortRef.{PortRef}
 use Rattle.line_parts.specs.Parts.{hex_text}
-use Rattle.packet_trace.specs.Trace.{steps_of}
+use Rattle.packet_trace.specs.Steps.{steps_of}
 use Rattle.packet_trace.specs.declared.lines.TheConstants.{DATA_QP}
 use Rattle.packet_trace.specs.declared.turn.Step.{Step}
 use Rattle.packet_trace.specs.declared.turn.Turn.{Turn}
-use Rattle.packet_trace.specs.declared.turn.Turn.TheVariants.{Again, DropsInbound, DropsTop, DropsEntry, Takes, DropsOutbound, NoCable, GoesOut, Accepts, DropsKey}
+use Rattle.packet_trace.specs.declared.turn.Turn.TheVariants.{Again, DropsInbound, DropsTop, DropsEntry, DropsMask, Takes, DropsOutbound, NoCable, Meets, GoesOut, Accepts, DropsKey}
 use Rattle.packet_ways.specs.Deliveries.{adapter_at}
 use Rattle.port_model.specs.AdapterState.{AdapterState}
 use Rattle.port_model.specs.Packets.{stamped}
@@ -40,9 +40,11 @@ turn_text Again = codes " again"
 turn_text DropsInbound = codes " drops inbound"
 turn_text DropsTop = codes " drops top"
 turn_text (DropsEntry entry) = codes " drops entry " ++ decimal entry
+turn_text DropsMask = codes " drops mask"
 turn_text Takes = codes " takes"
 turn_text (DropsOutbound out) = codes " out " ++ decimal out ++ codes " drops outbound"
 turn_text (NoCable out) = codes " out " ++ decimal out ++ codes " no cable"
+turn_text (Meets out) = codes " out " ++ decimal out ++ codes " again"
 turn_text (GoesOut out) = codes " out " ++ decimal out
 turn_text Accepts = codes " accepts"
 turn_text DropsKey = codes " drops key"

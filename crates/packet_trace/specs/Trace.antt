@@ -1,4 +1,4 @@
--- The way of one packet through a fabric, port by port, and why it ends (IBA volume 1, chapter 14): by what the
+-- The way of one unicast packet through a fabric, port by port, and why it ends (IBA volume 1, chapter 14): by what the
 -- switches and the channel adapters hold, whoever wrote it.
 use Rattle.std.specs.Prelude.{ℕ, zero, suc, ◌+◌, ◌*◌, is_some, if◌then◌else◌, List, [], ◌∷◌, ◌++◌, length, slice_get, Option, None}
 use Rattle.std.specs.List.{list_any}
@@ -24,7 +24,7 @@ use Rattle.switch_model.specs.declared.fate.Fate.TheVariants.{KeptOut, OverTop, 
 abbrev pub leaves_by : List Cable → PortRef → ℕ → Turn
 leaves_by cables here out = if is_some (far_end cables (record { node = here.node; port = out })) then GoesOut out else NoCable out
 
--- a switch tells the first reason for which a packet does not leave
+-- at a switch the first reason counts for which a packet does not leave
 abbrev pub turn_of_fate : List Cable → PortRef → Fate → Turn
 turn_of_fate cables here KeptOut = DropsInbound
 turn_of_fate cables here OverTop = DropsTop
@@ -66,5 +66,5 @@ steps_from fabric packet (suc more) before here =
 
 -- all steps of a packet that comes in at that port: it comes in at ends of cables alone, and at each once before it comes to
 -- one again
-abbrev pub steps_of : FabricState → Packet → PortRef → List Step
-steps_of fabric packet first = steps_from fabric packet (2 * length fabric.cables + 1) [] first
+abbrev pub way_of : FabricState → Packet → PortRef → List Step
+way_of fabric packet first = steps_from fabric packet (2 * length fabric.cables + 1) [] first

@@ -7,7 +7,7 @@ use Rattle.fabric_parts.specs.declared.node_type.NodeType.TheVariants.{ChannelAd
 use Rattle.packet_trace.specs.Lines.{refuses_line, stamps_line, step_line}
 use Rattle.packet_trace.specs.Trace.{step}
 use Rattle.packet_trace.specs.declared.turn.Turn.{Turn}
-use Rattle.packet_trace.specs.declared.turn.Turn.TheVariants.{Again, DropsInbound, DropsTop, DropsEntry, Takes, DropsOutbound, NoCable, GoesOut, Accepts, DropsKey}
+use Rattle.packet_trace.specs.declared.turn.Turn.TheVariants.{Again, DropsInbound, DropsTop, DropsEntry, DropsMask, Takes, DropsOutbound, NoCable, Meets, GoesOut, Accepts, DropsKey}
 use Rattle.topo_file.specs.declared.node.Node.{Node}
 
 -- a switch A and an adapter h1
@@ -41,9 +41,11 @@ pub record TraceLinesAreWhole : Type 0 where
   pub inbound : at_switch DropsInbound ≡ ended (codes "A in 12 drops inbound")
   pub top : at_switch DropsTop ≡ ended (codes "A in 12 drops top")
   pub entry : at_switch (DropsEntry 255) ≡ ended (codes "A in 12 drops entry 255")
+  pub mask : at_switch DropsMask ≡ ended (codes "A in 12 drops mask")
   pub takes : at_switch Takes ≡ ended (codes "A in 12 takes")
   pub outbound : at_switch (DropsOutbound 3) ≡ ended (codes "A in 12 out 3 drops outbound")
   pub no_cable : at_switch (NoCable 3) ≡ ended (codes "A in 12 out 3 no cable")
+  pub meets : at_switch (Meets 3) ≡ ended (codes "A in 12 out 3 again")
   pub goes : at_switch (GoesOut 3) ≡ ended (codes "A in 12 out 3")
   pub accepts : at_adapter Accepts ≡ ended (codes "h1/1 accepts")
   pub key : at_adapter DropsKey ≡ ended (codes "h1/1 drops key")

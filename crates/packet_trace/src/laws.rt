@@ -2,11 +2,11 @@
 //! nothing.
 
 ghost use Rattle.std.specs.Prelude.{◌≡◌};
-ghost use Rattle.packet_trace.specs.Laws.{AdaptersAccept, TracesHaveAnEnd, TracesTellDeliveries};
+ghost use Rattle.packet_trace.specs.Laws.{AdaptersAccept, TracesHaveAnEnd, TracesShowAllWays, TracesTellDeliveries};
 ghost use Rattle.packet_trace.specs.Whole.{TraceLinesAreWhole};
 ghost use Rattle.packet_trace.specs.declared.lines.TheConstants.{DATA_QP};
 
-/// A port accepts a packet in its trace exactly where the packet is delivered there. So a trace tells the ports to which
+/// A port accepts a packet in its trace exactly where the packet is delivered there. So a trace names the ports to which
 /// the fabric carries a packet, and no others.
 pub fn traces_tell_deliveries()
     ensures { TracesTellDeliveries }
@@ -17,10 +17,16 @@ pub fn adapters_accept()
     ensures { AdaptersAccept }
 {}
 
-/// A trace has an end: its last step tells why the packet goes no further. So no trace is cut while the packet goes on, where
-/// the packet goes in a circle either.
+/// The trace of a unicast packet has an end: its last step says why the packet goes no further. So no trace is cut while the
+/// packet goes on, where the packet goes in a circle either.
 pub fn traces_have_an_end()
     ensures { TracesHaveAnEnd }
+{}
+
+/// The trace of a packet to a multicast LID has a step at each port where the packet comes in, and at no other. So no way is
+/// cut, nor left out where ways meet.
+pub fn traces_show_all_ways()
+    ensures { TracesShowAllWays }
 {}
 
 /// Each form of a line of a trace, once as a whole text.

@@ -1,10 +1,10 @@
-//! The way of a packet, as lines.
+//! The ways of a packet, as lines.
 
 ghost use Rattle.std.specs.Prelude.{◌≡◌, ◌++◌, OnOk, IfOk, codes, decimal, flat_map};
 ghost use Rattle.packet_trace.specs.Lines.{entry_text, place_text, port_text, refuses_line, stamps_line, step_line, text_from, trace_text, turn_text, way_text};
 ghost use Rattle.packet_trace.specs.declared.lines.TheConstants.{DATA_QP};
 
-use crate::trace::steps;
+use crate::following::steps;
 use crate::turn::{Step, Turn};
 use data_packet::{Packet, QueuePair, Refusal};
 use fabric_parts::PortRef;
@@ -17,9 +17,10 @@ use topo_file::{Topology, name_at};
 /// A queue pair for data: neither 0 nor 1, which are for management.
 const DATA_QP: u32 = 2;
 
-/// The way of a packet without payload that the port of a channel adapter sends to that LID under that key: a line for what
-/// the port makes of it, and one for each port that it comes to, with the reason where it ends. Nothing where no port of a
-/// channel adapter is there. Memory alone can be refused.
+/// The ways of a packet without payload that the port of a channel adapter sends to that LID under that key: a line for what
+/// the port makes of it, and one for each port that it comes to, with the reason where it ends; at a switch a packet to a
+/// multicast LID has a line for each port by which it would leave. Nothing where no port of a channel adapter is there.
+/// Memory alone can be refused.
 ///
 /// The nodes of the fabric stand as the topology lists them, and are named as it names them.
 pub fn trace_text(
@@ -69,7 +70,7 @@ fn data_queue_pair() -> QueuePair
     }
 }
 
-/// A line for each port to which the packet comes.
+/// The lines for the ports to which the packet comes.
 fn push_way(
     alloc: Global,
     text: &mut Vec<u8>,
@@ -119,9 +120,11 @@ fn push_place(
         | Turn::DropsInbound
         | Turn::DropsTop
         | Turn::DropsEntry(_)
+        | Turn::DropsMask
         | Turn::Takes
         | Turn::DropsOutbound(_)
         | Turn::NoCable(_)
+        | Turn::Meets(_)
         | Turn::GoesOut(_) => push_entry(text, topology, at),
     }
 }
@@ -137,9 +140,11 @@ fn push_turn(text: &mut Vec<u8>, turn: Turn) -> Result<(), AllocError>
             text.extend_from_slice(b" drops entry ")?;
             push_decimal(text, usize::from(entry))
         }
+        Turn::DropsMask => text.extend_from_slice(b" drops mask"),
         Turn::Takes => text.extend_from_slice(b" takes"),
         Turn::DropsOutbound(out) => push_out_and(text, out, b" drops outbound"),
         Turn::NoCable(out) => push_out_and(text, out, b" no cable"),
+        Turn::Meets(out) => push_out_and(text, out, b" again"),
         Turn::GoesOut(out) => push_out(text, out),
         Turn::Accepts => text.extend_from_slice(b" accepts"),
         Turn::DropsKey => text.extend_from_slice(b" drops key"),

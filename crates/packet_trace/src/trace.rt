@@ -1,9 +1,9 @@
-//! A packet on its way.
+//! A unicast packet on its way.
 
 ghost use Rattle.std.specs.Prelude.{◌≡◌, IfOk};
 ghost use Rattle.std.specs.List.{list_any};
 ghost use Rattle.fabric_parts.specs.Cable.{is_same_port};
-ghost use Rattle.packet_trace.specs.Trace.{leaves_by, next_after, steps_of, turn_after, turn_at, turn_by, turn_in, turn_of_fate};
+ghost use Rattle.packet_trace.specs.Trace.{leaves_by, next_after, turn_after, turn_at, turn_by, turn_in, turn_of_fate, way_of};
 
 use crate::turn::{Step, Turn};
 use data_packet::Packet;
@@ -15,13 +15,13 @@ use switch_model::Fate;
 
 /// What becomes of a unicast packet that comes in at that port, there and at each port to which it goes on from there.
 /// Memory alone can be refused.
-pub fn steps(
+pub(crate) fn way(
     alloc: Global,
     fabric: &Fabric,
     packet: &Packet,
     first: PortRef,
 ) -> Result<Vec<Step>, AllocError>
-    ensures { IfOk result (λ steps. steps.items ≡ steps_of fabric.now packet.now first) }
+    ensures { IfOk result (λ steps. steps.items ≡ way_of fabric.now packet.now first) }
 {
     let mut steps = Vec::new(alloc);
     let mut here = first;
@@ -76,7 +76,7 @@ fn turn_in(fabric: &Fabric, packet: &Packet, here: PortRef, node: &Node) -> Turn
     }
 }
 
-fn turn_by(port: &AdapterPort, packet: &Packet) -> Turn
+pub(crate) fn turn_by(port: &AdapterPort, packet: &Packet) -> Turn
     ensures { result ≡ turn_by packet.now port.now }
 {
     if port.accept(packet) {
@@ -112,7 +112,7 @@ fn leaves_by(fabric: &Fabric, here: PortRef, out: u8) -> Turn
 }
 
 /// Where it comes in next, if it goes on.
-fn next_after(fabric: &Fabric, here: PortRef, turn: Turn) -> Option<PortRef>
+pub(crate) fn next_after(fabric: &Fabric, here: PortRef, turn: Turn) -> Option<PortRef>
     ensures { result ≡ next_after fabric.now.cables here turn }
 {
     match turn {

@@ -2,7 +2,8 @@
 
 use fabric_parts::PortRef;
 
-/// What becomes of a packet at a port at which it comes in: of a switch the first of these that is so.
+/// What becomes of a packet at a port at which it comes in: of a switch the first of these that is so, and for a packet to a
+/// multicast LID the first for each port that is in the masks of its LID.
 #[derive(Clone, Copy, Debug, PartialEq, Eq)]
 pub enum Turn {
     /// It came in there before, so it goes in a circle.
@@ -13,12 +14,16 @@ pub enum Turn {
     DropsTop,
     /// The switch has no port of the number that stands in the entry for its LID.
     DropsEntry(u8),
-    /// The switch takes it, since the LID is its own, and it takes no data.
+    /// No bit of another port of the switch is set in the masks of its LID.
+    DropsMask,
+    /// The switch takes it, since the LID is its own or the masks have the bit of port 0, and it takes no data.
     Takes,
     /// The port by which it would leave lets nothing under its key out.
     DropsOutbound(u8),
     /// The port by which it would leave has no cable.
     NoCable(u8),
+    /// It leaves by that port, to where a copy of it came in before.
+    Meets(u8),
     /// It leaves by that port.
     GoesOut(u8),
     /// The port of a channel adapter accepts it.

@@ -1,24 +1,19 @@
 -- That a fabric forwards by LID, by tests that compute.
-use Rattle.std.proofs.Common.{ℕ, zero, suc, ◌≡◌, ◌≤◌, ◌==◌, refl, subst, not, ◌&&◌, ◌||◌, Bool, true, false, nat_le, List, [], ◌∷◌, flat_map, slice_get, Option, Some, None, if◌then◌else◌, arith}
+use Rattle.std.proofs.Common.{ℕ, zero, suc, ◌≡◌, ◌≤◌, ◌==◌, refl, not, ◌&&◌, ◌||◌, Bool, true, false, nat_le, List, [], ◌∷◌, slice_get, Option, Some, None, if◌then◌else◌, arith}
 use Rattle.std.specs.List.{list_all}
 use Rattle.std.specs.Option.{option_and_then, option_map_or}
 use Rattle.std.proofs.lemmas.Bool.{and_parts, eqb-false, eqb-true, eq-eqb, leb-true}
 use Rattle.fabric_parts.specs.declared.cable.Cable.{Cable}
 use Rattle.fabric_parts.specs.declared.cable.PortRef.{PortRef}
 use Rattle.fabric_parts.specs.Cable.{far_end, is_same_port}
-use Rattle.pkey_rules.specs.KeyTable.{holds}
-use Rattle.pkey_rules.specs.StoredKeys.{stored_keys}
 use Rattle.port_model.specs.AdapterState.{AdapterState}
-use Rattle.switch_model.specs.declared.switch_port.SwitchPort.{SwitchPort}
-use Rattle.smp_wire.proofs.CableLemmas.{far_ends_meet, same_port}
-use Rattle.result_words.proofs.DistinctLemmas.{all_differ, distinct}
-use Rattle.smp_wire.specs.FabricState.{FabricState, is_switch_at}
-use Rattle.smp_wire.specs.Good.{ends_of, is_right}
+use Rattle.smp_wire.proofs.CableLemmas.{same_port}
+use Rattle.smp_wire.specs.FabricState.{FabricState}
 use Rattle.smp_wire.specs.declared.node.Node.{Node}
 use Rattle.smp_wire.specs.declared.node.Node.TheVariants.{Switch, Adapter}
 use Rattle.packet_ways.specs.Deliveries.{adapter_at}
-use Rattle.pkey_rules.specs.PKey.{full_form}
-use Rattle.packet_ways.specs.Forwards.{Follows, ForwardsByLid, Leads, entry_at, node_entry, switch_port_at}
+use Rattle.packet_ways.specs.Forwards.{Follows, ForwardsByLid, HoldsBackNothing, Leads, entry_at, node_entry}
+use Rattle.packet_ways.proofs.ExampleFreeLemmas.{both_meet, from_both}
 
 -- ---- the tests: of a port, the one at the far end of its cable, and a LID up to which entries count
 abbrev is_entry : Option ℕ → ℕ → Bool
@@ -39,18 +34,6 @@ module _ (nodes : List Node) (cables : List Cable) (top : ℕ) where
   abbrev owns : PortRef → PortRef → Bool
   owns here at = option_map_or (λ port. each_up_to top (leads_own here port)) (adapter_at nodes at) true
 
-  abbrev holds_full : SwitchPort → AdapterState → Bool
-  holds_full mine port = list_all (λ key. holds (full_form key) (stored_keys mine.keys)) (stored_keys port.keys)
-
-  abbrev faces : PortRef → PortRef → Bool
-  faces here at = option_map_or (λ mine. option_map_or (holds_full mine) (adapter_at nodes at) true) (switch_port_at nodes here) true
-
-  abbrev is_free : SwitchPort → Bool
-  is_free mine = not mine.info.partition_enforcement_inbound && not mine.info.partition_enforcement_outbound
-
-  abbrev lets_pass : PortRef → PortRef → Bool
-  lets_pass here at = option_map_or (λ mine. not (is_switch_at nodes at.node) || is_free mine) (switch_port_at nodes here) true
-
   abbrev next_by : ℕ → PortRef → Option PortRef
   next_by lid here = option_and_then (λ out. far_end cables (record { node = here.node; port = out })) (entry_at nodes here.node lid)
 
@@ -62,14 +45,11 @@ module _ (nodes : List Node) (cables : List Cable) (top : ℕ) where
   abbrev comes_to : PortRef → PortRef → Bool
   comes_to first at = option_map_or (λ port. comes 3 port.info.lid first at) (adapter_at nodes at) true
 
-  abbrev from_both : (PortRef → PortRef → Bool) → Cable → Bool
-  from_both test cable = test cable.first cable.second && test cable.second cable.first
-
   abbrev comes_to_all : PortRef → PortRef → Bool
   comes_to_all from first = option_map_or (λ sender. list_all (from_both (λ at far. comes_to first at)) cables) (adapter_at nodes from) true
 
   abbrev fits : PortRef → PortRef → Bool
-  fits here at = owns here at && (faces here at && (lets_pass here at && comes_to_all here at))
+  fits here at = owns here at && comes_to_all here at
 
   -- ---- what they give
   up_to : (n : ℕ) (test : ℕ → Bool) (lid : ℕ) → each_up_to n test ≡ true → lid ≤ n → test lid ≡ true
@@ -81,10 +61,6 @@ module _ (nodes : List Node) (cables : List Cable) (top : ℕ) where
       by : (b : Bool) → (lid == suc n) ≡ b → test (suc n) ≡ true → (lid ≤ n → test lid ≡ true) → test lid ≡ true
       by true is here later = rw (eqb-true lid (suc n) is) here
       by false is here later = let other = eqb-false lid (suc n) is in later (omega (arith, other, low))
-
-  both_meet : (test : PortRef → PortRef → Bool) (a b : PortRef) → list_all (from_both test) cables ≡ true → far_end cables a ≡ Some b → test a b ≡ true
-  both_meet test a b all far =
-      far_ends_meet (λ one other. test one other ≡ true) (from_both test) (λ cable is. and_parts (test cable.first cable.second) _ is) cables a b all far
 
   -- the top of each switch is this one
   within : (found : Option Node) (lid out : ℕ) → option_map_or counts_up_to found true ≡ true
@@ -104,16 +80,6 @@ module _ (nodes : List Node) (cables : List Cable) (top : ℕ) where
   at_place [] place all = refl
   at_place (x ∷ xs) zero all = (and_parts (counts_up_to x) _ all).0
   at_place (x ∷ xs) (suc place) all = at_place xs place (and_parts (counts_up_to x) _ all).1
-
-  held_key : (test : ℕ → Bool) (key : ℕ) (keys : List ℕ) → list_all test keys ≡ true → holds key keys ≡ true → test key ≡ true
-  held_key test key [] all is = absurd (cc)
-  held_key test key (one ∷ keys) all is =
-      let parts = and_parts (test one) _ all in
-      by (one == key) refl parts.0 (λ later. held_key test key keys parts.1 later) is
-    where
-      by : (b : Bool) → (one == key) ≡ b → test one ≡ true → (holds key keys ≡ true → test key ≡ true) → (b || holds key keys) ≡ true → test key ≡ true
-      by true same here later any = subst (λ (k : ℕ). test k ≡ true) (eqb-true one key same) here
-      by false same here later any = later any
 
   leads_by : (lid : ℕ) (here next : PortRef) (entry : Option ℕ) → entry_at nodes here.node lid ≡ entry
       → option_and_then (λ out. far_end cables (record { node = here.node; port = out })) entry ≡ Some next → Leads nodes cables lid here next
@@ -137,13 +103,8 @@ module _ (nodes : List Node) (cables : List Cable) (top : ℕ) where
 
   -- ---- all that ends of cables have to meet
   module _ (all : list_all (from_both fits) cables ≡ true) where
-    at_ends : (here at : PortRef) → far_end cables here ≡ Some at
-        → (owns here at ≡ true) × (faces here at ≡ true) × (lets_pass here at ≡ true) × (comes_to_all here at ≡ true)
-    at_ends here at far =
-        let one = and_parts (owns here at) _ (both_meet fits here at all far) in
-        let two = and_parts (faces here at) _ one.1 in
-        let three = and_parts (lets_pass here at) _ two.1 in
-        (one.0, two.0, three.0, three.1)
+    at_ends : (here at : PortRef) → far_end cables here ≡ Some at → (owns here at ≡ true) × (comes_to_all here at ≡ true)
+    at_ends here at far = and_parts (owns here at) _ (both_meet cables fits here at all far)
 
     own_by : list_all counts_up_to nodes ≡ true → (lid : ℕ) (here at : PortRef) (port : AdapterState) → Leads nodes cables lid here at
         → adapter_at nodes at ≡ Some port → port.info.lid ≡ lid
@@ -158,37 +119,15 @@ module _ (nodes : List Node) (cables : List Cable) (top : ℕ) where
         → far_end cables from ≡ Some first → (far : PortRef) → far_end cables at ≡ Some far → adapter_at nodes at ≡ Some port
         → (way : List PortRef) × Follows nodes cables port.info.lid first way at
     lead_by from at sender port first sends begin far cable there =
-        let each = both_meet (λ at far. comes_to first at) at far (rw sends at (at_ends from first begin).3) cable in
+        let each = both_meet cables (λ at far. comes_to first at) at far (rw sends at (at_ends from first begin).1) cable in
         comes_along 3 port.info.lid first at (rw there at each)
 
-    facing_by : (here at : PortRef) (mine : SwitchPort) (port : AdapterState) (key : ℕ) → switch_port_at nodes here ≡ Some mine
-        → far_end cables here ≡ Some at → adapter_at nodes at ≡ Some port
-        → holds key (stored_keys port.keys) ≡ true → holds (full_form key) (stored_keys mine.keys) ≡ true
-    facing_by here at mine port key is far there held =
-        held_key (λ key. holds (full_form key) (stored_keys mine.keys)) key (stored_keys port.keys) (rw (is, there) at (at_ends here at far).1) held
-
-    between_by : (here at : PortRef) (mine : SwitchPort) → switch_port_at nodes here ≡ Some mine
-        → far_end cables here ≡ Some at → is_switch_at nodes at.node ≡ true
-        → (mine.info.partition_enforcement_inbound ≡ false) × (mine.info.partition_enforcement_outbound ≡ false)
-    between_by here at mine is far switch =
-        let free : is_free mine ≡ true = rw (is, switch) at (at_ends here at far).2 in
-        let parts = and_parts (not mine.info.partition_enforcement_inbound) _ free in
-        (none mine.info.partition_enforcement_inbound parts.0, none mine.info.partition_enforcement_outbound parts.1)
-      where
-        none : (b : Bool) → not b ≡ true → b ≡ false
-        none true is = absurd (cc)
-        none false is = refl
-
 -- ---- all of it
-pub forwards : (fabric : FabricState) (top : ℕ) → list_all (is_right fabric.nodes) fabric.cables ≡ true
-    → all_differ is_same_port (flat_map ends_of fabric.cables) ≡ true
+pub forwards : (fabric : FabricState) (top : ℕ) → HoldsBackNothing fabric
     → list_all (counts_up_to fabric.nodes fabric.cables top) fabric.nodes ≡ true
-    → list_all (from_both fabric.nodes fabric.cables top (fits fabric.nodes fabric.cables top)) fabric.cables ≡ true → ForwardsByLid fabric
-forwards fabric top right differ counts all = record {
-  cables = right;
-  once = distinct is_same_port _ differ;
+    → list_all (from_both (fits fabric.nodes fabric.cables top)) fabric.cables ≡ true → ForwardsByLid fabric
+forwards fabric top free counts all = record {
+  free = free;
   own = own_by fabric.nodes fabric.cables top all counts;
   lead = λ from at sender port begin end. lead_by fabric.nodes fabric.cables top all from at sender port begin.far begin.there begin.cable end.far end.cable end.there;
-  facing = facing_by fabric.nodes fabric.cables top all;
-  between = between_by fabric.nodes fabric.cables top all;
 }

@@ -35,10 +35,10 @@ any_held : (p : ℕ → Bool) (key : ℕ) (keys : List ℕ) → p key ≡ true �
 any_held p key keys is held =
     list_any_weaker (λ one. one == key) p (λ one same. ap p (eqb-true one key same) ∙ is) keys held
 
-record Match (p : ℕ → Bool) (keys : List ℕ) : Type 0 where
-  key : ℕ
-  passes : p key ≡ true
-  held : holds key keys ≡ true
+pub record Match (p : ℕ → Bool) (keys : List ℕ) : Type 0 where
+  pub key : ℕ
+  pub passes : p key ≡ true
+  pub held : holds key keys ≡ true
 
 match_by : (p : ℕ → Bool) (one : ℕ) (keys : List ℕ) (b : Bool) → p one ≡ b → (list_any p keys ≡ true → Match p keys) → (b || list_any p keys) ≡ true
     → Match p (one ∷ keys)
@@ -51,7 +51,7 @@ match_by p one keys false is later any =
     or_true true = refl
     or_true false = refl
 
-match_in : (p : ℕ → Bool) (keys : List ℕ) → list_any p keys ≡ true → Match p keys
+pub match_in : (p : ℕ → Bool) (keys : List ℕ) → list_any p keys ≡ true → Match p keys
 match_in p [] any = absurd (cc)
 match_in p (one ∷ keys) any = match_by p one keys (p one) refl (match_in p keys) any
 

@@ -1,5 +1,9 @@
 pub mod WayLemmas
 pub mod DeliveryLemmas
 pub mod KeyLemmas
+pub mod FreeLemmas
 pub mod ByLidLemmas
+pub mod ByMlidLemmas
+pub mod ExampleFreeLemmas
 pub mod ExampleLemmas
+pub mod ExampleMlidLemmas

@@ -9,6 +9,7 @@ use Rattle.data_packet.specs.declared.packet.Packet.{Packet}
 use Rattle.fabric_parts.specs.declared.cable.Cable.{Cable}
 use Rattle.fabric_parts.specs.declared.cable.PortRef.{PortRef}
 use Rattle.fabric_parts.specs.Cable.{far_end, is_same_port}
+use Rattle.fabric_parts.specs.Lid.{is_multicast}
 use Rattle.port_model.specs.AdapterState.{AdapterState}
 use Rattle.switch_model.specs.Forwarding.{out_port}
 use Rattle.smp_wire.proofs.CableLemmas.{count_ends, far_is_end, ports_equiv, same_port}
@@ -26,37 +27,37 @@ is_out : (found : Option ℕ) (out : ℕ) → option_map_or (λ port. port == ou
 is_out None out is = absurd (cc)
 is_out (Some port) out is = ap (λ (n : ℕ). Some n) (eqb-true port out is)
 
-node_sends : (found : Option Node) (number out : ℕ) (packet : Packet) → option_map_or (λ node. sends_on node number packet out) found false ≡ true
+node_sends : (found : Option Node) (number out : ℕ) (packet : Packet) → is_multicast packet.dlid ≡ false → option_map_or (λ node. sends_on node number packet out) found false ≡ true
     → option_and_then (λ node. node_out_port node number packet) found ≡ Some out
-node_sends None number out packet is = absurd (cc)
-node_sends (Some (Switch held)) number out packet is = is_out (out_port held number packet) out is
-node_sends (Some (Adapter ports)) number out packet is = absurd (cc)
+node_sends None number out packet unicast is = absurd (cc)
+node_sends (Some (Switch held)) number out packet unicast is = is_out (out_port held number packet) out (rw unicast at is)
+node_sends (Some (Adapter ports)) number out packet unicast is = absurd (cc)
 
-sends_node : (found : Option Node) (number out : ℕ) (packet : Packet) → option_and_then (λ node. node_out_port node number packet) found ≡ Some out
+sends_node : (found : Option Node) (number out : ℕ) (packet : Packet) → is_multicast packet.dlid ≡ false → option_and_then (λ node. node_out_port node number packet) found ≡ Some out
     → option_map_or (λ node. sends_on node number packet out) found false ≡ true
-sends_node None number out packet is = absurd (cc)
-sends_node (Some (Switch held)) number out packet is = rw is (eq-eqb out out refl)
-sends_node (Some (Adapter ports)) number out packet is = absurd (cc)
+sends_node None number out packet unicast is = absurd (cc)
+sends_node (Some (Switch held)) number out packet unicast is = rw (unicast, is) (eq-eqb out out refl)
+sends_node (Some (Adapter ports)) number out packet unicast is = absurd (cc)
 
-pub to_next : (nodes : List Node) (cables : List Cable) (packet : Packet) (here next : PortRef) → Passes nodes cables packet here next
-    → next_port nodes cables packet here ≡ Some next
-to_next nodes cables packet here next passes =
-    let out = node_sends (slice_get nodes here.node) here.port passes.out packet passes.sends in
+pub to_next : (nodes : List Node) (cables : List Cable) (packet : Packet) (here next : PortRef) → is_multicast packet.dlid ≡ false
+    → Passes nodes cables packet here next → next_port nodes cables packet here ≡ Some next
+to_next nodes cables packet here next unicast passes =
+    let out = node_sends (slice_get nodes here.node) here.port passes.out packet unicast passes.sends in
     rw out passes.cable
 
-by_out : (nodes : List Node) (cables : List Cable) (packet : Packet) (here next : PortRef) (found : Option ℕ)
+by_out : (nodes : List Node) (cables : List Cable) (packet : Packet) (here next : PortRef) (found : Option ℕ) → is_multicast packet.dlid ≡ false
     → out_port_at nodes here packet ≡ found
     → option_and_then (λ out. far_end cables (record { node = here.node; port = out })) found ≡ Some next → Passes nodes cables packet here next
-by_out nodes cables packet here next None found is = absurd (cc)
-by_out nodes cables packet here next (Some out) found is =
-    record { out = out; sends = sends_node (slice_get nodes here.node) here.port out packet found; cable = is }
+by_out nodes cables packet here next None unicast found is = absurd (cc)
+by_out nodes cables packet here next (Some out) unicast found is =
+    record { out = out; sends = sends_node (slice_get nodes here.node) here.port out packet unicast found; cable = is }
 
-pub from_next : (nodes : List Node) (cables : List Cable) (packet : Packet) (here next : PortRef)
+pub from_next : (nodes : List Node) (cables : List Cable) (packet : Packet) (here next : PortRef) → is_multicast packet.dlid ≡ false
     → next_port nodes cables packet here ≡ Some next → Passes nodes cables packet here next
-from_next nodes cables packet here next is = by_out nodes cables packet here next (out_port_at nodes here packet) refl is
+from_next nodes cables packet here next unicast is = by_out nodes cables packet here next (out_port_at nodes here packet) unicast refl is
 
 pub goes_one_way : UnicastGoesOneWay
-goes_one_way nodes cables packet here next unicast = (to_next nodes cables packet here next, from_next nodes cables packet here next)
+goes_one_way nodes cables packet here next unicast = (to_next nodes cables packet here next unicast, from_next nodes cables packet here next unicast)
 
 -- ---- no channel adapter sends on
 pub in_none : (none : Bool) (place : ℕ) (port : AdapterState) → (if none then None else slice_get {X = AdapterState} [] place) ≡ Some port → ⊥
@@ -77,7 +78,7 @@ adapter_stops nodes cables packet at port there =
     (node_stops (slice_get nodes at.node) at.port packet port there)
 
 -- ---- one way
-module _ (nodes : List Node) (cables : List Cable) (packet : Packet) where
+module _ (nodes : List Node) (cables : List Cable) (packet : Packet) (unicast : is_multicast packet.dlid ≡ false) where
   abbrev Stops : PortRef → Type 0
   Stops here = next_port nodes cables packet here ≡ None
 
@@ -85,11 +86,11 @@ module _ (nodes : List Node) (cables : List Cable) (packet : Packet) where
   GoesBy here way last = Goes nodes cables packet here way last
 
   same_next : (here a b : PortRef) → Passes nodes cables packet here a → Passes nodes cables packet here b → a ≡ b
-  same_next here a b one other = same_Some a b (sym (to_next nodes cables packet here a one) ∙ to_next nodes cables packet here b other)
+  same_next here a b one other = same_Some a b (sym (to_next nodes cables packet here a unicast one) ∙ to_next nodes cables packet here b unicast other)
 
   stops_there : (here last next : PortRef) → here ≡ last → Stops last → Passes nodes cables packet here next → ⊥
   stops_there here last next same stops passes =
-      let is = to_next nodes cables packet here next passes in
+      let is = to_next nodes cables packet here next unicast passes in
       let ends = ap (next_port nodes cables packet) same ∙ stops in
       cc
 
@@ -167,18 +168,13 @@ module _ (nodes : List Node) (cables : List Cable) (packet : Packet) where
   few_hops way here last goes ends = rw (count_ends cables) at few_ends way here last goes ends
 
 -- ---- one port
--- as long as no switch sends a packet out of several, that is so of all packets
-pub reaches_one : (nodes : List Node) (cables : List Cable) (from : PortRef) (packet : Packet) (a b : PortRef) (p q : AdapterState)
-    → IsDelivered nodes cables from packet a p → IsDelivered nodes cables from packet b q → a ≡ b
-reaches_one nodes cables from packet a b p q one other =
+pub reaches_one_port : UnicastReachesOnePort
+reaches_one_port nodes cables from packet a b p q unicast one other =
     let first = same_Some one.first other.first (sym one.cable ∙ other.cable) in
-    same_end nodes cables packet one.way other.way one.first a b one.goes
+    same_end nodes cables packet unicast one.way other.way one.first a b one.goes
     (subst (λ (port : PortRef). Goes nodes cables packet port other.way b) (sym first) other.goes)
     (adapter_stops nodes cables packet a p one.there)
     (adapter_stops nodes cables packet b q other.there)
-
-pub reaches_one_port : UnicastReachesOnePort
-reaches_one_port nodes cables from packet a b p q unicast one other = reaches_one nodes cables from packet a b p q one other
 
 -- ---- a packet that has gone so many hops
 pub record IsOnWay (nodes : List Node) (cables : List Cable) (packet : Packet) (first : PortRef) (hops : ℕ) (here : PortRef) : Type 0 where
@@ -189,19 +185,20 @@ pub record IsOnWay (nodes : List Node) (cables : List Cable) (packet : Packet) (
 pub begins : (nodes : List Node) (cables : List Cable) (packet : Packet) (first : PortRef) → IsOnWay nodes cables packet first 0 first
 begins nodes cables packet first = record { way = []; goes = refl; count = refl }
 
-one_more : (nodes : List Node) (cables : List Cable) (packet : Packet) (way : List PortRef) (first here next : PortRef) → Goes nodes cables packet first way here
+pub one_more : (nodes : List Node) (cables : List Cable) (packet : Packet) (way : List PortRef) (first here next : PortRef) → Goes nodes cables packet first way here
     → Passes nodes cables packet here next → Goes nodes cables packet first (way ++ next ∷ []) next
 one_more nodes cables packet [] first here next goes passes = (subst (λ (p : PortRef). Passes nodes cables packet p next) (sym goes) passes, refl)
 one_more nodes cables packet (one ∷ way) first here next goes passes = (goes.0, one_more nodes cables packet way one here next goes.1 passes)
 
 pub goes_on : (nodes : List Node) (cables : List Cable) (packet : Packet) (first here next : PortRef) (hops : ℕ)
-    → IsOnWay nodes cables packet first hops here → next_port nodes cables packet here ≡ Some next → IsOnWay nodes cables packet first (hops + 1) next
-goes_on nodes cables packet first here next hops on is =
+    → is_multicast packet.dlid ≡ false → IsOnWay nodes cables packet first hops here → next_port nodes cables packet here ≡ Some next
+    → IsOnWay nodes cables packet first (hops + 1) next
+goes_on nodes cables packet first here next hops unicast on is =
     let count = on.count in
     let more = length-append on.way (next ∷ []) in
     record {
       way = on.way ++ next ∷ [];
-      goes = one_more nodes cables packet on.way first here next on.goes (from_next nodes cables packet here next is);
+      goes = one_more nodes cables packet on.way first here next on.goes (from_next nodes cables packet here next unicast is);
       count = omega (arith, count, more);
     }
 
@@ -211,15 +208,15 @@ comes_to_end nodes cables packet first here hops on stops = record { way = on.wa
 
 -- after more hops than there are ends of cables the way has no end
 pub goes_round : (nodes : List Node) (cables : List Cable) (packet : Packet) (first here last : PortRef) (hops : ℕ)
-    → IsOnWay nodes cables packet first hops here → 2 * length cables < hops → IsEnd nodes cables packet first last → ⊥
-goes_round nodes cables packet first here last hops on many end =
-    let far = no_longer nodes cables packet on.way end.way first here last on.goes end.goes end.ends in
-    let few = few_hops nodes cables packet end.way first last end.goes end.ends in
+    → is_multicast packet.dlid ≡ false → IsOnWay nodes cables packet first hops here → 2 * length cables < hops → IsEnd nodes cables packet first last → ⊥
+goes_round nodes cables packet first here last hops unicast on many end =
+    let far = no_longer nodes cables packet unicast on.way end.way first here last on.goes end.goes end.ends in
+    let few = few_hops nodes cables packet unicast end.way first last end.goes end.ends in
     let count = on.count in
     omega (arith, many, far, few, count)
 
 -- ---- who is reached is at the end of the way
-module _ (nodes : List Node) (cables : List Cable) (packet : Packet) (from first at : PortRef) (port : AdapterState) where
+module _ (nodes : List Node) (cables : List Cable) (packet : Packet) (unicast : is_multicast packet.dlid ≡ false) (from first at : PortRef) (port : AdapterState) where
   pub way_ends : far_end cables from ≡ Some first → IsDelivered nodes cables from packet at port → IsEnd nodes cables packet first at
   way_ends cable is = record {
     way = is.way;
@@ -231,4 +228,4 @@ module _ (nodes : List Node) (cables : List Cable) (packet : Packet) (from first
       → IsDelivered nodes cables from packet at port → adapter_at nodes last ≡ Some port
   at_end last cable end is =
       let other = way_ends cable is in
-      ap (adapter_at nodes) (same_end nodes cables packet end.way other.way first last at end.goes other.goes end.ends other.ends) ∙ is.there
+      ap (adapter_at nodes) (same_end nodes cables packet unicast end.way other.way first last at end.goes other.goes end.ends other.ends) ∙ is.there

@@ -13,10 +13,11 @@ use Rattle.fabric_parts.specs.declared.cable.PortRef.{PortRef}
 use Rattle.fabric_parts.specs.Cable.{far_end}
 use Rattle.port_model.specs.AdapterState.{AdapterState}
 use Rattle.port_model.specs.Packets.{accepts_packet}
-use Rattle.switch_model.specs.Forwarding.{sends_out}
+use Rattle.switch_model.specs.Sending.{sends_out}
 use Rattle.smp_wire.specs.declared.node.Node.{Node}
 use Rattle.smp_wire.specs.declared.node.Node.TheVariants.{Switch, Adapter}
 use Rattle.smp_wire.specs.FabricState.{FabricState, adapter_port}
+use Rattle.packet_ways.specs.declared.numbers.Numbers.{Numbers}
 
 -- ---- the ports of channel adapters
 abbrev pub adapter_ports : Node → List AdapterState
@@ -71,10 +72,6 @@ pub record IsDelivered (nodes : List Node) (cables : List Cable) (from : PortRef
   pub accepts : accepts_packet port packet ≡ true
 
 -- a port by its numbers
-pub record Numbers : Type 0 where
-  pub lid : ℕ
-  pub guid : ℕ
-
 abbrev pub numbers_of : AdapterState → Numbers
 numbers_of port = record { lid = port.info.lid; guid = port.port_guid }
 

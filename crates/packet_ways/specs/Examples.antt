@@ -1,10 +1,12 @@
 -- The two-switch fabric of our examples, as a subnet manager leaves it.
-use Rattle.std.specs.Prelude.{ℕ, ◌+◌, ◌-◌, Bool, true, false, List, [], ◌∷◌, ◌++◌, replicate}
+use Rattle.std.specs.Prelude.{ℕ, ◌+◌, ◌-◌, ◌==◌, ◌&&◌, Bool, true, false, List, [], ◌∷◌, ◌++◌, replicate}
+use Rattle.std.specs.List.{list_any}
 use Rattle.agent_rules.specs.declared.link.PortLink.{PortLink}
 use Rattle.agent_rules.specs.declared.link.PortLink.TheVariants.{Cabled, Uncabled, Internal}
 use Rattle.agent_rules.specs.declared.power_up.TheConstants.{LINEAR_TABLE, MULTICAST_TABLE}
 use Rattle.agent_rules.specs.PowerUp.{keys_at_power_up, port_info_at_power_up, switch_info_at_power_up}
 use Rattle.fabric_parts.specs.declared.cable.Cable.{Cable}
+use Rattle.fabric_parts.specs.declared.lid.TheConstants.{FIRST_MULTICAST_LID}
 use Rattle.fabric_parts.specs.declared.node_type.NodeType.TheVariants as node_type
 use Rattle.switch_model.specs.declared.switch_port.SwitchPort.{SwitchPort}
 use Rattle.smp_wire.specs.declared.node.Node.{Node}
@@ -22,9 +24,10 @@ switch_port number link enforces =
       keys = keys_at_power_up;
     }
 
--- a switch with these entries for LIDs 0 to 6: ports 1 and 2 have adapters, port 3 the other switch, and port 4 no cable
-abbrev pub switch_with : ℕ → List ℕ → Node
-switch_with guid entries =
+-- a switch with these entries for LIDs 0 to 6, and with these bits of its ports for the first multicast LID: ports 1 and 2
+-- have adapters, port 3 the other switch, and port 4 no cable
+abbrev pub switch_with : ℕ → List ℕ → ℕ → Node
+switch_with guid entries bits =
     Switch (record {
       node_guid = guid;
       description = replicate 64 0;
@@ -37,7 +40,7 @@ switch_with guid entries =
           ∷ switch_port 4 Uncabled false
           ∷ [];
       linear = entries ++ replicate (LINEAR_TABLE - 7) 255;
-      masks = replicate 3 (replicate MULTICAST_TABLE 0);
+      masks = (bits ∷ replicate (MULTICAST_TABLE - 1) 0) ∷ replicate 2 (replicate MULTICAST_TABLE 0);
     })
 
 -- an adapter of one port, of that LID
@@ -57,12 +60,13 @@ abbrev pub cable : (a b c d : ℕ) → Cable
 cable a b c d = record { first = record { node = a; port = b }; second = record { node = c; port = d } }
 
 -- switches A and B at places 0 and 1, joined by their ports 3, and then h0 and h1 on A, h2 and h3 on B, and h4 without a
--- cable. The LIDs are 1 of h0, where the subnet manager runs, 2 of A, 3 of B, and 4, 5 and 6 of h1, h2 and h3
+-- cable. The LIDs are 1 of h0, where the subnet manager runs, 2 of A, 3 of B, and 4, 5 and 6 of h1, h2 and h3. The first
+-- multicast LID is that of a group of which h0, h1 and h2 are members
 abbrev pub two_switches : FabricState
 two_switches = record {
   nodes =
-      switch_with 0x10 (255 ∷ 1 ∷ 0 ∷ 3 ∷ 2 ∷ 3 ∷ 3 ∷ [])
-      ∷ switch_with 0x20 (255 ∷ 3 ∷ 3 ∷ 0 ∷ 3 ∷ 1 ∷ 2 ∷ [])
+      switch_with 0x10 (255 ∷ 1 ∷ 0 ∷ 3 ∷ 2 ∷ 3 ∷ 3 ∷ []) 0b1110
+      ∷ switch_with 0x20 (255 ∷ 3 ∷ 3 ∷ 0 ∷ 3 ∷ 1 ∷ 2 ∷ []) 0b1010
       ∷ adapter_with 0x100 1 Cabled
       ∷ adapter_with 0x110 4 Cabled
       ∷ adapter_with 0x120 5 Cabled
@@ -73,3 +77,7 @@ two_switches = record {
   cut = [];
   manager = record { node = 2; port = 1 };
 }
+
+-- what is sent to the first multicast LID the members of its group receive, by their GUIDs
+abbrev pub receives : ℕ → ℕ → Bool
+receives mlid guid = (mlid == FIRST_MULTICAST_LID) && list_any (λ member. guid == member) (0x101 ∷ 0x111 ∷ 0x121 ∷ [])

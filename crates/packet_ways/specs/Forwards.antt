@@ -1,5 +1,5 @@
--- What tables have to hold, so that packets go by their LIDs: the entries of each LID lead to its port and to no other
--- port of a channel adapter, and no switch holds back what the port would accept.
+-- What tables have to hold, so that packets go by their LIDs (IBA volume 1, chapter 14): the entries of each LID lead to its
+-- port and to no other port of a channel adapter, and no switch holds back what the port would accept.
 use Rattle.std.specs.Prelude.{ℕ, ◌≡◌, true, false, List, [], ◌∷◌, flat_map, slice_get, Option, Some, None}
 use Rattle.std.specs.List.{IsDistinct, list_all}
 use Rattle.std.specs.Option.{option_and_then}
@@ -53,18 +53,12 @@ node_switch_port (Adapter ports) number = None
 abbrev pub switch_port_at : List Node → PortRef → Option SwitchPort
 switch_port_at nodes at = option_and_then (λ node. node_switch_port node at.port) (slice_get nodes at.node)
 
--- ---- all of it
-pub record ForwardsByLid (fabric : FabricState) : Type 0 where
+-- ---- no switch holds back what a port of a channel adapter sends, if the port at the end of its way accepts it
+pub record HoldsBackNothing (fabric : FabricState) : Type 0 where
   -- cables join what they may join, and no port has two
   pub cables : list_all (is_right fabric.nodes) fabric.cables ≡ true
   pub once : IsDistinct is_same_port (flat_map ends_of fabric.cables)
-  -- an entry for a LID that leads to the port of a channel adapter leads to one of this LID
-  pub own : (lid : ℕ) (here at : PortRef) (port : AdapterState) → Leads fabric.nodes fabric.cables lid here at
-      → adapter_at fabric.nodes at ≡ Some port → port.info.lid ≡ lid
-  -- from where the cable of each such port leads the entries for the LID of each lead to it
-  pub lead : (from at : PortRef) (sender port : AdapterState) (begin : IsCabledPort fabric from sender) → IsCabledPort fabric at port
-      → (way : List PortRef) × Follows fabric.nodes fabric.cables port.info.lid begin.far way at
-  -- the port of a switch that faces one holds the full form of each of its keys
+  -- the port of a switch that faces the port of a channel adapter holds the full form of each of its keys
   pub facing : (here at : PortRef) (mine : SwitchPort) (port : AdapterState) (key : ℕ) → switch_port_at fabric.nodes here ≡ Some mine
       → far_end fabric.cables here ≡ Some at → adapter_at fabric.nodes at ≡ Some port
       → holds key (stored_keys port.keys) ≡ true → holds (full_form key) (stored_keys mine.keys) ≡ true
@@ -72,3 +66,13 @@ pub record ForwardsByLid (fabric : FabricState) : Type 0 where
   pub between : (here at : PortRef) (mine : SwitchPort) → switch_port_at fabric.nodes here ≡ Some mine
       → far_end fabric.cables here ≡ Some at → is_switch_at fabric.nodes at.node ≡ true
       → (mine.info.partition_enforcement_inbound ≡ false) × (mine.info.partition_enforcement_outbound ≡ false)
+
+-- ---- all of it
+pub record ForwardsByLid (fabric : FabricState) : Type 0 where
+  pub free : HoldsBackNothing fabric
+  -- an entry for a LID that leads to the port of a channel adapter leads to one of this LID
+  pub own : (lid : ℕ) (here at : PortRef) (port : AdapterState) → Leads fabric.nodes fabric.cables lid here at
+      → adapter_at fabric.nodes at ≡ Some port → port.info.lid ≡ lid
+  -- from where the cable of each such port leads the entries for the LID of each lead to it
+  pub lead : (from at : PortRef) (sender port : AdapterState) (begin : IsCabledPort fabric from sender) → IsCabledPort fabric at port
+      → (way : List PortRef) × Follows fabric.nodes fabric.cables port.info.lid begin.far way at

@@ -1,5 +1,5 @@
 -- What holds of all ways and deliveries: the statements of the laws of `src/laws.rt`.
-use Rattle.std.specs.Prelude.{ℕ, ◌≡◌, ◌↔◌, true, false, List, Some, Ok}
+use Rattle.std.specs.Prelude.{ℕ, ◌≡◌, ◌≢◌, ◌↔◌, Bool, true, false, List, Some, Ok}
 use Rattle.data_packet.specs.declared.packet.Packet.{Packet}
 use Rattle.fabric_parts.specs.declared.cable.Cable.{Cable}
 use Rattle.fabric_parts.specs.declared.cable.PortRef.{PortRef}
@@ -12,6 +12,7 @@ use Rattle.smp_wire.specs.declared.node.Node.{Node}
 use Rattle.smp_wire.specs.FabricState.{FabricState}
 use Rattle.packet_ways.specs.Deliveries.{AreDeliveries, DeliveryState, IsDelivered, Passes}
 use Rattle.packet_ways.specs.Forwards.{ForwardsByLid, IsCabledPort}
+use Rattle.packet_ways.specs.Groups.{ForwardsByMlid}
 use Rattle.packet_ways.specs.Unicast.{next_port}
 
 -- a unicast packet goes on from a port to one port at most
@@ -49,6 +50,24 @@ OtherLidsReachNobody =
     → ForwardsByLid fabric → IsCabledPort fabric from sender → stamped sender dlid p_key destination_qp payload ≡ Ok packet
     → is_multicast dlid ≡ false → ((other : PortRef) (held : AdapterState) → IsCabledPort fabric other held → held.info.lid ≡ dlid → ⊥)
     → IsDelivered fabric.nodes fabric.cables from packet at port → ⊥
+
+-- the port at `at` is not the one that sends, receives what is sent to this MLID, and accepts this key
+pub record IsReceiver (fabric : FabricState) (receives : ℕ → ℕ → Bool) (from : PortRef) (mlid p_key : ℕ) (at : PortRef)
+    (receiver : AdapterState) : Type 0 where
+  pub cabled : IsCabledPort fabric at receiver
+  pub other : from ≢ at
+  pub member : receives mlid receiver.port_guid ≡ true
+  pub accepts : accepts p_key (stored_keys receiver.keys) ≡ true
+
+-- where masks forward by MLID, what a port sends to an MLID is delivered at each other port that receives it and accepts it,
+-- and nowhere else
+abbrev pub PacketsGoByMlid : Type 0
+PacketsGoByMlid =
+    (fabric : FabricState) (receives : ℕ → ℕ → Bool) (from at : PortRef) (sender port : AdapterState)
+    (mlid p_key destination_qp : ℕ) (payload : List ℕ) (packet : Packet)
+    → ForwardsByMlid fabric receives → IsCabledPort fabric from sender → stamped sender mlid p_key destination_qp payload ≡ Ok packet
+    → is_multicast mlid ≡ true
+    → IsDelivered fabric.nodes fabric.cables from packet at port ↔ IsReceiver fabric receives from mlid p_key at port
 
 -- a packet's deliveries are one list
 abbrev pub DeliveriesAreOneList : Type 0

@@ -1,8 +1,10 @@
 //! The laws of ways and deliveries. Each function's contract is its law; it does nothing.
 
-ghost use Rattle.packet_ways.specs.Examples.{two_switches};
+ghost use Rattle.packet_ways.specs.Examples.{receives, two_switches};
 ghost use Rattle.packet_ways.specs.Forwards.{ForwardsByLid};
-ghost use Rattle.packet_ways.specs.Laws.{DeliveriesAreOneList, OtherLidsReachNobody, PacketsGoByLid, UnicastGoesOneWay, UnicastReachesOnePort};
+ghost use Rattle.packet_ways.specs.Groups.{ForwardsByMlid};
+ghost use Rattle.packet_ways.specs.Laws.{DeliveriesAreOneList, UnicastGoesOneWay, UnicastReachesOnePort};
+ghost use Rattle.packet_ways.specs.Laws.{OtherLidsReachNobody, PacketsGoByLid, PacketsGoByMlid};
 
 /// A unicast packet goes on from a port to one port at most, and so reaches at most one port of a channel adapter.
 pub fn unicast_goes_one_way()
@@ -23,7 +25,19 @@ pub fn packets_go_by_lid()
     ensures others { OtherLidsReachNobody }
 {}
 
+/// Where the masks of a fabric forward by multicast LID (`ForwardsByMlid`), a packet that a port stamps for such a LID is
+/// delivered at each other port of a channel adapter that receives what is sent there, if that accepts the packet's key,
+/// and nowhere else: so never at the port that sent it.
+pub fn packets_go_by_mlid()
+    ensures { PacketsGoByMlid }
+{}
+
 /// The two-switch fabric of our examples forwards by LID: so this is not said of nothing.
 pub fn the_two_switch_fabric_forwards_by_lid()
     ensures { ForwardsByLid two_switches }
+{}
+
+/// It forwards by multicast LID too, to a group of three ports, of which one is on the second switch.
+pub fn the_two_switch_fabric_forwards_by_mlid()
+    ensures { ForwardsByMlid two_switches receives }
 {}

@@ -1,4 +1,4 @@
--- Members that go or come are told, where the ports are the same.
+-- Members that go or come are printed, where the ports are the same.
 use Rattle.std.proofs.Common.{◌≡◌, ℕ, Bool, true, false, not, ◌==◌, ◌&&◌, ◌||◌, List, [], ◌∷◌, ◌++◌, map, option_map, refl, sym, ap, ◌∙◌, inl, inr, subst, arith}
 use Rattle.std.specs.List.{AllByRecursion, IsDistinct, flat_map, list_any, zip}
 use Rattle.std.proofs.lemmas.Bool.{and_from, and_parts, cases_Bool, eq-eqb, eqb-true}

@@ -1,4 +1,4 @@
--- Nothing is told exactly where both files say the same.
+-- Nothing is printed exactly where both files say the same.
 use Rattle.std.proofs.Common.{◌≡◌, ◌↔◌, ℕ, Bool, true, false, not, ◌==◌, ◌&&◌, ◌||◌, if◌then◌else◌, List, [], ◌∷◌, ◌++◌, Option, Some, None, is_some, refl, sym, ap, ◌∙◌, inl, inr}
 use Rattle.std.specs.List.{AllByRecursion, flat_map, list_any, zip}
 use Rattle.std.proofs.lemmas.Bool.{and_from, and_parts, cases_Bool, eq-eqb, false≢true, or_left, or_right}
@@ -16,7 +16,7 @@ use Rattle.partition_changes.proofs.MemberLemmas.{members_are_told}
 use Rattle.partition_changes.proofs.ShareToldLemmas.{alike, shares_are_told}
 
 -- ---- changes of one kind
--- what is told is the same as itself
+-- what is printed is the same as itself
 abbrev IsOwn : {X : Type 0} → (X → X → Bool) → Change X → Type 0
 IsOwn same change = same change.what change.what ≡ true
 
@@ -46,7 +46,7 @@ equal true false e f = e
 equal false true e f = sym f
 equal false false e f = refl
 
--- nothing of the kind is told exactly where both say the same of it
+-- nothing of the kind is printed exactly where both say the same of it
 kind : {X : Type 0} (same : X → X → Bool) (was becomes : X → Bool) (changes : List (Change X)) → TellWhatChanges same was becomes changes → AllByRecursion (IsOwn same) changes
     → changes ≡ [] ↔ ((x : X) → was x ≡ becomes x)
 kind same was becomes changes told own = (

@@ -1,4 +1,4 @@
--- Shares that go or come are told, where the ports are the same.
+-- Shares that go or come are printed, where the ports are the same.
 use Rattle.std.proofs.Common.{◌≡◌, ℕ, Bool, true, false, not, ◌==◌, ◌&&◌, ◌||◌, if◌then◌else◌, List, [], ◌∷◌, Some, None, filter, map, refl, sym, ap, ◌∙◌, inl, inr, subst}
 use Rattle.std.specs.List.{AllByRecursion, IsDistinct, flat_map, list_any, range_with_len, zip}
 use Rattle.std.proofs.lemmas.Bool.{and_from, and_parts, cases_Bool, eq-eqb, eqb-true}

@@ -1,4 +1,4 @@
--- Changes tell what one file has and the other has not.
+-- Changes say what one file has and the other has not.
 use Rattle.std.proofs.Common.{◌≡◌, ℕ, ◌<◌, Bool, true, false, not, ◌==◌, ◌&&◌, ◌||◌, if◌then◌else◌, List, [], ◌∷◌, ◌++◌, Option, Some, None, refl, sym, ◌∙◌, inl, inr, subst, arith}
 use Rattle.std.specs.List.{AllByRecursion, flat_map, list_any}
 use Rattle.std.proofs.lemmas.Bool.{cases_Bool, eqb-true, false≢true}
@@ -144,7 +144,7 @@ implied true b f = refl
 implied false true f = f refl
 implied false false f = refl
 
--- what is told by bases, where what is said is said of its own base
+-- what is said by bases, where each thing is said of its own base
 pub by_bases : {X : Type 0} (same : X → X → Bool) → ((v w x : X) → same v w ≡ true → same x v ≡ same x w) → ((v w x : X) → same x v ≡ true → same x w ≡ true → same v w ≡ true)
     → (base_in : X → ℕ) (was becomes : ℕ → Option X) (bases : List ℕ) → Rises bases
     → ((k : ℕ) (x : X) → says same x (was k) ≡ true → (k == base_in x) ≡ true) → ((k : ℕ) (x : X) → says same x (becomes k) ≡ true → (k == base_in x) ≡ true)

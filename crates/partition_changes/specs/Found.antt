@@ -8,7 +8,7 @@ use Rattle.partition_file.specs.declared.heading.Heading.{Heading}
 use Rattle.port_shares.specs.Shares.{share_line}
 use Rattle.subnet_model.specs.declared.subnet_port.SubnetPort.{SubnetPort}
 
--- a signed line, if there is something to tell
+-- a signed line, if there is something to say
 abbrev pub signed : {X : Type 0} → List ℕ → (X → List ℕ) → Option X → List ℕ
 signed mark line None = []
 signed mark line (Some x) = mark ++ line x

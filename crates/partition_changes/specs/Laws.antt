@@ -22,7 +22,7 @@ goes same x changes = list_any (λ change. not change.comes && same x change.wha
 abbrev pub comes : {X : Type 0} → (X → X → Bool) → X → List (Change X) → Bool
 comes same x changes = list_any (λ change. change.comes && same x change.what) changes
 
--- changes tell exactly what of two files one has and the other has not
+-- changes say exactly what of two files one has and the other has not
 pub record TellWhatChanges {X : Type 0} (same : X → X → Bool) (before after : X → Bool) (changes : List (Change X)) : Type 0 where
   pub gone : (x : X) → goes same x changes ≡ (before x && not (after x))
   pub come : (x : X) → comes same x changes ≡ (after x && not (before x))
@@ -36,7 +36,7 @@ PartitionsAreTold =
     (before after : List Heading) → TellWhatChanges same_partition (has_partition before) (has_partition after)
     (partition_changes before after)
 
--- ---- groups, by base and all that their lines tell
+-- ---- groups, by base and all that their lines say
 abbrev pub has_group : List Heading → Heading → Bool
 has_group headings x = says same_group x (grouped headings x.base)
 
@@ -76,7 +76,7 @@ SharesAreTold =
     (before after : List SubnetPort) → AreSamePorts before after
     → TellWhatChanges same_share (has_share before) (has_share after) (share_changes (zip before after))
 
--- ---- where nothing is told
+-- ---- where nothing is printed
 -- both say the same of each partition, of each group, of each member of one of the partitions and of each share
 pub record SayTheSame (before after : ConfigurationState) : Type 0 where
   pub partitions : (x : ℕ × Heading) → has_partition before.partitions x ≡ has_partition after.partitions x
@@ -91,7 +91,7 @@ NothingIsToldOfTheSame =
     (before after : ConfigurationState) → AreSamePorts before.ports after.ports
     → text_of_changes before after ≡ [] ↔ SayTheSame before after
 
--- where no share is told, whoever was near a port is near it still, and nobody else is
+-- where no share is printed, whoever was near a port is near it still, and nobody else is
 abbrev pub NearStaysWhereNoShareIsTold : Type 0
 NearStaysWhereNoShareIsTold =
     (before after : List SubnetPort) → AreSamePorts before after → share_changes (zip before after) ≡ []

@@ -1,4 +1,4 @@
-//! What changes tell, over the definitions alone. The functions do nothing: their contracts are the laws.
+//! What changes say, over the definitions alone. The functions do nothing: their contracts are the laws.
 
 ghost use Rattle.partition_changes.specs.Laws.{GroupsAreTold, LinesAreSigned, MembersAreTold, NearStaysWhereNoShareIsTold, NothingIsToldOfTheSame, PartitionsAreTold, SameIsWhatIsCompared, SharesAreTold};
 
@@ -29,7 +29,7 @@ pub fn nothing_is_told_of_the_same()
     ensures { NothingIsToldOfTheSame }
 {}
 
-/// Where no share is told, each port has those near it that it had before, and no others.
+/// Where no share is printed, each port has those near it that it had before, and no others.
 pub fn near_stays_where_no_share_is_told()
     ensures { NearStaysWhereNoShareIsTold }
 {}

@@ -195,6 +195,13 @@ impl AdapterPort {
         self.port_guid
     }
 
+    /// The LID of the port, 0 if it has none.
+    pub fn lid(&self) -> u16
+        ensures { result ≡ self.now.info.lid }
+    {
+        self.info.lid
+    }
+
     /// The words of its key table as they were written.
     pub fn keys(&self) -> &[u16; PARTITIONS]
         ensures { result.now ≡ self.now.keys }

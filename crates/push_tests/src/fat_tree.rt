@@ -14,7 +14,8 @@ use test_fabrics::fat_tree_of;
 use updn_routes::Routes;
 
 /// How many SMPs a push takes over a fat tree. Ports: two for port 0 of each switch and two for its LinearFDBTop, three for
-/// each end of a cable. Keys: one for each switch, and for each end of a cable to an adapter. Linear tables: one a block.
+/// each end of a cable. Keys: one for each switch, and for each end of a cable to an adapter. Linear tables: one a block. A slice
+/// of multicast tables: one for each position of each switch.
 fn smps_of(push: Push, leaves: u16) -> u64
     requires { leaves ≤ 32 }
 {
@@ -29,6 +30,7 @@ fn smps_of(push: Push, leaves: u16) -> u64
         Push::Ports => ports,
         Push::Keys => keys,
         Push::Linear => linear,
+        Push::Multicast => 3 * switches,
         Push::All => ports + keys + linear,
     }
 }
@@ -129,6 +131,11 @@ fn a_fat_tree_of_16_switches_has_its_keys(rt: HostRuntime) -> Result<(), Fail> {
 #[test]
 fn a_fat_tree_of_16_switches_has_its_tables(rt: HostRuntime) -> Result<(), Fail> {
     is_pushed(&rt, rt.alloc(), 8, Push::Linear)
+}
+
+#[test]
+fn a_fat_tree_of_64_switches_has_its_masks(rt: HostRuntime) -> Result<(), Fail> {
+    is_pushed(&rt, rt.alloc(), 32, Push::Multicast)
 }
 
 #[test]

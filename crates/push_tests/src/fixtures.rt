@@ -1,4 +1,4 @@
-//! Fabrics with their routes, the three pushes, and what agents have.
+//! Fabrics with their routes, the pushes, and what agents have.
 
 ghost use Rattle.std.specs.Prelude.{◌≤◌, length};
 ghost use Rattle.sweep.specs.Joined.{AllJoined};
@@ -9,20 +9,35 @@ use lid_assign::assign;
 use pkey_rules::{KeyTable, PARTITIONS};
 use std::alloc::Global;
 use std::test::Fail;
+use subnet_model::GroupReceiver;
 use sweep::{Graph, sweep};
-use table_push::{PushFault, push_all, push_keys, push_linear, push_ports};
+use table_push::{PushFault, push_all, push_keys, push_linear, push_multicast, push_ports};
 use test_fabrics::two_switch_fabric;
 use updn_routes::{Routes, are_switches, routes};
 
-/// One of the three pushes, none, or all one after another.
+/// One of the pushes, none, or the first three one after another.
 #[derive(Clone, Copy, Debug)]
 pub enum Push {
     Nothing,
     Ports,
     Keys,
     Linear,
+    /// Of the slice of partition 1, with the receivers of one group.
+    Multicast,
     All,
 }
+
+/// Of the first multicast LID of partition 1: the LIDs of h1 and h2 of the two-switch fabric.
+const RECEIVERS: [GroupReceiver; 2] = [
+    GroupReceiver {
+        mlid: 0xc020,
+        lid: 4,
+    },
+    GroupReceiver {
+        mlid: 0xc020,
+        lid: 5,
+    },
+];
 
 impl Push {
     /// What the push answers over a wire.
@@ -37,6 +52,7 @@ impl Push {
             Push::Ports => push_ports(wire, routes),
             Push::Keys => push_keys(wire, routes, keys),
             Push::Linear => push_linear(wire, routes),
+            Push::Multicast => push_multicast(wire, routes, 1, &RECEIVERS),
             Push::All => push_all(wire, routes, keys),
         }
     }
@@ -67,7 +83,7 @@ fn routes_of(alloc: Global, graph: Graph, roots: &[u64]) -> Result<Routes, Fail>
     Ok(routes(alloc, graph, lids, roots).or(Err("routes"))?)
 }
 
-/// What a Get of an attribute tells of the node at the end of a path.
+/// What a Get of an attribute says of the node at the end of a path.
 pub fn told<W: SmpWire>(
     wire: &mut W,
     attribute: SmpAttribute,

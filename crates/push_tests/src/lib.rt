@@ -1,4 +1,4 @@
-//! Tests of the pushes that bring a fabric up: ports, key tables and linear forwarding tables, through public calls alone.
+//! Tests of the pushes: ports, key tables, linear and multicast forwarding tables, through public calls alone.
 //!
 //! They say what no clause says: what stands in the agents then, by byte vectors, what a push does over wires at fault,
 //! and how many SMPs it takes.
@@ -18,5 +18,7 @@ mod fixtures;
 mod keys;
 #[cfg(test)]
 mod linear;
+#[cfg(test)]
+mod multicast;
 #[cfg(test)]
 mod ports;

@@ -78,7 +78,7 @@ impl Model for Group {
     ghost invariant = { λ group. is_fit_group (parameters_of group.parameters) ≡ true };
 }
 
-/// How long packets of the partition file's groups may be on their way.
+/// How long packets of ours may be on their way.
 pub(crate) const PACKET_LIFE_TIME: u8 = 18;
 
 impl Group {

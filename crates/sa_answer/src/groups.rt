@@ -18,6 +18,7 @@ ghost use Rattle.sa_answer.specs.Slots.{with_mlid};
 
 use crate::group::Group;
 use crate::kept_port::KeptPort;
+use crate::member_mask::{MGID, MLID, MTU, P_KEY, RATE};
 use crate::members::is_in;
 use crate::outcome::{Outcome, Success};
 use crate::paths::EXACTLY;
@@ -29,17 +30,6 @@ use pkey_rules::{base_of, key_of};
 use sa_records::{MC_MEMBER_RECORD_BYTES, MC_MEMBER_RECORD_OFFSET, McMemberRecord};
 use std::alloc::AllocError;
 use subnet_model::SubnetPort;
-
-// What the bits of the ComponentMask ask for (IBA volume 1, 15.2.5).
-const MGID: u64 = 1 << 0;
-
-const MLID: u64 = 1 << 3;
-
-const MTU: u64 = 0b11 << 4;
-
-const P_KEY: u64 = 1 << 7;
-
-const RATE: u64 = 0b11 << 8;
 
 impl Registry {
     /// A Get by MCMemberRecord.

@@ -17,6 +17,10 @@ use crate::group::Group;
 use crate::groups::group_record;
 use crate::joining::Join;
 use crate::leaving::Leave;
+use crate::member_mask::{
+    FLOW_LABEL, HOP_LIMIT, JOIN_STATE, MGID, MTU, P_KEY, PACKET_LIFE_TIME, PORT_GID, PROXY_JOIN,
+    Q_KEY, RATE, SCOPE, SL, T_CLASS,
+};
 use crate::members::is_in;
 use crate::parameters::{life_taken, mtu_taken, parameters_asked, rate_taken};
 use crate::questions::{asks, asks_unknown_mtu, asks_unknown_rate, first_refusal, refused_if};
@@ -25,35 +29,6 @@ use mad_layout::{JoinState, MadStatus};
 use pkey_rules::base_of;
 use sa_records::McMemberRecord;
 use subnet_model::SubnetPort;
-
-// What the bits of the ComponentMask ask for (IBA volume 1, 15.2.5).
-const MGID: u64 = 1 << 0;
-
-const PORT_GID: u64 = 1 << 1;
-
-const Q_KEY: u64 = 1 << 2;
-
-pub(crate) const MTU: u64 = 0b11 << 4;
-
-const T_CLASS: u64 = 1 << 6;
-
-const P_KEY: u64 = 1 << 7;
-
-pub(crate) const RATE: u64 = 0b11 << 8;
-
-pub(crate) const PACKET_LIFE_TIME: u64 = 0b11 << 10;
-
-const SL: u64 = 1 << 12;
-
-const FLOW_LABEL: u64 = 1 << 13;
-
-pub(crate) const HOP_LIMIT: u64 = 1 << 14;
-
-pub(crate) const SCOPE: u64 = 1 << 15;
-
-const JOIN_STATE: u64 = 1 << 16;
-
-const PROXY_JOIN: u64 = 1 << 17;
 
 /// What a group is asked to agree with: all but what names it, and MLID and ProxyJoin.
 const COMPARED: u64 = Q_KEY

@@ -27,10 +27,11 @@ use mad_layout::JoinState;
 use pkey_rules::PARTITIONS;
 use std::marker::Model;
 
-// The bits of a JoinState (IBA volume 1, 15.2.5).
+/// The bit of a JoinState that a full member has (IBA volume 1, 15.2.5).
 const FULL_MEMBER: u8 = 1 << 0;
 
-const JOIN_STATES: u8 = 0b111;
+/// The bits of a JoinState, each a way to take part (IBA volume 1, 15.2.5).
+pub(crate) const JOIN_STATES: u8 = 0b111;
 
 /// The port of this GUID leaves the group of an MGID in the partition of a base, or in each partition where no base is asked.
 #[derive(Debug, Drop)]
@@ -82,8 +83,8 @@ impl PartitionSlots {
         ensures next { (ports : List SubnetPort) → TellsFull (F.post is_full_member.now) ports self.old.base
             → list_all (keeps ports self.old.base) self.old.groups ≡ true → self.new ≡ left_in ports leave.now self.old }
         ensures changed { (ports : List SubnetPort) → TellsFull (F.post is_full_member.now) ports self.old.base
-            → TellsAdapters (A.post is_adapter.now) ports → list_all (keeps ports self.old.base) self.old.groups ≡ true
-            → HaveLidsInOrder ports → IsDistinct same_guid ports → result ≡ has_changed ports self.old self.new }
+            → TellsAdapters (A.post is_adapter.now) ports → HaveLidsInOrder ports → IsDistinct same_guid ports
+            → result ≡ has_changed ports self.old self.new }
     {
         if !leave.names_base(self.base()) {
             return false;

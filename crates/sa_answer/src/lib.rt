@@ -19,6 +19,7 @@ mod joins;
 mod kept_port;
 mod keys;
 mod leaving;
+mod member_mask;
 mod member_records;
 mod members;
 mod memberships;

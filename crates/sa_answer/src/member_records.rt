@@ -16,13 +16,11 @@ use crate::gid::gid_of;
 use crate::group::{Group, Membership};
 use crate::groups::{bytes_of, data_of, group_record};
 use crate::joining::{Join, place_of};
+use crate::leaving::JOIN_STATES;
 use crate::receivers::is_receiver;
 use crate::slots::PartitionSlots;
 use mad_layout::SA_DATA_BYTES;
 use sa_records::McMemberRecord;
-
-/// The bits of a JoinState (IBA volume 1, 15.2.5).
-const JOIN_STATES: u8 = 0b111;
 
 impl PartitionSlots {
     /// The group of an MGID, and its MLID.

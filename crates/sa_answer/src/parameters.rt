@@ -9,7 +9,7 @@ ghost use Rattle.sa_replies.specs.Joins.{life_taken, mtu_taken, parameters_asked
 ghost use Rattle.sa_answer.specs.Slots.{parameters_of};
 
 use crate::group::{GroupParameters, PACKET_LIFE_TIME as PACKETS_LIVE};
-use crate::joins::{HOP_LIMIT, MTU, PACKET_LIFE_TIME, RATE, SCOPE};
+use crate::member_mask::{HOP_LIMIT, MTU, PACKET_LIFE_TIME, RATE, SCOPE};
 use crate::questions::asks;
 use attr_tables::{Mtu, Rate};
 use sa_records::{McMemberRecord, code_satisfies, rate_satisfies};

@@ -13,6 +13,7 @@ ghost use Rattle.sa_answer.specs.Kept.{ports_of};
 ghost use Rattle.sa_answer.specs.Replying.{only_one, padded, path_bytes, path_data};
 
 use crate::gid::gid_of;
+use crate::group::PACKET_LIFE_TIME;
 use crate::kept_port::KeptPort;
 use crate::questions::{asks, asks_unknown_mtu, asks_unknown_rate, first_refusal, refused_if};
 use attr_tables::{Mtu, Rate};
@@ -39,9 +40,6 @@ const RATE: u64 = 0b11 << 18;
 
 /// The selector that says that a value is this very one.
 pub(crate) const EXACTLY: u8 = 2;
-
-/// How long packets of ours may be on their way.
-const PACKET_LIFE_TIME: u8 = 18;
 
 /// Why a request by PathRecord is refused.
 pub(crate) fn path_refusal(own: &SubnetPort, mask: u64, asked: &PathRecord) -> Option<MadStatus>

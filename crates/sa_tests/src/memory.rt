@@ -37,7 +37,7 @@ fn answers(rt: &impl Abort, registry: &mut Registry, asked: Parts) {
     }
 }
 
-/// One that is refused the memory to tell its receivers goes on.
+/// One that is refused the memory to list its receivers goes on.
 fn has_receivers(rt: &impl Abort, registry: &mut Registry) {
     if registry.receivers(1).is_err() {
         answers(rt, registry, TABLE);

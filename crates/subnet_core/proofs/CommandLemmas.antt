@@ -1,4 +1,4 @@
--- The lines of a script, one after the other, where what is wrong is told as a fault of the run.
+-- The lines of a script, one after the other, where what is wrong is a fault of the run.
 use Rattle.std.proofs.Common.{◌≡◌, ℕ, ◌+◌, List, ◌∷◌, Option, Some, None, Result, Ok, Err, refl, subst}
 use Rattle.result_words.specs.AtLine.{AtLine, after_lines, on_line}
 use Rattle.result_words.specs.Gives.{Fails}

@@ -20,7 +20,7 @@ rosters : (topology : List ℕ) (partitions : Option (List ℕ)) (plan : Topolog
 unfolding roster_of
 rosters topology partitions plan all e p = rw (e, p) refl
 
--- a run that is answered is not stopped, and tells what its commands bring about
+-- a run that is answered is not stopped, and reports what its commands bring about
 told : (topology script : List ℕ) (partitions : Option (List ℕ)) (stop : Option RunFault) (r : ReportState) (plan : TopologyState) (all : List Partition) (commands : List Command)
     → roster_of topology partitions ≡ Ok (rostered plan all) → commands_in plan script ≡ Ok commands
     → report_of topology partitions script stop ≡ Ok r → told_of (configuration_of all plan) commands ≡ r

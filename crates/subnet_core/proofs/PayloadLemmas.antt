@@ -61,7 +61,7 @@ room_of n room h =
     let zeros : List ℕ = replicate room 0 in
     length-take-le n zeros (omega (arith, length-replicate {A = ℕ} room 0))
 
--- what the decoder tells
+-- what the decoder answers
 pub decoded_so : (given : Result (List ℕ) FromHexError) (told : Result (Unit {0}) FromHexError) (out : List ℕ) (x : Unit {0})
     → MatchResult given (λ bytes. (told ≡ Ok tt) × (out ≡ bytes)) (λ why. told ≡ Err why) → told ≡ Ok x → given ≡ Ok out
 decoded_so (Ok bytes) told out x h ok = ap Ok (sym h.1)

@@ -31,6 +31,7 @@ use Rattle.topo_file.specs.Sound.{is_port}
 use Rattle.topo_file.specs.Topology.{TopologyState}
 use Rattle.subnet_core.specs.Laws.{EachCommandNamesASender}
 use Rattle.subnet_core.specs.Roster.{IsRostered, RosterState}
+use Rattle.subnet_core.specs.NamedPort.{named_place}
 use Rattle.subnet_core.specs.Script.{command_in, command_of, field_of, fitting, payload_of, send_of, send_spelt, sender_at, sender_of, u16_field, with_line, written_in}
 use Rattle.subnet_core.specs.Senders.{NamesSender}
 use Rattle.subnet_core.specs.declared.fault.ScriptCause.TheVariants.{Malformed, UnknownPort, ManagerPort, UncabledPort}
@@ -90,12 +91,12 @@ sends_at plan at guid port is =
     }
 
 sends : (plan : TopologyState) (word : List ℕ) (guid : ℕ) → sender_of plan word ≡ Ok guid → IsSendingPort plan guid
-unfolding sender_of
+unfolding sender_of named_place
 sends plan word guid is =
-    let port = bind_ok (ok_or (port_in word) UnknownPort) _ guid is in
-    let place = bind_ok (ok_or (place_of port.0.name plan.nodes) UnknownPort) _ guid port.2 in
-    let at = bind_ok (ok_or (port_at plan.nodes place.0 port.0.number) UnknownPort) _ guid place.2 in
-    sends_at plan at.0 guid (port_there plan place.0 port.0.number at.0 (some_of _ UnknownPort at.0 at.1)) at.2
+    let at = bind_ok (named_place plan word) _ guid is in
+    let port = bind_ok (ok_or (port_in word) UnknownPort) _ at.0 at.1 in
+    let place = bind_ok (ok_or (place_of port.0.name plan.nodes) UnknownPort) _ at.0 port.2 in
+    sends_at plan at.0 guid (port_there plan place.0 port.0.number at.0 (some_of _ UnknownPort at.0 place.2)) at.2
 
 -- ---- the command of a line
 spelt_sends : (plan : TopologyState) (port dlid p_key qp payload : List ℕ) (command : Command) → send_spelt plan port dlid p_key qp payload ≡ Ok command → IsSentFrom plan command

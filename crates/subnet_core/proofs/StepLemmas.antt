@@ -1,4 +1,4 @@
--- What comes of a command over the fabric of a roster is what its list of ports tells.
+-- What comes of a command over the fabric of a roster is what its list of ports gives.
 use Rattle.std.proofs.Common.{◌≡◌, ◌∙◌, ap, refl, sym, List, [], ◌∷◌, ◌++◌, append_assoc, map, Result, Ok, Err, IfOk, Vec, Global}
 use Rattle.std.specs.declared.alloc.AllocError.{AllocError}
 use Rattle.std.proofs.lemmas.List.{map-append}
@@ -22,10 +22,10 @@ use Rattle.subnet_model.specs.declared.state.State.{State}
 use Rattle.subnet_ports.specs.Ports.{ports_of}
 use Rattle.subnet_sends.specs.Sends.{AreAsListed, AskIsAsListed, event_of}
 use Rattle.subnet_sends.specs.declared.event.Event.{Event}
-use Rattle.subnet_sends.specs.OfFabric.{IsFabricOf}
+use Rattle.subnet_sends.specs.OfFabric.{IsFabricOf, nobody}
 
 -- a fabric that is up is that of the roster's ports
-fabric_of_roster : (roster : RosterState) (up : BroughtUpState) → IsRostered roster → IsUp roster up → IsFabricOf roster.configuration.ports up.fabric
+fabric_of_roster : (roster : RosterState) (up : BroughtUpState) → IsRostered roster → IsUp roster up → IsFabricOf roster.configuration.ports nobody up.fabric
 fabric_of_roster roster up is by =
     let there : IsBroughtUpBy roster.plan (all_keys (ports_of is.partitions roster.plan)) up.routes up.fabric = rw is.listed at by in
     rw is.listed (a_fabric_is_brought_up_as_listed roster.plan is.partitions up.fabric is.topology is.sound (record { routes = up.routes; by = there }))
@@ -69,7 +69,7 @@ carried_more configuration so_far more state next command rest all told after be
     ∙ append_assoc (map event_of so_far) (map event_of more) (events_from (step configuration) next rest)
     ∙ rw (told, after) before
 
--- what is told from the start is the report
+-- what is reported from the start is the report
 pub told_from_start : (configuration : ConfigurationState) (commands : List Command) (first events : List Event) (state : State) → first ≡ [] → state ≡ start configuration
     → map event_of events ≡ map event_of first ++ events_from (step configuration) state commands → map event_of events ≡ report configuration commands
 told_from_start configuration commands first events state none fresh carried = carried ∙ rw (none, fresh) refl

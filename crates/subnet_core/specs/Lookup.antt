@@ -4,7 +4,7 @@ use Rattle.std.specs.Option.{option_and_then}
 use Rattle.subnet_model.specs.Delivery.{port_with_guid}
 use Rattle.subnet_model.specs.declared.subnet_port.SubnetPort.{SubnetPort}
 
--- the port at the place that a look-up tells
+-- the port at the place that a look-up gives
 abbrev pub found_in : List SubnetPort → (ℕ → Option ℕ) → ℕ → Option SubnetPort
 found_in ports place_of guid = option_and_then (λ place. slice_get ports place) (place_of guid)
 

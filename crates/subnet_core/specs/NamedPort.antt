@@ -12,6 +12,14 @@ use Rattle.subnet_ports.specs.Ports.{guid_at}
 use Rattle.subnet_core.specs.declared.fault.ScriptCause.{ScriptCause}
 use Rattle.subnet_core.specs.declared.fault.ScriptCause.TheVariants.{UnknownPort, UncabledPort}
 
+-- the place of the port of that name and number
+unfoldable pub named_place : TopologyState → List ℕ → Result PortRef ScriptCause
+named_place plan word = do
+  port ← ok_or (port_in word) UnknownPort
+  place ← ok_or (place_of port.name plan.nodes) UnknownPort
+  ok_or (port_at plan.nodes place port.number) UnknownPort
+
+-- ---- of all
 -- of a switch port 0 alone
 abbrev pub switch_port : TopologyState → ℕ → ℕ → Result ℕ ScriptCause
 switch_port plan place number = if number == 0 then Ok (guid_at plan.nodes place) else Err UnknownPort
@@ -23,6 +31,12 @@ cabled_port plan at = if is_cabled plan.cables at then Ok (port_guid_at plan.nod
 abbrev pub adapter_port : TopologyState → ℕ → ℕ → Result ℕ ScriptCause
 adapter_port plan place number = ok_or (port_at plan.nodes place number) UnknownPort >>= λ at. cabled_port plan at
 
+unfoldable pub named_port : TopologyState → List ℕ → Result ℕ ScriptCause
+named_port plan word = do
+  port ← ok_or (port_in word) UnknownPort
+  place ← ok_or (place_of port.name plan.nodes) UnknownPort
+  if is_switch_at plan.nodes place then switch_port plan place port.number else adapter_port plan place port.number
+
 -- ---- of channel adapters alone
 -- the place of a port of a channel adapter that has a cable
 abbrev pub place_if_cabled : TopologyState → PortRef → Result PortRef ScriptCause
@@ -32,15 +46,4 @@ place_if_cabled plan at =
     else Err UncabledPort
 
 unfoldable pub adapter_place : TopologyState → List ℕ → Result PortRef ScriptCause
-adapter_place plan word = do
-  port ← ok_or (port_in word) UnknownPort
-  place ← ok_or (place_of port.name plan.nodes) UnknownPort
-  at ← ok_or (port_at plan.nodes place port.number) UnknownPort
-  place_if_cabled plan at
-
--- ---- of all
-unfoldable pub named_port : TopologyState → List ℕ → Result ℕ ScriptCause
-named_port plan word = do
-  port ← ok_or (port_in word) UnknownPort
-  place ← ok_or (place_of port.name plan.nodes) UnknownPort
-  if is_switch_at plan.nodes place then switch_port plan place port.number else adapter_port plan place port.number
+adapter_place plan word = named_place plan word >>= λ at. place_if_cabled plan at

@@ -23,7 +23,7 @@ pub record ReportState : Type 0 where
 abbrev pub parsed : TopologyState → ℕ → List ℕ → Result (Option Command) RunFault
 parsed plan number line = of_text Script (on_line number (command_of plan line))
 
--- what is told of these commands, one after the other from the start
+-- what is reported of these commands, one after the other from the start
 abbrev pub told_of : ConfigurationState → List Command → ReportState
 told_of configuration commands = record { ports = configuration.ports; events = report configuration commands }
 

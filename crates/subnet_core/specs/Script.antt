@@ -6,16 +6,15 @@ use Rattle.hex.specs.Hex.{decode_of}
 use Rattle.text_words.specs.Cut.{cut_at}
 use Rattle.text_words.specs.Lines.{lines, words_of}
 use Rattle.text_words.specs.Number.{number_in, u16_in}
-use Rattle.text_words.specs.Words.{port_in}
 use Rattle.fabric_parts.specs.declared.cable.PortRef.{PortRef}
 use Rattle.fabric_parts.specs.Cable.{is_cabled, is_same_port}
 use Rattle.result_words.specs.AtLine.{AtLine, after_lines}
 use Rattle.result_words.specs.Steps.{◌>>=◌}
-use Rattle.topo_file.specs.Node.{is_switch_at, place_of, port_guid_at}
-use Rattle.topo_file.specs.Cable.{port_at}
+use Rattle.topo_file.specs.Node.{is_switch_at, port_guid_at}
 use Rattle.topo_file.specs.Topology.{TopologyState}
 use Rattle.subnet_model.specs.declared.command.Command.{Command}
 use Rattle.subnet_model.specs.declared.command.Command.TheVariants.{Send}
+use Rattle.subnet_core.specs.NamedPort.{named_place}
 use Rattle.subnet_core.specs.declared.fault.ScriptCause.{ScriptCause}
 use Rattle.subnet_core.specs.declared.fault.ScriptCause.TheVariants.{Malformed, UnknownPort, ManagerPort, UncabledPort, PayloadTooLong, BadField}
 
@@ -29,11 +28,7 @@ sender_at plan at =
     else Ok (port_guid_at plan.nodes at)
 
 unfoldable pub sender_of : TopologyState → List ℕ → Result ℕ ScriptCause
-sender_of plan word = do
-  port ← ok_or (port_in word) UnknownPort
-  place ← ok_or (place_of port.name plan.nodes) UnknownPort
-  at ← ok_or (port_at plan.nodes place port.number) UnknownPort
-  sender_at plan at
+sender_of plan word = named_place plan word >>= λ at. sender_at plan at
 
 -- ---- fields
 abbrev pub below : ℕ → Option ℕ → Result ℕ ScriptCause

@@ -50,7 +50,7 @@ impl ScriptCause {
     }
 }
 
-/// Why a run did not complete. Of several faults the first in this order is told.
+/// Why a run did not complete. Of several faults the first in this order is answered.
 #[derive(Debug, Drop, PartialEq, Eq, Error)]
 pub enum RunFault {
     /// Memory was refused.

@@ -5,7 +5,7 @@
 //! depends only on the ports that share a partition with it (`specs/Headline.antt`). [`bring_up`],
 //! [`Subnet::parse`] and [`Subnet::step`] do the same piece by piece, and [`Report::text`] prints it. A subnet is brought
 //! up over the simulated fabric of its topology, and `specs/BringUp.antt` says when that fails; each step carries its
-//! command over that fabric, and tells what the list of ports tells (`specs/Senders.antt`). Who is in a subnet takes no
+//! command over that fabric, and gives the events that the list of ports gives (`specs/Senders.antt`). Who is in a subnet takes no
 //! fabric: [`read_roster`] reads it, and [`Roster::listing`] prints it (`specs/Listing.antt`).
 #![tactic(auto)]
 

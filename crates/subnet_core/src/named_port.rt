@@ -1,14 +1,29 @@
 //! The end port that a word names.
 
-ghost use Rattle.std.specs.Prelude.{◌≡◌, ◌≤◌, false};
+ghost use Rattle.std.specs.Prelude.{◌≡◌, ◌≤◌, false, IfOk};
 ghost use Rattle.topo_file.specs.Node.{is_switch_at, ports_at};
-ghost use Rattle.subnet_core.specs.NamedPort.{adapter_place, adapter_port, cabled_port, named_port, place_if_cabled, switch_port};
+ghost use Rattle.subnet_core.specs.NamedPort.{adapter_place, adapter_port, cabled_port, named_place, named_port, place_if_cabled, switch_port};
 
 use crate::fault::ScriptCause;
 use fabric_parts::PortRef;
 use subnet_ports::guid_at;
 use text_words::port_in;
 use topo_file::Topology;
+
+/// The place of the port that a word names, if there is one; a switch has ports from 1 here.
+#[tactic(auto, unfolding(crate::specs::NamedPort::named_place))]
+pub(crate) fn named_place(topology: &Topology, word: &[u8]) -> Result<PortRef, ScriptCause>
+    ensures place { result ≡ named_place topology.now word.now }
+    ensures within { IfOk result (λ at. at.port ≤ ports_at topology.now.nodes at.node) }
+{
+    let port = port_in(word).ok_or(ScriptCause::UnknownPort)?;
+    let place = topology
+        .index_of(port.name)
+        .ok_or(ScriptCause::UnknownPort)?;
+    topology
+        .port_at(place, port.number)
+        .ok_or(ScriptCause::UnknownPort)
+}
 
 /// The GUID of the end port that a word names, if there is one.
 #[tactic(auto, unfolding(crate::specs::NamedPort::named_port))]
@@ -31,13 +46,7 @@ pub(crate) fn named_port(topology: &Topology, word: &[u8]) -> Result<u64, Script
 pub(crate) fn adapter_place(topology: &Topology, word: &[u8]) -> Result<PortRef, ScriptCause>
     ensures { result ≡ adapter_place topology.now word.now }
 {
-    let port = port_in(word).ok_or(ScriptCause::UnknownPort)?;
-    let place = topology
-        .index_of(port.name)
-        .ok_or(ScriptCause::UnknownPort)?;
-    let at = topology
-        .port_at(place, port.number)
-        .ok_or(ScriptCause::UnknownPort)?;
+    let at = named_place(topology, word)?;
     place_if_cabled(topology, at)
 }
 

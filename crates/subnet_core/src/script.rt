@@ -9,11 +9,12 @@ ghost use Rattle.subnet_core.specs.Seen.{written};
 ghost use Rattle.subnet_core.specs.Script.{command_of, field_of, fitting, payload_of, send_of, send_spelt, sender_at, sender_of, spelt, u16_field, written_in};
 
 use crate::fault::ScriptCause;
+use crate::named_port::named_place;
 use data_packet::{PAYLOAD_BYTES, Payload, QueuePair};
 use fabric_parts::PortRef;
 use hex::decode_to_slice;
 use subnet_model::{Command, SendCommand};
-use text_words::{Words, cut_at, number_in, port_in, u16_in};
+use text_words::{Words, cut_at, number_in, u16_in};
 use topo_file::Topology;
 
 /// The command that a line gives, with its LF where it has one and with its comment; none for a line
@@ -82,13 +83,7 @@ fn send_spelt(
 fn sender_of(topology: &Topology, word: &[u8]) -> Result<u64, ScriptCause>
     ensures { result ≡ sender_of topology.now word.now }
 {
-    let port = port_in(word).ok_or(ScriptCause::UnknownPort)?;
-    let place = topology
-        .index_of(port.name)
-        .ok_or(ScriptCause::UnknownPort)?;
-    let at = topology
-        .port_at(place, port.number)
-        .ok_or(ScriptCause::UnknownPort)?;
+    let at = named_place(topology, word)?;
     sender_at(topology, at)
 }
 

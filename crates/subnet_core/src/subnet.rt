@@ -112,7 +112,7 @@ impl Subnet {
     }
 
     /// The command that a line gives; none for a line without words. The line may have its LF and
-    /// its comment; `number` is told with a fault, and nothing changes.
+    /// its comment; `number` stands with a fault, and nothing changes.
     pub fn parse(&self, number: usize, line: &[u8]) -> Result<Option<Command>, RunFault>
         ensures exact { RunGives (λ command. command) result (parsed self.now.roster.plan number line.now) }
         ensures sender { IfOk result (λ command. IfSome command (NamesSender self.now.roster.configuration.ports)) }
@@ -127,7 +127,7 @@ impl Subnet {
         }
     }
 
-    /// Carries out one command over the fabric, and tells its events in order. Once memory was refused the subnet is
+    /// Carries out one command over the fabric, and answers its events in order. Once memory was refused the subnet is
     /// broken for good: every later step answers `Broken` and changes nothing. Its roster stays, so that lines can be
     /// parsed and members listed; what it remembers, its routes and its fabric may be anything.
     ///
@@ -135,7 +135,7 @@ impl Subnet {
     pub fn step(&mut self, command: &Command) -> Result<Vec<Event>, StepFault>
         // What comes of a command is said by what the ports and switches of the fabric hold.
         ensures comes { IfOk result (λ events. Comes self.old.fabric command.now events.items) }
-        // And it is what the list of ports tells.
+        // And it is what the list of ports gives.
         ensures events { IfOk result (λ events. NamesSender self.old.roster.configuration.ports command.now
             → map event_of events.items ≡ (step self.old.roster.configuration self.old.state command.now).0) }
         ensures next { OnOk result (self.new
@@ -192,7 +192,7 @@ impl Subnet {
         ask(self.alloc, &self.fabric, command)
     }
 
-    /// What is told of commands that are carried out one after another from the start.
+    /// What is reported of commands that are carried out one after another from the start.
     pub(crate) fn report(self, commands: &[Command]) -> Result<Report, StepFault>
         requires fresh { self.state ≡ start self.roster.configuration }
         requires senders { All (NamesSender self.roster.configuration.ports) commands.now }

@@ -1,7 +1,9 @@
 pub mod KeyLemmas
 pub mod RootLemmas
 pub mod LimitLemmas
+pub mod MaskLemmas
 pub mod ListedLemmas
+pub mod GroupLemmas
 pub mod FoundLemmas
 pub mod OneFateLemmas
 pub mod OneTableLemmas

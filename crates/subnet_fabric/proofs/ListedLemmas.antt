@@ -1,5 +1,5 @@
 -- A topology's fabric that is brought up with the keys of its end ports is the fabric of their list.
-use Rattle.std.proofs.Common.{ℕ, zero, suc, ◌+◌, ◌-◌, ◌≡◌, ◌<◌, ◌==◌, ◌&&◌, ◌∙◌, ap, refl, subst, sym, Bool, true, false, if◌then◌else◌, nat_le, List, [], ◌∷◌, length, slice_get, Option, Some, None, option_map, arith}
+use Rattle.std.proofs.Common.{ℕ, zero, suc, ◌+◌, ◌-◌, ◌≡◌, ◌<◌, ◌≤◌, ◌==◌, ◌&&◌, ◌∙◌, ap, refl, subst, sym, Bool, true, false, if◌then◌else◌, nat_le, List, [], ◌∷◌, length, slice_get, Option, Some, None, option_map, arith}
 use Rattle.std.specs.List.{AllByRecursion, enumerate_from}
 use Rattle.std.specs.Option.{option_and_then}
 use Rattle.std.proofs.lemmas.Bool.{and_parts, false≢true}
@@ -9,6 +9,7 @@ use Rattle.std.proofs.lemmas.List.Elements.{All-from_recursion}
 use Rattle.std.proofs.lemmas.List.FromFn.{length-enumerate_from}
 use Rattle.std.proofs.lemmas.Option.{none-some, same_Some, slice_get-map, slice_get_within}
 use Rattle.fabric_parts.specs.Cable.{is_cabled}
+use Rattle.fabric_parts.specs.Lid.{is_multicast}
 use Rattle.fabric_parts.specs.NodeType.{is_switch_type}
 use Rattle.fabric_parts.specs.declared.cable.PortRef.{PortRef}
 use Rattle.fabric_wire.proofs.EndPortLemmas.{known_distinct}
@@ -17,7 +18,7 @@ use Rattle.fabric_wire.specs.OfTopology.{fabric_of}
 use Rattle.lid_assign.proofs.LawLemmas.{lids_and_guids_name_each_other}
 use Rattle.lid_assign.specs.Lids.{guid_in, lid_in}
 use Rattle.packet_ways.specs.Deliveries.{adapter_at}
-use Rattle.packet_ways.specs.Forwards.{IsCabledPort}
+use Rattle.packet_ways.specs.Forwards.{ForwardsByLid, IsCabledPort}
 use Rattle.partition_file.specs.Sound.{IsSound as ArePartitions}
 use Rattle.partition_file.specs.declared.partition.Partition.{Partition}
 use Rattle.pkey_rules.specs.StoredKeys.{stored_keys}
@@ -36,12 +37,12 @@ use Rattle.subnet_model.specs.declared.subnet_port.SubnetPort.{SubnetPort}
 use Rattle.subnet_ports.proofs.EndPortLemmas.{end_ports_stand_in_order}
 use Rattle.subnet_ports.proofs.FabricPortLemmas.{end_ports_are_the_fabrics}
 use Rattle.subnet_ports.proofs.GraphPortLemmas.{sweeps_find_what_is_listed, type_kept}
-use Rattle.subnet_ports.proofs.LidLemmas.{own_lids}
+use Rattle.subnet_ports.proofs.LidLemmas.{in_lid_order}
 use Rattle.subnet_ports.proofs.OwnEndLemmas.{one_end}
 use Rattle.subnet_ports.specs.EndPorts.{AreEndPorts, IsEndPort, end_port_at, is_end_port}
 use Rattle.subnet_ports.specs.FabricPorts.{AreOfGraph, planned_port}
 use Rattle.subnet_ports.specs.Ports.{ports_of}
-use Rattle.subnet_sends.specs.OfFabric.{IsFabricOf, IsListed, IsSetUpAsListed, IsThere}
+use Rattle.subnet_sends.specs.OfFabric.{IsFabricOf, IsListed, IsSetUpAsListed, IsThere, nobody}
 use Rattle.sweep.proofs.CabledLemmas.{cabled_of, far_of}
 use Rattle.sweep.proofs.EndPortLemmas.{there_is}
 use Rattle.sweep.specs.EndPorts.{FabricPort, end_port_in, held_in, is_end_port_of, port_held}
@@ -50,8 +51,9 @@ use Rattle.table_push.specs.Keys.{key_table}
 use Rattle.topo_file.specs.Node.{is_switch_at, port_guid_at}
 use Rattle.topo_file.specs.Sound.{IsSound}
 use Rattle.topo_file.specs.Topology.{TopologyState}
-use Rattle.updn_routes.specs.Subnet.{RoutesState}
+use Rattle.updn_routes.specs.Subnet.{RoutesState, home_in}
 use Rattle.subnet_fabric.proofs.KeyLemmas.{stored}
+use Rattle.subnet_fabric.proofs.MaskLemmas.{spreads_to_nobody}
 use Rattle.subnet_fabric.specs.BringUp.{root_guids}
 use Rattle.subnet_fabric.specs.SetUp.{AreRoutesOver}
 use Rattle.subnet_fabric.specs.Laws.{AFabricIsBroughtUpAsListed, all_keys}
@@ -73,6 +75,9 @@ some_at : {X : Type 0} (xs : List X) (k : ℕ) → k < length xs → (x : X) × 
 some_at [] k within = absurd (omega (arith, within))
 some_at (x ∷ xs) zero within = (x, refl)
 some_at (x ∷ xs) (suc k) within = some_at xs k (omega (arith, within))
+
+low_lid : (lid : ℕ) → lid ≤ 0xbfff → is_multicast lid ≡ false
+low_lid lid low = grind (arith, nat_tests)
 
 abbrev pub numbers_of : SubnetPort → ℕ × ℕ
 numbers_of port = (port.lid, port.guid)
@@ -123,13 +128,13 @@ module _ (plan : TopologyState) (partitions : List Partition) (sound : IsSound p
   of_graph : AreOfGraph routes.graph routes.lids ports
   of_graph = sweeps_find_what_is_listed partitions plan routes.graph routes.lids sound are.found.of.layout are.assigned.lids are.assigned.order
 
-  up : IsBroughtUp routes keys fabric
+  pub up : IsBroughtUp routes keys fabric
   up = brings_up routes keys (fabric_of plan) home are.found.of (good plan sound) pushed
 
   end_at : (at : PortRef) → end_port_in fabric at ≡ (if is_end_port plan at then Some (planned_port plan at) else None)
   end_at at = end_ports_stay routes keys (fabric_of plan) at ∙ end_ports_are_the_fabrics plan at
 
-  as_many : length ports ≡ length routes.lids
+  pub as_many : length ports ≡ length routes.lids
   as_many =
       let pairs = length-map ports numbers_of in
       let numbered = length-enumerate_from 1 routes.lids in
@@ -256,11 +261,27 @@ module _ (plan : TopologyState) (partitions : List Partition) (sound : IsSound p
       planned_kind : is_end_port plan at ≡ true → is_switch_at plan.nodes at.node ≡ false
       planned_kind here = ap (λ (end : FabricPort). end.is_switch) (planned here)
 
-  pub is_fabric : IsFabricOf ports fabric
+  forwards : ForwardsByLid fabric
+  forwards = brought_up_forwards_by_lid routes keys fabric home (length-map ports (λ (port : SubnetPort). port.keys) ∙ as_many) up
+
+  -- there are not as many as there are unicast LIDs
+  unicast : (k : ℕ) (port : SubnetPort) → slice_get ports k ≡ Some port → is_multicast port.lid ≡ false
+  unicast k port there =
+      let lid = (placed k port there).lid in
+      let within = slice_get_within ports k port there in
+      let few = home.chosen.few_lids in
+      let homes = ap length home.of.homes_are ∙ length-map routes.lids (home_in routes.graph) in
+      low_lid port.lid (omega (arith, lid, within, few, homes, as_many))
+
+  pub is_fabric : IsFabricOf ports nobody fabric
   is_fabric = record {
-    forwards = brought_up_forwards_by_lid routes keys fabric home (length-map ports (λ (port : SubnetPort). port.keys) ∙ as_many) up;
+    forwards = forwards;
+    spreads = spreads_to_nobody plan routes keys forwards;
+    groups = λ mlid guid none. absurd (false≢true none);
     own_guids = λ guid a b one other. known_distinct fabric.nodes up.good.end_guids.own a b guid one other;
-    own_lids = own_lids 1 ports ends.lids;
+    order = in_lid_order 1 ports ends.lids;
+    unicast =
+        All-from_recursion (λ port. is_multicast port.lid ≡ false) ports (all_of (λ port. is_multicast port.lid ≡ false) ports unicast);
     there =
         All-from_recursion (λ port. is_switch_type port.node_type ≡ false → IsThere fabric port) ports
         (all_of (λ port. is_switch_type port.node_type ≡ false → IsThere fabric port) ports
@@ -270,4 +291,4 @@ module _ (plan : TopologyState) (partitions : List Partition) (sound : IsSound p
 
 pub a_fabric_is_brought_up_as_listed : AFabricIsBroughtUpAsListed
 a_fabric_is_brought_up_as_listed plan partitions state sound whole up =
-    subst (IsFabricOf (ports_of partitions plan)) (sym up.by.is) (is_fabric plan partitions sound whole up.routes up.by.are up.by.home up.by.pushed)
+    subst (IsFabricOf (ports_of partitions plan) nobody) (sym up.by.is) (is_fabric plan partitions sound whole up.routes up.by.are up.by.home up.by.pushed)

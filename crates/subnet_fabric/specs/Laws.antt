@@ -1,6 +1,6 @@
 -- What holds of every fabric that is brought up, and of what becomes of a topology's: the statements of the laws of
 -- `src/laws.rt`.
-use Rattle.std.specs.Prelude.{ℕ, ◌≡◌, List, map, slice_get, Option, Some, None}
+use Rattle.std.specs.Prelude.{ℕ, ◌≡◌, Bool, List, map, slice_get, Option, Some, None}
 use Rattle.std.specs.Option.{option_and_then}
 use Rattle.fabric_wire.specs.OfTopology.{fabric_of}
 use Rattle.partition_file.specs.Sound.{IsSound as ArePartitions}
@@ -10,21 +10,33 @@ use Rattle.smp_wire.specs.declared.node.Node.{Node}
 use Rattle.smp_wire.specs.declared.node.Node.TheVariants.{Switch, Adapter}
 use Rattle.subnet_model.specs.declared.subnet_port.SubnetPort.{SubnetPort}
 use Rattle.subnet_ports.specs.Ports.{ports_of}
-use Rattle.subnet_sends.specs.OfFabric.{IsFabricOf}
+use Rattle.subnet_sends.specs.OfFabric.{IsFabricOf, nobody}
 use Rattle.sweep.specs.Hops.{IsTooFar}
+use Rattle.table_push.specs.BroughtUpLaws.{AreOfGroups, by_guid}
+use Rattle.table_push.specs.Masks.{all_masks_pushed}
 use Rattle.topo_file.specs.Sound.{IsSound}
 use Rattle.topo_file.specs.Topology.{TopologyState}
-use Rattle.subnet_fabric.specs.BringUp.{HasNoPath, IsBroughtUpOf}
+use Rattle.updn_routes.specs.Subnet.{RoutesState}
+use Rattle.subnet_fabric.specs.BringUp.{HasNoPath, IsBroughtUpBy, IsBroughtUpOf}
 
 -- the keys of listed ports, in order of LID
 abbrev pub all_keys : List SubnetPort → List (List ℕ)
 all_keys ports = map (λ port. port.keys) ports
 
--- a fabric that is brought up with the keys of the listed ports is the fabric of the list
+-- a fabric that is brought up with the keys of the listed ports is the fabric of the list, and what is sent to groups comes to
+-- nobody there
 abbrev pub AFabricIsBroughtUpAsListed : Type 0
 AFabricIsBroughtUpAsListed =
     (plan : TopologyState) (partitions : List Partition) (fabric : FabricState) → IsSound plan → ArePartitions partitions
-    → IsBroughtUpOf plan (all_keys (ports_of partitions plan)) fabric → IsFabricOf (ports_of partitions plan) fabric
+    → IsBroughtUpOf plan (all_keys (ports_of partitions plan)) fabric → IsFabricOf (ports_of partitions plan) nobody fabric
+
+-- with the masks of groups it is the fabric of the list and these groups
+abbrev pub AFabricWithGroupsIsAsListed : Type 0
+AFabricWithGroupsIsAsListed =
+    (plan : TopologyState) (partitions : List Partition) (routes : RoutesState) (fabric : FabricState) (receives : ℕ → ℕ → Bool)
+    → IsSound plan → ArePartitions partitions → IsBroughtUpBy plan (all_keys (ports_of partitions plan)) routes fabric
+    → AreOfGroups receives
+    → IsFabricOf (ports_of partitions plan) (by_guid routes.lids receives) (all_masks_pushed routes receives fabric)
 
 -- ---- one thing becomes of a topology's fabric
 -- where a cable is too far, no pair is told that has no path, and the fabric does not come up

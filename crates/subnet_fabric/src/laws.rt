@@ -1,13 +1,19 @@
 //! The laws of fabrics that are brought up, and of what becomes of a topology's. Each function's contract is its law; it
 //! does nothing.
 
-ghost use Rattle.subnet_fabric.specs.Laws.{AFabricIsBroughtUpAsListed, NoPathExcludesComingUp, OnePairHasNoPath, OneTableIsLeft, TooFarExcludesTheRest};
+ghost use Rattle.subnet_fabric.specs.Laws.{AFabricIsBroughtUpAsListed, AFabricWithGroupsIsAsListed, NoPathExcludesComingUp, OnePairHasNoPath, OneTableIsLeft, TooFarExcludesTheRest};
 
 /// The fabric of a topology, brought up with the keys of its end ports, is the fabric of their list: each listed port of a
 /// channel adapter is there, set up as listed, and no other; and packets go by their LIDs. So what its ports stamp and
 /// what it delivers is what the list tells.
 pub fn a_fabric_is_brought_up_as_listed()
     ensures { AFabricIsBroughtUpAsListed }
+{}
+
+/// A fabric that is brought up, with the masks of groups in its switches, is the fabric of the topology's list of ports and
+/// of these groups: so what it delivers to a group is what the list says of those that are in it.
+pub fn a_fabric_with_groups_is_as_listed()
+    ensures { AFabricWithGroupsIsAsListed }
 {}
 
 /// Where some cable of a topology's fabric is too far for any SMP, no pair is told that has no legal path, and the fabric

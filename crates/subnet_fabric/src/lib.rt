@@ -16,7 +16,7 @@ mod setting_up;
 pub use crate::bring_up::{BroughtUp, bring_up_fabric};
 pub use crate::fault::FabricFault;
 pub use crate::laws::{
-    a_fabric_is_brought_up_as_listed, no_path_excludes_coming_up, one_pair_has_no_path,
-    one_table_is_left, too_far_excludes_the_rest,
+    a_fabric_is_brought_up_as_listed, a_fabric_with_groups_is_as_listed,
+    no_path_excludes_coming_up, one_pair_has_no_path, one_table_is_left, too_far_excludes_the_rest,
 };
 pub use crate::setting_up::set_up;

@@ -1,10 +1,12 @@
 -- Ports that pass a test, and which of them there are.
-use Rattle.std.proofs.Common.{ℕ, zero, suc, ◌≡◌, ◌⊎◌, ◌∙◌, ap, refl, sym, subst, inl, inr, Bool, true, false, List, [], ◌∷◌, filter, find, slice_get, Some}
-use Rattle.std.specs.List.{AllByRecursion, IsDistinct}
-use Rattle.std.proofs.lemmas.Bool.{eq-eqb, false≢true}
-use Rattle.std.proofs.lemmas.Map.Keys.{IsDistinct-head, IsDistinct-tail}
+use Rattle.std.proofs.Common.{ℕ, zero, suc, ◌≡◌, ◌<◌, ◌∙◌, ap, refl, sym, Bool, true, false, List, [], ◌∷◌, filter, find, length, map, slice_get, slice_index_or, Some, arith}
+use Rattle.std.specs.List.{AllByRecursion, Contains}
+use Rattle.std.specs.List.Sorted.{IsStrictlySortedBy}
+use Rattle.std.specs.Ordering.{nat_cmp, on}
+use Rattle.std.specs.declared.cmp.Ordering.TheVariants.{Less}
+use Rattle.packet_ways.specs.Deliveries.{in_order}
+use Rattle.packet_ways.specs.declared.numbers.Numbers.{Numbers}
 use Rattle.std.proofs.lemmas.Option.{none-some, same_Some}
-use Rattle.subnet_model.specs.Source.{same_lid}
 use Rattle.subnet_model.specs.declared.subnet_port.SubnetPort.{SubnetPort}
 
 pub record IsAmong {X : Type 0} (p : X → Bool) (xs : List X) (x : X) : Type 0 where
@@ -51,27 +53,39 @@ among_kept {X = X} p (y ∷ xs) (suc k) x there is = by (p y) refl (among_kept p
     by true passes rest = (suc rest.0, rw passes rest.1)
     by false fails rest = (rest.0, rw fails rest.1)
 
--- ---- of one LID there is one
-each_there : {X : Type 0} (P : X → Type 0) (xs : List X) (k : ℕ) (x : X) → AllByRecursion P xs → slice_get xs k ≡ Some x → P x
-each_there P [] k x all there = absurd (none-some x there)
-each_there P (y ∷ xs) zero x all there = subst P (same_Some y x there) all.0
-each_there P (y ∷ xs) (suc k) x all there = each_there P xs k x all.1 there
-
-abbrev pub IsOneAtMost : List SubnetPort → Type 0
-IsOneAtMost ports = (ports ≡ []) ⊎ ((port : SubnetPort) × (ports ≡ port ∷ []))
-
-pub one_of_lid : (p : SubnetPort → Bool) (ports : List SubnetPort) (lid : ℕ) → IsDistinct same_lid ports
-    → ((port : SubnetPort) → p port ≡ true → port.lid ≡ lid) → IsOneAtMost (filter p ports)
-one_of_lid p [] lid own of = inl refl
-one_of_lid p (port ∷ ports) lid own of = by (p port) refl (one_of_lid p ports lid (IsDistinct-tail same_lid port ports own) of)
+-- ---- what a map makes of them
+pub mapped_from : {X Y : Type 0} (f : X → Y) (xs : List X) (y : Y) → Contains (map f xs) y
+    → (k : ℕ) × (x : X) × (slice_get xs k ≡ Some x) × (f x ≡ y)
+mapped_from f [] y there = absurd (let low = there.1 in omega (arith, low))
+mapped_from {X = X} f (x ∷ xs) y there = by there.0 there.1 there.2 (λ rest. mapped_from f xs y rest)
   where
-    none : p port ≡ true → (rest : List SubnetPort) → filter p ports ≡ rest → rest ≡ []
-    none passes [] is = refl
-    none passes (other ∷ rest) is =
-        let among = kept_among p ports 0 other (ap (λ (some : List SubnetPort). slice_get some 0) is) in
-        let apart = each_there (λ other. same_lid port other ≡ false) ports among.place other (IsDistinct-head same_lid port ports own) among.there in
-        absurd (false≢true (sym apart ∙ eq-eqb port.lid other.lid (of port passes ∙ sym (of other among.passes))))
+    by : (k : ℕ) → k < length (f x ∷ map f xs) → slice_index_or (f x ∷ map f xs) k y ≡ y
+        → (Contains (map f xs) y → (k : ℕ) × (x : X) × (slice_get xs k ≡ Some x) × (f x ≡ y))
+        → (k : ℕ) × (z : X) × (slice_get (x ∷ xs) k ≡ Some z) × (f z ≡ y)
+    by zero low is later = (0, x, refl, is)
+    by (suc k) low is later = let rest = later (k, omega (arith, low), is) in (suc rest.0, rest.1, rest.2, rest.3)
 
-    by : (b : Bool) → p port ≡ b → IsOneAtMost (filter p ports) → IsOneAtMost (filter p (port ∷ ports))
-    by false fails rest = rw fails rest
-    by true passes rest = inr (port, rw passes (ap (λ (some : List SubnetPort). port ∷ some) (none passes (filter p ports) refl)))
+pub mapped_to : {X Y : Type 0} (f : X → Y) (xs : List X) (k : ℕ) (x : X) → slice_get xs k ≡ Some x → Contains (map f xs) (f x)
+mapped_to f [] k x there = absurd (none-some x there)
+mapped_to f (y ∷ xs) zero x there = (0, omega arith, ap f (same_Some y x there))
+mapped_to f (y ∷ xs) (suc k) x there =
+    let rest = mapped_to f xs k x there in
+    let low = rest.1 in
+    (suc rest.0, omega (arith, low), rest.2)
+
+-- ---- ports in order of LID are in order of their numbers
+abbrev pub numbers_as_listed : SubnetPort → Numbers
+numbers_as_listed port = record { lid = port.lid; guid = port.guid }
+
+lesser : (a b : SubnetPort) → nat_cmp a.lid b.lid ≡ Less → in_order (numbers_as_listed a) (numbers_as_listed b) ≡ Less
+lesser a b low = rw low refl
+
+each_lesser : (port : SubnetPort) (ports : List SubnetPort) → AllByRecursion (λ other. nat_cmp port.lid other.lid ≡ Less) ports
+    → AllByRecursion (λ other. in_order (numbers_as_listed port) other ≡ Less) (map numbers_as_listed ports)
+each_lesser port [] all = tt
+each_lesser port (other ∷ ports) all = (lesser port other all.0, each_lesser port ports all.1)
+
+pub by_lid : (ports : List SubnetPort) → IsStrictlySortedBy (on (λ port. port.lid) nat_cmp) ports → IsStrictlySortedBy in_order (map numbers_as_listed ports)
+unfolding IsStrictlySortedBy
+by_lid [] order = tt
+by_lid (port ∷ ports) order = (each_lesser port ports order.0, by_lid ports order.1)

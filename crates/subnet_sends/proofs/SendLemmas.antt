@@ -21,7 +21,7 @@ use Rattle.subnet_model.specs.declared.command.SendCommand.{SendCommand}
 use Rattle.subnet_model.specs.declared.event.PortEvent.{PortEvent}
 use Rattle.subnet_model.specs.declared.subnet_port.SubnetPort.{SubnetPort}
 use Rattle.subnet_sends.specs.Laws.{IsSender, told}
-use Rattle.subnet_sends.specs.OfFabric.{IsFabricOf, IsThere}
+use Rattle.subnet_sends.specs.OfFabric.{IsFabricOf, IsThere, nobody}
 use Rattle.subnet_sends.proofs.ListLemmas.{found_among}
 use Rattle.subnet_sends.proofs.WayLemmas.{are_told, ports_stamp_as_told}
 use Rattle.subnet_sends.specs.Sends.{AreAsListed, AskIsAsListed, ComesOf, ComesOfAsk, Stamps, asked_as, event_of, events_of_asking, first_held, stamped_as}
@@ -32,7 +32,7 @@ told_events : (deliveries : List DeliveryState) → map event_of (map Received d
 told_events [] = refl
 told_events (delivered ∷ deliveries) = ap (λ (rest : List PortEvent). told delivered ∷ rest) (told_events deliveries)
 
-module _ (ports : List SubnetPort) (fabric : FabricState) (command : SendCommand) (sender : SubnetPort) (of : IsFabricOf ports fabric)
+module _ (ports : List SubnetPort) (fabric : FabricState) (command : SendCommand) (sender : SubnetPort) (of : IsFabricOf ports nobody fabric)
     (sends : IsSender ports command sender) where
   -- what the sender gives, by what the list says of it
   given : Option Refusal → Result Packet Refusal
@@ -44,7 +44,7 @@ module _ (ports : List SubnetPort) (fabric : FabricState) (command : SendCommand
       let among = found_among (λ port. port.guid == command.port_guid) ports sender sends.named in
       let there = all_have (λ port. is_switch_type port.node_type ≡ false → IsThere fabric port) ports among.place sender of.there among.there sends.adapter in
       let guid = there.is.guid ∙ eqb-true sender.guid command.port_guid among.passes in
-      let same = ports_stamp_as_told ports fabric command sender there.at there.one of sends there.is.cabled.there guid in
+      let same = ports_stamp_as_told ports nobody fabric command sender there.at there.one of sends there.is.cabled.there guid in
       record {
         at = there.at;
         sender = there.one;
@@ -67,7 +67,7 @@ module _ (ports : List SubnetPort) (fabric : FabricState) (command : SendCommand
     by_case None is false for_sa =
         let got = comes.carried (packet_of sender command) (gives None is) for_sa in
         ap (map event_of) got.told ∙ told_events got.deliveries
-        ∙ are_told ports fabric command sender of sends is got.deliveries got.are
+        ∙ are_told ports nobody fabric command sender of sends is got.deliveries got.are
         ∙ rw (is, for_sa) refl
 
     is_told : map event_of events ≡ sent_from (Some sender) ports command
@@ -78,7 +78,7 @@ pub what_comes_is_told : (fabric : FabricState) (command : SendCommand) (events 
 what_comes_is_told fabric command events comes ports sender of sends = is_told ports fabric command sender of sends events comes
 
 -- ---- a command to ask
-module _ (ports : List SubnetPort) (fabric : FabricState) (command : AskCommand) (own : SubnetPort) (of : IsFabricOf ports fabric)
+module _ (ports : List SubnetPort) (fabric : FabricState) (command : AskCommand) (own : SubnetPort) (of : IsFabricOf ports nobody fabric)
     (sends : IsSender ports (asked_as command true) own) (events : List Event) (comes : ComesOfAsk fabric command events) where
   sends_as : (full : Bool) → IsSender ports (asked_as command full) own
   sends_as full = record { named = sends.named; adapter = sends.adapter }

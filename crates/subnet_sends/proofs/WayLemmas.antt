@@ -1,31 +1,36 @@
 -- Who gets a packet is who is listed.
-use Rattle.std.proofs.Common.{ℕ, zero, suc, ◌≡◌, ◌==◌, ◌⊎◌, ◌∙◌, ap, refl, sym, subst, inl, inr, not, true, false, List, [], ◌∷◌, filter, map, slice_get, Option, Some, None, Ok, Err, arith}
+use Rattle.std.proofs.Common.{ℕ, ◌≡◌, ◌≢◌, ◌==◌, ◌&&◌, ◌||◌, ◌⊎◌, ◌∙◌, ap, refl, sym, subst, inl, inr, not, Bool, true, false, List, filter, map, slice_get, Option, Some, None, Ok, Err}
 use Rattle.std.specs.List.{Contains}
-use Rattle.std.specs.List.Sorted.{IsStrictlySortedBy}
 use Rattle.std.specs.Option.{option_map_or}
-use Rattle.std.proofs.lemmas.Bool.{and_from, and_parts, eq-eqb, eqb-true, not-true}
-use Rattle.std.proofs.lemmas.Option.{none-some, same_Some, slice_get-get_or}
+use Rattle.std.specs.Ordering.{nat_cmp, on}
+use Rattle.std.proofs.lemmas.Bool.{and_from, and_parts, eq-eqb, eqb-true, false_from_ne_true, false≢true, not-true}
+use Rattle.std.proofs.lemmas.List.Kept.{IsStrictlySortedBy-filter}
+use Rattle.std.proofs.lemmas.Option.{same_Some, slice_get-get_or}
+use Rattle.std.proofs.lemmas.Simd.{map-map}
 use Rattle.data_packet.specs.declared.packet.Packet.{Packet}
 use Rattle.data_packet.specs.declared.refusal.Refusal.{Refusal}
+use Rattle.fabric_parts.specs.Lid.{is_multicast}
 use Rattle.fabric_parts.specs.NodeType.{is_switch_type}
 use Rattle.fabric_parts.specs.declared.cable.PortRef.{PortRef}
-use Rattle.packet_ways.specs.Deliveries.{AreDeliveries, DeliveryState, IsDelivered, Numbers, Reaches, adapter_at, guid_at, in_order, numbers_of}
-use Rattle.packet_ways.specs.Laws.{IsMeant}
-use Rattle.packet_ways.proofs.ByLidLemmas.{go_by_lid}
+use Rattle.packet_ways.specs.declared.numbers.Numbers.{Numbers}
+use Rattle.packet_ways.specs.Deliveries.{AreDeliveries, DeliveryState, IsDelivered, Reaches, adapter_at, guid_at, numbers_of}
+use Rattle.packet_ways.specs.Forwards.{IsCabledPort}
+use Rattle.packet_ways.proofs.ByLidLemmas.{packets_go_by_lid}
+use Rattle.packet_ways.proofs.ByMlidLemmas.{packets_go_by_mlid}
 use Rattle.packet_ways.proofs.DeliveryLemmas.{deliveries_are_one_list}
 use Rattle.pkey_rules.specs.KeyTable.{accepts}
+use Rattle.pkey_rules.specs.StoredKeys.{stored_keys}
 use Rattle.port_model.specs.AdapterState.{AdapterState}
 use Rattle.port_model.specs.Packets.{packet_from, refusal_of as port_refusal, stamped}
 use Rattle.result_words.proofs.ListLemmas.{all_have}
 use Rattle.smp_wire.specs.FabricState.{FabricState}
-use Rattle.subnet_model.specs.Delivery.{reaches, refusal_of}
-use Rattle.subnet_model.specs.Report.{packet_of}
-use Rattle.subnet_model.specs.Silent.{received}
+use Rattle.subnet_model.specs.Delivery.{reaches_joined, refusal_of}
+use Rattle.subnet_model.specs.Report.{packet_of, received_by}
 use Rattle.subnet_model.specs.declared.command.SendCommand.{SendCommand}
 use Rattle.subnet_model.specs.declared.subnet_port.SubnetPort.{SubnetPort}
 use Rattle.subnet_sends.specs.Laws.{DeliveriesAreWhatIsTold, IsSender, PortsStampAsTold, told}
 use Rattle.subnet_sends.specs.OfFabric.{IsFabricOf, IsSetUpAsListed, IsThere}
-use Rattle.subnet_sends.proofs.ListLemmas.{IsAmong, among_kept, found_among, kept_among, one_of_lid}
+use Rattle.subnet_sends.proofs.ListLemmas.{among_kept, by_lid, found_among, kept_among, mapped_from, mapped_to, numbers_as_listed}
 
 -- ---- the port that sends
 at_guid : (fabric : FabricState) (at : PortRef) (one : AdapterState) → adapter_at fabric.nodes at ≡ Some one → guid_at fabric.nodes at ≡ Some one.port_guid
@@ -37,7 +42,7 @@ record Sends (fabric : FabricState) (command : SendCommand) (sender : SubnetPort
   is : IsSetUpAsListed fabric sender at one
   guid : one.port_guid ≡ command.port_guid
 
-module _ (ports : List SubnetPort) (fabric : FabricState) (command : SendCommand) (sender : SubnetPort) (of : IsFabricOf ports fabric)
+module _ (ports : List SubnetPort) (receives : ℕ → ℕ → Bool) (fabric : FabricState) (command : SendCommand) (sender : SubnetPort) (of : IsFabricOf ports receives fabric)
     (sends : IsSender ports command sender) where
   sending : Sends fabric command sender
   sending =
@@ -71,11 +76,7 @@ module _ (ports : List SubnetPort) (fabric : FabricState) (command : SendCommand
       (same_refusal one is, same_packet one is)
 
   -- ---- the ports that receive
-  numbers_as_listed : SubnetPort → Numbers
-  numbers_as_listed port = record { lid = port.lid; guid = port.guid }
-
   as_listed : (port : SubnetPort) (at : PortRef) (one : AdapterState) → IsSetUpAsListed fabric port at one → numbers_as_listed port ≡ numbers_of one
-  unfolding numbers_as_listed
   as_listed port at one is = λ i. record { lid = sym is.lid i; guid = sym is.guid i }
 
   module _ (allowed : refusal_of sender command ≡ None) where
@@ -85,132 +86,177 @@ module _ (ports : List SubnetPort) (fabric : FabricState) (command : SendCommand
         (same_refusal sending.one sending.is ∙ allowed)
         ∙ ap (λ (packet : Packet). Ok packet) (same_packet sending.one sending.is)
 
-    goes : (at : PortRef) (one : AdapterState) → IsMeant fabric command.dlid command.p_key at one
-        → IsDelivered fabric.nodes fabric.cables sending.at (packet_of sender command) at one
-    goes at one meant =
-        (go_by_lid fabric sending.at at sending.one one command.dlid command.p_key command.destination_qp command.payload (packet_of sender command)
-        of.forwards sending.is.cabled is_stamped).1 meant
+    -- whom the list says that it reaches
+    abbrev test : SubnetPort → Bool
+    test = reaches_joined (receives command.dlid) command
 
-    went : (at : PortRef) (one : AdapterState) → IsDelivered fabric.nodes fabric.cables sending.at (packet_of sender command) at one
-        → IsMeant fabric command.dlid command.p_key at one
-    went at one delivered =
-        (go_by_lid fabric sending.at at sending.one one command.dlid command.p_key command.destination_qp command.payload (packet_of sender command)
-        of.forwards sending.is.cabled is_stamped).0 delivered
+    -- by a group, and not as the port that sends
+    abbrev member : SubnetPort → Bool
+    member port = receives command.dlid port.guid && not (port.guid == command.port_guid)
 
-    receives : (k : ℕ) (port : SubnetPort) → slice_get ports k ≡ Some port → reaches command port ≡ true
-        → Reaches fabric command.port_guid (packet_of sender command) (numbers_as_listed port)
-    receives k port there is =
-        let parts = and_parts (port.lid == command.dlid) _ is in
-        let more = and_parts (not (is_switch_type port.node_type)) (accepts command.p_key port.keys) parts.1 in
-        let at = all_have (λ port. is_switch_type port.node_type ≡ false → IsThere fabric port) ports k port of.there there (not-true (is_switch_type port.node_type) more.0) in
-        record {
-          from = sending.at;
-          sends = at_guid fabric sending.at sending.one sending.is.cabled.there ∙ ap (λ (g : ℕ). Some g) sending.guid;
-          at = at.at;
-          port = at.one;
-          delivered = goes at.at at.one
-              (record {
-                cabled = at.is.cabled;
-                lid = at.is.lid ∙ eqb-true port.lid command.dlid parts.0;
-                accepts = ap (accepts command.p_key) at.is.keys ∙ more.1;
-              });
-          receives = as_listed port at.at at.one at.is;
-        }
+    abbrev Delivered : PortRef → AdapterState → Type 0
+    Delivered at one = IsDelivered fabric.nodes fabric.cables sending.at (packet_of sender command) at one
 
+    -- ---- a port that is reached is listed as reached
     record IsReached (receiver : Numbers) : Type 0 where
       place : ℕ
       port : SubnetPort
       there : slice_get ports place ≡ Some port
-      is : reaches command port ≡ true
+      is : test port ≡ true
       numbers : numbers_as_listed port ≡ receiver
 
-    reached : (receiver : Numbers) → Reaches fabric command.port_guid (packet_of sender command) receiver → IsReached receiver
-    reached receiver comes =
-        let from = its_place comes.from comes.sends in
-        let meant = went comes.at comes.port
-        (subst (λ (at : PortRef). IsDelivered fabric.nodes fabric.cables at (packet_of sender command) comes.at comes.port) from comes.delivered) in
-        let listed = of.listed comes.at comes.port meant.cabled in
+    by_parts : (member lid adapter accepted : Bool) → (member ≡ true) ⊎ (lid ≡ true) → adapter ≡ true → accepted ≡ true
+        → ((member || lid) && (adapter && accepted)) ≡ true
+    by_parts true lid adapter accepted (inl m) a k = rw (a, k) refl
+    by_parts true lid adapter accepted (inr l) a k = rw (a, k) refl
+    by_parts false lid adapter accepted (inl m) a k = absurd (false≢true m)
+    by_parts false lid adapter accepted (inr l) a k = rw (l, a, k) refl
+
+    is_listed : (at : PortRef) (one : AdapterState) (receiver : Numbers) → IsCabledPort fabric at one → receiver ≡ numbers_of one
+        → accepts command.p_key (stored_keys one.keys) ≡ true
+        → ((port : SubnetPort) → IsSetUpAsListed fabric port at one
+        → ((receives command.dlid port.guid && not (port.guid == command.port_guid)) ≡ true) ⊎ ((port.lid == command.dlid) ≡ true))
+        → IsReached receiver
+    is_listed at one receiver cabled numbers accepted meant =
+        let listed = of.listed at one cabled in
         record {
           place = listed.among.0;
           port = listed.port;
-          there = slice_get-get_or ports listed.among.0 listed.port listed.among.1 ∙ ap (λ (one : SubnetPort). Some one) listed.among.2;
-          is = and_from (listed.port.lid == command.dlid) _ (eq-eqb listed.port.lid command.dlid (sym listed.is.lid ∙ meant.lid))
-              (and_from (not (is_switch_type listed.port.node_type)) (accepts command.p_key listed.port.keys)
-              (ap not listed.is.adapter) (ap (accepts command.p_key) (sym listed.is.keys) ∙ meant.accepts));
-          numbers = as_listed listed.port comes.at comes.port listed.is ∙ sym comes.receives;
+          there = slice_get-get_or ports listed.among.0 listed.port listed.among.1 ∙ ap (λ (port : SubnetPort). Some port) listed.among.2;
+          is = by_parts (receives command.dlid listed.port.guid && not (listed.port.guid == command.port_guid)) (listed.port.lid == command.dlid)
+              (not (is_switch_type listed.port.node_type)) (accepts command.p_key listed.port.keys) (meant listed.port listed.is)
+              (ap not listed.is.adapter) (ap (accepts command.p_key) (sym listed.is.keys) ∙ accepted);
+          numbers = as_listed listed.port at one listed.is ∙ sym numbers;
         }
 
+    -- of another port than the sender's
+    other_guid : (at : PortRef) (one : AdapterState) (port : SubnetPort) → IsSetUpAsListed fabric port at one → sending.at ≢ at
+        → not (port.guid == command.port_guid) ≡ true
+    other_guid at one port is other =
+        ap not (false_from_ne_true (port.guid == command.port_guid) (λ same.
+        other (sym (its_place at (at_guid fabric at one is.cabled.there
+        ∙ ap (λ (g : ℕ). Some g) (is.guid ∙ eqb-true port.guid command.port_guid same))))))
+
+    reached : (receiver : Numbers) → Reaches fabric command.port_guid (packet_of sender command) receiver → IsReached receiver
+    reached receiver comes = by (is_multicast command.dlid) refl
+      where
+        delivered : Delivered comes.at comes.port
+        delivered =
+            subst (λ (at : PortRef). IsDelivered fabric.nodes fabric.cables at (packet_of sender command) comes.at comes.port)
+            (its_place comes.from comes.sends) comes.delivered
+
+        by : (b : Bool) → is_multicast command.dlid ≡ b → IsReached receiver
+        by false unicast =
+            let meant = (packets_go_by_lid fabric sending.at comes.at sending.one comes.port command.dlid command.p_key command.destination_qp
+            command.payload (packet_of sender command) of.forwards sending.is.cabled is_stamped unicast).0 delivered in
+            is_listed comes.at comes.port receiver meant.cabled comes.receives meant.accepts
+            (λ port is. inr (eq-eqb port.lid command.dlid (sym is.lid ∙ meant.lid)))
+        by true multicast =
+            let meant = (packets_go_by_mlid fabric receives sending.at comes.at sending.one comes.port command.dlid command.p_key
+            command.destination_qp command.payload (packet_of sender command) of.spreads sending.is.cabled is_stamped multicast).0 delivered in
+            is_listed comes.at comes.port receiver meant.cabled comes.receives meant.accepts
+            (λ port is. inl (and_from (receives command.dlid port.guid) (not (port.guid == command.port_guid))
+            (ap (receives command.dlid) (sym is.guid) ∙ meant.member) (other_guid comes.at comes.port port is meant.other)))
+
+    -- ---- and a port that is listed as reached is reached
+    by_lid_or_group : (member lid rest : Bool) → ((member || lid) && rest) ≡ true → (member ≡ true) ⊎ (lid ≡ true)
+    by_lid_or_group true lid rest is = inl refl
+    by_lid_or_group false true rest is = inr refl
+    by_lid_or_group false false rest is = absurd (cc)
+
+    receives_it : (k : ℕ) (port : SubnetPort) → slice_get ports k ≡ Some port → test port ≡ true
+        → Reaches fabric command.port_guid (packet_of sender command) (numbers_as_listed port)
+    receives_it k port there is = by (by_lid_or_group (member port) (port.lid == command.dlid) _ is) (is_multicast command.dlid) refl
+      where
+        parts : (not (is_switch_type port.node_type) ≡ true) × (accepts command.p_key port.keys ≡ true)
+        parts =
+            and_parts (not (is_switch_type port.node_type)) (accepts command.p_key port.keys)
+            (and_parts (member port || (port.lid == command.dlid)) (not (is_switch_type port.node_type) && accepts command.p_key port.keys) is).1
+
+        at : IsThere fabric port
+        at =
+            all_have (λ port. is_switch_type port.node_type ≡ false → IsThere fabric port) ports k port of.there there
+            (not-true (is_switch_type port.node_type) parts.0)
+
+        accepted : accepts command.p_key (stored_keys at.one.keys) ≡ true
+        accepted = ap (accepts command.p_key) at.is.keys ∙ parts.1
+
+        own_lid : is_multicast port.lid ≡ false
+        own_lid = all_have (λ port. is_multicast port.lid ≡ false) ports k port of.unicast there
+
+        comes : Delivered at.at at.one → Reaches fabric command.port_guid (packet_of sender command) (numbers_as_listed port)
+        comes delivered = record {
+          from = sending.at;
+          sends = at_guid fabric sending.at sending.one sending.is.cabled.there ∙ ap (λ (g : ℕ). Some g) sending.guid;
+          at = at.at;
+          port = at.one;
+          delivered = delivered;
+          receives = as_listed port at.at at.one at.is;
+        }
+
+        not_sender : not (port.guid == command.port_guid) ≡ true → sending.at ≢ at.at
+        not_sender differs same =
+            let one = at_guid fabric sending.at sending.one sending.is.cabled.there in
+            let two = at_guid fabric at.at at.one at.is.cabled.there in
+            let guids = same_Some sending.one.port_guid at.one.port_guid (sym one ∙ ap (guid_at fabric.nodes) same ∙ two) in
+            let equal : (port.guid == command.port_guid) ≡ true =
+            eq-eqb port.guid command.port_guid (sym at.is.guid ∙ sym guids ∙ sending.guid) in
+            false≢true (sym (ap not equal) ∙ differs)
+
+        by : (member port ≡ true) ⊎ ((port.lid == command.dlid) ≡ true) → (b : Bool) → is_multicast command.dlid ≡ b
+            → Reaches fabric command.port_guid (packet_of sender command) (numbers_as_listed port)
+        by (inl joined) false unicast =
+            let group = of.groups command.dlid port.guid (and_parts (receives command.dlid port.guid) _ joined).0 in
+            absurd (false≢true (sym unicast ∙ group))
+        by (inr lid) true multicast =
+            absurd (false≢true (sym own_lid ∙ ap is_multicast (eqb-true port.lid command.dlid lid) ∙ multicast))
+        by (inr lid) false unicast =
+            comes ((packets_go_by_lid fabric sending.at at.at sending.one at.one command.dlid command.p_key command.destination_qp
+            command.payload (packet_of sender command) of.forwards sending.is.cabled is_stamped unicast).1
+            (record { cabled = at.is.cabled; lid = at.is.lid ∙ eqb-true port.lid command.dlid lid; accepts = accepted }))
+        by (inl joined) true multicast =
+            let both = and_parts (receives command.dlid port.guid) (not (port.guid == command.port_guid)) joined in
+            comes ((packets_go_by_mlid fabric receives sending.at at.at sending.one at.one command.dlid command.p_key
+            command.destination_qp command.payload (packet_of sender command) of.spreads sending.is.cabled is_stamped multicast).1
+            (record {
+              cabled = at.is.cabled;
+              other = not_sender both.1;
+              member = ap (receives command.dlid) at.is.guid ∙ both.0;
+              accepts = accepted;
+            }))
+
     -- ---- the list of deliveries
-    delivered_to : SubnetPort → DeliveryState
-    delivered_to port = record { port = port.guid; packet = packet_of sender command }
+    abbrev kept : List SubnetPort
+    kept = filter test ports
 
-    nobody : filter (reaches command) ports ≡ [] → AreDeliveries fabric command.port_guid (packet_of sender command) []
-    unfolding IsStrictlySortedBy
-    nobody none = record {
-      receivers = [];
-      each = λ receiver. (λ has. absurd (omega (arith, has.1)), λ comes. absurd (gone receiver (reached receiver comes)));
-      order = in_none;
-      told = refl;
-    }
-      where
-        in_none : IsStrictlySortedBy in_order []
-        in_none = tt
-
-        gone : (receiver : Numbers) → IsReached receiver → ⊥
-        gone receiver is =
-            let kept = among_kept (reaches command) ports is.place is.port is.there is.is in
-            none-some is.port (sym (ap (λ (some : List SubnetPort). slice_get some kept.0) none) ∙ kept.1)
-
-    one_receiver : (port : SubnetPort) → filter (reaches command) ports ≡ port ∷ [] → AreDeliveries fabric command.port_guid (packet_of sender command) (delivered_to port ∷ [])
-    unfolding delivered_to numbers_as_listed IsStrictlySortedBy
-    one_receiver port one = record {
-      receivers = numbers_as_listed port ∷ [];
+    are : AreDeliveries fabric command.port_guid (packet_of sender command)
+        (map (λ port. record { port = port.guid; packet = packet_of sender command }) kept)
+    are = record {
+      receivers = map numbers_as_listed kept;
       each = λ receiver. (
-        λ has. subst (Reaches fabric command.port_guid (packet_of sender command)) (only receiver has) (receives among.place port among.there among.passes),
-        λ comes. there receiver (reached receiver comes),
+        λ has.
+            let one = mapped_from numbers_as_listed kept receiver has in
+            let among = kept_among test ports one.0 one.1 one.2 in
+            subst (Reaches fabric command.port_guid (packet_of sender command)) one.3 (receives_it among.place one.1 among.there among.passes),
+        λ comes.
+            let is = reached receiver comes in
+            let at = among_kept test ports is.place is.port is.there is.is in
+            subst (Contains (map numbers_as_listed kept)) is.numbers (mapped_to numbers_as_listed kept at.0 is.port at.1),
       );
-      order = in_one;
-      told = refl;
+      order = by_lid kept (IsStrictlySortedBy-filter (on (λ port. port.lid) nat_cmp) test ports of.order);
+      told = sym (map-map (λ receiver. record { port = receiver.guid; packet = packet_of sender command }) numbers_as_listed kept);
     }
-      where
-        among : IsAmong (reaches command) ports port
-        among = kept_among (reaches command) ports 0 port (ap (λ (some : List SubnetPort). slice_get some 0) one)
-
-        in_one : IsStrictlySortedBy in_order (numbers_as_listed port ∷ [])
-        in_one = (tt, tt)
-
-        only : (receiver : Numbers) → Contains (numbers_as_listed port ∷ []) receiver → numbers_as_listed port ≡ receiver
-        only receiver (zero, within, is) = is
-        only receiver (suc k, within, is) = absurd (omega (arith, within))
-
-        same_one : (k : ℕ) (other : SubnetPort) → slice_get (port ∷ []) k ≡ Some other → port ≡ other
-        same_one zero other is = same_Some port other is
-        same_one (suc k) other is = absurd (none-some other is)
-
-        there : (receiver : Numbers) → IsReached receiver → Contains (numbers_as_listed port ∷ []) receiver
-        there receiver is =
-            let kept = among_kept (reaches command) ports is.place is.port is.there is.is in
-            let same = same_one kept.0 is.port (sym (ap (λ (some : List SubnetPort). slice_get some kept.0) one) ∙ kept.1) in
-            (0, omega arith, ap numbers_as_listed same ∙ is.numbers)
 
     pub are_told : (deliveries : List DeliveryState) → AreDeliveries fabric command.port_guid (packet_of sender command) deliveries
-        → map told deliveries ≡ received ports sender command
-    unfolding delivered_to
-    are_told deliveries are =
-        by (one_of_lid (reaches command) ports command.dlid of.own_lids (λ port is. eqb-true port.lid command.dlid (and_parts (port.lid == command.dlid) _ is).0))
-      where
-        by : (filter (reaches command) ports ≡ []) ⊎ ((port : SubnetPort) × (filter (reaches command) ports ≡ port ∷ []))
-            → map told deliveries ≡ received ports sender command
-        by (inl none) =
-            ap (map told) (deliveries_are_one_list fabric command.port_guid (packet_of sender command) deliveries [] are (nobody none))
-            ∙ sym (ap (map (λ port. told (delivered_to port))) none)
-        by (inr one) =
-            ap (map told) (deliveries_are_one_list fabric command.port_guid (packet_of sender command) deliveries (delivered_to one.0 ∷ []) are (one_receiver one.0 one.1))
-            ∙ sym (ap (map (λ port. told (delivered_to port))) one.1)
+        → map told deliveries ≡ received_by (reaches_joined (receives command.dlid) command) ports sender command
+    are_told deliveries given =
+        ap (map told) (deliveries_are_one_list fabric command.port_guid (packet_of sender command) deliveries _ given are)
+        ∙ map-map told (λ port. record { port = port.guid; packet = packet_of sender command }) kept
 
 pub ports_stamp_as_told : PortsStampAsTold
-ports_stamp_as_told ports fabric command sender at one of sends there guid = stamps_as_told ports fabric command sender of sends at one there guid
+ports_stamp_as_told ports receives fabric command sender at one of sends there guid =
+    stamps_as_told ports receives fabric command sender of sends at one there guid
 
 pub deliveries_are_what_is_told : DeliveriesAreWhatIsTold
-deliveries_are_what_is_told ports fabric command sender deliveries unicast of sends allowed are =
-    are_told ports fabric command sender of sends allowed deliveries are
+deliveries_are_what_is_told ports receives fabric command sender deliveries of sends allowed are =
+    are_told ports receives fabric command sender of sends allowed deliveries are

@@ -1,15 +1,13 @@
 -- What a subnet tells of a packet is what its fabric does with it: the statements of the laws of `src/laws.rt`.
-use Rattle.std.specs.Prelude.{◌≡◌, false, List, map, Some, None}
-use Rattle.fabric_parts.specs.Lid.{is_multicast}
+use Rattle.std.specs.Prelude.{ℕ, ◌≡◌, Bool, false, List, map, Some, None}
 use Rattle.fabric_parts.specs.NodeType.{is_switch_type}
 use Rattle.fabric_parts.specs.declared.cable.PortRef.{PortRef}
 use Rattle.packet_ways.specs.Deliveries.{AreDeliveries, DeliveryState, adapter_at}
 use Rattle.port_model.specs.AdapterState.{AdapterState}
 use Rattle.port_model.specs.Packets.{packet_from, refusal_of as port_refusal}
 use Rattle.smp_wire.specs.FabricState.{FabricState}
-use Rattle.subnet_model.specs.Delivery.{port_with_guid, refusal_of}
-use Rattle.subnet_model.specs.Report.{packet_of}
-use Rattle.subnet_model.specs.Silent.{received}
+use Rattle.subnet_model.specs.Delivery.{port_with_guid, reaches_joined, refusal_of}
+use Rattle.subnet_model.specs.Report.{packet_of, received_by}
 use Rattle.subnet_model.specs.declared.command.SendCommand.{SendCommand}
 use Rattle.subnet_model.specs.declared.event.PortEvent.{PortEvent}
 use Rattle.subnet_model.specs.declared.event.Outcome.TheVariants.{Received}
@@ -24,8 +22,9 @@ pub record IsSender (ports : List SubnetPort) (command : SendCommand) (sender : 
 -- the port of that GUID refuses what the subnet refuses, for the same cause, and stamps the same packet
 abbrev pub PortsStampAsTold : Type 0
 PortsStampAsTold =
-    (ports : List SubnetPort) (fabric : FabricState) (command : SendCommand) (sender : SubnetPort) (at : PortRef) (one : AdapterState)
-    → IsFabricOf ports fabric → IsSender ports command sender → adapter_at fabric.nodes at ≡ Some one → one.port_guid ≡ command.port_guid
+    (ports : List SubnetPort) (receives : ℕ → ℕ → Bool) (fabric : FabricState) (command : SendCommand) (sender : SubnetPort)
+    (at : PortRef) (one : AdapterState)
+    → IsFabricOf ports receives fabric → IsSender ports command sender → adapter_at fabric.nodes at ≡ Some one → one.port_guid ≡ command.port_guid
     → (port_refusal one command.dlid command.p_key command.destination_qp ≡ refusal_of sender command)
     × (packet_from one command.dlid command.p_key command.destination_qp command.payload ≡ packet_of sender command)
 
@@ -33,9 +32,11 @@ PortsStampAsTold =
 abbrev pub told : DeliveryState → PortEvent
 told delivered = record { port_guid = delivered.port; what = Received delivered.packet }
 
--- what the fabric delivers of a unicast packet is what the subnet tells
+-- what the fabric delivers of a packet is what the subnet tells, where these ports receive what is sent to groups
 abbrev pub DeliveriesAreWhatIsTold : Type 0
 DeliveriesAreWhatIsTold =
-    (ports : List SubnetPort) (fabric : FabricState) (command : SendCommand) (sender : SubnetPort) (deliveries : List DeliveryState)
-    → is_multicast command.dlid ≡ false → IsFabricOf ports fabric → IsSender ports command sender → refusal_of sender command ≡ None
-    → AreDeliveries fabric command.port_guid (packet_of sender command) deliveries → map told deliveries ≡ received ports sender command
+    (ports : List SubnetPort) (receives : ℕ → ℕ → Bool) (fabric : FabricState) (command : SendCommand) (sender : SubnetPort)
+    (deliveries : List DeliveryState)
+    → IsFabricOf ports receives fabric → IsSender ports command sender → refusal_of sender command ≡ None
+    → AreDeliveries fabric command.port_guid (packet_of sender command) deliveries
+    → map told deliveries ≡ received_by (reaches_joined (receives command.dlid) command) ports sender command

@@ -18,7 +18,7 @@ use Rattle.subnet_model.specs.declared.event.PortEvent.{PortEvent}
 use Rattle.subnet_model.specs.declared.event.Outcome.TheVariants.{Refused as RefusedToSend}
 use Rattle.subnet_model.specs.declared.subnet_port.SubnetPort.{SubnetPort}
 use Rattle.subnet_sends.specs.Laws.{IsSender, told}
-use Rattle.subnet_sends.specs.OfFabric.{IsFabricOf}
+use Rattle.subnet_sends.specs.OfFabric.{IsFabricOf, nobody}
 use Rattle.subnet_sends.specs.declared.event.Event.{Event}
 use Rattle.subnet_sends.specs.declared.event.Event.TheVariants.{Received, Refused}
 
@@ -51,10 +51,10 @@ pub record ComesOf (fabric : FabricState) (command : SendCommand) (events : List
   pub carried : (packet : Packet) → Stamps fabric command (Ok packet) → is_for_sa command ≡ false
       → AreReceived fabric command.port_guid packet events
 
--- in the fabric of a list of ports, these events are what the list tells of the command
+-- in the fabric of a list of ports, none of which receives what is sent to groups, these events are what the list tells of the command
 abbrev pub AreAsListed : FabricState → SendCommand → List Event → Type 0
 AreAsListed fabric command events =
-    (ports : List SubnetPort) (sender : SubnetPort) → IsFabricOf ports fabric → IsSender ports command sender
+    (ports : List SubnetPort) (sender : SubnetPort) → IsFabricOf ports nobody fabric → IsSender ports command sender
     → map event_of events ≡ sent_from (Some sender) ports command
 
 -- ---- a command to ask
@@ -87,8 +87,8 @@ pub record ComesOfAsk (fabric : FabricState) (command : AskCommand) (events : Li
   pub asked : (at : PortRef) (own : AdapterState) → adapter_at fabric.nodes at ≡ Some own → own.port_guid ≡ command.port_guid
       → events ≡ events_of_asking command.port_guid (given_to_ask own command)
 
--- in the fabric of a list of ports, these events are what the list tells of the command
+-- in the fabric of a list of ports, none of which receives what is sent to groups, these events are what the list tells of the command
 abbrev pub AskIsAsListed : FabricState → AskCommand → List Event → Type 0
 AskIsAsListed fabric command events =
-    (ports : List SubnetPort) (own : SubnetPort) → IsFabricOf ports fabric → IsSender ports (asked_as command true) own
+    (ports : List SubnetPort) (own : SubnetPort) → IsFabricOf ports nobody fabric → IsSender ports (asked_as command true) own
     → map event_of events ≡ asked_from (Some own)

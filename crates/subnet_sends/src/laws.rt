@@ -8,7 +8,8 @@ pub fn ports_stamp_as_told()
     ensures { PortsStampAsTold }
 {}
 
-/// In the fabric of a list of ports, what it delivers of a packet is what the list tells, in the same order.
+/// In the fabric of a list of ports, what it delivers of a packet, to a port or to a group, is what the list tells, in the
+/// same order.
 pub fn deliveries_are_what_is_told()
     ensures { DeliveriesAreWhatIsTold }
 {}

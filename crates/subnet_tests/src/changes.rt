@@ -38,7 +38,7 @@ fn roster_under(rt: &impl Abort, alloc: Global, file: &str) -> Option<Roster> {
     }
 }
 
-/// What is told, where memory is not refused.
+/// What is printed, where memory is not refused.
 fn is_text(rt: &impl Abort, told: Result<Vec<u8>, AllocError>, text: &str) {
     if let Ok(told) = told {
         assert_eq!(rt; told.as_slice(), text.as_bytes());

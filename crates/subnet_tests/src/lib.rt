@@ -17,4 +17,6 @@ mod partitions;
 #[cfg(test)]
 mod runs;
 #[cfg(test)]
+mod tables;
+#[cfg(test)]
 mod traces;

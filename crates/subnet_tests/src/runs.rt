@@ -61,7 +61,7 @@ fn is_carried_out(rt: &impl Abort, subnet: &mut Subnet, command: &Command) {
     }
 }
 
-/// A step tells its event; where memory is refused the subnet is broken from then on.
+/// A step answers its event; where memory is refused the subnet is broken from then on.
 fn steps_or_breaks(rt: &impl Abort, subnet: &mut Subnet) -> Result<(), Fail> {
     assert!(rt; matches!(subnet.parse(7, b"# nothing\n"), Ok(None)));
     match subnet.parse(8, b"send h1/1 5 0xffff 7 2:beef\n") {

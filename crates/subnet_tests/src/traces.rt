@@ -1,5 +1,7 @@
-//! Ways that no subnet manager of ours leaves: a byte of a table is spoilt by an SMP, and the trace tells why the packet is
+//! Ways that no subnet manager of ours leaves: a byte of a table is spoilt by an SMP, and the trace says why the packet is
 //! lost.
+
+pub(crate) mod groups;
 
 use attr_tables::SmpAttribute;
 use example_texts::TWO_SWITCHES;
@@ -12,7 +14,8 @@ use std::test::Fail;
 use subnet_core::bring_up;
 use topo_file::{Topology, read};
 
-/// A byte of an attribute of the node at the end of a path, and what is told of a packet from h1 to LID 5 then.
+/// A byte of an attribute of the node at the end of a path, and what is traced of a packet from h1 to LID 5 then.
+#[derive(Drop)]
 struct Spoilt {
     attribute: SmpAttribute,
     modifier: u32,
@@ -89,26 +92,28 @@ fn spoil(fabric: &mut Fabric, spoilt: &Spoilt) -> Result<(), Fail> {
     Ok(())
 }
 
-/// The fabric of the two switches, brought up.
-fn brought_up(alloc: Global) -> Result<Fabric, Fail> {
-    Ok(
-        bring_up(alloc, TWO_SWITCHES.as_bytes(), None)?
-            .into_parts()
-            .1,
-    )
+/// The fabric of a topology, brought up.
+pub(crate) fn brought_up(alloc: Global, topology: &str) -> Result<Fabric, Fail> {
+    Ok(bring_up(alloc, topology.as_bytes(), None)?.into_parts().1)
 }
 
-/// The way of a packet from h1 to LID 5, behind the line of the port that sends it.
-fn trace(alloc: Global, topology: &Topology, fabric: &Fabric) -> Result<Vec<u8>, Fail> {
-    let node = topology.index_of(b"h1").ok_or("h1")?;
+/// The way of a packet from port 1 of the adapter of that name to that LID, behind the line of the port that sends it.
+fn trace(
+    alloc: Global,
+    topology: &Topology,
+    fabric: &Fabric,
+    name: &[u8],
+    dlid: u16,
+) -> Result<Vec<u8>, Fail> {
+    let node = topology.index_of(name).ok_or("an adapter")?;
     let from = PortRef { node, port: 1 };
-    Ok(trace_text(alloc, topology, fabric, from, 5, 0xffff)?)
+    Ok(trace_text(alloc, topology, fabric, from, dlid, 0xffff)?)
 }
 
 fn spoilt_way(alloc: Global, topology: &Topology, spoilt: &Spoilt) -> Result<Vec<u8>, Fail> {
-    let mut fabric = brought_up(alloc)?;
+    let mut fabric = brought_up(alloc, TWO_SWITCHES)?;
     spoil(&mut fabric, spoilt)?;
-    trace(alloc, topology, &fabric)
+    trace(alloc, topology, &fabric, b"h1", 5)
 }
 
 fn is_told(rt: &impl Abort, text: &[u8], told: &str) {

@@ -1,10 +1,11 @@
 -- Where a packet leaves, part by part.
 use Rattle.std.proofs.Common.{◌≡◌, ◌≢◌, ℕ, ◌==◌, ◌&&◌, refl, subst, Bool, true, false, not, if◌then◌else◌, List, Option, Some, None, slice_get}
-use Rattle.std.specs.Prelude.{◌↔◌}
 use Rattle.std.specs.Option.{option_and_then, option_map_or}
 use Rattle.std.proofs.lemmas.Bool.{and_parts, eq-eqb, eqb-true, le-leb, leb-true, not-true, false_from_ne_true}
 use Rattle.data_packet.specs.declared.packet.Packet.{Packet}
-use Rattle.switch_model.specs.Forwarding.{IsSentOut, leaves_by, passes_outbound, sends_out}
+use Rattle.fabric_parts.specs.Lid.{is_multicast}
+use Rattle.switch_model.specs.Forwarding.{IsSentOut, leaves_by, passes_outbound}
+use Rattle.switch_model.specs.Sending.{sends_out}
 use Rattle.switch_model.specs.Laws.{UnicastGoesByEntries}
 use Rattle.switch_model.specs.SwitchState.{SwitchState}
 use Rattle.switch_model.specs.declared.switch_port.SwitchPort.{SwitchPort}
@@ -33,10 +34,10 @@ parts ports p_key out true true (Some port) h =
 not_0 : (out : ℕ) → (out == 0) ≡ false → out ≢ 0
 not_0 out other same = let is = eq-eqb out 0 same in cc
 
-is_sent : (held : SwitchState) (in_port : ℕ) (packet : Packet) (out : ℕ) → sends_out held in_port packet out ≡ true
+is_sent : (held : SwitchState) (in_port : ℕ) (packet : Packet) (out : ℕ) → is_multicast packet.dlid ≡ false → sends_out held in_port packet out ≡ true
     → IsSentOut held in_port packet out
-is_sent held in_port packet out h =
-    let p = parts held.ports packet.p_key out _ _ (slice_get held.linear packet.dlid) h in
+is_sent held in_port packet out unicast h =
+    let p = parts held.ports packet.p_key out _ _ (slice_get held.linear packet.dlid) (rw unicast at h) in
     let last = and_parts (not (out == 0)) (passes_outbound held.ports out packet.p_key) p.3 in
     record {
       inbound = p.0;
@@ -50,15 +51,11 @@ is_sent held in_port packet out h =
 other_than_0 : (out : ℕ) → out ≢ 0 → (out == 0) ≡ false
 other_than_0 out other = false_from_ne_true (out == 0) (λ same. other (eqb-true out 0 same))
 
-sent : (held : SwitchState) (in_port : ℕ) (packet : Packet) (out : ℕ) → IsSentOut held in_port packet out
+sent : (held : SwitchState) (in_port : ℕ) (packet : Packet) (out : ℕ) → is_multicast packet.dlid ≡ false → IsSentOut held in_port packet out
     → sends_out held in_port packet out ≡ true
-sent held in_port packet out is =
-    rw (is.inbound, le-leb packet.dlid held.info.linear_fdb_top is.within, is.entry, other_than_0 out is.outside, is.outbound)
+sent held in_port packet out unicast is =
+    rw (unicast, is.inbound, le-leb packet.dlid held.info.linear_fdb_top is.within, is.entry, other_than_0 out is.outside, is.outbound)
     (eq-eqb out out refl)
 
--- as long as masks are not looked at, that is so of all packets
-pub goes_by_entry : (held : SwitchState) (in_port : ℕ) (packet : Packet) (out : ℕ) → (sends_out held in_port packet out ≡ true) ↔ IsSentOut held in_port packet out
-goes_by_entry held in_port packet out = (is_sent held in_port packet out, sent held in_port packet out)
-
 pub goes_by_entries : UnicastGoesByEntries
-goes_by_entries held in_port packet out unicast = goes_by_entry held in_port packet out
+goes_by_entries held in_port packet out unicast = (is_sent held in_port packet out unicast, sent held in_port packet out unicast)

@@ -4,3 +4,4 @@ pub mod ChangeLemmas
 pub mod GoodLemmas
 pub mod ForwardingLemmas
 pub mod FateLemmas
+pub mod MulticastLemmas

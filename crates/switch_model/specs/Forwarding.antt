@@ -41,11 +41,7 @@ out_port held in_port packet =
     then option_and_then (leaves_by held.ports packet.p_key) (linear_entry_of held packet.dlid)
     else None
 
--- the switch sends a packet that came in at this port out of that one
-abbrev pub sends_out : SwitchState → ℕ → Packet → ℕ → Bool
-sends_out held in_port packet out = option_map_or (λ port. port == out) (out_port held in_port packet) false
-
--- the same, said part by part
+-- it leaves by that port, said part by part
 pub record IsSentOut (held : SwitchState) (in_port : ℕ) (packet : Packet) (out : ℕ) : Type 0 where
   pub inbound : passes_inbound held.ports in_port packet.p_key ≡ true
   pub within : packet.dlid ≤ held.info.linear_fdb_top

@@ -12,8 +12,10 @@ use Rattle.fabric_parts.specs.Lid.{is_multicast}
 use Rattle.switch_model.specs.Agent.{agent_after, agent_reply, get, set}
 use Rattle.switch_model.specs.Changes.{ChangesAtMost}
 use Rattle.switch_model.specs.Fate.{fate, way_out}
-use Rattle.switch_model.specs.Forwarding.{IsSentOut, out_port, sends_out}
+use Rattle.switch_model.specs.Forwarding.{IsSentOut, out_port}
 use Rattle.switch_model.specs.Good.{IsGoodSwitch}
+use Rattle.switch_model.specs.Multicast.{IsCopiedOut}
+use Rattle.switch_model.specs.Sending.{sends_out}
 use Rattle.switch_model.specs.SwitchState.{SwitchState, at_power_up, port_at_power_up, ports_from}
 
 -- an SMP changes at most what it names
@@ -68,6 +70,13 @@ abbrev pub UnicastGoesByEntries : Type 0
 UnicastGoesByEntries =
     (held : SwitchState) (in_port : ℕ) (packet : Packet) (out : ℕ) → is_multicast packet.dlid ≡ false
     → (sends_out held in_port packet out ≡ true) ↔ IsSentOut held in_port packet out
+
+-- a packet to a group leaves by each port whose bit is set in the masks of its LID, but for the one where it came in, unless
+-- the enforcement of one of the two ports is against it
+abbrev pub MulticastGoesByMasks : Type 0
+MulticastGoesByMasks =
+    (held : SwitchState) (in_port : ℕ) (packet : Packet) (out : ℕ) → is_multicast packet.dlid ≡ true
+    → (sends_out held in_port packet out ≡ true) ↔ IsCopiedOut held in_port packet out
 
 -- a packet leaves by the port that its fate tells, and else not
 abbrev pub FatesTellWaysOut : Type 0

@@ -1,6 +1,8 @@
 pub mod SwitchState
 pub mod Agent
 pub mod Forwarding
+pub mod Multicast
+pub mod Sending
 pub mod Fate
 pub mod Good
 pub mod Changes

@@ -2,7 +2,7 @@
 
 ghost use Rattle.std.specs.Prelude.{◌≡◌};
 ghost use Rattle.switch_model.specs.declared.multicast_table.TheConstants.{POSITIONS};
-ghost use Rattle.switch_model.specs.Laws.{FatesTellWaysOut, GoodSwitchesGiveAttributes, NewSwitchesAreGood, PortsHaveTheirLinks, SmpsAreReadAlike, SmpsChangeWhatTheyName, SmpsKeepGood, SmpsSettle, UnicastGoesByEntries, UnseenComesBack};
+ghost use Rattle.switch_model.specs.Laws.{FatesTellWaysOut, GoodSwitchesGiveAttributes, MulticastGoesByMasks, NewSwitchesAreGood, PortsHaveTheirLinks, SmpsAreReadAlike, SmpsChangeWhatTheyName, SmpsKeepGood, SmpsSettle, UnicastGoesByEntries, UnseenComesBack};
 
 /// An SMP changes at most what it names, and each port is Down afterwards exactly where it was Down. Like
 /// the laws below it does nothing: its contract is the law.
@@ -47,6 +47,12 @@ pub fn unseen_comes_back()
 /// of the two ports.
 pub fn unicast_goes_by_entries()
     ensures { UnicastGoesByEntries }
+{}
+
+/// A packet to a multicast LID leaves by each port whose bit the masks of that LID have, but for the port where it came in, and
+/// nothing else counts but the enforcement of the two ports.
+pub fn multicast_goes_by_masks()
+    ensures { MulticastGoesByMasks }
 {}
 
 /// A unicast packet leaves by a port exactly where its fate says so, by that port.

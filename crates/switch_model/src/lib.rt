@@ -13,11 +13,13 @@ mod enforcement;
 mod fate;
 mod laws;
 mod linear_table;
+mod multicast;
 mod multicast_table;
 mod ports;
 mod switch;
 mod switch_port;
 
+pub use crate::enforcement::{passes_inbound, passes_outbound};
 pub use crate::fate::Fate;
 pub use crate::laws::{
     fates_tell_ways_out, good_switches_give_attributes, ports_have_their_links,

@@ -172,6 +172,13 @@ impl<const LFT: usize, const MFT: usize> Switch<LFT, MFT> {
         &self.linear
     }
 
+    /// Its multicast forwarding table, position by position.
+    pub(crate) fn masks(&self) -> &[[u16; MFT]; POSITIONS]
+        ensures { result.now ≡ self.now.masks }
+    {
+        &self.masks
+    }
+
     /// LinearFDBTop, the last LID that counts.
     pub fn linear_top(&self) -> u16
         ensures { result ≡ self.now.info.linear_fdb_top }

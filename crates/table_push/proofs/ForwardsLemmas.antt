@@ -19,12 +19,9 @@ use Rattle.smp_wire.proofs.PresentLemmas.{present_once, present_right}
 
 pub brought_up_forwards_by_lid : BroughtUpForwardsByLid
 brought_up_forwards_by_lid routes keys fabric home all up = record {
-  cables = (present_right up.good);
-  once = (present_once up.good);
+  free = record { cables = (present_right up.good); once = (present_once up.good); facing = facing; between = up.between };
   own = own_lid routes keys fabric home up;
   lead = lead_there routes keys fabric home up;
-  facing = facing;
-  between = up.between;
 }
   where
     facing : (here at : PortRef) (mine : SwitchPort) (one : AdapterState) (key : ℕ) → switch_port_at fabric.nodes here ≡ Some mine

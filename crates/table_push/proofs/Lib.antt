@@ -5,6 +5,15 @@ pub mod HangLemmas
 pub mod BlockLemmas
 pub mod GuidLemmas
 pub mod LinearLemmas
+pub mod MaskLemmas
+pub mod SliceLemmas
+pub mod ReachLemmas
+pub mod MaskWordLemmas
+pub mod SeatBitLemmas
+pub mod AwayLemmas
+pub mod HopLemmas
+pub mod TreeMaskLemmas
+pub mod TreeBitLemmas
 pub mod NumberedLemmas
 pub mod PartLemmas
 pub mod PortLemmas
@@ -36,3 +45,11 @@ pub mod BroughtUpPortLemmas
 pub mod BroughtUpLemmas
 pub mod EndLemmas
 pub mod ForgetLemmas
+pub mod TreeHopLemmas
+pub mod TreeCableLemmas
+pub mod MaskHopLemmas
+pub mod SpreadStepLemmas
+pub mod SpreadLeadLemmas
+pub mod SpreadAwayLemmas
+pub mod ForwardsMlidLemmas
+pub mod AllMaskLemmas

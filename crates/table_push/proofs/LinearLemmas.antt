@@ -82,7 +82,7 @@ block_leaves fabric stood left result path guid block entries below is stands go
 abbrev table_to : ℕ → ℕ → List ℕ → FabricState → FabricState
 table_to guid count table fabric = with_switches (on_switch guid (linear_to count table)) fabric
 
-keeps_on : (guid : ℕ) (change : SwitchState → SwitchState) → ((held : SwitchState) → (change held).node_guid ≡ held.node_guid)
+pub keeps_on : (guid : ℕ) (change : SwitchState → SwitchState) → ((held : SwitchState) → (change held).node_guid ≡ held.node_guid)
     → (other : ℕ) (held : SwitchState) → (on_switch guid change other held).node_guid ≡ held.node_guid
 keeps_on guid change keeps other held = by (guid == other)
   where
@@ -90,7 +90,7 @@ keeps_on guid change keeps other held = by (guid == other)
     by true = keeps held
     by false = refl
 
-on_twice : (guid : ℕ) (f g h : SwitchState → SwitchState) → ((held : SwitchState) → f (g held) ≡ h held) → (other : ℕ) (held : SwitchState)
+pub on_twice : (guid : ℕ) (f g h : SwitchState → SwitchState) → ((held : SwitchState) → f (g held) ≡ h held) → (other : ℕ) (held : SwitchState)
     → on_switch guid f other (on_switch guid g other held) ≡ on_switch guid h other held
 on_twice guid f g h each other held = by (guid == other)
   where
@@ -98,7 +98,7 @@ on_twice guid f g h each other held = by (guid == other)
     by true = each held
     by false = refl
 
-on_none : (guid : ℕ) (f : SwitchState → SwitchState) → ((held : SwitchState) → f held ≡ held) → (other : ℕ) (held : SwitchState)
+pub on_none : (guid : ℕ) (f : SwitchState → SwitchState) → ((held : SwitchState) → f held ≡ held) → (other : ℕ) (held : SwitchState)
     → on_switch guid f other held ≡ held
 on_none guid f each other held = by (guid == other)
   where

@@ -34,7 +34,7 @@ use Rattle.table_push.proofs.SeatLemmas.{IsSeated, is_no_switch, seated}
 use Rattle.smp_wire.proofs.PresentLemmas.{present_right}
 
 -- no node has so many ports that 0xFF is one
-few_ports : (nodes : List Node) (node number : ℕ) → list_all has_a_right_count nodes ≡ true → number ≤ option_map_or port_count (slice_get nodes node) 0
+pub few_ports : (nodes : List Node) (node number : ℕ) → list_all has_a_right_count nodes ≡ true → number ≤ option_map_or port_count (slice_get nodes node) 0
     → number ≤ 36
 few_ports nodes node number right within = by (slice_get nodes node) refl within
   where

@@ -1,6 +1,9 @@
 pub mod Fault
 pub mod Nodes
 pub mod Linear
+pub mod Masks
+pub mod MaskSteps
+pub mod TreeSteps
 pub mod Keys
 pub mod Pushes
 pub mod Ports

@@ -1,9 +1,9 @@
 //! What holds after every push. The functions do nothing; their clauses are the theorems.
 
-ghost use Rattle.table_push.specs.BroughtUpLaws.{BroughtUpForwardsByLid, PushesBringUp, PushesKeepTheEndPorts};
+ghost use Rattle.table_push.specs.BroughtUpLaws.{AllMasksAreThere, BroughtUpForwardsByLid, BroughtUpForwardsByMlid, MasksKeepWhatIsUp, PushesBringUp, PushesKeepTheEndPorts};
 ghost use Rattle.table_push.specs.Forget.{PushesForget, PushesReplace};
 ghost use Rattle.table_push.specs.SetUp.{EachPortIsServed, EachSwitchIsSetUp};
-ghost use Rattle.table_push.specs.Laws.{EverySwitchHasItsTable, PushesKeepTheGraph};
+ghost use Rattle.table_push.specs.Laws.{EverySwitchHasItsTable, MasksAreRead, PushesKeepTheGraph, SlicesAreTheirOwn, SlicesMakeAll, SlicesMakeTheWhole};
 
 /// After a push over the fabric of its graph every switch has the table of its own routes, and none is left out.
 pub fn every_switch_has_its_table()
@@ -29,6 +29,20 @@ pub fn brought_up_forwards_by_lid()
     ensures { BroughtUpForwardsByLid }
 {}
 
+/// A fabric that is brought up, and whose switches have the masks of the receivers of each multicast LID, forwards by
+/// multicast LID along the spanning tree: from each port of a channel adapter the bits of the masks lead to each other
+/// receiver, to no other port of a channel adapter, and never back to the port that sends.
+pub fn brought_up_forwards_by_mlid()
+    ensures { BroughtUpForwardsByMlid }
+{}
+
+/// A fabric that is brought up still is once its switches have all masks of some receivers, and then the masks of every
+/// switch of the graph are these.
+pub fn masks_keep_what_is_up()
+    ensures up { MasksKeepWhatIsUp }
+    ensures masks { AllMasksAreThere }
+{}
+
 /// Over the good fabric of the routes' graph, the three pushes, one after another, bring it up: each switch has its own
 /// linear table, each port of a channel adapter its LID and the keys that are given to that, and each port of a switch
 /// before one the full form of these keys. And they keep the end ports that the agents show.
@@ -42,4 +56,18 @@ pub fn pushes_bring_up()
 pub fn pushes_forget()
     ensures forget { PushesForget }
     ensures replace { PushesReplace }
+{}
+
+/// The masks of a switch have the bit of a port for a multicast LID exactly where a receiver is reached by that port.
+pub fn masks_are_read()
+    ensures { MasksAreRead }
+{}
+
+/// The slice of a partition is that of the receivers of its own multicast LIDs. So where masks are those of some
+/// receivers, and receivers change for one partition alone, a push of that slice makes the whole table that of the new
+/// ones: the fabric is the one to which all masks of the new ones were pushed.
+pub fn slices_are_of_the_whole()
+    ensures own { SlicesAreTheirOwn }
+    ensures whole { SlicesMakeTheWhole }
+    ensures all { SlicesMakeAll }
 {}

@@ -3,7 +3,8 @@
 //! [`push_ports`] sets up all ports and LinearFDBTop, [`push_keys`] writes the key tables of all end ports and of the
 //! ports of switches that they hang on, [`push_linear`] the linear forwarding tables of all switches. Nodes are reached by
 //! the paths that the sweep found, blocks are set whole, and each reply is compared with what was set: [`PushFault`] says
-//! why a push stops. [`push_all`] does all three: `specs/BroughtUp.antt` says what a fabric holds then, that it does is
+//! why a push stops. [`push_multicast`] writes the multicast forwarding tables of a partition, by who receives what is sent
+//! to each multicast LID. [`push_all`] does the first three: `specs/BroughtUp.antt` says what a fabric holds then, that it does is
 //! [`pushes_bring_up`], and that every packet goes by its LID then is [`brought_up_forwards_by_lid`], for routes that lead
 //! to each port ([`known_to_lead_home`]).
 //! The attributes are those of the IBA volume 1, chapter 14.
@@ -13,17 +14,23 @@ mod fault;
 mod keys;
 mod laws;
 mod linear;
+mod masks;
+mod multicast;
 mod ports;
 mod pushing;
+mod seats;
 mod setting;
 mod tops;
+mod trees;
 
 pub use crate::fault::PushFault;
 pub use crate::keys::push_keys;
 pub use crate::laws::{
-    brought_up_forwards_by_lid, brought_up_is_as_routed, every_switch_has_its_table,
-    pushes_bring_up, pushes_forget, pushes_keep_the_graph,
+    brought_up_forwards_by_lid, brought_up_forwards_by_mlid, brought_up_is_as_routed,
+    every_switch_has_its_table, masks_are_read, masks_keep_what_is_up, pushes_bring_up,
+    pushes_forget, pushes_keep_the_graph, slices_are_of_the_whole,
 };
 pub use crate::linear::push_linear;
+pub use crate::multicast::push_multicast;
 pub use crate::ports::push_ports;
 pub use crate::pushing::{known_to_lead_home, push_all};

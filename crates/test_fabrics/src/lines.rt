@@ -26,7 +26,7 @@ pub fn put_line(text: &mut Vec<u8>, parts: &[(&[u8], u16)], end: &[u8]) -> Resul
     put(text, end)
 }
 
-/// Adds a cable between two ports, each told by the beginning of its node's name, and the numbers of node and port.
+/// Adds a cable between two ports, each given by the beginning of its node's name, and the numbers of node and port.
 pub fn put_cable(text: &mut Vec<u8>, ends: [(&[u8], u8, u8); 2]) -> Result<(), Fail> {
     put(text, b"cable")?;
     for (kind, node, port) in ends {

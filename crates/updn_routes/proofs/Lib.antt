@@ -7,6 +7,7 @@ pub mod CircleLemmas
 pub mod OrderLemmas
 pub mod DistanceLemmas
 pub mod TreeLemmas
+pub mod SideLemmas
 pub mod PlacedLemmas
 pub mod TableLemmas
 pub mod TestLemmas

@@ -13,7 +13,7 @@ differs x [] i all less = absurd (let no_room : ⊥ = omega (arith, less) in no_
 differs x (y ∷ ys) zero all less = all.0
 differs x (y ∷ ys) (suc i) all less = differs x ys i all.1 (omega (arith, less))
 
-own : (xs : List ℕ) (i j : ℕ) → IsDistinct (λ a b. a == b) xs → i < length xs → j < length xs
+pub own : (xs : List ℕ) (i j : ℕ) → IsDistinct (λ a b. a == b) xs → i < length xs → j < length xs
     → get_or xs i 0 ≡ get_or xs j 0 → i ≡ j
 own [] i j apart il jl same = absurd (let no_room : ⊥ = omega (arith, il) in no_room)
 own (x ∷ xs) zero zero apart il jl same = refl

@@ -8,7 +8,7 @@ use Rattle.updn_routes.specs.Cabling.{is_cabling, is_next_to, is_walk, links_of,
 use Rattle.updn_routes.specs.Choice.{is_route}
 use Rattle.updn_routes.specs.Laws.{IsTreePort}
 use Rattle.updn_routes.specs.Order.{AreDistances}
-use Rattle.updn_routes.specs.Tree.{tree_port}
+use Rattle.updn_routes.specs.Tree.{tree_link, tree_port}
 use Rattle.updn_routes.proofs.CablingLemmas.{ends, goes, later_port, leads_next, row_rises}
 use Rattle.updn_routes.proofs.RouteLemmas.{step_first}
 
@@ -85,10 +85,13 @@ module _ (rows : List (List Link)) (is_first : ℕ → Bool) (depths : List ℕ)
   pub first_depth : (s : ℕ) → s < length rows → is_first s ≡ true → depth s ≡ 0
   first_depth s less is = let far = (right.each s less).none_shorter s [] is (eq-eqb s s refl) in omega (arith, far)
 
+  pub no_tree_link : (s : ℕ) → s < length rows → is_first s ≡ true → tree_link rows depths s ≡ None
+  no_tree_link s less is =
+      none_found (λ link. depth link.to + 1 == depth s) (links_of rows s)
+      (λ link. ne_eqb (depth link.to + 1) (depth s) (λ same. let none = first_depth s less is in omega (arith, same, none)))
+
   pub no_tree_port : (s : ℕ) → s < length rows → is_first s ≡ true → tree_port rows depths s ≡ None
-  no_tree_port s less is =
-      ap (option_map (λ link. link.port)) (none_found (λ link. depth link.to + 1 == depth s) (links_of rows s)
-      (λ link. ne_eqb (depth link.to + 1) (depth s) (λ same. let none = first_depth s less is in omega (arith, same, none))))
+  no_tree_port s less is = ap (option_map (λ link. link.port)) (no_tree_link s less is)
 
   record Parent (s : ℕ) : Type 0 where
     parent : ℕ
@@ -112,12 +115,19 @@ module _ (rows : List (List Link)) (is_first : ℕ → Bool) (depths : List ℕ)
           let same = more.4 in
           record { parent = t; beside = parts.0; nearer = omega (arith, near, far, same, long) }
 
+  link_found : (s : ℕ) → s < length rows → is_first s ≡ false → Found (λ t. depth t + 1 == depth s) (links_of rows s)
+  link_found s less off =
+      let up = parent_of s less off in
+      let good : ℕ → Bool = λ t. depth t + 1 == depth s in
+      found good (links_of rows s) (row_rises rows s cabling less) (good_next good up.parent (links_of rows s) up.beside (eq-eqb (depth up.parent + 1) (depth s) up.nearer))
+
+  pub link_of : (s : ℕ) → s < length rows → is_first s ≡ false → (link : Link) × (tree_link rows depths s ≡ Some link)
+  link_of s less off = let one = link_found s less off in (one.link, one.first)
+
   pub port_of : (s : ℕ) → s < length rows → is_first s ≡ false
       → (port : ℕ) × (tree_port rows depths s ≡ Some port) × IsTreePort rows depths s port
   port_of s less off =
-      let up = parent_of s less off in
-      let good : ℕ → Bool = λ t. depth t + 1 == depth s in
-      let one = found good (links_of rows s) (row_rises rows s cabling less) (good_next good up.parent (links_of rows s) up.beside (eq-eqb (depth up.parent + 1) (depth s) up.nearer)) in (
+      let one = link_found s less off in (
         one.link.port,
         ap (option_map (λ link. link.port)) one.first,
         record {

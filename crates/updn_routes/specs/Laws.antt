@@ -1,5 +1,6 @@
 -- What follows from the definitions alone: the statements of the laws of `src/laws.rt`.
-use Rattle.std.specs.Prelude.{ℕ, ◌≡◌, ◌≢◌, ◌==◌, ◌+◌, ◌*◌, ◌<◌, ◌≤◌, ◌&&◌, nat_lt, Bool, true, false, List, length, map, get_or, Option, Some, None}
+use Rattle.std.specs.Prelude.{ℕ, ◌≡◌, ◌≢◌, ◌↔◌, ◌==◌, ◌+◌, ◌*◌, ◌<◌, ◌≤◌, ◌&&◌, nat_lt, Bool, true, false}
+use Rattle.std.specs.Prelude.{List, length, map, get_or, Option, Some, None}
 use Rattle.std.specs.List.{list_all, IsDistinct}
 use Rattle.updn_routes.specs.declared.link.Link.{Link}
 use Rattle.updn_routes.specs.Cabling.{AllJoined, is_cabling, is_walk, leads, rises}
@@ -7,6 +8,7 @@ use Rattle.updn_routes.specs.Choice.{AllChosen, is_route}
 use Rattle.updn_routes.specs.Fabric.{HasRoutes, IsFabric}
 use Rattle.updn_routes.specs.Order.{AreDistances, IsDistance, IsOrder, is_first_root, place_of, precedes}
 use Rattle.updn_routes.specs.Places.{IsPlaced}
+use Rattle.updn_routes.specs.Sides.{IsSide, Side, above, back, is_behind, is_below, neighbour, parent}
 use Rattle.updn_routes.specs.Tree.{AreDepths, tree_port}
 use Rattle.updn_routes.specs.UpDown.{channel_numbers, goes_down, is_legal}
 use Rattle.updn_routes.specs.Waiting.{Channel, WaitsOver}
@@ -115,6 +117,53 @@ TheTreeLeadsToTheFirstRoot =
     (rows : List (List Link)) (guids roots depths : List ℕ)
     → is_cabling rows ≡ true → AreDepths rows guids roots depths
     → (s : ℕ) → s < length rows → IsInTheTree rows (is_first_root guids roots) depths s
+
+-- ---- the sides of the tree
+-- a switch is below itself and below a first root; what is below one that is below another is below that other; and what
+-- is below a switch, and is not that switch, is below one child of it
+pub record IsSided (rows : List (List Link)) (is_first : ℕ → Bool) (depths : List ℕ) : Type 0 where
+  pub meant : (s t : ℕ) → t < length rows
+      → (is_below rows depths s t ≡ true) ↔ ((hops : ℕ) × (above rows depths hops t ≡ Some s))
+  pub nearer : (s p : ℕ) → s < length rows → parent rows depths s ≡ Some p
+      → (p < length rows) × (get_or depths p 0 + 1 ≡ get_or depths s 0)
+  pub top : (s : ℕ) → s < length rows → (is_first s ≡ true) ↔ (parent rows depths s ≡ None)
+  pub first : (t : ℕ) → t < length rows → (first : ℕ) × (is_first first ≡ true) × (is_below rows depths first t ≡ true)
+  pub itself : (s : ℕ) → s < length rows → is_below rows depths s s ≡ true
+  pub further : (a b c : ℕ) → c < length rows → is_below rows depths a b ≡ true → is_below rows depths b c ≡ true
+      → is_below rows depths a c ≡ true
+  -- a switch is below one switch at most of each depth
+  pub one : (a b t : ℕ) → t < length rows → get_or depths a 0 ≡ get_or depths b 0
+      → is_below rows depths a t ≡ true → is_below rows depths b t ≡ true → a ≡ b
+  pub upward : (s p : ℕ) → s < length rows → parent rows depths s ≡ Some p → is_below rows depths s p ≡ false
+  pub child : (s t : ℕ) → t < length rows → is_below rows depths s t ≡ true → s ≢ t
+      → (c : ℕ) × (parent rows depths c ≡ Some s) × (is_below rows depths c t ≡ true)
+
+abbrev pub TheTreeHasSides : Type 0
+TheTreeHasSides =
+    (rows : List (List Link)) (guids roots depths : List ℕ)
+    → is_cabling rows ≡ true → AreDepths rows guids roots depths → IsSided rows (is_first_root guids roots) depths
+
+-- a switch's sides part the other switches: each is behind one of them; and for the neighbour on a side, the switch and all
+-- that is behind its other sides are behind the side that leads back
+pub record SidesPart (rows : List (List Link)) (depths : List ℕ) (s : ℕ) : Type 0 where
+  pub not_itself : (q : Side) → IsSide rows depths s q → is_behind rows depths s q s ≡ false
+  pub back_is : (n : Side) (far : ℕ) → IsSide rows depths s n → neighbour rows depths s n ≡ Some far
+      → IsSide rows depths far (back s n) × (is_behind rows depths far (back s n) s ≡ true)
+  pub onward : (q n : Side) (far t : ℕ) → t < length rows → IsSide rows depths s q → IsSide rows depths s n → q ≢ n
+      → neighbour rows depths s n ≡ Some far → is_behind rows depths s q t ≡ true
+      → is_behind rows depths far (back s n) t ≡ true
+  pub some : (t : ℕ) → t < length rows → t ≢ s
+      → (q : Side) × IsSide rows depths s q × (is_behind rows depths s q t ≡ true)
+  pub one : (q n : Side) (t : ℕ) → t < length rows → IsSide rows depths s q → IsSide rows depths s n
+      → is_behind rows depths s q t ≡ true → is_behind rows depths s n t ≡ true → q ≡ n
+
+-- where no two switches have one GUID, since then there is one first root
+abbrev pub SidesPartTheTree : Type 0
+SidesPartTheTree =
+    (rows : List (List Link)) (guids roots depths : List ℕ)
+    → is_cabling rows ≡ true → AreDepths rows guids roots depths
+    → IsDistinct (λ a b. a == b) guids → length guids ≡ length rows
+    → (s : ℕ) → s < length rows → SidesPart rows depths s
 
 -- ---- places
 -- places are below the number of switches, less exactly where the switch comes before, and no two switches have one

@@ -4,6 +4,7 @@ pub mod UpDown
 pub mod Choice
 pub mod Waiting
 pub mod Tree
+pub mod Sides
 pub mod Fabric
 pub mod Places
 pub mod Laws

@@ -5,6 +5,7 @@ ghost use Rattle.std.specs.List.{list_any};
 ghost use Rattle.updn_routes.specs.Cabling.{is_next_to};
 ghost use Rattle.updn_routes.specs.Order.{place_of};
 ghost use Rattle.updn_routes.specs.Routes.{AllReached, AllRouted, AreRoutes, IsFirstUnreached, carries, has_gap, home_of, is_gap, next_hop, number_of, order_of, port_towards, routes_with};
+ghost use Rattle.updn_routes.specs.Sides.{parent};
 ghost use Rattle.updn_routes.specs.Tree.{tree_port};
 ghost use Rattle.fabric_parts.specs.declared.limits.TheConstants.{SWITCHES};
 
@@ -79,6 +80,17 @@ impl SwitchRoutes {
             .iter()
             .find(|link| self.is_nearer(link.to, depth))
             .map(|link| link.port)
+    }
+
+    /// The switch that the tree port leads to; none for the first root.
+    pub fn parent(&self, switch: usize) -> Option<usize>
+        ensures { result ≡ parent self.now.rows self.now.depths switch }
+    {
+        let depth = self.depth_of(switch);
+        links_of(&self.rows, switch)
+            .iter()
+            .find(|link| self.is_nearer(link.to, depth))
+            .map(|link| link.to)
     }
 
     /// Whether the switch is one cable nearer to the first root than so many.

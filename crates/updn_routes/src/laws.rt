@@ -1,7 +1,7 @@
 //! What follows from the definitions of routes alone. Each function's contract is its law; it does nothing.
 
 ghost use Rattle.updn_routes.specs.Examples.{FourSwitchesMeetTheLaws, SevenSwitchesMeetTheLaws, TwoSwitchesMeetTheLaws};
-ghost use Rattle.updn_routes.specs.Laws.{ChoicesLeadHome, ChoicesThereAre, EveryFabricHasRoutes, JoinedSwitchesHaveDistances, NoCircleWaits, OneChoiceIsLeft, OneDistanceIsLeft, PlacesAreTheirOwn, PlacesKeepTheChoices, PlacesKeepTheOrder, PlacesKeepTheWalks, RanksAndGuidsOrder, TheTreeLeadsToTheFirstRoot, WaysDownComeFirst};
+ghost use Rattle.updn_routes.specs.Laws.{ChoicesLeadHome, ChoicesThereAre, EveryFabricHasRoutes, JoinedSwitchesHaveDistances, NoCircleWaits, OneChoiceIsLeft, OneDistanceIsLeft, PlacesAreTheirOwn, PlacesKeepTheChoices, PlacesKeepTheOrder, PlacesKeepTheWalks, RanksAndGuidsOrder, SidesPartTheTree, TheTreeHasSides, TheTreeLeadsToTheFirstRoot, WaysDownComeFirst};
 
 /// Where cables join all switches, each of them has a distance from the nearest of any given ones, as its rank
 /// from the roots and its depth from the first root; and it has one such distance only.
@@ -50,6 +50,17 @@ pub fn ways_down_come_first()
 /// to the first root, in as many steps as the switch is deep.
 pub fn the_tree_leads_to_the_first_root()
     ensures { TheTreeLeadsToTheFirstRoot }
+{}
+
+/// A switch lies below another in the spanning tree where the tree ports lead from it to the other: each lies below
+/// itself and the first root, and what lies below a switch, and is not that switch, lies below one child of it.
+///
+/// So, where no two switches have one GUID, the sides of a switch, towards its parent and towards each child, part
+/// the others: each other switch lies on one side; and whoever goes over the link on a side has the switch behind,
+/// with all that lies on its other sides.
+pub fn the_tree_has_sides()
+    ensures sided { TheTreeHasSides }
+    ensures parted { SidesPartTheTree }
 {}
 
 /// What is said of places holds of the switches that stand there: the order, the walks and their ports, and

@@ -8,8 +8,9 @@
 //! The cables between switches are rows of [`Link`]s, one row for each switch. `specs/Order.antt` says how far
 //! switches are from roots, and which of two comes before the other: a step is up where it goes to the one that
 //! does. `specs/UpDown.antt` says which walks are legal, `specs/Choice.antt` which port a switch chooses towards
-//! another, `specs/Tree.antt` by which port it is joined to the spanning tree of multicast, and
-//! `specs/Routes.antt` what routes answer. Laws over these definitions stand in `src/laws.rt`.
+//! another, `specs/Tree.antt` by which port it is joined to the spanning tree of multicast, `specs/Sides.antt` what
+//! lies on which side of it there, and `specs/Routes.antt` what routes answer. Laws over these definitions stand in
+//! `src/laws.rt`.
 #![tactic(auto)]
 
 mod answer;
@@ -32,7 +33,8 @@ pub use crate::laws::{
     choices_lead_home, every_fabric_has_routes, joined_switches_have_distances, no_circle_waits,
     one_choice_is_left, places_keep_order_and_walks, ranks_and_guids_order,
     the_four_switch_fabric_meets_the_laws, the_seven_switch_fabric_meets_the_laws,
-    the_tree_leads_to_the_first_root, the_two_switch_fabric_meets_the_laws, ways_down_come_first,
+    the_tree_has_sides, the_tree_leads_to_the_first_root, the_two_switch_fabric_meets_the_laws,
+    ways_down_come_first,
 };
 pub use crate::link::Link;
 pub use crate::routing::{routes, routes_over};

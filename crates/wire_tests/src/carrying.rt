@@ -3,6 +3,7 @@
 mod by_chance;
 mod chain;
 mod fixtures;
+mod groups;
 
 ghost use Rattle.std.specs.Prelude.{◌≤◌, length};
 

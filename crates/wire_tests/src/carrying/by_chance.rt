@@ -11,28 +11,28 @@ use topo_file::{Topology, read};
 
 /// What a port holds: one key, or 0 for none, and what it enforces.
 #[derive(Clone, Copy, Default)]
-struct Held {
-    key: u16,
-    inbound: bool,
-    outbound: bool,
+pub struct Held {
+    pub key: u16,
+    pub inbound: bool,
+    pub outbound: bool,
 }
 
 /// The same fabric in plain lists. Three switches of 8 ports stand first, and then four adapters of one port.
 #[derive(Drop)]
-struct Plain {
-    cables: Vec<Cable>,
+pub struct Plain {
+    pub cables: Vec<Cable>,
     // The entries of LIDs 0 to 6 of each switch.
     entries: Vec<u8>,
     // Ports 0 to 8 of each node.
     ports: Vec<Held>,
 }
 
-fn matches(a: u16, b: u16) -> bool {
+pub fn matches(a: u16, b: u16) -> bool {
     a % 0x8000 != 0 && a % 0x8000 == b % 0x8000 && (a >= 0x8000 || b >= 0x8000)
 }
 
 impl Plain {
-    fn held(&self, at: PortRef) -> Held {
+    pub fn held(&self, at: PortRef) -> Held {
         let place = at.node.saturating_mul(9).saturating_add(at.port.into());
         self.ports.get(place).copied().unwrap_or_default()
     }
@@ -84,13 +84,13 @@ impl Plain {
 
 /// On which switch switch 2 and each adapter hangs, and whether switches 1 and 2 are cabled to one another.
 #[derive(Clone, Copy)]
-struct Shape {
-    parent: u8,
-    homes: [u8; 4],
+pub struct Shape {
+    pub parent: u8,
+    pub homes: [u8; 4],
     has_ring: bool,
 }
 
-fn some_shape(chance: &mut Chance) -> Shape {
+pub fn some_shape(chance: &mut Chance) -> Shape {
     Shape {
         parent: chance.below(2),
         homes: [0, chance.below(3), chance.below(3), chance.below(3)],
@@ -128,7 +128,7 @@ fn text_of(alloc: Global, shape: &Shape) -> Result<Vec<u8>, Fail> {
 }
 
 /// The path from h0 to a switch.
-fn path_to(shape: &Shape, switch: u8) -> &'static [u8] {
+pub fn path_to(shape: &Shape, switch: u8) -> &'static [u8] {
     match (switch, shape.parent) {
         (0, _) => &[1],
         (1, _) => &[1, 1],
@@ -140,7 +140,7 @@ fn path_to(shape: &Shape, switch: u8) -> &'static [u8] {
 /// What ports hold, and what packets travel under.
 const HELD: [u16; 5] = [0x8001, 0x8001, 0x0001, 0x8002, 0];
 
-const KEYS: [u16; 3] = [0x0001, 0x8001, 0x8002];
+pub const KEYS: [u16; 3] = [0x0001, 0x8001, 0x8002];
 
 fn some_held(chance: &mut Chance) -> Held {
     Held {
@@ -196,7 +196,7 @@ fn fill_entries(
     Ok(())
 }
 
-fn fill_switches(
+pub fn fill_switches(
     fabric: &mut Fabric,
     shape: &Shape,
     chance: &mut Chance,
@@ -230,7 +230,7 @@ fn fill_adapter(
     put_keys(fabric, &path, 0, &key.to_be_bytes())
 }
 
-fn fill_adapters(
+pub fn fill_adapters(
     alloc: Global,
     fabric: &mut Fabric,
     shape: &Shape,
@@ -273,16 +273,16 @@ fn send(
 /// The GUIDs of the ports of adapters 3 to 6, by their places over 4.
 const GUIDS: [u64; 4] = [0x211, 0x221, 0x231, 0x201];
 
-fn guid_of(node: usize) -> u64 {
+pub fn guid_of(node: usize) -> u64 {
     GUIDS[node % 4]
 }
 
-fn topology_of(alloc: Global, shape: &Shape) -> Result<Topology, Fail> {
+pub fn topology_of(alloc: Global, shape: &Shape) -> Result<Topology, Fail> {
     let text = text_of(alloc, shape)?;
     Ok(read(alloc, &text).or(Err("the topology"))?)
 }
 
-fn plain_of(alloc: Global, topology: &Topology) -> Result<Plain, Fail> {
+pub fn plain_of(alloc: Global, topology: &Topology) -> Result<Plain, Fail> {
     Ok(Plain {
         cables: Vec::from_slice(alloc, topology.cables()).or(Err("memory"))?,
         entries: Vec::new(alloc),

@@ -9,7 +9,7 @@ use Rattle.fabric_wire.proofs.carrying.receiver.Goals as goal
 pub returns-in_err-last-clause-none : goal.returns-in_err-last-clause-none
 returns-in_err-last-clause-none c =
     λ none at port is. c.end_of_way.ensures.none c.in_err-last.was at
-    (way_ends c.args.nodes.now c.args.cabling.now.cables c.args.packet.now c.args.from c.in_ok-first.first at port
+    (way_ends c.args.nodes.now c.args.cabling.now.cables c.args.packet.now c.requires.unicast c.args.from c.in_ok-first.first at port
     (sym c.far_end.ensures ∙ c.in_ok-first.was) is)
 
 pub returns-in_err-port-clause-none : goal.returns-in_err-port-clause-none
@@ -17,7 +17,7 @@ returns-in_err-port-clause-none c =
     λ none at port is.
     none-some port
     (c.in_err-port.ensures
-    ∙ at_end c.args.nodes.now c.args.cabling.now.cables c.args.packet.now c.args.from c.in_ok-first.first at port c.in_ok-last.last
+    ∙ at_end c.args.nodes.now c.args.cabling.now.cables c.args.packet.now c.requires.unicast c.args.from c.in_ok-first.first at port c.in_ok-last.last
     (sym c.far_end.ensures ∙ c.in_ok-first.was) c.in_ok-last.ensures.some is)
 
 pub returns-else-accept-clause-none : goal.returns-else-accept-clause-none
@@ -25,6 +25,6 @@ returns-else-accept-clause-none c =
     λ none at port is.
     let same = same_Some c.in_ok-port.port.now port
     (c.in_ok-port.ensures
-    ∙ at_end c.args.nodes.now c.args.cabling.now.cables c.args.packet.now c.args.from c.in_ok-first.first at port c.in_ok-last.last
+    ∙ at_end c.args.nodes.now c.args.cabling.now.cables c.args.packet.now c.requires.unicast c.args.from c.in_ok-first.first at port c.in_ok-last.last
     (sym c.far_end.ensures ∙ c.in_ok-first.was) c.in_ok-last.ensures.some is) in
     false≢true (c.if-accept.ensures ∙ ap (λ (p : AdapterState). accepts_packet p c.args.packet.now) same ∙ is.accepts)

@@ -1,4 +1,4 @@
-use Rattle.packet_trace.proofs.DeliveryLemmas.{adapters_accept}
+use Rattle.packet_trace.proofs.LawLemmas.{adapters_accept}
 use Rattle.packet_trace.proofs.laws.adapters_accept.Goals as goal
 
 pub returns : goal.returns

@@ -1,4 +1,4 @@
-use Rattle.packet_trace.proofs.DeliveryLemmas.{traces_tell_deliveries}
+use Rattle.packet_trace.proofs.LawLemmas.{traces_tell_deliveries}
 use Rattle.packet_trace.proofs.laws.traces_tell_deliveries.Goals as goal
 
 pub returns : goal.returns

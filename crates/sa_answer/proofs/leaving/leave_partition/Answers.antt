@@ -14,4 +14,4 @@ returns-clause-next c =
 pub returns-clause-changed : goal.returns-clause-changed
 returns-clause-changed c =
     c.leave.ensures.changed (ports_of c.args.kept.now) (λ guid told fits post. search rules) (λ guid told fits post. search rules)
-    (can_be_left (ports_of c.args.kept.now) c.args.partition.now c.requires.sound).kept c.requires.lids c.requires.own
+    c.requires.lids c.requires.own

@@ -1,4 +1,4 @@
-use Rattle.std.proofs.Common.{◌≡◌, nat_eq, subst, sym, Some}
+use Rattle.std.proofs.Common.{◌≡◌, ◌∙◌, nat_eq, subst, sym, Some}
 use Rattle.indexmap.specs.IndexMap.{get}
 use Rattle.packet_ways.specs.Deliveries.{guid_at}
 use Rattle.smp_wire.specs.FabricState.{FabricState}
@@ -14,7 +14,7 @@ returns c =
       | in-Some+in_ok-at+in_ok-push w ↦ λ port sends.
           rw (w.deliveries-is, w.in_ok-push.ensures.items, c.new-deliveries.ensures.items, w.in_ok-at.ensures, w.port_guid.ensures, ← c.self.view_is)
           (is_delivered fabric (get nat_eq c.self.inside.adapter_ports) port c.args.packet.now c.args.from w.in-Some.receiver.now
-          c.self.invariant.found (subst (λ (state : FabricState). guid_at state.nodes c.args.from ≡ Some port) (sym c.self.view_is) sends) (rw (← c.deref.ensures.value) w.in-Some.ensures.some))
+          (sym c.is_multicast.ensures ∙ c.if-is_multicast.false) c.self.invariant.found (subst (λ (state : FabricState). guid_at state.nodes c.args.from ≡ Some port) (sym c.self.view_is) sends) (rw (← c.deref.ensures.value) w.in-Some.ensures.some))
       | in_default w ↦ λ port sends.
           rw (w.deliveries-is, c.new-deliveries.ensures.items, ← c.self.view_is)
           (reaches_nobody fabric (get nat_eq c.self.inside.adapter_ports) port c.args.packet.now c.args.from

@@ -1,4 +1,4 @@
-use Rattle.std.proofs.Common.{◌≡◌, ◌<◌, ◌∙◌, length, sym, subst, true, List, Option}
+use Rattle.std.proofs.Common.{◌≡◌, sym, subst, true, List, Option}
 use Rattle.fabric_parts.specs.declared.cable.PortRef.{PortRef}
 use Rattle.fabric_wire.specs.Cabling.{has_place}
 use Rattle.fabric_wire.proofs.RowLemmas.{places_alike, row_within, rows_put}

@@ -18,7 +18,7 @@ returns-then-not-names_base-clause-next g c ports tells kept =
     not_named ports leave c.args.self.now other (record { own = c.requires.own; settled = c.requires.settled; kept = kept })
 
 pub returns-then-not-names_base-clause-changed : goal.returns-then-not-names_base-clause-changed
-returns-then-not-names_base-clause-changed g c ports tells adapters kept lids own = sym (unchanged ports c.args.self.now)
+returns-then-not-names_base-clause-changed g c ports tells adapters lids own = sym (unchanged ports c.args.self.now)
 
 pub returns-in_default-clause-next : goal.returns-in_default-clause-next
 returns-in_default-clause-next g c ports tells kept =
@@ -29,7 +29,7 @@ returns-in_default-clause-next g c ports tells kept =
     (record { own = c.requires.own; settled = c.requires.settled; kept = kept })
 
 pub returns-in_default-clause-changed : goal.returns-in_default-clause-changed
-returns-in_default-clause-changed g c ports tells adapters kept lids own = sym (unchanged ports c.args.self.now)
+returns-in_default-clause-changed g c ports tells adapters lids own = sym (unchanged ports c.args.self.now)
 
 pub leave_slot-changes-requires-clause-settled : goal.leave_slot-changes-requires-clause-settled
 leave_slot-changes-requires-clause-settled g c =
@@ -90,7 +90,7 @@ returns-then-is_none-clause-next g c ports tells kept =
     (record { own = c.requires.own; settled = c.requires.settled; kept = kept }))
 
 pub returns-then-is_none-clause-changed : goal.returns-then-is_none-clause-changed
-returns-then-is_none-clause-changed g c ports tells adapters kept lids own =
+returns-then-is_none-clause-changed g c ports tells adapters lids own =
     let leave = c.args.leave.now in
     let slots = c.self.inside.slots.items in
     let i = c.in-Some.place in
@@ -125,7 +125,7 @@ returns-else-is_none-clause-next g c ports tells kept =
     (record { own = c.requires.own; settled = c.requires.settled; kept = kept }))
 
 pub returns-else-is_none-clause-changed : goal.returns-else-is_none-clause-changed
-returns-else-is_none-clause-changed g c ports tells adapters kept lids own =
+returns-else-is_none-clause-changed g c ports tells adapters lids own =
     let leave = c.args.leave.now in
     let slots = c.self.inside.slots.items in
     let i = c.in-Some.place in

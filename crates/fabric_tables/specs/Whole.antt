@@ -1,0 +1,57 @@
+-- Two multicast forwarding tables, each once as a whole text beside the parts that make it.
+use Rattle.std.specs.Prelude.{ℕ, ◌≡◌, ◌-◌, List, [], ◌∷◌, ◌++◌, codes, length, replicate}
+use Rattle.agent_rules.specs.PowerUp.{switch_info_at_power_up}
+use Rattle.agent_rules.specs.declared.link.PortLink.TheVariants.{Cabled, Internal}
+use Rattle.agent_rules.specs.declared.power_up.TheConstants.{MULTICAST_TABLE}
+use Rattle.fabric_parts.specs.declared.node_type.NodeType.TheVariants as node_type
+use Rattle.fabric_tables.specs.Multicast.{table_text}
+use Rattle.subnet_model.specs.declared.subnet_port.SubnetPort.{SubnetPort}
+use Rattle.switch_model.specs.SwitchState.{SwitchState, ports_from}
+
+-- the end port of a switch
+abbrev pub end_port : List ℕ → (guid lid num_ports : ℕ) → SubnetPort
+end_port name guid lid num_ports =
+    record {
+      lid = lid;
+      guid = guid;
+      node_name = name;
+      node_guid = guid;
+      num_ports = num_ports;
+      number = 0;
+      node_type = node_type.Switch;
+      keys = [];
+    }
+
+-- a switch of so many ports with these masks of its first ports; those of the LIDs behind them are 0
+abbrev pub switch_with : (guid num_ports : ℕ) → List ℕ → SwitchState
+switch_with guid num_ports bits =
+    record {
+      node_guid = guid;
+      description = [];
+      info = switch_info_at_power_up;
+      ports = ports_from 0 (Internal ∷ replicate num_ports Cabled);
+      linear = [];
+      masks = (bits ++ replicate (MULTICAST_TABLE - length bits) 0) ∷ replicate 2 (replicate MULTICAST_TABLE 0);
+    }
+
+-- a text and the end of its line
+abbrev pub ended : List ℕ → List ℕ
+ended text = text ++ 10 ∷ []
+
+pub record TablesAreWhole : Type 0 where
+  pub four_ports : table_text (1 ∷ 3 ∷ []) (end_port (codes "B") 0x20 3 4) (switch_with 0x20 4 (0b01100 ∷ 0 ∷ 0b01010 ∷ []))
+      ≡ ended (codes "Multicast mlids [0xc000-0xc3ff] of switch DR path slid 0; dlid 0; 0,1,3 guid 0x0000000000000020 (B):")
+      ++ ended (codes "     Ports: 0 1 2 3 4 ")
+      ++ ended (codes " MLid")
+      ++ ended (codes "0xc000          x x   ")
+      ++ ended (codes "0xc002        x   x   ")
+      ++ ended (codes "2 valid mlids dumped ")
+  -- a bit of a port that the switch does not have counts for nothing
+  pub twelve_ports : table_text (1 ∷ []) (end_port (codes "A") 0x10 2 12) (switch_with 0x10 12 (0b10000000000000 ∷ 0b11010000000101 ∷ []))
+      ≡ ended (codes "Multicast mlids [0xc000-0xc3ff] of switch DR path slid 0; dlid 0; 0,1 guid 0x0000000000000010 (A):")
+      ++ ended (codes "            0                   1     ")
+      ++ ended (codes "     Ports: 0 1 2 3 4 5 6 7 8 9 0 1 2 ")
+      ++ ended (codes " MLid")
+      ++ ended (codes "0xc001      x   x               x   x ")
+      ++ ended (codes "1 valid mlids dumped ")
+  pub no_port : table_text [] (end_port (codes "A") 0x10 2 4) (switch_with 0x10 4 (0 ∷ 0b100000 ∷ [])) ≡ []

@@ -1,8 +1,0 @@
-use Rattle.std.proofs.Common.{◌≡◌, ◌+◌, ◌-◌, ◌*◌, ◌++◌, length}
-use Rattle.packet_trace.specs.Trace.{steps_from, steps_of}
-use Rattle.packet_trace.proofs.trace.steps.Given as goal
-
-abbrev pub invariant-loop-hop : goal.invariant-loop-hop
-invariant-loop-hop l =
-    steps_of l.fabric l.packet l.fn.first
-    ≡ l.steps.items ++ steps_from l.fabric l.packet (2 * length l.fabric.cables + 1 - l._hop) l.steps.items l.here

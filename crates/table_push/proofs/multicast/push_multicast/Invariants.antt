@@ -1,0 +1,14 @@
+use Rattle.std.proofs.Common.{◌≡◌, Some}
+use Rattle.smp_wire.specs.FabricState.{FabricState}
+use Rattle.smp_wire.specs.Good.{IsGood}
+use Rattle.sweep.specs.OfFabric.{IsGraphOf}
+use Rattle.table_push.specs.Masks.{masks_before, receives_of}
+use Rattle.table_push.specs.Nodes.{with_switches}
+use Rattle.table_push.specs.Pushes.{Stands}
+use Rattle.table_push.proofs.multicast.push_multicast.Given as goal
+
+-- the slices of the first switches are written
+abbrev pub invariant-loop-place : goal.invariant-loop-place
+invariant-loop-place g l =
+    (fabric : FabricState) → g.W.SmpWire.fabric l.fn.wire ≡ Some fabric → IsGraphOf l.fn.routes.graph fabric → IsGood fabric
+    → Stands (g.W.SmpWire.fabric l.wire) fabric (with_switches (masks_before l.fn.routes l.fn.partition (receives_of l.fn.receivers) l.place) fabric)

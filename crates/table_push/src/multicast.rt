@@ -1,0 +1,103 @@
+//! Multicast forwarding tables.
+
+ghost use Rattle.std.specs.Prelude.{ℕ, ◌≡◌, ◌≤◌, ◌<◌, ◌+◌, ◌*◌, length};
+ghost use Rattle.std.specs.Option.{ForSome};
+ghost use Rattle.agent_rules.specs.Good.{IsTable};
+ghost use Rattle.agent_rules.specs.declared.power_up.TheConstants.{MULTICAST_TABLE};
+ghost use Rattle.attr_tables.specs.Blocks.{word_bytes};
+ghost use Rattle.smp_wire.specs.Good.{IsGood};
+ghost use Rattle.sweep.specs.OfFabric.{IsGraphOf};
+ghost use Rattle.table_push.specs.Masks.{masks_pushed, receives_of, set_slice};
+ghost use Rattle.table_push.specs.Nodes.{on_switch, with_switches};
+ghost use Rattle.table_push.specs.Pushes.{LeadsToSwitch, Leaves};
+
+use crate::fault::PushFault;
+use crate::masks::POSITIONS;
+use crate::seats::bits_of_seats;
+use crate::setting::set;
+use crate::trees::{blocks_of, masks_along, tree_of};
+use attr_tables::{SmpAttribute, WORDS_PER_BLOCK, WordBlock};
+use smp_wire::SmpWire;
+use subnet_model::GroupReceiver;
+use updn_routes::Routes;
+
+/// Writes the slice of a partition, 32 multicast LIDs, of the multicast forwarding tables of all switches: for each of these
+/// LIDs the ports that lead, along the spanning tree, to its receivers. Receivers of other multicast LIDs are passed over.
+///
+/// Over a wire that stands for the graph's fabric these masks stand there then, and all else is as it was.
+pub fn push_multicast<W: SmpWire>(
+    wire: &mut W,
+    routes: &Routes,
+    partition: u16,
+    receivers: &[GroupReceiver],
+) -> Result<(), PushFault>
+    requires { 32 * partition + 32 ≤ MULTICAST_TABLE }
+    ensures { ForSome (W.fabric wire.old) (λ fabric. IsGraphOf routes.now.graph fabric → IsGood fabric
+        → Leaves result (W.fabric wire.new) fabric (masks_pushed routes.now partition (receives_of receivers.now) fabric)) }
+{
+    let graph = routes.graph();
+    graph.known_graph();
+    let switches = graph.switches();
+    routes.known_of_graph();
+    routes.between().known_routes();
+    let seats = bits_of_seats(routes, partition, receivers);
+    let tree = tree_of(routes);
+    let masks = masks_along(&tree, &seats);
+    let mut transaction_id = 0;
+    for place in 0..switches.len() {
+        let blocks = blocks_of(&masks, place);
+        match set_slice(
+            wire,
+            &mut transaction_id,
+            switches[place].path.as_slice(),
+            partition,
+            &blocks,
+        ) {
+            Ok(()) => {}
+            Err(fault) => return Err(fault),
+        }
+    }
+    Ok(())
+}
+
+/// Sets the slice of a partition at the switch at the end of a path, position by position.
+fn set_slice<W: SmpWire>(
+    wire: &mut W,
+    transaction_id: &mut u64,
+    path: &[u8],
+    partition: u16,
+    blocks: &[[u16; WORDS_PER_BLOCK]; POSITIONS],
+) -> Result<(), PushFault>
+    requires path { length path.now ≤ 63 }
+    requires partition { partition < 32 }
+    ensures { ForSome (W.fabric wire.old) (λ fabric. (guid : ℕ) → IsGood fabric → LeadsToSwitch fabric path.now guid
+        → Leaves result (W.fabric wire.new) fabric (with_switches (on_switch guid (set_slice partition blocks.now)) fabric)) }
+{
+    for position in 0..POSITIONS {
+        let masks = block_bytes(&blocks[position]);
+        // The position stands in the first 4 bits, the block in the last 9.
+        let modifier = position as u32 * 0x1000_0000 + partition as u32;
+        match set(
+            wire,
+            transaction_id,
+            SmpAttribute::MulticastForwardingTable,
+            modifier,
+            path,
+            &masks,
+        ) {
+            Ok(()) => {}
+            Err(fault) => return Err(fault),
+        }
+    }
+    Ok(())
+}
+
+/// The masks of a block, as an attribute.
+fn block_bytes(words: &[u16; WORDS_PER_BLOCK]) -> [u8; 64]
+    ensures bytes { result ≡ word_bytes words.now }
+    ensures words { IsTable 32 65536 words.now }
+{
+    let mut bytes = [0; 64];
+    WordBlock { words: *words }.write(&mut bytes);
+    bytes
+}

@@ -1,0 +1,90 @@
+//! Where receivers of multicast LIDs hang.
+
+ghost use Rattle.std.specs.Prelude.{◌≡◌, ◌<◌, IfSome, replicate};
+ghost use Rattle.table_push.specs.MaskSteps.{AreHanging, adapter_home, seat_in, slot_in};
+
+use crate::masks::port_bit;
+use attr_tables::WORDS_PER_BLOCK;
+use fabric_parts::{FIRST_MULTICAST_LID, PortRef, SWITCHES};
+use subnet_model::GroupReceiver;
+use updn_routes::Routes;
+
+/// The place of a receiver's multicast LID in a slice, and where it hangs.
+#[derive(Clone, Copy, Debug, PartialEq, Eq)]
+pub(crate) struct Seat {
+    pub(crate) slot: usize,
+    pub(crate) home: PortRef,
+}
+
+/// For each multicast LID of a slice, where its receivers hang.
+#[derive(Debug, Drop)]
+pub(crate) struct SeatBits {
+    /// For each switch the bits of its ports.
+    pub(crate) ports: [[u64; SWITCHES]; WORDS_PER_BLOCK],
+    /// The bits of the switches.
+    pub(crate) switches: [u64; WORDS_PER_BLOCK],
+}
+
+/// Where the receivers of the multicast LIDs of a slice hang.
+pub(crate) fn bits_of_seats(
+    routes: &Routes,
+    partition: u16,
+    receivers: &[GroupReceiver],
+) -> SeatBits
+    requires { partition < 32 }
+    ensures { AreHanging routes.now partition receivers.now result.ports result.switches }
+{
+    let mut ports = no_ports();
+    let mut switches = [0; WORDS_PER_BLOCK];
+    for index in 0..receivers.len() {
+        match seat_of(routes, partition, &receivers[index]) {
+            Some(seat) => {
+                ports[seat.slot][seat.home.node] |= port_bit(Some(seat.home.port));
+                switches[seat.slot] |= 1 << seat.home.node;
+            }
+            None => {}
+        }
+    }
+    SeatBits { ports, switches }
+}
+
+/// No port of any switch.
+pub(crate) fn no_ports() -> [[u64; SWITCHES]; WORDS_PER_BLOCK]
+    ensures { result ≡ replicate 32 (replicate 64 0) }
+{
+    [[0; SWITCHES]; WORDS_PER_BLOCK]
+}
+
+/// The seat of a receiver, if its multicast LID is of the slice and an adapter's port has its LID.
+#[tactic(auto, using(crate::proofs::SeatBitLemmas::seat_low))]
+fn seat_of(routes: &Routes, partition: u16, one: &GroupReceiver) -> Option<Seat>
+    requires { partition < 32 }
+    ensures seat { result ≡ seat_in routes.now partition one.now }
+    ensures low { IfSome result (λ seat. (seat.slot < 32) × (seat.home.node < 64)) }
+{
+    routes.between().known_routes();
+    let slot = slot_of(partition, one.mlid)?;
+    let home = adapter_home(routes, one.lid)?;
+    Some(Seat { slot, home })
+}
+
+/// The place of a multicast LID in the slice of a partition.
+fn slot_of(partition: u16, mlid: u16) -> Option<usize>
+    requires { partition < 32 }
+    ensures { result ≡ slot_in partition mlid }
+{
+    let first = FIRST_MULTICAST_LID + 32 * partition;
+    if first <= mlid && mlid < first + 32 {
+        Some((mlid - first) as usize)
+    } else {
+        None
+    }
+}
+
+/// The port of a switch on which an adapter's port with that LID hangs.
+fn adapter_home(routes: &Routes, lid: u16) -> Option<PortRef>
+    ensures { result ≡ adapter_home routes.now.between.homes lid }
+{
+    let home = routes.between().home_of(lid)?;
+    if home.port == 0 { None } else { Some(home) }
+}

@@ -1,0 +1,164 @@
+//! What the spanning tree tells of each switch, and the masks that follow.
+
+ghost use Rattle.std.specs.Prelude.{ℕ, ◌≡◌, ◌<◌, None, bit_or, get_or, length, map, option_map};
+ghost use Rattle.table_push.specs.MaskSteps.{AreBits, is_that_port};
+ghost use Rattle.table_push.specs.Masks.{tree_end};
+ghost use Rattle.table_push.specs.TreeSteps.{AreSpread, IsBelowSet, IsLow, IsParent, IsSpread, IsTree, blocks_of, where_meets};
+
+use crate::masks::{POSITIONS, is_below, port_bit, tree_end, words_at};
+use crate::seats::{SeatBits, no_ports};
+use attr_tables::WORDS_PER_BLOCK;
+use fabric_parts::SWITCHES;
+use updn_routes::Routes;
+
+/// What the tree tells of each switch, by its place.
+#[derive(Debug, Drop)]
+pub(crate) struct Tree {
+    /// The bits of the switches that are below it, and of itself.
+    pub(crate) below: [u64; SWITCHES],
+    /// The bits of all other places.
+    pub(crate) outside: [u64; SWITCHES],
+    /// The switch that its tree port leads to.
+    pub(crate) parents: [Option<usize>; SWITCHES],
+    /// The bit of its tree port.
+    pub(crate) ups: [u64; SWITCHES],
+    /// The bit of the port at the other end of the cable there.
+    pub(crate) ends: [u64; SWITCHES],
+}
+
+/// What the tree of these routes tells.
+pub(crate) fn tree_of(routes: &Routes) -> Tree
+    ensures { IsTree routes.now result 64 }
+{
+    let mut tree = Tree {
+        below: [0; SWITCHES],
+        outside: [0; SWITCHES],
+        parents: [None; SWITCHES],
+        ups: [0; SWITCHES],
+        ends: [0; SWITCHES],
+    };
+    for switch in 0..SWITCHES {
+        let below = below_of(routes, switch);
+        tree.below[switch] = below;
+        tree.outside[switch] = !below;
+        tree.parents[switch] = parent_of(routes, switch);
+        tree.ups[switch] = port_bit(routes.between().tree_port(switch));
+        tree.ends[switch] = end_bit(routes, switch);
+    }
+    tree
+}
+
+/// The bits of the switches that are below one, and of itself.
+fn below_of(routes: &Routes, switch: usize) -> u64
+    ensures { IsBelowSet routes.now switch result }
+{
+    let mut bits = 0;
+    for other in 0..SWITCHES {
+        if is_below(routes, switch, other) {
+            bits |= 1 << other;
+        }
+    }
+    bits
+}
+
+/// The switch that the tree port of a switch leads to.
+fn parent_of(routes: &Routes, switch: usize) -> Option<usize>
+    ensures low { IsLow result }
+    ensures is { IsParent routes.now switch result }
+{
+    match routes.between().parent(switch) {
+        Some(parent) => {
+            if parent < SWITCHES {
+                Some(parent)
+            } else {
+                None
+            }
+        }
+        None => None,
+    }
+}
+
+/// The bit of the port at the other end of the cable at a switch's tree port.
+fn end_bit(routes: &Routes, switch: usize) -> u64
+    ensures { AreBits result (is_that_port (option_map (λ at. at.port) (tree_end routes.now switch))) }
+{
+    match tree_end(routes, switch) {
+        Some(at) => port_bit(Some(at.port)),
+        None => 0,
+    }
+}
+
+/// The masks of each multicast LID of a slice, for each switch.
+pub(crate) fn masks_along(tree: &Tree, seats: &SeatBits) -> [[u64; SWITCHES]; WORDS_PER_BLOCK]
+    requires { (c : ℕ) → c < 64 → IsLow (get_or tree.now.parents c None) }
+    ensures long { length result ≡ 32 }
+    ensures spread { AreSpread tree.now seats.now.ports seats.now.switches 32 result }
+{
+    let mut masks = no_ports();
+    for slot in 0..WORDS_PER_BLOCK {
+        masks[slot] = masks_of(tree, &seats.ports[slot], seats.switches[slot]);
+    }
+    masks
+}
+
+/// The masks of a multicast LID, for each switch.
+fn masks_of(tree: &Tree, row: &[u64; SWITCHES], switches: u64) -> [u64; SWITCHES]
+    requires { (c : ℕ) → c < 64 → IsLow (get_or tree.now.parents c None) }
+    ensures long { length result ≡ 64 }
+    ensures spread { IsSpread tree.now row.now switches result }
+{
+    let mut masks = with_ups(tree, row, switches);
+    for switch in 0..SWITCHES {
+        match tree.parents[switch] {
+            Some(parent) => {
+                masks[parent] |= where_meets(switches, tree.below[switch], tree.ends[switch]);
+            }
+            None => {}
+        }
+    }
+    masks
+}
+
+/// The bits of the tree ports, where receivers hang outside of what is below, beside those of a row.
+fn with_ups(tree: &Tree, row: &[u64; SWITCHES], switches: u64) -> [u64; SWITCHES]
+    ensures long { length result ≡ 64 }
+    ensures ups { (s : ℕ) → s < 64 → get_or result s 0
+        ≡ bit_or (get_or row.now s 0) (where_meets switches (get_or tree.now.outside s 0) (get_or tree.now.ups s 0)) }
+{
+    let mut masks = [0; SWITCHES];
+    for switch in 0..SWITCHES {
+        masks[switch] = row[switch] | where_meets(switches, tree.outside[switch], tree.ups[switch]);
+    }
+    masks
+}
+
+/// These bits, if some switch of the set is marked.
+fn where_meets(switches: u64, set: u64, bits: u64) -> u64
+    ensures { result ≡ where_meets switches set bits }
+{
+    if switches & set != 0 { bits } else { 0 }
+}
+
+/// The blocks of a switch's masks, by positions.
+pub(crate) fn blocks_of(
+    masks: &[[u64; SWITCHES]; WORDS_PER_BLOCK],
+    place: usize,
+) -> [[u16; WORDS_PER_BLOCK]; POSITIONS]
+    requires { place < 64 }
+    ensures { result ≡ blocks_of masks.now place }
+{
+    let bits = bits_of(masks, place);
+    [words_at(&bits, 0), words_at(&bits, 1), words_at(&bits, 2)]
+}
+
+/// The masks of a switch.
+fn bits_of(masks: &[[u64; SWITCHES]; WORDS_PER_BLOCK], place: usize) -> [u64; WORDS_PER_BLOCK]
+    requires { place < 64 }
+    ensures { result ≡ map (λ row. get_or row place 0) masks.now }
+{
+    let mut bits = [0; WORDS_PER_BLOCK];
+    for slot in 0..WORDS_PER_BLOCK {
+        bits[slot] = masks[slot][place];
+    }
+    bits
+}
