@@ -26,7 +26,7 @@ abbrev pub about_diff : List ℕ
 about_diff = codes "Lists what a second partition file in place of the first changes"
 
 abbrev pub about_tables : List ℕ
-about_tables = codes "Prints the linear forwarding tables of a subnet's switches, as dump_fts does"
+about_tables = codes "Prints the forwarding tables of a subnet's switches, as dump_fts and dump_mfts do"
 
 abbrev pub about_keys : List ℕ
 about_keys = codes "Prints the key tables of a subnet's ports"
@@ -68,7 +68,7 @@ abbrev pub help_of_code : List ℕ
 help_of_code = codes "A code as it is told: `PF2`, or `memory`"
 
 abbrev pub help_of_script : List ℕ
-help_of_script = codes "The script: what ports send"
+help_of_script = codes "The script: what ports send and ask"
 
 -- ---- for words that are refused by the program itself
 abbrev pub not_text_line : List ℕ

@@ -104,7 +104,7 @@ fn wanted_script<'a>(alloc: Global) -> Arg<'a>
     ensures rule { rule_of result ≡ wanted (codes "SCRIPT") }
     ensures help { text_in result.help ≡ Some help_of_script }
 {
-    wanted(alloc, "SCRIPT", "The script: what ports send")
+    wanted(alloc, "SCRIPT", "The script: what ports send and ask")
 }
 
 fn optional_port<'a>(alloc: Global) -> Arg<'a>

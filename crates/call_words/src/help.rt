@@ -12,7 +12,7 @@ pub(crate) const ABOUT_DIFF: &str =
     "Lists what a second partition file in place of the first changes";
 
 pub(crate) const ABOUT_TABLES: &str =
-    "Prints the linear forwarding tables of a subnet's switches, as dump_fts does";
+    "Prints the forwarding tables of a subnet's switches, as dump_fts and dump_mfts do";
 
 pub(crate) const ABOUT_KEYS: &str = "Prints the key tables of a subnet's ports";
 

@@ -37,9 +37,10 @@ pub const SF1: &str = with_script!(
     "\
 SF1: the line is malformed
 
-But for its comment a line is empty, or `send PORT DLID PKEY QP PAYLOAD` with exactly these words.
-Outside comments there is printable ASCII, blanks and tabs alone; a CR stands only before LF or a
-comment.
+But for its comment a line is empty, `send PORT DLID PKEY QP PAYLOAD` with exactly these words, or
+`ask PORT METHOD ATTR TID` with any words behind these: METHOD is `get`, `table`, `set` or `delete`,
+and ATTR is `node`, `path`, `member` or `service`. Outside comments there is printable ASCII, blanks
+and tabs alone; a CR stands only before LF or a comment.
 ",
     "fault SF1 script line 1",
     "sent i/1 1 0xffff 7 1:01",
@@ -86,7 +87,7 @@ pub const SF5: &str = with_script!(
     "\
 SF5: the payload is longer than 256 bytes
 
-PAYLOAD is `N:HEX`, and N is at most 256, however few digits stand behind it.
+PAYLOAD of a line `send` is `N:HEX`, and N is at most 256, however few digits stand behind it.
 ",
     "fault SF5 script line 1",
     "send i/1 1 0xffff 7 257:01",
@@ -97,9 +98,11 @@ pub const SF6: &str = with_script!(
     "\
 SF6: a field is misspelt or out of its range
 
-DLID and PKEY are numbers of 16 bits, QP is one of 24, and PAYLOAD is `N:HEX`: HEX has two
-hexadecimal digits for each byte, and gives at most N bytes. Numbers are decimal, or `0x` and
-hexadecimal digits.
+In a line `send`, DLID and PKEY are numbers of 16 bits, QP is one of 24, and PAYLOAD is `N:HEX`: HEX
+has two hexadecimal digits for each byte, and gives at most N bytes. In a line `ask`, TID is `tid=`
+and a number of 64 bits, and each word behind it is FIELD=VALUE: FIELD is a field of ATTR, in no two
+words the same one, and VALUE is a number of as many bits as it has, or for the field `name` of a
+service `N:HEX`, with N at most 64. Numbers are decimal, or `0x` and hexadecimal digits.
 ",
     "fault SF6 script line 1",
     "send i/1 1 0xffff 7 1:0102",

@@ -11,9 +11,9 @@ use Rattle.topo_file.specs.declared.fault.TopologyCause.TheVariants as topology
 use Rattle.partition_file.specs.Fault.{code_of as partitions_code}
 use Rattle.partition_file.specs.declared.fault.PartitionCause.{PartitionCause}
 use Rattle.partition_file.specs.declared.fault.PartitionCause.TheVariants as partitions
-use Rattle.subnet_core.specs.Fault.{code_of as script_code}
-use Rattle.subnet_core.specs.declared.fault.ScriptCause.{ScriptCause}
-use Rattle.subnet_core.specs.declared.fault.ScriptCause.TheVariants as script
+use Rattle.script_lines.specs.ScriptCause.{code_of as script_code}
+use Rattle.script_lines.specs.declared.script_cause.ScriptCause.{ScriptCause}
+use Rattle.script_lines.specs.declared.script_cause.ScriptCause.TheVariants as script
 use Rattle.subnet_core.specs.declared.fault.RunFault.TheVariants as run
 use Rattle.sweep.specs.Fault.{code_of as sweep_code}
 use Rattle.sweep.specs.declared.fault.SweepFault.{SweepFault}

@@ -14,7 +14,7 @@ use Rattle.subnet_core.specs.Listing.{listing_text}
 use Rattle.subnet_core.specs.EventLines.{report_text}
 use Rattle.subnet_core.specs.Roster.{RosterState, fault_in, of_text, partitions_for, roster_of}
 use Rattle.subnet_core.specs.Run.{ReportState, report_of}
-use Rattle.subnet_core.specs.Script.{commands_in}
+use Rattle.script_lines.specs.Script.{commands_in}
 use Rattle.subnet_core.specs.declared.fault.RunFault.{RunFault}
 use Rattle.subnet_core.specs.declared.fault.RunFault.TheVariants as run
 use Rattle.subnet_fabric.specs.BringUp.{BroughtUpState}

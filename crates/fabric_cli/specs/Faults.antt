@@ -6,7 +6,7 @@ use Rattle.call_words.specs.declared.call.Refused.{Refused}
 use Rattle.call_words.specs.declared.call.Refused.TheVariants as refused
 use Rattle.topo_file.specs.Fault.{code_of as topology_code}
 use Rattle.partition_file.specs.Fault.{code_of as partitions_code}
-use Rattle.subnet_core.specs.Fault.{code_of as script_code}
+use Rattle.script_lines.specs.ScriptCause.{code_of as script_code}
 use Rattle.sweep.specs.Fault.{code_of as sweep_code}
 use Rattle.sweep.specs.declared.fault.SweepFault.{SweepFault}
 use Rattle.sweep.specs.declared.fault.SweepFault.TheVariants.{TooManyHops}

@@ -8,8 +8,8 @@ use Rattle.subnet_core.specs.declared.fault.RunFault.{RunFault}
 use Rattle.subnet_core.specs.declared.fault.RunFault.TheVariants as run
 use Rattle.port_shares.specs.Shares.{shares_text}
 use Rattle.subnet_model.specs.declared.subnet_port.SubnetPort.{SubnetPort}
-use Rattle.subnet_core.specs.declared.fault.ScriptCause.{ScriptCause}
-use Rattle.subnet_core.specs.Fault.{code_of as script_code}
+use Rattle.script_lines.specs.declared.script_cause.ScriptCause.{ScriptCause}
+use Rattle.script_lines.specs.ScriptCause.{code_of as script_code}
 use Rattle.fabric_graph.specs.Graph.{graph_text}
 use Rattle.fabric_tables.specs.Keys.{keys_text}
 use Rattle.fabric_parts.specs.declared.cable.PortRef.{PortRef}
@@ -18,7 +18,7 @@ use Rattle.packet_trace.specs.Lines.{trace_text}
 use Rattle.partition_file.specs.Fault.{code_of as partitions_code}
 use Rattle.partition_changes.specs.Changes.{text_of_changes}
 use Rattle.subnet_core.specs.Listing.{listing_text}
-use Rattle.subnet_core.specs.NamedPort.{adapter_place, named_port}
+use Rattle.script_lines.specs.NamedPort.{adapter_place, named_port}
 use Rattle.subnet_fabric.specs.BringUp.{BroughtUpState}
 use Rattle.subnet_core.specs.BringUp.{Turns, stop_of, up_from}
 use Rattle.subnet_core.specs.Roster.{RosterState, roster_of}

@@ -9,7 +9,7 @@ ghost use Rattle.fabric_cli.specs.Serving.{asked_port, changes_in, looked_at, se
 ghost use Rattle.fabric_cli.specs.Serving.{ComesTo};
 ghost use Rattle.fabric_cli.specs.declared.faults.Stop.TheVariants.{NoMemory};
 ghost use Rattle.subnet_core.specs.BringUp.{up_in};
-ghost use Rattle.subnet_core.specs.NamedPort.{adapter_place};
+ghost use Rattle.script_lines.specs.NamedPort.{adapter_place};
 ghost use Rattle.subnet_core.specs.Roster.{roster_of};
 
 use crate::faults::Stop;

@@ -4,7 +4,7 @@ use Rattle.std.specs.List.{IsDistinct, list_any}
 use Rattle.std.proofs.lemmas.Bool.{cases_Bool, cases_lt, eqb-true}
 use Rattle.std.proofs.lemmas.Bool.Decides.{nat_tests}
 use Rattle.std.specs.Int.{bit_at}
-use Rattle.std.proofs.lemmas.Nat.Bits.{bit_at_above}
+use Rattle.std.proofs.lemmas.Nat.Bits.{bit_at-zero, bit_at_above}
 use Rattle.std.proofs.lemmas.List.{append-nil, append_assoc, take-append-le}
 use Rattle.std.proofs.lemmas.List.Folds.{list_any-append, list_any_at, list_any_more}
 use Rattle.std.proofs.lemmas.Map.Made.{length-le_from_is_member}
@@ -90,6 +90,14 @@ low_bits nodes packet here copies end few all are out sends = elim (cases_lt out
       let one : bit_at copies out ≡ 1 = eqb-true (bit_at copies out) 1 (are out ∙ sends) in
       absurd (omega (arith, none, one))
 ]
+
+-- and without a bit none does
+pub no_bits : (nodes : List Node) (packet : Packet) (here : PortRef) (copies : ℕ) → copies ≡ 0
+    → ((number : ℕ) → (bit_at copies number == 1) ≡ sends_at nodes here packet number) → (out : ℕ) → sends_at nodes here packet out ≡ true → out < 0
+no_bits nodes packet here copies none are out sends =
+    let zero_is : bit_at copies out ≡ 0 = ap (λ (n : ℕ). bit_at n out) none ∙ bit_at-zero out in
+    let one : bit_at copies out ≡ 1 = eqb-true (bit_at copies out) 1 (are out ∙ sends) in
+    absurd (omega (arith, zero_is, one))
 
 module _ (nodes : List Node) (cables : List Cable) (packet : Packet) where
   -- ---- one step of the search

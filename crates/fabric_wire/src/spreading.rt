@@ -41,6 +41,9 @@ fn go_on(
     ensures { OnOk result (IsGrown nodes.now cabling.now.cables packet.now here ports.old.keys ports.new.keys) }
 {
     let copies = copies(nodes, packet, here);
+    if copies == 0 {
+        return Ok(());
+    }
     for number in 0..u64::BITS as u8 {
         if copies >> number & 1 == 1 {
             let out = PortRef {

@@ -1,11 +1,13 @@
 -- A registry before the first command.
-use Rattle.std.proofs.Common.{◌≡◌, ℕ, ◌++◌, List, [], ◌∷◌, map, None, refl, ◌∙◌, ap}
+use Rattle.std.proofs.Common.{◌≡◌, ℕ, ◌++◌, List, [], ◌∷◌, map, None, refl, ◌∙◌, ap, sym}
+use Rattle.partition_file.specs.declared.heading.Heading.{Heading}
 use Rattle.pkey_rules.specs.PKey.{base_of}
 use Rattle.subnet_model.specs.declared.subnet_port.SubnetPort.{SubnetPort}
 use Rattle.sa_services.specs.KeyOrder.{by_base}
 use Rattle.sa_services.specs.Services.{PortServices, no_services, none_of_port}
 use Rattle.sa_replies.specs.Transfers.{PortTransfer, no_transfers}
-use Rattle.sa_answer.specs.Kept.{at_the_start, no_place, ports_of, services_of, transfers_of}
+use Rattle.sa_answer.specs.Kept.{KeptPort, at_the_start, no_place, ports_of, services_of, transfers_of}
+use Rattle.sa_answer.specs.Registry.{configuration_in}
 
 pub same_ports : (ports : List SubnetPort) → ports_of (map at_the_start ports) ≡ ports
 same_ports [] = refl
@@ -30,3 +32,11 @@ same_transfers (port ∷ ports) = ap (λ (rest : List PortTransfer). record { po
 pub same_bases : (keys : List ℕ) → map (λ place. place.base) (map no_place keys) ≡ map base_of keys
 same_bases [] = refl
 same_bases (key ∷ keys) = ap (λ (rest : List ℕ). base_of key ∷ rest) (same_bases keys)
+
+-- a registry of ports that did nothing yet is of these ports
+pub same_configuration : (kept : List KeptPort) (ports : List SubnetPort) (headings given : List Heading) → kept ≡ map at_the_start ports → headings ≡ given
+    → configuration_in kept headings ≡ record { ports = ports; partitions = given }
+same_configuration kept ports headings given are same = rw (are, same_ports ports, same) refl
+
+pub did_nothing : (kept : List KeptPort) (ports : List SubnetPort) → kept ≡ map at_the_start ports → kept ≡ map at_the_start (ports_of kept)
+did_nothing kept ports are = are ∙ ap (map at_the_start) (sym (same_ports ports) ∙ ap ports_of (sym are))

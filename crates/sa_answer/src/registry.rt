@@ -10,7 +10,7 @@ ghost use Rattle.subnet_model.specs.declared.subnet_port.SubnetPort.{SubnetPort}
 ghost use Rattle.sa_queries.specs.Selected.{few_paths, services_selected};
 ghost use Rattle.sa_queries.specs.Visible.{visible_services};
 ghost use Rattle.sa_groups.specs.Groups.{start_from};
-ghost use Rattle.sa_replies.specs.State.{at_start, is_fit_service};
+ghost use Rattle.sa_replies.specs.State.{IsRememberedOf, at_start, is_fit_service};
 ghost use Rattle.sa_replies.specs.Transfers.{table_of, with_table};
 ghost use Rattle.subnet_model.specs.Delivery.{port_with_guid};
 ghost use Rattle.sa_answer.specs.NodePorts.{all_with_keys, configured};
@@ -20,7 +20,7 @@ ghost use Rattle.pkey_rules.specs.KeyTable.{has_base};
 ghost use Rattle.sa_services.specs.ServiceChange.{has_id, has_room};
 ghost use Rattle.sa_replies.specs.ServiceRequests.{services_at};
 ghost use Rattle.sa_answer.specs.Offers.{services_offered};
-ghost use Rattle.sa_answer.specs.Registry.{Finds, deleted_by, place_with_guid, set_by, with_change};
+ghost use Rattle.sa_answer.specs.Registry.{Finds, configuration_in, deleted_by, place_with_guid, set_by, with_change};
 
 use crate::gid::guid_in;
 use crate::kept_port::KeptPort;
@@ -38,6 +38,7 @@ use rmpp_core::Sender;
 use sa_records::{NodeRecord, PathRecord, ServiceRecord};
 use std::alloc::{AllocError, Global};
 use std::marker::Model;
+use subnet_model::{Configuration, NodeName, SubnetPort};
 
 /// What subnet administration knows of a subnet, and what it remembers between two requests.
 ///
@@ -78,15 +79,28 @@ impl Registry {
         }) }
     {
         let kept = kept_ports(alloc, ports, members.keys())?;
-        let places = places_by_guid(alloc, &kept)?;
-        Ok(Registry {
-            alloc,
-            kept,
-            places,
-            headings: copied(alloc, members.headings())?,
-            partitions: partitions_at_start(alloc, members.headings())?,
-            is_broken: false,
-        })
+        before_commands(alloc, kept, members.headings())
+    }
+
+    /// The same, of a subnet as it is configured. Memory alone can be refused.
+    pub fn of(alloc: Global, configuration: &Configuration) -> Result<Registry, AllocError>
+        requires { IsConfigured configuration.now }
+        ensures { IfOk result (λ registry. registry ≡ record {
+          configuration = configuration.now;
+          administration = at_start configuration.now;
+          is_broken = false;
+        }) }
+    {
+        let kept = kept_copies(alloc, configuration.ports())?;
+        before_commands(alloc, kept, configuration.partitions())
+    }
+
+    /// What holds of what is remembered at any time, whatever ports sent before.
+    pub fn known_remembered(&self)
+        ensures { IsRememberedOf self.now.configuration self.now.administration.remembered }
+    {
+        // What a value meets is known once a field is named.
+        let _ = &self.partitions;
     }
 
     /// The partitions, each with its groups.
@@ -234,6 +248,57 @@ impl Registry {
         }
         all
     }
+}
+
+/// The registry of ports that did nothing yet, in these partitions.
+fn before_commands(
+    alloc: Global,
+    kept: Vec<KeptPort>,
+    headings: &[Heading],
+) -> Result<Registry, AllocError>
+    requires configured { IsConfigured (configuration_in kept.items headings.now) }
+    requires start { kept.items ≡ map at_the_start (ports_of kept.items) }
+    ensures { IfOk result (λ registry. registry ≡ record {
+      configuration = configuration_in kept.items headings.now;
+      administration = at_start (configuration_in kept.items headings.now);
+      is_broken = false;
+    }) }
+{
+    let places = places_by_guid(alloc, &kept)?;
+    Ok(Registry {
+        alloc,
+        kept,
+        places,
+        headings: copied(alloc, headings)?,
+        partitions: partitions_at_start(alloc, headings)?,
+        is_broken: false,
+    })
+}
+
+/// A copy of each port, and nothing that it did yet.
+fn kept_copies(alloc: Global, ports: &[SubnetPort]) -> Result<Vec<KeptPort>, AllocError>
+    ensures { IfOk result (λ kept. kept.items ≡ map at_the_start ports.now) }
+{
+    let mut kept = Vec::new(alloc);
+    for port in ports {
+        kept.push(KeptPort::new(alloc, copy_of(port)?)?)?;
+    }
+    Ok(kept)
+}
+
+fn copy_of(port: &SubnetPort) -> Result<SubnetPort, AllocError>
+    ensures { IfOk result (λ copy. copy ≡ port.now) }
+{
+    Ok(SubnetPort {
+        lid: port.lid,
+        guid: port.guid,
+        node_name: NodeName::new(port.node_name.as_slice()),
+        node_guid: port.node_guid,
+        num_ports: port.num_ports,
+        number: port.number,
+        node_type: port.node_type,
+        keys: port.keys.clone()?,
+    })
 }
 
 /// Each port with its keys, and nothing that it did yet.

@@ -5,7 +5,7 @@ use Rattle.subnet_model.proofs.IsolationLemmas.{keepers_isolate}
 use Rattle.subnet_model.specs.Configuration.{ConfigurationState}
 use Rattle.subnet_model.specs.declared.subnet_port.SubnetPort.{SubnetPort}
 use Rattle.subnet_model.specs.Laws.{Isolated}
-use Rattle.subnet_model.specs.State.{Alike}
+use Rattle.subnet_model.specs.Isolation.{Alike}
 use Rattle.sa_groups.proofs.DeliveryLemmas.{receives_alike}
 use Rattle.sa_groups.proofs.SoundLemmas.{start_sound as groups_start_sound}
 use Rattle.sa_groups.specs.Groups.{start_of}

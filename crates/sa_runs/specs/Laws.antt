@@ -2,7 +2,7 @@
 use Rattle.std.specs.Prelude.{◌≡◌, true, List}
 use Rattle.subnet_model.specs.Configuration.{ConfigurationState}
 use Rattle.subnet_model.specs.Configured.{IsConfigured}
-use Rattle.subnet_model.specs.Isolation.{IsIsolatedBy, KeepsApart}
+use Rattle.subnet_model.specs.Isolation.{IsIsolated, KeepsApart}
 use Rattle.subnet_model.specs.Report.{report_by, state_from, step_by}
 use Rattle.subnet_model.specs.declared.command.Command.{Command}
 use Rattle.subnet_model.specs.declared.subnet_port.SubnetPort.{SubnetPort}
@@ -22,7 +22,7 @@ AdministrationKeepsApart =
 abbrev pub RunsAreIsolated : Type 0
 RunsAreIsolated =
     (configuration : ConfigurationState) (commands : List Command)
-    → IsIsolatedBy subnet_administration configuration commands (report_by subnet_administration configuration commands)
+    → IsIsolated subnet_administration configuration commands (report_by subnet_administration configuration commands)
 
 -- ---- what is remembered after a run
 abbrev pub remembered_after : ConfigurationState → List Command → Administration

@@ -11,7 +11,7 @@ use Rattle.subnet_core.specs.BringUp.{Becomes, HasNoPathOf, IsStopped, IsUp, up_
 use Rattle.subnet_core.specs.Laws.{OneThingBecomesOfAFabric, TextsHaveOneAnswer}
 use Rattle.subnet_core.specs.Roster.{RosterState, of_text, partitions_for, roster_of, rostered}
 use Rattle.subnet_core.specs.Run.{report_of, told_of}
-use Rattle.subnet_core.specs.Script.{commands_in}
+use Rattle.script_lines.specs.Script.{commands_in}
 use Rattle.subnet_core.specs.declared.fault.RunFault.{RunFault}
 use Rattle.subnet_core.specs.declared.fault.RunFault.TheVariants.{NoMemory, Topology, Partitions, Sweep, NoLegalPath, Push, Script}
 use Rattle.subnet_core.proofs.BringUpLemmas.{lid_at}

@@ -1,15 +1,27 @@
 -- A run that is answered keeps partitions apart.
-use Rattle.std.proofs.Common.{◌≡◌, ℕ, List, Option, Some, None, Result, Ok, Err, IfOk, refl, sym, ap, subst}
+use Rattle.std.proofs.Common.{◌≡◌, ◌==◌, ◌∙◌, ℕ, Bool, true, false, List, [], ◌∷◌, filter, Option, Some, None, Result, Ok, Err, IfOk, refl, sym, ap, subst}
+use Rattle.std.specs.List.{list_all}
+use Rattle.std.proofs.lemmas.Bool.{and_from, and_parts, eqb-true}
 use Rattle.topo_file.specs.Topology.{TopologyState, topology_of}
 use Rattle.partition_file.specs.declared.partition.Partition.{Partition}
-use Rattle.subnet_model.proofs.IsolationLemmas.{report_is_isolated, slids_name_their_ports}
+use Rattle.subnet_model.proofs.IsolationLemmas.{slids_name_their_ports}
+use Rattle.subnet_model.specs.Configuration.{ConfigurationState}
+use Rattle.subnet_model.specs.Isolation.{DependsOnNear}
+use Rattle.subnet_model.specs.Source.{HaveSlidsNear}
+use Rattle.sa_runs.specs.Administration.{subnet_administration}
+use Rattle.subnet_model.specs.declared.event.PortEvent.{PortEvent}
+use Rattle.subnet_model.specs.declared.subnet_port.SubnetPort.{SubnetPort}
+use Rattle.sa_replies.specs.Sources.{bytes_from_near}
+use Rattle.sa_runs.proofs.ApartLemmas.{runs_are_isolated}
+use Rattle.sa_runs.proofs.SourceLemmas.{notes_stand_beside_runs, records_come_from_near}
+use Rattle.sa_runs.specs.Sources.{NotedEvent, noted_in, noted_report}
 use Rattle.subnet_model.specs.declared.command.Command.{Command}
 use Rattle.subnet_core.specs.BringUp.{Answers, up_from}
 use Rattle.subnet_core.specs.declared.fault.RunFault.{RunFault}
-use Rattle.subnet_core.specs.Headline.{KeepsPartitionsApart}
+use Rattle.subnet_core.specs.Headline.{KeepsPartitionsApart, RecordsComeFromNear}
 use Rattle.subnet_core.specs.Roster.{partitions_for, roster_of, rostered}
 use Rattle.subnet_core.specs.Run.{ReportState, report_of, told_of}
-use Rattle.subnet_core.specs.Script.{commands_in}
+use Rattle.script_lines.specs.Script.{commands_in}
 use Rattle.subnet_ports.specs.Ports.{configuration_of, ports_of}
 use Rattle.subnet_model.specs.Configured.{HaveLidsInOrder}
 use Rattle.subnet_ports.proofs.LidLemmas.{own_lids}
@@ -36,14 +48,45 @@ told topology script partitions (Some fault) r plan all commands is f h =
     let done : here ≡ there = rw is at h in
     absurd cc
 
+-- what is noted of all events is noted of those at one port
+noted_at_port : (ports : List SubnetPort) (p : ℕ) (noted : List NotedEvent)
+    → list_all (λ one. bytes_from_near ports one.event.port_guid (noted_in one.noted)) noted ≡ true
+    → list_all (λ one. bytes_from_near ports p (noted_in one.noted)) (filter (λ one. one.event.port_guid == p) noted) ≡ true
+noted_at_port ports p [] all = refl
+noted_at_port ports p (one ∷ noted) all = by (one.event.port_guid == p) refl (λ later. noted_at_port ports p noted later)
+  where
+    parts : (bytes_from_near ports one.event.port_guid (noted_in one.noted) ≡ true)
+        × (list_all (λ one. bytes_from_near ports one.event.port_guid (noted_in one.noted)) noted ≡ true)
+    parts = and_parts (bytes_from_near ports one.event.port_guid (noted_in one.noted)) _ all
+
+    by : (b : Bool) → (one.event.port_guid == p) ≡ b
+        → (list_all (λ one. bytes_from_near ports one.event.port_guid (noted_in one.noted)) noted ≡ true
+        → list_all (λ one. bytes_from_near ports p (noted_in one.noted)) (filter (λ one. one.event.port_guid == p) noted) ≡ true)
+        → list_all (λ one. bytes_from_near ports p (noted_in one.noted)) (filter (λ one. one.event.port_guid == p) (one ∷ noted)) ≡ true
+    by false other later = rw other (later parts.1)
+    by true same later =
+        let here : bytes_from_near ports p (noted_in one.noted) ≡ true =
+        ap (λ (guid : ℕ). bytes_from_near ports guid (noted_in one.noted)) (sym (eqb-true one.event.port_guid p same)) ∙ parts.0 in
+        rw same (and_from (bytes_from_near ports p (noted_in one.noted)) _ here (later parts.1))
+
+records_are : (configuration : ConfigurationState) (p : ℕ) (commands : List Command) (events : List PortEvent)
+    → events ≡ (told_of configuration commands).events → RecordsComeFromNear configuration p commands events
+records_are configuration p commands events same = record {
+  beside = (notes_stand_beside_runs configuration commands).events ∙ sym same;
+  near = noted_at_port configuration.ports p (noted_report configuration commands) (records_come_from_near configuration commands).events;
+}
+
 -- and that is isolated
 pub told_apart : (topology script : List ℕ) (partitions : Option (List ℕ)) (stop : Option RunFault) (r : ReportState) → report_of topology partitions script stop ≡ Ok r
     → HaveLidsInOrder r.ports → KeepsPartitionsApart topology partitions script r.events
 told_apart topology script partitions stop r h lids = λ plan all commands e p f q.
     let same : told_of (configuration_of all plan) commands ≡ r = told topology script partitions stop r plan all commands (rosters topology partitions plan all e p) f h in
-    let apart = report_is_isolated (configuration_of all plan) commands r.events (ap (λ (t : ReportState). t.events) (sym same)) q in
+    let events = ap (λ (t : ReportState). t.events) (sym same) in
+    let apart =
+    subst (λ (some : List PortEvent). DependsOnNear subnet_administration (configuration_of all plan) q commands some
+    × HaveSlidsNear (ports_of all plan) q some) (sym events) (runs_are_isolated (configuration_of all plan) commands q) in
     let own = own_lids 1 (ports_of all plan) (subst (λ (t : ReportState). HaveLidsInOrder t.ports) (sym same) lids) in
-    (apart.0, slids_name_their_ports (ports_of all plan) q r.events own apart.1)
+    (apart.0, slids_name_their_ports (ports_of all plan) q r.events own apart.1, records_are (configuration_of all plan) q commands r.events events)
 
 pub answered_apart : (topology script : List ℕ) (partitions : Option (List ℕ)) (result : Result ReportState RunFault)
     → Answers (λ (r : ReportState). r) result (roster_of topology partitions) (report_of topology partitions script) → IfOk result (λ r. HaveLidsInOrder r.ports)

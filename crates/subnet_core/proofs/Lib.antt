@@ -6,7 +6,9 @@ pub mod RunLemmas
 pub mod SenderLemmas
 pub mod StepLemmas
 pub mod ListingLemmas
-pub mod PayloadLemmas
 pub mod EventLinesLemmas
 pub mod TopologyLemmas
 pub mod FateLemmas
+pub mod AnswerLemmas
+pub mod OnceLemmas
+pub mod AskLemmas

@@ -4,7 +4,7 @@ use Rattle.result_words.specs.Gives.{Fails}
 use Rattle.subnet_core.specs.BringUp.{FailsWith, WithFabric, up_from}
 use Rattle.subnet_core.specs.Roster.{RosterState, of_text, roster_of}
 use Rattle.subnet_core.specs.Run.{report_of, told_of}
-use Rattle.subnet_core.specs.Script.{commands_in}
+use Rattle.script_lines.specs.Script.{commands_in}
 use Rattle.subnet_core.specs.declared.fault.RunFault.{RunFault}
 use Rattle.subnet_core.specs.declared.fault.RunFault.TheVariants.{Script}
 use Rattle.subnet_model.specs.declared.command.Command.{Command}

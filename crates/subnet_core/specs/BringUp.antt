@@ -5,12 +5,14 @@ use Rattle.result_words.specs.Steps.{◌>>=◌}
 use Rattle.smp_wire.specs.FabricState.{FabricState}
 use Rattle.subnet_core.specs.declared.fault.RunFault.{RunFault}
 use Rattle.subnet_core.specs.declared.fault.RunFault.TheVariants.{NoMemory, Topology, Partitions, Sweep, NoLegalPath, Push, Script}
-use Rattle.subnet_core.specs.Roster.{RosterState, fault_in}
+use Rattle.subnet_core.specs.Roster.{IsRostered, RosterState, fault_in}
 use Rattle.subnet_fabric.specs.BringUp.{HasNoPath, IsBroughtUpBy, IsUnfound, BroughtUpState}
 use Rattle.subnet_fabric.specs.Laws.{all_keys}
-use Rattle.subnet_model.specs.declared.state.State.{State}
+use Rattle.sa_answer.specs.Registry.{RegistryState}
+use Rattle.sa_fabric.specs.Served.{IsServed}
+use Rattle.sa_replies.specs.Answer.{Administration}
+use Rattle.sa_replies.specs.State.{IsStateOf, at_start}
 use Rattle.subnet_model.specs.declared.subnet_port.SubnetPort.{SubnetPort}
-use Rattle.subnet_model.specs.State.{start}
 use Rattle.topo_file.specs.Topology.{TopologyState}
 use Rattle.updn_routes.specs.Subnet.{RoutesState}
 
@@ -22,30 +24,42 @@ IsUpOver plan ports up = IsBroughtUpBy plan (all_keys ports) up.routes up.fabric
 abbrev pub IsUp : RosterState → BroughtUpState → Type 0
 IsUp roster up = IsUpOver roster.plan roster.configuration.ports up
 
--- a subnet that runs: who is in it, its fabric and the routes in that, and what it remembers; after memory was refused it is
--- broken
+-- a subnet that runs: who is in it, its fabric and the routes in that, and what subnet administration remembers; after memory
+-- was refused it is broken
 pub record SubnetState : Type 0 where
   pub roster : RosterState
   pub routes : RoutesState
   pub fabric : FabricState
-  pub state : State
+  pub administration : Administration
   pub is_broken : Bool
 
 abbrev pub up_in : SubnetState → BroughtUpState
 up_in subnet = record { routes = subnet.routes; fabric = subnet.fabric }
 
--- the topology as its cables stand: today the one that was read
+-- the topology as its cables stand: the one that was read
 abbrev pub standing_plan : SubnetState → TopologyState
 standing_plan subnet = subnet.roster.plan
 
--- where it is not broken, its fabric is up
+-- where it is not broken, its fabric is the one that was brought up, with the masks of exactly those who receive what is sent to
+-- groups by the memberships held
 abbrev pub StaysUp : SubnetState → Type 0
-StaysUp subnet = subnet.is_broken ≡ false → IsUpOver (standing_plan subnet) subnet.roster.configuration.ports (up_in subnet)
+StaysUp subnet =
+    subnet.is_broken ≡ false
+    → IsServed (standing_plan subnet) subnet.roster.configuration.ports subnet.administration.remembered.partitions subnet.routes
+    subnet.fabric
+
+-- a registry and a fabric stand as the roster says, and the registry serves the fabric
+pub record Stands (roster : RosterState) (routes : RoutesState) (registry : RegistryState) (fabric : FabricState) : Type 0 where
+  pub rostered : IsRostered roster
+  pub configured : registry.configuration ≡ roster.configuration
+  pub whole : registry.is_broken ≡ false
+  pub state : IsStateOf roster.configuration registry.administration
+  pub served : IsServed roster.plan roster.configuration.ports registry.administration.remembered.partitions routes fabric
 
 -- before its first command
 pub record IsStarted (subnet : SubnetState) : Type 0 where
   pub up : IsUp subnet.roster (up_in subnet)
-  pub state : subnet.state ≡ start subnet.roster.configuration
+  pub administration : subnet.administration ≡ at_start subnet.roster.configuration
   pub whole : subnet.is_broken ≡ false
 
 -- ---- and one that is not

@@ -1,12 +1,10 @@
--- The codes that are printed for faults of a script.
-use Rattle.std.specs.Prelude.{ℕ, List, codes}
-use Rattle.subnet_core.specs.declared.fault.ScriptCause.{ScriptCause}
-use Rattle.subnet_core.specs.declared.fault.ScriptCause.TheVariants.{Malformed, UnknownPort, ManagerPort, UncabledPort, PayloadTooLong, BadField}
+-- Why a step does not complete.
+use Rattle.sa_fabric.specs.declared.answering.AnswerFault.{AnswerFault}
+use Rattle.sa_fabric.specs.declared.answering.AnswerFault.TheVariants as answering
+use Rattle.subnet_core.specs.declared.fault.StepFault.{StepFault}
+use Rattle.subnet_core.specs.declared.fault.StepFault.TheVariants as step
 
-abbrev pub code_of : ScriptCause → List ℕ
-code_of Malformed = codes "SF1"
-code_of UnknownPort = codes "SF2"
-code_of ManagerPort = codes "SF3"
-code_of UncabledPort = codes "SF4"
-code_of PayloadTooLong = codes "SF5"
-code_of BadField = codes "SF6"
+-- memory was refused; a switch of a fabric that is served takes its masks, so that the second never comes
+abbrev pub step_fault_of : AnswerFault → StepFault
+step_fault_of answering.NoMemory = step.NoMemory
+step_fault_of (answering.Push fault) = step.Broken

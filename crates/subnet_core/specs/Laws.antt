@@ -5,7 +5,7 @@ use Rattle.subnet_model.specs.declared.command.Command.{Command}
 use Rattle.subnet_core.specs.BringUp.{Becomes}
 use Rattle.subnet_core.specs.Roster.{IsRostered, RosterState, roster_of}
 use Rattle.subnet_core.specs.Run.{report_of}
-use Rattle.subnet_core.specs.Script.{commands_in}
+use Rattle.script_lines.specs.Script.{commands_in}
 use Rattle.subnet_core.specs.Senders.{NamesSender}
 use Rattle.subnet_core.specs.declared.fault.RunFault.{RunFault}
 

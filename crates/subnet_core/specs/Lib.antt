@@ -1,12 +1,10 @@
 pub mod Lookup
 pub mod Fault
-pub mod Script
-pub mod NamedPort
-pub mod Seen
 pub mod Roster
 pub mod BringUp
 pub mod Run
 pub mod Senders
+pub mod Answering
 pub mod Laws
 pub mod EventLines
 pub mod WholeLines

@@ -4,11 +4,12 @@ use Rattle.result_words.specs.AtLine.{on_line}
 use Rattle.result_words.specs.Steps.{◌>>=◌}
 use Rattle.subnet_core.specs.BringUp.{up_from}
 use Rattle.subnet_core.specs.Roster.{of_text, roster_of}
-use Rattle.subnet_core.specs.Script.{command_of, commands_in}
+use Rattle.script_lines.specs.Script.{command_of, commands_in}
 use Rattle.subnet_core.specs.declared.fault.RunFault.{RunFault}
 use Rattle.subnet_core.specs.declared.fault.RunFault.TheVariants.{Script}
 use Rattle.subnet_model.specs.Configuration.{ConfigurationState}
-use Rattle.subnet_model.specs.Report.{report}
+use Rattle.sa_runs.specs.Administration.{subnet_administration}
+use Rattle.subnet_model.specs.Report.{report_by}
 use Rattle.subnet_model.specs.declared.command.Command.{Command}
 use Rattle.subnet_model.specs.declared.event.PortEvent.{PortEvent}
 use Rattle.subnet_model.specs.declared.subnet_port.SubnetPort.{SubnetPort}
@@ -23,9 +24,12 @@ pub record ReportState : Type 0 where
 abbrev pub parsed : TopologyState → ℕ → List ℕ → Result (Option Command) RunFault
 parsed plan number line = of_text Script (on_line number (command_of plan line))
 
--- what is reported of these commands, one after the other from the start
+-- what is reported of these commands, one after the other from the start, where subnet administration answers
 abbrev pub told_of : ConfigurationState → List Command → ReportState
-told_of configuration commands = record { ports = configuration.ports; events = report configuration commands }
+told_of configuration commands = record {
+  ports = configuration.ports;
+  events = report_by subnet_administration configuration commands;
+}
 
 -- topology and partitions first, then the fabric, then the whole script, and only then its commands
 unfoldable pub report_of : List ℕ → Option (List ℕ) → List ℕ → Option RunFault → Result ReportState RunFault

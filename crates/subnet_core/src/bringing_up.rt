@@ -33,7 +33,7 @@ pub fn bring_up(
     let roster = read_roster(alloc, topology, partitions)?;
     let up = fabric_of(alloc, &roster)?;
     roster.known_listed();
-    Ok(Subnet::new(alloc, roster, up))
+    Ok(Subnet::new(alloc, roster, up)?)
 }
 
 /// The fabric of a roster, brought up.

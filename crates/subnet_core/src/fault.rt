@@ -1,54 +1,14 @@
 //! Why a run does not begin, and why a step does not complete.
 
-ghost use Rattle.std.specs.Prelude.{◌≡◌};
-ghost use Rattle.subnet_core.specs.Fault.{code_of};
-
 use partition_file::PartitionCause;
+use sa_fabric::AnswerFault;
+use script_lines::ScriptCause;
 use std::alloc::{AllocError, AllocFailed};
 use subnet_model::NodeName;
 use sweep::SweepFault;
 use table_push::PushFault;
 use thiserror::Error;
 use topo_file::TopologyCause;
-
-/// What is wrong with a line of a script, in the order in which it is asked.
-#[derive(Clone, Copy, Debug, PartialEq, Eq, Error)]
-pub enum ScriptCause {
-    /// The line has a bad character, an unknown command, or too few or too many words.
-    #[error("the line is malformed")]
-    Malformed,
-    /// There is no such port of a channel adapter, or the word is no port.
-    #[error("there is no such adapter port")]
-    UnknownPort,
-    /// The port is the subnet manager's, which sends nothing of its own.
-    #[error("the port is the subnet manager's")]
-    ManagerPort,
-    /// The port has no cable.
-    #[error("the port has no cable")]
-    UncabledPort,
-    /// The payload is to be longer than a packet carries.
-    #[error("the payload is longer than a packet carries")]
-    PayloadTooLong,
-    /// A field is misspelt or out of its range.
-    #[error("a field is misspelt or out of its range")]
-    BadField,
-}
-
-impl ScriptCause {
-    /// The code that is printed for the fault.
-    pub fn code(self) -> &'static str
-        ensures { result.now ≡ code_of self }
-    {
-        match self {
-            ScriptCause::Malformed => "SF1",
-            ScriptCause::UnknownPort => "SF2",
-            ScriptCause::ManagerPort => "SF3",
-            ScriptCause::UncabledPort => "SF4",
-            ScriptCause::PayloadTooLong => "SF5",
-            ScriptCause::BadField => "SF6",
-        }
-    }
-}
 
 /// Why a run did not complete. Of several faults the first in this order is answered.
 #[derive(Debug, Drop, PartialEq, Eq, Error)]
@@ -130,6 +90,21 @@ pub enum StepFault {
     /// Memory was refused in an earlier step.
     #[error("memory was refused in an earlier step")]
     Broken,
+}
+
+impl From<AnswerFault> for StepFault {
+    ghost use Rattle.std.specs.Prelude.{◌≡◌};
+    ghost use Rattle.subnet_core.specs.Fault.{step_fault_of};
+
+    ghost from_gives = { λ fault e. e ≡ step_fault_of fault };
+
+    /// A switch of a fabric that is served takes its masks.
+    fn from(fault: AnswerFault) -> StepFault {
+        match fault {
+            AnswerFault::NoMemory => StepFault::NoMemory,
+            AnswerFault::Push(_) => StepFault::Broken,
+        }
+    }
 }
 
 impl From<StepFault> for RunFault {

@@ -5,25 +5,25 @@
 //! depends only on the ports that share a partition with it (`specs/Headline.antt`). [`bring_up`],
 //! [`Subnet::parse`] and [`Subnet::step`] do the same piece by piece, and [`Report::text`] prints it. A subnet is brought
 //! up over the simulated fabric of its topology, and `specs/BringUp.antt` says when that fails; each step carries its
-//! command over that fabric, and gives the events that the list of ports gives (`specs/Senders.antt`). Who is in a subnet takes no
-//! fabric: [`read_roster`] reads it, and [`Roster::listing`] prints it (`specs/Listing.antt`).
+//! command over that fabric (`specs/Senders.antt`), and gives the events, and leaves the memberships, that the list of ports
+//! gives (`specs/Answering.antt`). Who is in a subnet takes no fabric: [`read_roster`] reads it, and [`Roster::listing`] prints it (`specs/Listing.antt`).
 #![tactic(auto)]
 
+mod acknowledging;
+mod answering;
 mod bringing_up;
 mod event_lines;
 mod fault;
 mod laws;
 mod listing;
 mod lookup;
-mod named_port;
 mod report;
 mod roster;
 mod running;
-mod script;
 mod subnet;
 
 pub use crate::bringing_up::bring_up;
-pub use crate::fault::{RunFault, ScriptCause, StepFault};
+pub use crate::fault::{RunFault, StepFault};
 pub use crate::laws::{
     each_command_names_a_sender, one_thing_becomes_of_a_fabric, report_lines_are_whole,
     texts_have_one_answer,
@@ -32,5 +32,6 @@ pub use crate::report::Report;
 pub use crate::roster::{Roster, read_roster};
 pub use crate::running::run;
 pub use crate::subnet::Subnet;
+pub use script_lines::ScriptCause;
 pub use subnet_model::Command;
 pub use subnet_sends::Event;

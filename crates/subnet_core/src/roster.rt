@@ -3,16 +3,16 @@
 ghost use Rattle.std.specs.Prelude.{◌≡◌, IfOk};
 ghost use Rattle.std.specs.Option.{option_copied};
 ghost use Rattle.subnet_core.specs.Listing.{listing_text};
-ghost use Rattle.subnet_core.specs.NamedPort.{adapter_place, named_port};
+ghost use Rattle.script_lines.specs.NamedPort.{adapter_place, named_port};
 ghost use Rattle.subnet_core.specs.Roster.{IsRostered, RunGives, of_text, partitions_for, roster_of};
 ghost use Rattle.subnet_core.specs.declared.fault.RunFault.TheVariants as run;
 ghost use Rattle.topo_file.specs.Topology.{topology_of};
 
-use crate::fault::{RunFault, ScriptCause};
+use crate::fault::RunFault;
 use crate::listing;
-use crate::named_port::{adapter_place, named_port};
 use fabric_parts::PortRef;
 use partition_file::{PartFault, Partitions, no_file};
+use script_lines::{ScriptCause, adapter_place, named_port};
 use std::alloc::{AllocError, Global};
 use std::marker::Model;
 use subnet_model::Configuration;

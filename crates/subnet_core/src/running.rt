@@ -8,7 +8,7 @@ ghost use Rattle.subnet_core.specs.Headline.{KeepsPartitionsApart};
 ghost use Rattle.subnet_core.specs.BringUp.{Answers};
 ghost use Rattle.subnet_core.specs.Roster.{RunGives, of_text, roster_of};
 ghost use Rattle.subnet_core.specs.Run.{report_of};
-ghost use Rattle.subnet_core.specs.Script.{commands_in, with_line};
+ghost use Rattle.script_lines.specs.Script.{commands_in, with_line};
 ghost use Rattle.subnet_core.specs.declared.fault.RunFault.TheVariants.{Script};
 
 use crate::bringing_up::bring_up;
@@ -67,7 +67,7 @@ fn commands_in(alloc: Global, subnet: &Subnet, script: &[u8]) -> Result<Vec<Comm
     Ok(commands)
 }
 
-#[tactic(auto, unfolding(crate::specs::Script::with_line))]
+#[tactic(auto, unfolding(script_lines::specs::Script::with_line))]
 fn take_line(
     subnet: &Subnet,
     commands: &mut Vec<Command>,

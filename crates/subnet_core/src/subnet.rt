@@ -1,41 +1,48 @@
 //! A subnet on its fabric, command by command.
 
 ghost use Rattle.std.specs.Prelude.{◌≡◌, false, true, ◌↔◌, ◌++◌, map, All, IsErrOf, IfOk, IfSome, OnOk, OnErr};
-ghost use Rattle.subnet_model.specs.Report.{events_from, step};
-ghost use Rattle.subnet_model.specs.State.{start};
+ghost use Rattle.sa_replies.specs.State.{at_start};
+ghost use Rattle.sa_runs.specs.Administration.{subnet_administration};
+ghost use Rattle.subnet_model.specs.Report.{events_from, step_by};
+ghost use Rattle.subnet_core.specs.Answering.{IsNext};
 ghost use Rattle.subnet_core.specs.BringUp.{IsStarted, IsUp, StaysUp};
 ghost use Rattle.subnet_core.specs.Listing.{listing_text};
 ghost use Rattle.subnet_core.specs.Roster.{RunGives};
 ghost use Rattle.subnet_core.specs.Run.{parsed, told_of};
 ghost use Rattle.subnet_core.specs.Senders.{Comes, NamesSender};
-ghost use Rattle.subnet_model.specs.declared.command.Command.TheVariants.{Ask, Send};
-ghost use Rattle.subnet_sends.specs.Sends.{ComesOf, ComesOfAsk, event_of};
+ghost use Rattle.subnet_sends.specs.Sends.{event_of};
 
+use crate::answering::carried_out;
 use crate::fault::{RunFault, StepFault};
 use crate::report::Report;
 use crate::roster::Roster;
-use crate::script;
 use fabric_wire::Fabric;
+use sa_answer::Registry;
+use script_lines::command_of;
 use std::alloc::{AllocError, Global};
 use std::marker::Model;
 use subnet_fabric::BroughtUp;
-use subnet_model::{AskCommand, Command, SendCommand, State};
-use subnet_sends::{Event, ask, send};
+use subnet_model::Command;
+use subnet_sends::Event;
 use updn_routes::Routes;
 
 /// A subnet that was brought up and takes commands one by one.
-#[derive(Debug, Drop)]
+///
+/// Its value is who is in it, its routes and its fabric, what its subnet administration remembers, and whether memory was
+/// refused.
+#[derive(Drop)]
 pub struct Subnet {
     alloc: Global,
     roster: Roster,
     routes: Routes,
     fabric: Fabric,
-    state: State,
+    registry: Registry,
     is_broken: bool,
 }
 
 impl Model for Subnet {
-    ghost use Rattle.subnet_core.specs.BringUp.{StaysUp, SubnetState};
+    ghost use Rattle.std.specs.Prelude.{◌≡◌, false};
+    ghost use Rattle.subnet_core.specs.BringUp.{Stands, SubnetState};
 
     ghost Value = { SubnetState };
 
@@ -43,35 +50,30 @@ impl Model for Subnet {
       roster = subnet.roster;
       routes = subnet.routes;
       fabric = subnet.fabric;
-      state = subnet.state;
+      administration = subnet.registry.administration;
       is_broken = subnet.is_broken;
     } };
 
-    ghost invariant = { λ subnet. StaysUp (record {
-      roster = subnet.roster;
-      routes = subnet.routes;
-      fabric = subnet.fabric;
-      state = subnet.state;
-      is_broken = subnet.is_broken;
-    }) };
+    ghost invariant = { λ subnet. subnet.is_broken ≡ false → Stands subnet.roster subnet.routes subnet.registry subnet.fabric };
 }
 
 impl Subnet {
-    /// The subnet of a fabric that is up, before its first command.
-    pub(crate) fn new(alloc: Global, roster: Roster, up: BroughtUp) -> Subnet
+    /// The subnet of a fabric that is up, before its first command. Memory alone can be refused.
+    pub(crate) fn new(alloc: Global, roster: Roster, up: BroughtUp) -> Result<Subnet, AllocError>
         requires { IsUp roster up }
-        ensures started { IsStarted result }
-        ensures roster { result.roster ≡ roster }
+        ensures started { IfOk result IsStarted }
+        ensures roster { IfOk result (λ subnet. subnet.roster ≡ roster) }
     {
-        let state = State::new(roster.configuration());
-        Subnet {
+        roster.known_listed();
+        let registry = Registry::of(alloc, roster.configuration())?;
+        Ok(Subnet {
             alloc,
             roster,
             routes: up.routes,
             fabric: up.fabric,
-            state,
+            registry,
             is_broken: false,
-        }
+        })
     }
 
     /// Who is in it.
@@ -81,7 +83,8 @@ impl Subnet {
         &self.roster
     }
 
-    /// Its one fabric. Where the subnet is not broken it is as it was brought up: commands change nothing of it.
+    /// Its one fabric. Where the subnet is not broken it is as it was brought up, with the masks of exactly those who receive
+    /// what is sent to groups: commands change nothing else of it.
     pub fn fabric(&self) -> &Fabric
         ensures value { result.now ≡ self.now.fabric }
         ensures up { StaysUp self.now }
@@ -99,7 +102,7 @@ impl Subnet {
     /// Who is in it, and its fabric, which then can be asked by SMPs; no command is taken any more.
     pub fn into_parts(self) -> (Roster, Fabric)
         ensures parts { (result.0 ≡ self.roster) × (result.1 ≡ self.fabric) }
-        ensures up { self.is_broken ≡ false → IsUp result.0 (record { routes = self.routes; fabric = result.1 }) }
+        ensures up { StaysUp self }
     {
         (self.roster, self.fabric)
     }
@@ -118,7 +121,7 @@ impl Subnet {
         ensures sender { IfOk result (λ command. IfSome command (NamesSender self.now.roster.configuration.ports)) }
     {
         self.roster.known_listed();
-        match script::command_of(self.roster.topology(), line) {
+        match command_of(self.roster.topology(), line) {
             Ok(command) => Ok(command),
             Err(cause) => Err(RunFault::Script {
                 line: number,
@@ -127,19 +130,23 @@ impl Subnet {
         }
     }
 
-    /// Carries out one command over the fabric, and answers its events in order. Once memory was refused the subnet is
-    /// broken for good: every later step answers `Broken` and changes nothing. Its roster stays, so that lines can be
-    /// parsed and members listed; what it remembers, its routes and its fabric may be anything.
+    /// Carries out one command over the fabric, and answers its events in order. What is for subnet administration is
+    /// answered, and the port that asks acknowledges each segment of a table; where a command changes who receives what is
+    /// sent to groups, the masks of the fabric's switches follow.
+    ///
+    /// Once memory was refused the subnet is broken for good: every later step answers `Broken` and changes nothing. Its
+    /// roster stays, so that lines can be parsed and members listed; what it remembers, its routes and its fabric may be
+    /// anything.
     ///
     /// A command of [`Subnet::parse`] names a listed port of a channel adapter; `comes` holds of any other too.
     pub fn step(&mut self, command: &Command) -> Result<Vec<Event>, StepFault>
         // What comes of a command is said by what the ports and switches of the fabric hold.
         ensures comes { IfOk result (λ events. Comes self.old.fabric command.now events.items) }
         // And it is what the list of ports gives.
-        ensures events { IfOk result (λ events. NamesSender self.old.roster.configuration.ports command.now
-            → map event_of events.items ≡ (step self.old.roster.configuration self.old.state command.now).0) }
-        ensures next { OnOk result (self.new
-            ≡ record self.old { state = (step self.old.roster.configuration self.old.state command.now).1 }) }
+        ensures events { IfOk result (λ events. NamesSender self.old.roster.configuration.ports command.now → map event_of events.items
+            ≡ (step_by subnet_administration self.old.roster.configuration self.old.administration command.now).0) }
+        ensures next { OnOk result (IsNext self.old command.now self.new) }
+        ensures up { OnOk result (StaysUp self.new) }
         ensures broken { IsErrOf result StepFault.Broken ↔ (self.old.is_broken ≡ true) }
         ensures for_good { OnErr result (self.new.is_broken ≡ true) }
         ensures roster { OnErr result (self.new.roster ≡ self.old.roster) }
@@ -148,53 +155,23 @@ impl Subnet {
         if self.is_broken {
             return Err(StepFault::Broken);
         }
-        match self.events_of(command) {
-            Ok(events) => Ok(events),
-            Err(_) => {
-                self.is_broken = true;
-                Err(StepFault::NoMemory)
-            }
-        }
-    }
-
-    /// What comes of a command.
-    fn events_of(&self, command: &Command) -> Result<Vec<Event>, AllocError>
-        requires whole { self.now.is_broken ≡ false }
-        ensures comes { IfOk result (λ events. Comes self.now.fabric command.now events.items) }
-        ensures events { IfOk result (λ events. NamesSender self.now.roster.configuration.ports command.now
-            → map event_of events.items ≡ (step self.now.roster.configuration self.now.state command.now).0) }
-    {
-        match command {
-            Command::Send(command) => self.sent(command),
-            Command::Ask(command) => self.asked(command),
-        }
-    }
-
-    /// What comes of a command to send.
-    fn sent(&self, command: &SendCommand) -> Result<Vec<Event>, AllocError>
-        requires whole { self.now.is_broken ≡ false }
-        ensures comes { IfOk result (λ events. ComesOf self.now.fabric command.now events.items) }
-        ensures events { IfOk result (λ events. NamesSender self.now.roster.configuration.ports (Send command.now)
-            → map event_of events.items ≡ (step self.now.roster.configuration self.now.state (Send command.now)).0) }
-    {
-        self.roster.known_listed();
-        send(self.alloc, &self.fabric, command)
-    }
-
-    /// What comes of a command to ask.
-    fn asked(&self, command: &AskCommand) -> Result<Vec<Event>, AllocError>
-        requires whole { self.now.is_broken ≡ false }
-        ensures comes { IfOk result (λ events. ComesOfAsk self.now.fabric command.now events.items) }
-        ensures events { IfOk result (λ events. NamesSender self.now.roster.configuration.ports (Ask command.now)
-            → map event_of events.items ≡ (step self.now.roster.configuration self.now.state (Ask command.now)).0) }
-    {
-        self.roster.known_listed();
-        ask(self.alloc, &self.fabric, command)
+        // It is broken, unless the command is carried out to its end.
+        self.is_broken = true;
+        let events = carried_out(
+            self.alloc,
+            &self.roster,
+            &self.routes,
+            &mut self.fabric,
+            &mut self.registry,
+            command,
+        )?;
+        self.is_broken = false;
+        Ok(events)
     }
 
     /// What is reported of commands that are carried out one after another from the start.
     pub(crate) fn report(self, commands: &[Command]) -> Result<Report, StepFault>
-        requires fresh { self.state ≡ start self.roster.configuration }
+        requires fresh { self.administration ≡ at_start self.roster.configuration }
         requires senders { All (NamesSender self.roster.configuration.ports) commands.now }
         ensures { IfOk result (λ report. report ≡ told_of self.roster.configuration commands.now) }
     {
@@ -208,8 +185,8 @@ impl Subnet {
     /// Carries out commands one after another, and adds their events to those before.
     fn carry_out(&mut self, events: &mut Vec<Event>, commands: &[Command]) -> Result<(), StepFault>
         requires { All (NamesSender self.old.roster.configuration.ports) commands.now }
-        ensures events { OnOk result (map event_of events.new.items
-            ≡ map event_of events.old.items ++ events_from (step self.old.roster.configuration) self.old.state commands.now) }
+        ensures events { OnOk result (map event_of events.new.items ≡ map event_of events.old.items
+            ++ events_from (step_by subnet_administration self.old.roster.configuration) self.old.administration commands.now) }
         ensures roster { OnOk result (self.new.roster ≡ self.old.roster) }
     {
         for command in commands {

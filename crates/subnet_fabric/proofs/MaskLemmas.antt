@@ -36,7 +36,7 @@ use Rattle.topo_file.specs.declared.node.Node.{Node as PlannedNode}
 use Rattle.updn_routes.specs.Subnet.{RoutesState}
 
 -- ---- masks without a bit
-abbrev are_empty : List (List ℕ) → Bool
+abbrev pub are_empty : List (List ℕ) → Bool
 are_empty masks = list_all (λ words. list_all (λ word. word == 0) words) masks
 
 no_bit : (words : Option (List ℕ)) (mlid bit : ℕ) → ((some : List ℕ) → words ≡ Some some → list_all (λ word. word == 0) some ≡ true)
@@ -60,11 +60,11 @@ none_in masks mlid number empty =
     (λ words there. all_there (λ (words : List ℕ). list_all (λ word. word == 0) words) masks (number / 16) words empty there)
 
 -- ---- of nodes
-abbrev masks_of : Node → List (List ℕ)
+abbrev pub masks_of : Node → List (List ℕ)
 masks_of (Switch held) = held.masks
 masks_of (Adapter ports) = []
 
-abbrev are_unmasked : List Node → Bool
+abbrev pub are_unmasked : List Node → Bool
 are_unmasked nodes = list_all (λ node. are_empty (masks_of node)) nodes
 
 stay_unmasked : (change : Node → Node) → ((node : Node) → masks_of (change node) ≡ masks_of node) → (nodes : List Node) → are_unmasked nodes ≡ true
@@ -75,7 +75,7 @@ stay_unmasked change same (node ∷ nodes) all =
     and_from (are_empty (masks_of (change node))) (are_unmasked (map change nodes)) (ap are_empty (same node) ∙ parts.0)
     (stay_unmasked change same nodes parts.1)
 
-made_unmasked : (cables : List Cable) (nodes : List (ℕ × PlannedNode)) → are_unmasked (map (λ p. node_of cables p.0 p.1) nodes) ≡ true
+pub made_unmasked : (cables : List Cable) (nodes : List (ℕ × PlannedNode)) → are_unmasked (map (λ p. node_of cables p.0 p.1) nodes) ≡ true
 made_unmasked cables [] = refl
 made_unmasked cables (p ∷ nodes) =
     and_from (are_empty (masks_of (node_of cables p.0 p.1))) (are_unmasked (map (λ p. node_of cables p.0 p.1) nodes)) (by p.1.node_type)
@@ -121,7 +121,7 @@ by_keys change fabric all = stay_unmasked (keys_by change) by fabric.nodes all
     by (Switch held) = refl
     by (Adapter ports) = refl
 
-pushed_unmasked : (routes : RoutesState) (keys : List (List ℕ)) (fabric : FabricState) → are_unmasked fabric.nodes ≡ true
+pub pushed_unmasked : (routes : RoutesState) (keys : List (List ℕ)) (fabric : FabricState) → are_unmasked fabric.nodes ≡ true
     → are_unmasked (all_pushed routes keys fabric).nodes ≡ true
 pushed_unmasked routes keys fabric all =
     by_switches (with_linear routes) (λ guid held. refl) (ports_and_keys routes keys fabric)

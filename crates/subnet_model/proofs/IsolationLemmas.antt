@@ -19,17 +19,14 @@ use Rattle.subnet_model.specs.declared.command.SendCommand.{SendCommand}
 use Rattle.subnet_model.specs.declared.event.PortEvent.{PortEvent}
 use Rattle.subnet_model.specs.declared.event.Outcome.{Outcome}
 use Rattle.subnet_model.specs.declared.event.Outcome.TheVariants.{Received, Refused}
-use Rattle.subnet_model.specs.declared.state.State.{State}
-use Rattle.subnet_model.specs.Administrator.{Administrator, silent}
+use Rattle.subnet_model.specs.Administrator.{Administrator}
 use Rattle.subnet_model.specs.Configuration.{ConfigurationState}
-use Rattle.subnet_model.specs.State.{Alike}
 use Rattle.subnet_model.specs.Near.{shares_with, ports_share, is_near}
 use Rattle.subnet_model.specs.Delivery.{port_with_guid, refusal_of, reaches_joined, is_for_sa, key_that_matches, manager_key, asking_key}
-use Rattle.subnet_model.specs.Report.{packet_of, received_by, unless_refused, answered_in_turn, answered_whole, reply_to, replied, delivered, sent, conversation, asked, step_by, events_from, state_from, report}
-use Rattle.subnet_model.specs.Silent.{received_unless_refused, sent_from, refused_unless, asked_from, StepsWhileSilent}
+use Rattle.subnet_model.specs.Report.{packet_of, received_by, unless_refused, answered_in_turn, answered_whole, reply_to, replied, delivered, sent, conversation, asked, step_by, events_from, state_from}
 use Rattle.subnet_model.specs.Restriction.{actor, events_at}
 use Rattle.subnet_model.specs.Source.{is_lid_near, HasSlidNear, HaveSlidsNear, IsFromNear, ComesFromNear, same_lid}
-use Rattle.subnet_model.specs.Isolation.{Isolates, IsIsolated, KeepsApart}
+use Rattle.subnet_model.specs.Isolation.{Alike, Isolates, KeepsApart}
 use Rattle.subnet_model.specs.Laws.{Isolated}
 
 -- a step that keeps a port to itself brings it the same events when what is far from it is left out
@@ -556,62 +553,6 @@ keepers_isolate configuration administrator is_sound sees law = record {
   );
   states = λ p commands. isolated_states (steps_isolate law p) commands (administrator.begins configuration) (administrator.begins configuration) (steps_isolate law p).begins;
 }
-
--- ---- as long as nobody answers
-pub silence_keeps_apart : (configuration : ConfigurationState) → KeepsApart configuration silent (λ state. true) (λ p state. state)
-silence_keeps_apart configuration = record {
-  begins = refl;
-  stays_sound = λ own mad s sound. refl;
-  far_unseen = λ p own mad s far sound. refl;
-  same_answers = λ own mad s t found alike. refl;
-  same_after = λ p own mad s t found alike. alike.same;
-  same_groups = λ p mlid s t alike. refl;
-  acknowledged_unseen = λ p own mads s other sound. refl;
-}
-
-silent_delivery : (configuration : ConfigurationState) (sender : SubnetPort) (command : SendCommand) (state : State) (refusal : Option Refusal)
-    → unless_refused refusal command.port_guid state (delivered silent configuration sender command state)
-    ≡ (received_unless_refused refusal configuration.ports sender command, state)
-silent_delivery configuration sender command state (Some refusal) = refl
-silent_delivery configuration sender command state None = elim (cases_Bool (is_for_sa command)) [
-  | inl for_sa ↦ rw for_sa (silent_reply sender (manager_key configuration.ports command.p_key) state)
-  | inr other ↦ rw other refl
-]
-  where
-    silent_reply : (own : SubnetPort) (key : Option ℕ) (state : State) → replied own key state ([], state) ≡ ([], state)
-    silent_reply own (Some key) state = refl
-    silent_reply own None state = refl
-
-silent_send : (configuration : ConfigurationState) (command : SendCommand) (state : State) (sender : Option SubnetPort)
-    → sent silent configuration sender command state ≡ (sent_from sender configuration.ports command, state)
-silent_send configuration command state None = refl
-silent_send configuration command state (Some sender) = silent_delivery configuration sender command state (refusal_of sender command)
-
-silent_conversation : (configuration : ConfigurationState) (own : SubnetPort) (mad : List ℕ) (state : State) (key : Option ℕ)
-    → conversation silent configuration own key mad state ≡ (refused_unless key own.guid, state)
-silent_conversation configuration own mad state (Some key) = silent_reply (manager_key configuration.ports key)
-  where
-    silent_reply : (answering : Option ℕ) → replied own answering state ([], state) ≡ ([], state)
-    silent_reply (Some answering) = refl
-    silent_reply None = refl
-silent_conversation configuration own mad state None = refl
-
-silent_ask : (configuration : ConfigurationState) (mad : List ℕ) (state : State) (own : Option SubnetPort)
-    → asked silent configuration own mad state ≡ (asked_from own, state)
-silent_ask configuration mad state None = refl
-silent_ask configuration mad state (Some own) = silent_conversation configuration own mad state (asking_key own.keys)
-
-pub steps_while_silent : StepsWhileSilent
-steps_while_silent = record {
-  sending = λ configuration state command. silent_send configuration command state (port_with_guid configuration.ports command.port_guid);
-  asking = λ configuration state command. silent_ask configuration command.mad state (port_with_guid configuration.ports command.port_guid);
-}
-
--- what is the report of the commands is isolated
-pub report_is_isolated : (configuration : ConfigurationState) (commands : List Command) (events : List PortEvent) → events ≡ report configuration commands
-    → IsIsolated configuration commands events
-report_is_isolated configuration commands events same =
-    rw same ((keepers_isolate configuration silent (λ state. true) (λ p state. state) (silence_keeps_apart configuration)).runs commands)
 
 -- ---- which port a LID names
 

@@ -1,9 +1,7 @@
 -- Who answers what is sent to subnet administration (IBA volume 1, chapter 15).
-use Rattle.std.specs.Prelude.{ℕ, Bool, false, List, []}
+use Rattle.std.specs.Prelude.{ℕ, Bool, List}
 use Rattle.subnet_model.specs.declared.subnet_port.SubnetPort.{SubnetPort}
-use Rattle.subnet_model.specs.declared.state.State.{State}
 use Rattle.subnet_model.specs.Configuration.{ConfigurationState}
-use Rattle.subnet_model.specs.State.{start}
 
 -- S is what it remembers; a MAD is the list of its bytes
 pub record Administrator (S : Type 0) : Type 0 where
@@ -15,12 +13,3 @@ pub record Administrator (S : Type 0) : Type 0 where
   pub acknowledgements : List (List ℕ) → List (List ℕ)
   -- the port of this GUID receives what is sent to this LID as that of a multicast group
   pub receives : S → ℕ → ℕ → Bool
-
--- one that never answers, and has no groups
-abbrev pub silent : Administrator State
-silent = record {
-  begins = start;
-  answer = λ configuration own mad state. ([], state);
-  acknowledgements = λ mads. [];
-  receives = λ state mlid guid. false;
-}

@@ -3,14 +3,19 @@ use Rattle.std.specs.Prelude.{ℕ, ◌≡◌, ◌==◌, Bool, true, false, List,
 use Rattle.subnet_model.specs.declared.subnet_port.SubnetPort.{SubnetPort}
 use Rattle.subnet_model.specs.declared.command.Command.{Command}
 use Rattle.subnet_model.specs.declared.event.PortEvent.{PortEvent}
-use Rattle.subnet_model.specs.Administrator.{Administrator, silent}
+use Rattle.subnet_model.specs.Administrator.{Administrator}
 use Rattle.subnet_model.specs.Configuration.{ConfigurationState}
 use Rattle.subnet_model.specs.Delivery.{port_with_guid}
 use Rattle.subnet_model.specs.Near.{is_near}
 use Rattle.subnet_model.specs.Report.{answered_in_turn, report_by}
 use Rattle.subnet_model.specs.Restriction.{commands_of, events_at}
 use Rattle.subnet_model.specs.Source.{HaveSlidsNear}
-use Rattle.subnet_model.specs.State.{Alike}
+
+-- two sound states are alike to the port of this GUID where it sees the same of them
+pub record Alike {S V : Type 0} (is_sound : S → Bool) (sees : ℕ → S → V) (p : ℕ) (s t : S) : Type 0 where
+  pub left_sound : is_sound s ≡ true
+  pub right_sound : is_sound t ≡ true
+  pub same : sees p s ≡ sees p t
 
 -- An administrator keeps ports apart, where some states are sound and each port sees something of a state: what a port
 -- far from another sends changes nothing that the other sees; a port that sees the same in two states is answered the
@@ -50,18 +55,11 @@ pub record Isolates {S C E : Type 0} (start : S) (step : S → C → List E × S
   pub nothing : own_events [] ≡ []
 
 -- the events at p are those that the commands of the ports near p alone would bring it
-abbrev pub DependsOnNearBy : {S : Type 0} → Administrator S → ConfigurationState → ℕ → List Command → List PortEvent → Type 0
-DependsOnNearBy administrator configuration p commands events =
+abbrev pub DependsOnNear : {S : Type 0} → Administrator S → ConfigurationState → ℕ → List Command → List PortEvent → Type 0
+DependsOnNear administrator configuration p commands events =
     events_at p events ≡ events_at p (report_by administrator configuration (commands_of (is_near configuration.ports p) commands))
 
 -- so it is at every port, and what each receives has the SLID of a port near it
-abbrev pub IsIsolatedBy : {S : Type 0} → Administrator S → ConfigurationState → List Command → List PortEvent → Type 0
-IsIsolatedBy administrator configuration commands events =
-    (p : ℕ) → DependsOnNearBy administrator configuration p commands events × HaveSlidsNear configuration.ports p events
-
--- as long as nobody answers what is asked of subnet administration
-abbrev pub DependsOnNear : ConfigurationState → ℕ → List Command → List PortEvent → Type 0
-DependsOnNear configuration p commands events = DependsOnNearBy silent configuration p commands events
-
-abbrev pub IsIsolated : ConfigurationState → List Command → List PortEvent → Type 0
-IsIsolated configuration commands events = IsIsolatedBy silent configuration commands events
+abbrev pub IsIsolated : {S : Type 0} → Administrator S → ConfigurationState → List Command → List PortEvent → Type 0
+IsIsolated administrator configuration commands events =
+    (p : ℕ) → DependsOnNear administrator configuration p commands events × HaveSlidsNear configuration.ports p events

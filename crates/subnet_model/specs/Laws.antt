@@ -4,14 +4,13 @@ use Rattle.std.specs.List.{IsDistinct}
 use Rattle.subnet_model.specs.declared.subnet_port.SubnetPort.{SubnetPort}
 use Rattle.subnet_model.specs.declared.command.Command.{Command}
 use Rattle.subnet_model.specs.declared.event.PortEvent.{PortEvent}
-use Rattle.subnet_model.specs.Administrator.{Administrator, silent}
+use Rattle.subnet_model.specs.Administrator.{Administrator}
 use Rattle.subnet_model.specs.Configuration.{ConfigurationState}
-use Rattle.subnet_model.specs.State.{Alike}
 use Rattle.subnet_model.specs.Near.{is_near}
-use Rattle.subnet_model.specs.Report.{step_by, report_by, report, state_from}
+use Rattle.subnet_model.specs.Report.{step_by, report_by, state_from}
 use Rattle.subnet_model.specs.Restriction.{actor, commands_of, events_at}
 use Rattle.subnet_model.specs.Source.{ComesFromNear, HaveSlidsNear, is_lid_near, same_lid}
-use Rattle.subnet_model.specs.Isolation.{Isolates, IsIsolated, IsIsolatedBy, KeepsApart}
+use Rattle.subnet_model.specs.Isolation.{Alike, Isolates, IsIsolated, KeepsApart}
 
 -- Whoever answers what is asked of subnet administration, and keeps ports apart: the step of a subnet keeps each port to
 -- itself and to those near it, so does every run, and what is remembered after it is to each port as if the ports near
@@ -22,7 +21,7 @@ pub record Isolated {S V : Type 0} (configuration : ConfigurationState) (adminis
       → Isolates (administrator.begins configuration) (step_by administrator configuration) (Alike is_sound sees p)
       (λ command. is_near configuration.ports p (actor command)) (events_at p)
   pub runs : (commands : List Command)
-      → IsIsolatedBy administrator configuration commands (report_by administrator configuration commands)
+      → IsIsolated administrator configuration commands (report_by administrator configuration commands)
   pub states : (p : ℕ) (commands : List Command)
       → Alike is_sound sees p
       (state_from (step_by administrator configuration) (administrator.begins configuration) commands)
@@ -33,15 +32,6 @@ abbrev pub EveryKeeperIsolates : Type 0 → Type 0 → Type 0
 EveryKeeperIsolates S V =
     (configuration : ConfigurationState) (administrator : Administrator S) (is_sound : S → Bool) (sees : ℕ → S → V)
     → KeepsApart configuration administrator is_sound sees → Isolated configuration administrator is_sound sees
-
--- who never answers keeps ports apart
-abbrev pub SilenceKeepsApart : Type 0
-SilenceKeepsApart = (configuration : ConfigurationState) → KeepsApart configuration silent (λ state. true) (λ p state. state)
-
--- so that every run is isolated as long as nobody answers, whatever the ports and the commands
-abbrev pub EveryRunIsIsolated : Type 0
-EveryRunIsIsolated =
-    (configuration : ConfigurationState) (commands : List Command) → IsIsolated configuration commands (report configuration commands)
 
 -- where no two ports have one LID, the port of a LID near p is near p
 abbrev pub ThePortOfALidIsNear : Type 0

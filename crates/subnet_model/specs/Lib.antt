@@ -2,12 +2,10 @@ pub mod Configuration
 pub mod Configured
 pub mod EndPorts
 pub mod Near
-pub mod State
 pub mod Administrator
 pub mod Delivery
 pub mod Groups
 pub mod Report
-pub mod Silent
 pub mod Restriction
 pub mod Source
 pub mod Isolation

@@ -11,8 +11,7 @@ use Rattle.subnet_model.specs.declared.command.Command.TheVariants.{Ask, Send}
 use Rattle.subnet_model.specs.declared.command.SendCommand.{SendCommand}
 use Rattle.subnet_model.specs.declared.event.PortEvent.{PortEvent}
 use Rattle.subnet_model.specs.declared.event.Outcome.TheVariants.{Received, Refused}
-use Rattle.subnet_model.specs.declared.state.State.{State}
-use Rattle.subnet_model.specs.Administrator.{Administrator, silent}
+use Rattle.subnet_model.specs.Administrator.{Administrator}
 use Rattle.subnet_model.specs.Configuration.{ConfigurationState}
 use Rattle.subnet_model.specs.Delivery.{asking_key, is_for_sa, manager_key, port_with_guid, reaches_joined, refusal_of}
 
@@ -110,10 +109,3 @@ state_from step state commands = fold (λ before command. (step before command).
 abbrev pub report_by : {S : Type 0} → Administrator S → ConfigurationState → List Command → List PortEvent
 report_by administrator configuration commands =
     events_from (step_by administrator configuration) (administrator.begins configuration) commands
-
--- ---- as long as nobody answers
-abbrev pub step : ConfigurationState → State → Command → List PortEvent × State
-step configuration state command = step_by silent configuration state command
-
-abbrev pub report : ConfigurationState → List Command → List PortEvent
-report configuration commands = report_by silent configuration commands

@@ -1,10 +1,8 @@
 //! Isolation, over the definitions alone, which no code can change. Each function does nothing: its
 //! contract is the law.
 
-ghost use Rattle.std.specs.Prelude.{◌≡◌};
 ghost use Rattle.subnet_model.specs.Groups.{GroupsReachOthers};
-ghost use Rattle.subnet_model.specs.Laws.{EveryKeeperIsolates, EveryRunIsIsolated, SilenceKeepsApart, SlidsNameTheirPorts, ThePortOfALidIsNear};
-ghost use Rattle.subnet_model.specs.Silent.{StepsWhileSilent};
+ghost use Rattle.subnet_model.specs.Laws.{EveryKeeperIsolates, SlidsNameTheirPorts, ThePortOfALidIsNear};
 
 /// Whoever answers what is asked of the subnet administration: where it keeps ports apart, so does a subnet. A command
 /// of a port that is far from another brings that one no event, and leaves a state that is alike to it; one of a port
@@ -13,25 +11,9 @@ pub fn every_keeper_isolates<S, V>()
     ensures { EveryKeeperIsolates S V }
 {}
 
-/// Who never answers keeps ports apart.
-pub fn silence_keeps_apart()
-    ensures { SilenceKeepsApart }
-{}
-
-/// What each command brings as long as nobody answers, in plain words.
-pub fn steps_while_silent()
-    ensures { StepsWhileSilent }
-{}
-
 /// A multicast group brings a packet to each port that has joined it and may receive the packet, but not to its sender.
 pub fn groups_reach_others()
     ensures { GroupsReachOthers }
-{}
-
-/// Whatever the ports, their keys and the commands, what a port receives depends only on the ports near it,
-/// and has the SLID of one of them.
-pub fn every_run_is_isolated()
-    ensures { EveryRunIsIsolated }
 {}
 
 /// A LID that only one port has is that port's: where it is the LID of a port near another, that port is

@@ -1,3 +1,4 @@
 pub mod ListLemmas
 pub mod WayLemmas
 pub mod SendLemmas
+pub mod ReplyLemmas

@@ -1,3 +1,4 @@
 pub mod OfFabric
 pub mod Laws
 pub mod Sends
+pub mod Replies

@@ -1,6 +1,7 @@
 //! The laws of subnets and their fabrics. Each function's contract is its law; it does nothing.
 
 ghost use Rattle.subnet_sends.specs.Laws.{DeliveriesAreWhatIsTold, PortsStampAsTold};
+ghost use Rattle.subnet_sends.specs.Replies.{RequestsComeToTheManager};
 
 /// In the fabric of a list of ports, the port of a command's GUID refuses what the list refuses, for the same cause, and
 /// else stamps the packet that the list tells.
@@ -12,4 +13,10 @@ pub fn ports_stamp_as_told()
 /// same order.
 pub fn deliveries_are_what_is_told()
     ensures { DeliveriesAreWhatIsTold }
+{}
+
+/// In the fabric of a list of ports, what is for subnet administration comes to the subnet manager's port and to no other,
+/// exactly where that has a key that matches the packet's.
+pub fn requests_come_to_the_manager()
+    ensures { RequestsComeToTheManager }
 {}

@@ -2,13 +2,14 @@
 
 ghost use Rattle.std.specs.Prelude.{ℕ, ◌≡◌, [], ◌∷◌, IfOk, is_some, map, Some, true};
 ghost use Rattle.std.specs.Option.{ForSome};
-ghost use Rattle.packet_ways.specs.Deliveries.{adapter_at, guid_at};
+ghost use Rattle.packet_ways.specs.Deliveries.{AreDeliveries, adapter_at, guid_at};
 ghost use Rattle.port_model.specs.Packets.{stamped};
 ghost use Rattle.data_packet.specs.QueuePair.{general_services_qp};
 ghost use Rattle.fabric_parts.specs.Lid.{manager_lid};
-ghost use Rattle.subnet_sends.specs.Sends.{AreAsListed, AreReceived, AskIsAsListed, ComesOf, ComesOfAsk, given_to_ask};
+ghost use Rattle.subnet_sends.specs.Sends.{AskIsAsListed, ComesOf, ComesOfAsk, SendIsAsListed, given_to_ask};
 
 use crate::event::Event;
+use crate::sent::Sent;
 use data_packet::{Packet, QueuePair, Refusal};
 use fabric_parts::{MANAGER_LID, PortRef};
 use fabric_wire::{Delivery, Fabric};
@@ -16,13 +17,14 @@ use pkey_rules::{DEFAULT_BASE, key_of};
 use std::alloc::{AllocError, Global};
 use subnet_model::{AskCommand, SendCommand};
 
-/// Carries out a command to send: what the port of its GUID stamps is carried over the fabric.
-pub fn send(alloc: Global, fabric: &Fabric, command: &SendCommand) -> Result<Vec<Event>, AllocError>
-    ensures comes { IfOk result (λ events. ComesOf fabric.now command.now events.items) }
-    ensures told { IfOk result (λ events. AreAsListed fabric.now command.now events.items) }
+/// Carries out a command to send: what the port of its GUID stamps is carried over the fabric. What is for subnet
+/// administration is carried, too, and told as a request.
+pub fn send(alloc: Global, fabric: &Fabric, command: &SendCommand) -> Result<Sent, AllocError>
+    ensures comes { IfOk result (λ sent. ComesOf fabric.now command.now sent) }
+    ensures told { IfOk result (λ sent. SendIsAsListed fabric.now command.now sent) }
 {
     let Some(from) = fabric.place_of(command.port_guid) else {
-        return Ok(Vec::new(alloc));
+        return Ok(Sent::Events(Vec::new(alloc)));
     };
     let stamped = fabric.stamp_at(
         from,
@@ -32,23 +34,29 @@ pub fn send(alloc: Global, fabric: &Fabric, command: &SendCommand) -> Result<Vec
         command.payload.as_slice(),
     );
     match stamped {
-        Ok(_) if command.is_for_sa() => Ok(Vec::new(alloc)),
-        Ok(packet) => received(alloc, fabric, from, &packet),
-        Err(refusal) => refused(alloc, command.port_guid, refusal),
+        Ok(packet) => {
+            let deliveries = fabric.carry_from(alloc, from, &packet)?;
+            if command.is_for_sa() {
+                Ok(Sent::Request(deliveries))
+            } else {
+                Ok(Sent::Events(events_of(alloc, deliveries)?))
+            }
+        }
+        Err(refusal) => Ok(Sent::Events(refused(alloc, command.port_guid, refusal)?)),
     }
 }
 
-/// Carries out a command to ask, as long as nobody answers: only a refusal is told.
-pub fn ask(alloc: Global, fabric: &Fabric, command: &AskCommand) -> Result<Vec<Event>, AllocError>
-    ensures comes { IfOk result (λ events. ComesOfAsk fabric.now command.now events.items) }
-    ensures told { IfOk result (λ events. AskIsAsListed fabric.now command.now events.items) }
+/// Carries out a command to ask: the port's packet is carried to subnet administration, unless the port refuses to send it.
+pub fn ask(alloc: Global, fabric: &Fabric, command: &AskCommand) -> Result<Sent, AllocError>
+    ensures comes { IfOk result (λ sent. ComesOfAsk fabric.now command.now sent) }
+    ensures told { IfOk result (λ sent. AskIsAsListed fabric.now command.now sent) }
 {
     let Some(from) = fabric.place_of(command.port_guid) else {
-        return Ok(Vec::new(alloc));
+        return Ok(Sent::Events(Vec::new(alloc)));
     };
     match asked(fabric, from, command) {
-        Ok(_) => Ok(Vec::new(alloc)),
-        Err(refusal) => refused(alloc, command.port_guid, refusal),
+        Ok(packet) => Ok(Sent::Request(fabric.carry_from(alloc, from, &packet)?)),
+        Err(refusal) => Ok(Sent::Events(refused(alloc, command.port_guid, refusal)?)),
     }
 }
 
@@ -93,23 +101,8 @@ fn refused(alloc: Global, port_guid: u64, refusal: Refusal) -> Result<Vec<Event>
     Ok(events)
 }
 
-/// The packet at each port that gets it.
-fn received(
-    alloc: Global,
-    fabric: &Fabric,
-    from: PortRef,
-    packet: &Packet,
-) -> Result<Vec<Event>, AllocError>
-    requires { is_some (adapter_at fabric.now.nodes from) ≡ true }
-    ensures { IfOk result (λ events. (port_guid : ℕ) → guid_at fabric.now.nodes from ≡ Some port_guid
-        → AreReceived fabric.now port_guid packet.now events.items) }
-{
-    let deliveries = fabric.carry_from(alloc, from, packet)?;
-    events_of(alloc, deliveries)
-}
-
 /// Each delivery is an event.
-fn events_of(alloc: Global, deliveries: Vec<Delivery>) -> Result<Vec<Event>, AllocError>
+pub(crate) fn events_of(alloc: Global, deliveries: Vec<Delivery>) -> Result<Vec<Event>, AllocError>
     ensures { IfOk result (λ events. events.items ≡ map Event.Received deliveries.items) }
 {
     deliveries.into_iter().map(Event::Received).collect(alloc)

@@ -1,14 +1,11 @@
-//! Worked examples of near and of delivery.
+//! Worked examples of near.
 
 use crate::fixtures::{ALL_FULL, GUIDS, ONE_PARTITION, two_switches};
-use data_packet::{Payload, QueuePair};
 use pkey_rules::EndPort;
 use std::test::Fail;
-use subnet_model::{Command, Outcome, SendCommand, lids_of, near, report};
+use subnet_model::{lids_of, near};
 
 const H1: u64 = 0x111;
-
-const H2: u64 = 0x121;
 
 const H3: u64 = 0x131;
 
@@ -42,33 +39,5 @@ fn limited_members_are_near_the_full_ones_alone(rt: HostRuntime) -> Result<(), F
         near(rt.alloc(), configuration.ports(), H3)?.as_slice(),
         GUIDS.as_slice()
     );
-    Ok(())
-}
-
-#[test]
-fn a_limited_member_reaches_the_full_one_alone(rt: HostRuntime) -> Result<(), Fail> {
-    let configuration = two_switches(rt.alloc(), &ONE_PARTITION)?;
-    for (dlid, receiver) in [
-        (4, Some(H1)),
-        (5, None),
-        (6, None),
-        (2, None),
-        (0xc000, None),
-    ] {
-        let send = SendCommand {
-            port_guid: H2,
-            dlid,
-            p_key: 0x0001,
-            destination_qp: QueuePair::new(7).ok_or("24 bits")?,
-            payload: Payload::new(&[1]),
-        };
-        let mut commands = Vec::new(rt.alloc());
-        commands.push(Command::Send(send))?;
-        let events = report(rt.alloc(), &configuration, &commands)?;
-        let heard = events
-            .iter()
-            .find(|event| matches!(event.what, Outcome::Received(_)));
-        assert_eq!(rt; heard.map(|event| event.port_guid), receiver, "{dlid}");
-    }
     Ok(())
 }

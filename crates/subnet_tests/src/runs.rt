@@ -50,6 +50,47 @@ fn a_run_is_told_or_memory_is_refused(rt: HostRuntime) -> Result<(), Fail> {
     Ok(())
 }
 
+/// A partition of which h1 is a full member, and h2 and h3 are limited ones.
+const PARTITIONS: &str = "P1=0x0001: 0x111=full, 0x121, 0x131;";
+
+/// A group is made and joined, records come in segments, a service is set, and a packet goes to the group.
+const ASKS: &str = "ask h1/1 set member tid=1 mgid=0xff12000000000000000000000000000a \
+    portgid=0xfe800000000000000000000000000111 qkey=1 tclass=0 pkey=0x8001 sl=0 flow=0 join=1\n\
+    ask h2/1 set member tid=1 mgid=0xff12000000000000000000000000000a \
+    portgid=0xfe800000000000000000000000000121 pkey=0x8001 join=1\n\
+    ask h1/1 table node tid=2\n\
+    ask h2/1 set service tid=2 sid=1 gid=0xfe800000000000000000000000000121 pkey=0x0001\n\
+    send h1/1 0xc020 0x8001 7 1:01\n";
+
+/// The report of these, unless memory was refused.
+fn answers(rt: &impl Abort, alloc: Global) -> Option<Vec<u8>> {
+    match run(
+        alloc,
+        TWO_SWITCHES.as_bytes(),
+        Some(PARTITIONS.as_bytes()),
+        ASKS.as_bytes(),
+    ) {
+        Ok(report) => report.text().ok(),
+        Err(fault) => {
+            assert_eq!(rt; fault, RunFault::NoMemory);
+            None
+        }
+    }
+}
+
+/// Of two runs at most one is refused memory, and what one tells the other tells.
+#[test]
+fn a_run_that_asks_is_told_or_memory_is_refused(rt: HostRuntime) -> Result<(), Fail> {
+    let first = answers(&rt, rt.alloc());
+    let second = answers(&rt, rt.alloc());
+    assert!(rt; first.is_some() || second.is_some());
+    if let (Some(one), Some(other)) = (first, second) {
+        assert_eq!(rt; one.as_slice(), other.as_slice());
+        assert_eq!(rt; one.iter().filter(|byte| **byte == b'\n').count(), 7);
+    }
+    Ok(())
+}
+
 fn is_carried_out(rt: &impl Abort, subnet: &mut Subnet, command: &Command) {
     match subnet.step(command) {
         Ok(events) => assert_eq!(rt; events.len(), 1),

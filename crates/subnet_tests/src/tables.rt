@@ -1,4 +1,4 @@
-//! Multicast forwarding tables, by masks that SMPs wrote: no subnet manager of ours writes any yet.
+//! Multicast forwarding tables, by masks that SMPs of the test wrote.
 
 use crate::traces::brought_up;
 use crate::traces::groups::put_mask;

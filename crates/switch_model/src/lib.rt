@@ -26,5 +26,6 @@ pub use crate::laws::{
     smps_are_read_alike, smps_change_what_they_name, smps_settle, switches_stay_good, the_numbers,
     unicast_goes_by_entries, unseen_comes_back,
 };
+pub use crate::multicast_table::POSITIONS;
 pub use crate::switch::Switch;
 pub use crate::switch_port::SwitchPort;

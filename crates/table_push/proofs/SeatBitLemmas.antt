@@ -13,7 +13,7 @@ use Rattle.result_words.proofs.ListLemmas.{all_there}
 use Rattle.result_words.proofs.TestLemmas.{same_either_way}
 use Rattle.subnet_model.specs.declared.group_receiver.GroupReceiver.{GroupReceiver}
 use Rattle.table_push.specs.Masks.{is_in_slice}
-use Rattle.table_push.specs.MaskSteps.{AreBits, AreHanging, AreReached, adapter_home, hangs_at, hangs_on, is_that_port, seat_in, slot_in, some_receives}
+use Rattle.table_push.specs.MaskSteps.{AreBits, AreHanging, AreReceiversBits, adapter_home, hangs_at, hangs_on, is_that_port, seat_in, slot_in, some_receives}
 use Rattle.table_push.specs.declared.seats.Seat.{Seat}
 use Rattle.table_push.proofs.ReachLemmas.{either_bit, no_bits, port_bit}
 use Rattle.updn_routes.specs.Routes.{AreRoutes, home_of}
@@ -148,7 +148,7 @@ added : (limit partition k j : ℕ) (receivers : List GroupReceiver) (one : Grou
     → slice_get receivers k ≡ Some one → slot_in partition one.mlid ≡ Some j
     → ((number : ℕ) → number < limit → (bit_at (next j) number == 1) ≡ ((bit_at (bits j) number == 1) || reaches one.lid number))
     → ((i : ℕ) → (i ≡ j → ⊥) → next i ≡ bits i)
-    → AreReached limit partition (take k receivers) reaches bits → AreReached limit partition (take (k + 1) receivers) reaches next
+    → AreReceiversBits limit partition (take k receivers) reaches bits → AreReceiversBits limit partition (take (k + 1) receivers) reaches next
 added limit partition k j receivers one reaches bits next there slot here apart are i number low below = elim (cases_Bool (i == j)) [
   | inl same ↦
       let equal : i ≡ j = eqb-true i j same in
@@ -172,7 +172,7 @@ added limit partition k j receivers one reaches bits next there slot here apart 
 
 passed : (limit partition k : ℕ) (receivers : List GroupReceiver) (one : GroupReceiver) (reaches : ℕ → ℕ → Bool) (bits : ℕ → ℕ)
     → slice_get receivers k ≡ Some one → (slot_in partition one.mlid ≡ None) ⊎ ((number : ℕ) → reaches one.lid number ≡ false)
-    → AreReached limit partition (take k receivers) reaches bits → AreReached limit partition (take (k + 1) receivers) reaches bits
+    → AreReceiversBits limit partition (take k receivers) reaches bits → AreReceiversBits limit partition (take (k + 1) receivers) reaches bits
 passed limit partition k receivers one reaches bits there why are i number low below =
     are i number low below ∙ by why ∙ sym (some_more receivers k (FIRST_MULTICAST_LID + (32 * partition + i)) one (λ lid. reaches lid number) there)
   where

@@ -59,8 +59,8 @@ abbrev pub some_receives : List GroupReceiver → (mlid : ℕ) → (ℕ → Bool
 some_receives receivers mlid test = list_any (λ one. (one.mlid == mlid) && test one.lid) receivers
 
 -- for each multicast LID of the slice the numbers below a limit that receivers reach
-abbrev pub AreReached : (limit partition : ℕ) → List GroupReceiver → (reaches : ℕ → ℕ → Bool) → (bits : ℕ → ℕ) → Type 0
-AreReached limit partition receivers reaches bits =
+abbrev pub AreReceiversBits : (limit partition : ℕ) → List GroupReceiver → (reaches : ℕ → ℕ → Bool) → (bits : ℕ → ℕ) → Type 0
+AreReceiversBits limit partition receivers reaches bits =
     (i number : ℕ) → i < 32 → number < limit → (bit_at (bits i) number == 1)
     ≡ some_receives receivers (FIRST_MULTICAST_LID + (32 * partition + i)) (λ lid. reaches lid number)
 
@@ -68,8 +68,8 @@ AreReached limit partition receivers reaches bits =
 pub record AreHanging (routes : RoutesState) (partition : ℕ) (receivers : List GroupReceiver) (ports : List (List ℕ))
     (switches : List ℕ) : Type 0 where
   pub of_ports : (s : ℕ) → s < 64
-      → AreReached 48 partition receivers (hangs_at routes.between.homes s) (λ i. get_or (get_or ports i []) s 0)
-  pub of_switches : AreReached 64 partition receivers (hangs_on routes.between.homes) (λ i. get_or switches i 0)
+      → AreReceiversBits 48 partition receivers (hangs_at routes.between.homes s) (λ i. get_or (get_or ports i []) s 0)
+  pub of_switches : AreReceiversBits 64 partition receivers (hangs_on routes.between.homes) (λ i. get_or switches i 0)
 
 -- what hangs on the other switch is reached by that port
 abbrev pub leads_away : RoutesState → (place other number : ℕ) → Bool

@@ -10,9 +10,6 @@ use fabric_parts::PortRef;
 use sweep::{Graph, GraphLink};
 use updn_routes::Routes;
 
-/// How many positions the masks of a switch have, each with a bit for each of 16 ports.
-pub(crate) const POSITIONS: usize = 3;
-
 /// Of the bits of a slice those of the 16 ports of a position.
 pub(crate) fn words_at(bits: &[u64; WORDS_PER_BLOCK], position: usize) -> [u16; WORDS_PER_BLOCK]
     requires { position < 3 }

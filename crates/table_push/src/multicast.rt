@@ -12,13 +12,13 @@ ghost use Rattle.table_push.specs.Nodes.{on_switch, with_switches};
 ghost use Rattle.table_push.specs.Pushes.{LeadsToSwitch, Leaves};
 
 use crate::fault::PushFault;
-use crate::masks::POSITIONS;
 use crate::seats::bits_of_seats;
 use crate::setting::set;
 use crate::trees::{blocks_of, masks_along, tree_of};
 use attr_tables::{SmpAttribute, WORDS_PER_BLOCK, WordBlock};
 use smp_wire::SmpWire;
 use subnet_model::GroupReceiver;
+use switch_model::POSITIONS;
 use updn_routes::Routes;
 
 /// Writes the slice of a partition, 32 multicast LIDs, of the multicast forwarding tables of all switches: for each of these

@@ -5,10 +5,11 @@ ghost use Rattle.table_push.specs.MaskSteps.{AreBits, is_that_port};
 ghost use Rattle.table_push.specs.Masks.{tree_end};
 ghost use Rattle.table_push.specs.TreeSteps.{AreSpread, IsBelowSet, IsLow, IsParent, IsSpread, IsTree, blocks_of, where_meets};
 
-use crate::masks::{POSITIONS, is_below, port_bit, tree_end, words_at};
+use crate::masks::{is_below, port_bit, tree_end, words_at};
 use crate::seats::{SeatBits, no_ports};
 use attr_tables::WORDS_PER_BLOCK;
 use fabric_parts::SWITCHES;
+use switch_model::POSITIONS;
 use updn_routes::Routes;
 
 /// What the tree tells of each switch, by its place.

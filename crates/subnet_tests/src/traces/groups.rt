@@ -1,4 +1,4 @@
-//! Packets to a multicast LID, by masks that SMPs wrote: no subnet manager of ours writes any yet.
+//! Packets to a multicast LID, by masks that SMPs of the test wrote.
 
 use super::{Spoilt, brought_up, spoil, trace};
 use attr_tables::SmpAttribute;

@@ -2,7 +2,7 @@ use Rattle.std.proofs.Common.{◌∙◌, sym}
 use Rattle.std.proofs.lemmas.Bool.{eq-eqb, eqb-true}
 use Rattle.std.proofs.lemmas.Option.{none-some}
 use Rattle.switch_model.proofs.MulticastLemmas.{bit_shown}
-use Rattle.fabric_wire.proofs.SpreadLemmas.{goes_by, is_grown, low_bits, not_by}
+use Rattle.fabric_wire.proofs.SpreadLemmas.{goes_by, is_grown, low_bits, no_bits, not_by, nothing_yet}
 use Rattle.fabric_wire.proofs.spreading.go_on.Goals as goal
 use Rattle.fabric_wire.proofs.spreading.go_on.Goals.{then-copies-number-eq1+in-Some+in_ok-insert, then-copies-number-eq1+in_default, else-copies-number-eq1}
 
@@ -37,3 +37,9 @@ returns c =
     (low_bits c.args.nodes.now c.args.packet.now c.args.here c.copies-copies.result c.loop-number.number c.copies-copies.type_inv
     c.loop-number-test.false c.copies-copies.ensures)
     c.loop-number.invariant
+
+pub returns-then-copies-eq0 : goal.returns-then-copies-eq0
+returns-then-copies-eq0 c =
+    is_grown c.args.nodes.now c.args.cabling.now.cables c.args.packet.now c.args.here 0 c.args.ports.now.keys c.args.ports.now.keys
+    (no_bits c.args.nodes.now c.args.packet.now c.args.here c.copies-copies.result c.if-copies-eq0.true c.copies-copies.ensures)
+    (nothing_yet c.args.nodes.now c.args.cabling.now.cables c.args.packet.now c.args.here c.args.ports.now.keys)

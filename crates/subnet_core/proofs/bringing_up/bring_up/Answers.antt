@@ -13,7 +13,7 @@ returns-in_err-up-clause-exact c =
     rw (p.1, p.2) (fabric_fails _ _ _ c.in_ok-roster.ensures c.in_err-up.ensures)
 
 pub returns-clause-exact : goal.returns-clause-exact
-returns-clause-exact c = rw c.new.ensures.roster (comes_up _ _ _ c.in_ok-roster.ensures c.in_ok-up.ensures)
+returns-clause-exact c = rw c.in_ok-new.ensures.roster (comes_up _ _ _ c.in_ok-roster.ensures c.in_ok-up.ensures)
 
 pub returns-clause-lids : goal.returns-clause-lids
-returns-clause-lids c = rw c.new.ensures.roster (lids_in_order _ c.known_listed.ensures)
+returns-clause-lids c = rw c.in_ok-new.ensures.roster (lids_in_order _ c.known_listed.ensures)

@@ -3,7 +3,7 @@ use Rattle.std.proofs.lemmas.Result.{err_from_is_err_and}
 use Rattle.result_words.proofs.LineLemmas.{goes_on, ends}
 use Rattle.subnet_core.specs.declared.fault.RunFault.TheVariants.{Script}
 use Rattle.subnet_core.specs.Roster.{fault_in, of_text}
-use Rattle.subnet_core.specs.Script.{commands_in, with_line}
+use Rattle.script_lines.specs.Script.{commands_in, with_line}
 use Rattle.subnet_core.proofs.CommandLemmas.{stops, text_is_good}
 use Rattle.subnet_core.proofs.running.commands_in.Goals as goal
 

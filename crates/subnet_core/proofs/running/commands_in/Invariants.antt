@@ -1,6 +1,6 @@
 use Rattle.std.specs.Prelude.{length}
 use Rattle.result_words.proofs.LineLemmas.{IsLeft}
-use Rattle.subnet_core.specs.Script.{commands_in, with_line}
+use Rattle.script_lines.specs.Script.{commands_in, with_line}
 use Rattle.subnet_core.proofs.running.commands_in.Given as goal
 
 abbrev pub invariant-loop-line : goal.invariant-loop-line

@@ -1,16 +1,15 @@
 use Rattle.std.proofs.Common.{rules}
-use Rattle.std.proofs.lemmas.Result.{IfOk-weaker}
-use Rattle.subnet_sends.specs.Sends.{ComesOfAsk}
+use Rattle.subnet_sends.specs.declared.sent.Sent.TheVariants.{Events, Request}
 use Rattle.subnet_sends.proofs.SendLemmas.{what_comes_of_asking_is_told}
 use Rattle.subnet_sends.proofs.sending.ask.Goals as goal
 
 pub returns-in_default-clause-told : goal.returns-in_default-clause-told
-returns-in_default-clause-told c = what_comes_of_asking_is_told c.args.fabric.now c.args.command.now c.new.result.items (search rules)
+returns-in_default-clause-told c = what_comes_of_asking_is_told c.args.fabric.now c.args.command.now (Events c.new.result) (search rules)
 
-pub returns-in-Ok-clause-told : goal.returns-in-Ok-clause-told
-returns-in-Ok-clause-told c = what_comes_of_asking_is_told c.args.fabric.now c.args.command.now c.new-in-Ok.result.items (search rules)
+pub returns-in_ok-carry_from-in-Ok-clause-told : goal.returns-in_ok-carry_from-in-Ok-clause-told
+returns-in_ok-carry_from-in-Ok-clause-told c =
+    what_comes_of_asking_is_told c.args.fabric.now c.args.command.now (Request c.in_ok-carry_from-in-Ok.field-0) (search rules)
 
-pub returns-in-Err-clause-told : goal.returns-in-Err-clause-told
-returns-in-Err-clause-told c =
-    IfOk-weaker c.refused.result (λ events. ComesOfAsk c.args.fabric.now c.args.command.now events.items) _
-    (λ events comes. what_comes_of_asking_is_told c.args.fabric.now c.args.command.now events.items comes) (search rules)
+pub returns-in_ok-refused-in-Err-clause-told : goal.returns-in_ok-refused-in-Err-clause-told
+returns-in_ok-refused-in-Err-clause-told c =
+    what_comes_of_asking_is_told c.args.fabric.now c.args.command.now (Events c.in_ok-refused-in-Err.field-0) (search rules)

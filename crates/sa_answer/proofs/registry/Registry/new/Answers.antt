@@ -1,26 +1,26 @@
-use Rattle.std.proofs.Common.{refl}
-use Rattle.sa_answer.specs.NodePorts.{all_with_keys, configured}
-use Rattle.sa_replies.proofs.StateLemmas.{starts_remembered}
-use Rattle.sa_answer.proofs.StartLemmas.{same_ports, same_services, same_transfers}
+use Rattle.std.proofs.Common.{◌≡◌, false, IfOk, subst, sym}
+use Rattle.subnet_model.specs.Configuration.{ConfigurationState}
+use Rattle.subnet_model.specs.Configured.{IsConfigured}
+use Rattle.sa_replies.specs.State.{at_start}
+use Rattle.sa_answer.specs.NodePorts.{all_with_keys}
+use Rattle.sa_answer.proofs.StartLemmas.{did_nothing, same_configuration}
 use Rattle.sa_answer.proofs.registry.Registry.new.Goals as goal
 
-pub invariant_of-result : goal.invariant_of-result
-invariant_of-result c =
-    let ports = all_with_keys c.args.ports.now c.args.members.now.keys in
-    let kept = rw c.keys.ensures at c.in_ok-kept.ensures in
-    let headings = rw c.headings.ensures.value at c.in_ok-copied.ensures in
-    let partitions = rw c.headings-2.ensures.value at c.in_ok-partitions_at_start.ensures in
-    let configuration = configured c.args.ports.now c.args.members.now in
-    record {
-      configured = rw (kept, headings, same_ports ports) c.requires.configured;
-      finds = λ guid. rw c.deref.ensures.value at (c.in_ok-places.ensures guid);
-      remembered = rw (kept, headings, partitions, same_ports ports, same_services ports) (starts_remembered configuration c.requires.configured);
-    }
+pub before_commands-requires-clause-configured : goal.before_commands-requires-clause-configured
+before_commands-requires-clause-configured c =
+    subst IsConfigured
+    (sym (same_configuration c.in_ok-kept.kept.items (all_with_keys c.args.ports.now c.args.members.now.keys) c.headings.result.now c.args.members.now.headings
+    (rw c.keys.ensures at c.in_ok-kept.ensures) c.headings.ensures.value))
+    c.requires.configured
+
+pub before_commands-requires-clause-start : goal.before_commands-requires-clause-start
+before_commands-requires-clause-start c =
+    did_nothing c.in_ok-kept.kept.items (all_with_keys c.args.ports.now c.args.members.now.keys) (rw c.keys.ensures at c.in_ok-kept.ensures)
 
 pub returns : goal.returns
 returns c =
-    let ports = all_with_keys c.args.ports.now c.args.members.now.keys in
-    let kept = rw c.keys.ensures at c.in_ok-kept.ensures in
-    let headings = rw c.headings.ensures.value at c.in_ok-copied.ensures in
-    let partitions = rw c.headings-2.ensures.value at c.in_ok-partitions_at_start.ensures in
-    rw (kept, headings, partitions, same_ports ports, same_services ports, same_transfers ports) refl
+    subst (λ (configuration : ConfigurationState).
+    IfOk c.before_commands.result (λ registry. registry ≡ record { configuration = configuration; administration = at_start configuration; is_broken = false }))
+    (same_configuration c.in_ok-kept.kept.items (all_with_keys c.args.ports.now c.args.members.now.keys) c.headings.result.now c.args.members.now.headings
+    (rw c.keys.ensures at c.in_ok-kept.ensures) c.headings.ensures.value)
+    c.before_commands.ensures

@@ -1,10 +1,11 @@
 use Rattle.std.proofs.Common.{◌≡◌, ◌++◌, drop, map}
 use Rattle.subnet_core.proofs.subnet.Subnet.carry_out.Given as goal
-use Rattle.subnet_model.specs.Report.{events_from, step}
+use Rattle.sa_runs.specs.Administration.{subnet_administration}
+use Rattle.subnet_model.specs.Report.{events_from, step_by}
 use Rattle.subnet_sends.specs.Sends.{event_of}
 
 abbrev pub invariant-loop-command : goal.invariant-loop-command
 invariant-loop-command l =
-    (map event_of l.events.items ++ events_from (step l.initial.self.roster.configuration) l.self.state (drop l.command-index l.commands)
-    ≡ map event_of l.initial.events.items ++ events_from (step l.initial.self.roster.configuration) l.initial.self.state l.commands)
+    (map event_of l.events.items ++ events_from (step_by subnet_administration l.initial.self.roster.configuration) l.self.administration (drop l.command-index l.commands)
+    ≡ map event_of l.initial.events.items ++ events_from (step_by subnet_administration l.initial.self.roster.configuration) l.initial.self.administration l.commands)
     × (l.self.roster ≡ l.initial.self.roster)

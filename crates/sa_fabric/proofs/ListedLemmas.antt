@@ -1,0 +1,110 @@
+-- A fabric that is served is the fabric of the list of its ports, and of the groups that are remembered.
+use Rattle.std.proofs.Common.{ℕ, ◌≡◌, ◌∙◌, ap, subst, sym, Bool, true, false, List, Option}
+use Rattle.std.specs.Option.{option_map_or}
+use Rattle.fabric_parts.specs.Lid.{is_multicast}
+use Rattle.packet_ways.specs.Forwards.{IsCabledPort}
+use Rattle.packet_ways.specs.Groups.{ForwardsByMlid}
+use Rattle.fabric_parts.specs.declared.cable.PortRef.{PortRef}
+use Rattle.partition_file.specs.Sound.{IsSound as ArePartitions}
+use Rattle.partition_file.specs.declared.partition.Partition.{Partition}
+use Rattle.port_model.specs.AdapterState.{AdapterState}
+use Rattle.sa_groups.specs.Delivery.{is_receiver_of}
+use Rattle.sa_groups.specs.Groups.{PartitionGroups}
+use Rattle.sa_queries.specs.Visible.{SaState}
+use Rattle.sa_replies.specs.State.{IsRememberedOf}
+use Rattle.smp_wire.specs.FabricState.{FabricState}
+use Rattle.smp_wire.specs.Good.{IsGood}
+use Rattle.subnet_fabric.proofs.GroupLemmas.{a_fabric_with_groups_is_as_listed}
+use Rattle.subnet_fabric.proofs.ListedLemmas.{up}
+use Rattle.subnet_fabric.specs.Laws.{all_keys}
+use Rattle.subnet_model.specs.declared.subnet_port.SubnetPort.{SubnetPort}
+use Rattle.subnet_ports.proofs.EndPortLemmas.{end_ports_stand_in_order}
+use Rattle.subnet_ports.specs.Ports.{configuration_of, ports_of}
+use Rattle.subnet_sends.specs.OfFabric.{IsFabricOf}
+use Rattle.sweep.proofs.MetLemmas.{good_once}
+use Rattle.table_push.proofs.AllMaskLemmas.{masks_keep_what_is_up}
+use Rattle.table_push.specs.BroughtUp.{IsBroughtUp}
+use Rattle.table_push.specs.BroughtUpLaws.{by_guid}
+use Rattle.topo_file.specs.Sound.{IsSound}
+use Rattle.topo_file.specs.Topology.{TopologyState}
+use Rattle.updn_routes.specs.Subnet.{RoutesState}
+use Rattle.sa_fabric.proofs.GroupLemmas.{are_of_groups, few_numbers, listed_is_found, receivers_are_of_groups, receives_by_lid}
+use Rattle.sa_fabric.specs.Laws.{AServedFabricIsAsListed}
+use Rattle.sa_fabric.specs.Served.{IsServed, receives_at}
+
+-- what is served is up
+pub served_is_up : (plan : TopologyState) (partitions : List Partition) (groups : List PartitionGroups) (routes : RoutesState) (fabric : FabricState)
+    → IsSound plan → ArePartitions partitions → IsServed plan (ports_of partitions plan) groups routes fabric
+    → IsBroughtUp routes (all_keys (ports_of partitions plan)) fabric
+served_is_up plan partitions groups routes fabric sound whole served =
+    let keys = all_keys (ports_of partitions plan) in
+    let receives = receives_at (ports_of partitions plan) groups in
+    let by = served.up in
+    subst (IsBroughtUp routes keys) (sym served.masks)
+    (masks_keep_what_is_up routes keys receives served.base
+    (subst (IsBroughtUp routes keys) (sym by.is) (up plan partitions sound whole routes by.are by.home by.pushed)))
+
+-- tests that agree at each port of a channel adapter make one fabric of a list
+module _ (ports : List SubnetPort) (one other : ℕ → ℕ → Bool) (fabric : FabricState) (good : IsGood fabric)
+    (agree : (mlid : ℕ) (at : PortRef) (port : AdapterState) → IsCabledPort fabric at port → one mlid port.port_guid ≡ other mlid port.port_guid)
+    (groups : (mlid guid : ℕ) → other mlid guid ≡ true → is_multicast mlid ≡ true) where
+  spreads_too : ForwardsByMlid fabric one → ForwardsByMlid fabric other
+  spreads_too spreads = record {
+    free = spreads.free;
+    own = λ mlid here at port multi cable there.
+        spreads.own mlid here at port multi cable there
+        ∙ agree mlid at port (record { there = there; far = here; cable = good_once fabric here at good cable });
+    lead = λ mlid from at sender port begin cabled apart member multi.
+        spreads.lead mlid from at sender port begin cabled apart (agree mlid at port cabled ∙ member) multi;
+    away = spreads.away;
+  }
+
+  pub is_fabric_too : IsFabricOf ports one fabric → IsFabricOf ports other fabric
+  is_fabric_too is = record {
+    forwards = is.forwards;
+    spreads = spreads_too is.spreads;
+    groups = groups;
+    own_guids = is.own_guids;
+    order = is.order;
+    unicast = is.unicast;
+    there = is.there;
+    listed = is.listed;
+  }
+
+module _ (plan : TopologyState) (partitions : List Partition) (state : SaState) (routes : RoutesState) (fabric : FabricState)
+    (sound : IsSound plan) (whole : ArePartitions partitions) (remembered : IsRememberedOf (configuration_of partitions plan) state)
+    (served : IsServed plan (ports_of partitions plan) state.partitions routes fabric) where
+  abbrev ports : List SubnetPort
+  ports = ports_of partitions plan
+
+  abbrev receives : ℕ → ℕ → Bool
+  receives = receives_at ports state.partitions
+
+  still_up : IsBroughtUp routes (all_keys ports) fabric
+  still_up = served_is_up plan partitions state.partitions routes fabric sound whole served
+
+  by_lids : IsFabricOf ports (by_guid routes.lids receives) fabric
+  by_lids =
+      subst (IsFabricOf ports (by_guid routes.lids receives)) (sym served.masks)
+      (a_fabric_with_groups_is_as_listed plan partitions routes served.base receives sound whole served.up
+      (are_of_groups ports state.partitions remembered.groups (few_numbers partitions plan state whole remembered)))
+
+  agrees : (mlid : ℕ) (at : PortRef) (one : AdapterState) → IsCabledPort fabric at one
+      → by_guid routes.lids receives mlid one.port_guid ≡ is_receiver_of state.partitions mlid one.port_guid
+  agrees mlid at one cabled =
+      let listed = by_lids.listed at one cabled in
+      let port = listed.port in
+      let ends = end_ports_stand_in_order partitions plan sound in
+      ap (λ (o : Option ℕ). option_map_or (receives mlid) o false) (still_up.lids at one cabled)
+      ∙ ap (receives mlid) listed.is.lid
+      ∙ receives_by_lid ports state.partitions mlid port ends.lids (listed_is_found ports port listed.among ends.own_guids) listed.is.adapter
+      ∙ ap (is_receiver_of state.partitions mlid) (sym listed.is.guid)
+
+  pub is_as_listed : IsFabricOf ports (is_receiver_of state.partitions) fabric
+  is_as_listed =
+      is_fabric_too ports (by_guid routes.lids receives) (is_receiver_of state.partitions) fabric still_up.good agrees
+      (receivers_are_of_groups ports state.partitions remembered.groups (few_numbers partitions plan state whole remembered)) by_lids
+
+pub a_served_fabric_is_as_listed : AServedFabricIsAsListed
+a_served_fabric_is_as_listed plan partitions state routes fabric sound whole is served =
+    is_as_listed plan partitions state.remembered routes fabric sound whole is.remembered served

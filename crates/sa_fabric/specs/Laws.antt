@@ -1,0 +1,39 @@
+-- What holds of every fabric that is served: the statements of the laws of `src/laws.rt`.
+use Rattle.std.specs.Prelude.{◌≡◌, List}
+use Rattle.partition_file.specs.Sound.{IsSound as ArePartitions}
+use Rattle.partition_file.specs.declared.partition.Partition.{Partition}
+use Rattle.sa_groups.specs.Delivery.{is_receiver_of}
+use Rattle.sa_groups.specs.Groups.{PartitionGroups, start_of}
+use Rattle.sa_replies.specs.Answer.{Administration}
+use Rattle.sa_replies.specs.State.{IsStateOf}
+use Rattle.smp_wire.specs.FabricState.{FabricState}
+use Rattle.subnet_fabric.specs.BringUp.{IsBroughtUpBy}
+use Rattle.subnet_fabric.specs.Laws.{all_keys}
+use Rattle.subnet_model.specs.declared.subnet_port.SubnetPort.{SubnetPort}
+use Rattle.subnet_ports.specs.Ports.{configuration_of, ports_of}
+use Rattle.subnet_sends.specs.OfFabric.{IsFabricOf}
+use Rattle.topo_file.specs.Sound.{IsSound}
+use Rattle.topo_file.specs.Topology.{TopologyState}
+use Rattle.updn_routes.specs.Subnet.{RoutesState}
+use Rattle.sa_fabric.specs.Served.{IsServed}
+
+-- a fabric that is served is the fabric of the list of its ports, where those receive what is sent to groups that are in them
+abbrev pub AServedFabricIsAsListed : Type 0
+AServedFabricIsAsListed =
+    (plan : TopologyState) (partitions : List Partition) (state : Administration) (routes : RoutesState) (fabric : FabricState)
+    → IsSound plan → ArePartitions partitions → IsStateOf (configuration_of partitions plan) state
+    → IsServed plan (ports_of partitions plan) state.remembered.partitions routes fabric
+    → IsFabricOf (ports_of partitions plan) (is_receiver_of state.remembered.partitions) fabric
+
+-- before the first command nobody is in a group, and the fabric is served as it was brought up
+abbrev pub StartsAreServed : Type 0
+StartsAreServed =
+    (plan : TopologyState) (partitions : List Partition) (routes : RoutesState) (fabric : FabricState)
+    → IsSound plan → ArePartitions partitions → IsBroughtUpBy plan (all_keys (ports_of partitions plan)) routes fabric
+    → IsServed plan (ports_of partitions plan) (start_of (configuration_of partitions plan)) routes fabric
+
+-- what was brought up is served by one set of masks: nothing else than who receives tells what the fabric is
+abbrev pub OneFabricIsServed : Type 0
+OneFabricIsServed =
+    (plan : TopologyState) (ports : List SubnetPort) (partitions : List PartitionGroups) (routes : RoutesState) (one other : FabricState)
+    → IsServed plan ports partitions routes one → IsServed plan ports partitions routes other → one ≡ other

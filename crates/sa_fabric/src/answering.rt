@@ -1,0 +1,67 @@
+//! How a fabric under subnet administration answers.
+
+ghost use Rattle.std.specs.Prelude.{◌≡◌, false, IfErr, IfOk, OnOk};
+ghost use Rattle.sa_answer.specs.Answering.{Answers, answer_to_port};
+ghost use Rattle.sa_fabric.specs.Served.{Serves};
+ghost use Rattle.sa_fabric.specs.declared.answering.AnswerFault.{AnswerFault};
+ghost use Rattle.topo_file.specs.Topology.{TopologyState};
+
+use crate::slices::push_slices;
+use fabric_wire::Fabric;
+use mad_layout::Mad;
+use sa_answer::Registry;
+use std::alloc::AllocError;
+use table_push::PushFault;
+use thiserror::Error;
+use updn_routes::Routes;
+
+/// Why a MAD is not answered.
+#[derive(Clone, Copy, Debug, PartialEq, Eq, Error)]
+pub enum AnswerFault {
+    /// Memory was refused.
+    #[error("out of memory")]
+    NoMemory,
+    /// A switch did not take its masks. Those of a fabric that is served do.
+    #[error("a switch did not take its masks")]
+    Push(PushFault),
+}
+
+impl From<AllocError> for AnswerFault {
+    ghost use Rattle.std.specs.Prelude.{◌≡◌};
+    ghost use Rattle.sa_fabric.specs.declared.answering.AnswerFault.TheVariants.{NoMemory};
+
+    ghost from_gives = { λ _ e. e ≡ NoMemory };
+
+    fn from(_error: AllocError) -> AnswerFault {
+        AnswerFault::NoMemory
+    }
+}
+
+/// What subnet administration answers where the port of a GUID sends it these bytes; in the fabric the masks of all who
+/// receive then stand.
+///
+/// Memory alone can be refused. Then the fabric may have other masks, and the registry may be broken for good.
+pub fn answer(
+    fabric: &mut Fabric,
+    routes: &Routes,
+    registry: &mut Registry,
+    port: u64,
+    payload: &[u8],
+) -> Result<Vec<Mad>, AnswerFault>
+    requires served { (plan : TopologyState) × Serves plan routes.now registry.old fabric.old }
+    requires whole { registry.old.is_broken ≡ false }
+    ensures answers { IfOk result (λ mads.
+        Answers (answer_to_port registry.old.configuration.ports port payload.now registry.old.administration)
+        mads.items registry.old registry.new) }
+    ensures serves { OnOk result ((plan : TopologyState) → Serves plan routes.now registry.old fabric.old
+        → Serves plan routes.now registry.new fabric.new) }
+    ensures no_push { IfErr result (λ fault. fault ≡ AnswerFault.NoMemory) }
+    ensures configuration { registry.new.configuration ≡ registry.old.configuration }
+{
+    // What is remembered is sound before and after, so each slice is that of its own partition, and numbers are few.
+    registry.known_remembered();
+    let reaction = registry.handle(port, payload)?;
+    registry.known_remembered();
+    push_slices(fabric, routes, registry, reaction.changed.as_slice())?;
+    Ok(reaction.replies)
+}

@@ -1,0 +1,19 @@
+//! The laws of fabrics that are served. Each function's contract is its law; it does nothing.
+
+ghost use Rattle.sa_fabric.specs.Laws.{AServedFabricIsAsListed, OneFabricIsServed, StartsAreServed};
+
+/// A fabric that is served is the fabric of the list of its ports, where those receive what is sent to groups that are in
+/// them. So what it delivers, to a port or to a group, is what the list and the groups tell.
+pub fn a_served_fabric_is_as_listed()
+    ensures { AServedFabricIsAsListed }
+{}
+
+/// Before the first command nobody is in a group, and the fabric is served as it was brought up.
+pub fn starts_are_served()
+    ensures { StartsAreServed }
+{}
+
+/// One fabric is served by the same routes, ports and groups, whatever ports asked before.
+pub fn one_fabric_is_served()
+    ensures { OneFabricIsServed }
+{}

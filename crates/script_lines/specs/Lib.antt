@@ -1,0 +1,10 @@
+pub mod ScriptCause
+pub mod NamedPort
+pub mod Sender
+pub mod SpeltBytes
+pub mod Seen
+pub mod Send
+pub mod Ask
+pub mod Asking
+pub mod Script
+pub mod Laws

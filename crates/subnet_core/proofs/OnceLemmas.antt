@@ -1,0 +1,201 @@
+-- What comes of one MAD that a port asks, and of one packet that it sends.
+use Rattle.std.proofs.Common.{ℕ, ◌≡◌, ◌∙◌, ap, refl, sym, subst, inl, inr, Bool, true, false, List, [], map, Option, Some, None, Result, Ok, Err, IfOk, OnOk, Vec, Global}
+use Rattle.std.proofs.lemmas.Bool.{cases_Bool, false≢true}
+use Rattle.std.proofs.lemmas.Option.{none-some, same_Some}
+use Rattle.data_packet.specs.declared.refusal.Refusal.{Refusal}
+use Rattle.data_packet.specs.declared.refusal.Refusal.TheVariants.{KeyNotHeld}
+use Rattle.fabric_parts.specs.declared.cable.PortRef.{PortRef}
+use Rattle.packet_ways.specs.Deliveries.{adapter_at}
+use Rattle.pkey_rules.specs.KeyTable.{holds}
+use Rattle.pkey_rules.specs.PKey.{default_base, key_of}
+use Rattle.port_model.specs.AdapterState.{AdapterState}
+use Rattle.sa_answer.specs.Registry.{RegistryState}
+use Rattle.sa_fabric.specs.declared.answering.AnswerFault.{AnswerFault}
+use Rattle.sa_groups.specs.Delivery.{is_receiver_of}
+use Rattle.sa_replies.specs.Answer.{Administration, Answered, answer}
+use Rattle.sa_runs.specs.Administration.{subnet_administration}
+use Rattle.smp_wire.specs.FabricState.{FabricState}
+use Rattle.subnet_core.proofs.AnswerLemmas.{stands_as_listed}
+use Rattle.subnet_core.specs.Answering.{AnswersRequests, AnswersUnder, AsksOnce, AsksUnder, IsStep, StepsTo}
+use Rattle.subnet_core.specs.BringUp.{Stands}
+use Rattle.subnet_core.specs.Roster.{RosterState}
+use Rattle.subnet_core.specs.declared.answering.Answer.{Answer}
+use Rattle.subnet_model.specs.Delivery.{asking_key, is_for_sa, manager_key, refusal_of, sent_to_ask}
+use Rattle.subnet_model.specs.Report.{delivered, replied, sent, step_by, unless_refused}
+use Rattle.subnet_model.specs.declared.command.AskCommand.{AskCommand}
+use Rattle.subnet_model.specs.declared.command.Command.TheVariants.{Send}
+use Rattle.subnet_model.specs.declared.command.SendCommand.{SendCommand}
+use Rattle.subnet_model.specs.declared.subnet_port.SubnetPort.{SubnetPort}
+use Rattle.subnet_sends.proofs.SendLemmas.{told_events}
+use Rattle.subnet_sends.specs.Laws.{IsSender}
+use Rattle.subnet_sends.specs.Sends.{AreEvents, AskIsAsListed, AsksAsListed, AsksBy, ComesOf, ComesOfAsk, IsAsListed, SendIsAsListed, asked_as, event_of, given_to_ask}
+use Rattle.subnet_sends.specs.declared.event.Event.{Event}
+use Rattle.subnet_sends.specs.declared.sent.Sent.TheVariants.{Events, Request}
+use Rattle.fabric_wire.specs.declared.delivery.Delivery.{Delivery}
+use Rattle.updn_routes.specs.Subnet.{RoutesState}
+
+-- the key by which a port asks is one of its own
+asking_holds : (keys : List ℕ) (key : ℕ) → asking_key keys ≡ Some key → holds key keys ≡ true
+asking_holds keys key is = elim (cases_Bool (holds (key_of default_base true) keys)) [
+  | inl full ↦
+      let same : key_of default_base true ≡ key = same_Some (key_of default_base true) key (sym (rw full refl) ∙ is) in
+      ap (λ (k : ℕ). holds k keys) (sym same) ∙ full
+  | inr not_full ↦ elim (cases_Bool (holds (key_of default_base false) keys)) [
+    | inl limited ↦
+        let same : key_of default_base false ≡ key = same_Some (key_of default_base false) key (sym (rw (not_full, limited) refl) ∙ is) in
+        ap (λ (k : ℕ). holds k keys) (sym same) ∙ limited
+    | inr none ↦ absurd (none-some key (sym (rw (not_full, none) refl) ∙ is))
+  ]
+]
+
+module _ (roster : RosterState) (routes : RoutesState) (old : RegistryState) (was : FabricState) (stands : Stands roster routes old was) where
+  abbrev ports : List SubnetPort
+  ports = roster.configuration.ports
+
+  abbrev receives : ℕ → ℕ → Bool
+  receives = is_receiver_of old.administration.remembered.partitions
+
+  -- ---- one MAD: a port refuses to send it, or is none
+  module _ (command : AskCommand) (events : Vec Event Global) (comes : ComesOfAsk was command (Events events)) (told : AskIsAsListed was command (Events events))
+      (given : Answer) (mads : given.mads.items ≡ []) (same : given.events ≡ events) where
+    under : (own : SubnetPort) (key : Option ℕ) → AsksAsListed ports receives own command key (Events events)
+        → AsksUnder ports own key command.mad old.administration given old.administration
+    under own (Some key) listed = absurd (false≢true listed.request)
+    under own None listed = (mads, ap (λ (v : Vec Event Global). map event_of v.items) same ∙ listed.0, refl)
+
+    items : given.events.items ≡ events.items
+    items = ap (λ (v : Vec Event Global). v.items) same
+
+    refused_so : (at : PortRef) (own : AdapterState) (refusal : Refusal) → adapter_at was.nodes at ≡ Some own → own.port_guid ≡ command.port_guid
+        → given_to_ask own command ≡ Err refusal → AsksBy was command.port_guid (Err refusal) (Events events)
+    refused_so at own refusal there guid gives =
+        subst (λ g. AsksBy was command.port_guid g (Events events)) gives (comes.asked at own there guid)
+
+    pub once_by_events : AsksOnce roster routes old was command given old was
+    once_by_events = record {
+      comes = record {
+        nobody = λ none. items ∙ (comes.nobody none).0;
+        refused = λ at own refusal there guid gives. items ∙ (refused_so at own refusal there guid gives).0;
+      };
+      unanswered = λ at own refusal there guid gives. mads;
+      told = λ own sends. under own (asking_key own.keys) (told ports receives own (stands_as_listed roster routes old was stands) sends);
+      nobody = λ none. (mads, refl, refl);
+      stands = stands;
+    }
+
+  -- ---- or it is a request
+  module _ (command : AskCommand) (deliveries : Vec Delivery Global) (comes : ComesOfAsk was command (Request deliveries)) (told : AskIsAsListed was command (Request deliveries))
+      (given : Answer) (new : RegistryState) (left : FabricState) (after : Stands roster routes new left)
+      (answers : AnswersRequests roster old command.port_guid deliveries.items given new) where
+    asked_under : (own : SubnetPort) → IsSender ports (asked_as command true) own → (key : Option ℕ) → asking_key own.keys ≡ key
+        → AsksAsListed ports receives own command key (Request deliveries) → AsksUnder ports own key command.mad old.administration given new.administration
+    asked_under own sends None is listed = absurd (false≢true (sym listed.1))
+    asked_under own sends (Some key) is listed =
+        answers (sent_to_ask command key) own (record { named = sends.named; adapter = sends.adapter }) refl refl (asking_holds own.keys key is)
+        (sym (told_events deliveries.items) ∙ listed.events)
+
+    no_events : {X : Type 0} (events : List Event) → AreEvents (Request deliveries) events → X
+    no_events events are = absurd (false≢true (sym are.1))
+
+    refused_not : {X : Type 0} (at : PortRef) (own : AdapterState) (refusal : Refusal) → adapter_at was.nodes at ≡ Some own → own.port_guid ≡ command.port_guid
+        → given_to_ask own command ≡ Err refusal → X
+    refused_not at own refusal there guid gives =
+        no_events _ (subst (λ g. AsksBy was command.port_guid g (Request deliveries)) gives (comes.asked at own there guid))
+
+    pub once_by_request : AsksOnce roster routes old was command given new left
+    once_by_request = record {
+      comes = record {
+        nobody = λ none. no_events [] (comes.nobody none);
+        refused = λ at own refusal there guid gives. refused_not at own refusal there guid gives;
+      };
+      unanswered = λ at own refusal there guid gives. refused_not at own refusal there guid gives;
+      told = λ own sends.
+          asked_under own sends (asking_key own.keys) refl (told ports receives own (stands_as_listed roster routes old was stands) sends);
+      nobody = λ none. no_events [] (comes.nobody none);
+      stands = after;
+    }
+
+  -- unless memory is refused
+  pub once_if_ok : (command : AskCommand) (deliveries : Vec Delivery Global) → ComesOfAsk was command (Request deliveries) → AskIsAsListed was command (Request deliveries)
+      → (new : RegistryState) (left : FabricState) (result : Result Answer AnswerFault)
+      → IfOk result (λ given. AnswersRequests roster old command.port_guid deliveries.items given new) → OnOk result (Stands roster routes new left)
+      → IfOk result (λ given. AsksOnce roster routes old was command given new left)
+  once_if_ok command deliveries comes told new left (Ok given) answers after = once_by_request command deliveries comes told given new left after answers
+  once_if_ok command deliveries comes told new left (Err fault) answers after = tt
+
+  -- ---- a packet that a port sends
+  abbrev Step : SendCommand → List Event → Administration → Type 0
+  Step command events new = IsStep (step_by subnet_administration roster.configuration old.administration (Send command)) events new
+
+  by_sender : (command : SendCommand) (sender : SubnetPort) (events : List Event) (new : Administration) → IsSender ports command sender
+      → IsStep (sent subnet_administration roster.configuration (Some sender) command old.administration) events new → Step command events new
+  by_sender command sender events new sends is =
+      subst (λ (from : Option SubnetPort). IsStep (sent subnet_administration roster.configuration from command old.administration) events new)
+      (sym sends.named) is
+
+  module _ (command : SendCommand) (events : Vec Event Global) (comes : ComesOf was command (Events events)) (told : SendIsAsListed was command (Events events)) where
+    sent_so : (sender : SubnetPort) (refusal : Option Refusal) → refusal_of sender command ≡ refusal → IsAsListed ports receives sender command refusal (Events events)
+        → IsStep (unless_refused refusal command.port_guid old.administration (delivered subnet_administration roster.configuration sender command old.administration))
+        events.items old.administration
+    sent_so sender (Some refusal) is listed = (listed.events, refl)
+    sent_so sender None is listed = rw (sym listed.request) (listed.events, refl)
+
+    pub steps_by_events : StepsTo roster routes old was (Send command) events.items old was
+    steps_by_events = record {
+      comes = record {
+        nobody = λ none. (comes.nobody none).0;
+        refused = λ refusal stamps. (comes.refused refusal stamps).0;
+        carried = λ packet stamps other. comes.carried packet stamps;
+      };
+      told = λ names.
+          let sender = names.0 in
+          by_sender command sender events.items old.administration names.1
+          (sent_so sender (refusal_of sender command) refl (told ports receives sender (stands_as_listed roster routes old was stands) names.1));
+      nobody = λ none. (refl, refl);
+      stands = stands;
+    }
+
+  module _ (command : SendCommand) (deliveries : Vec Delivery Global) (comes : ComesOf was command (Request deliveries))
+      (told : SendIsAsListed was command (Request deliveries)) (given : Answer) (new : RegistryState) (left : FabricState) (after : Stands roster routes new left)
+      (answers : AnswersRequests roster old command.port_guid deliveries.items given new) where
+    -- a port that does not refuse holds the key
+    held : (sender : SubnetPort) → refusal_of sender command ≡ None → holds command.p_key sender.keys ≡ true
+    held sender allowed = by (holds command.p_key sender.keys) refl
+      where
+        by : (b : Bool) → holds command.p_key sender.keys ≡ b → b ≡ true
+        by true is = refl
+        by false is = absurd (none-some KeyNotHeld (sym allowed ∙ rw is refl))
+
+    replied_so : (sender : SubnetPort) (key : Option ℕ) (answered : Answered) → AnswersUnder key sender answered old.administration given new.administration
+        → IsStep (replied sender key old.administration answered) given.events.items new.administration
+    replied_so sender (Some key) answered is = (is.1, is.2)
+    replied_so sender None answered is = (is.1, is.2)
+
+    answered_so : (sender : SubnetPort) → IsSender ports command sender → (refusal : Option Refusal) → refusal_of sender command ≡ refusal
+        → IsAsListed ports receives sender command refusal (Request deliveries)
+        → IsStep (unless_refused refusal command.port_guid old.administration (delivered subnet_administration roster.configuration sender command old.administration))
+        given.events.items new.administration
+    answered_so sender sends (Some refusal) is listed = absurd (false≢true (sym listed.request))
+    answered_so sender sends None is listed =
+        let for_sa : is_for_sa command ≡ true = sym listed.request in
+        rw for_sa
+        (replied_so sender (manager_key ports command.p_key) (answer ports sender command.payload old.administration)
+        (answers command sender sends refl for_sa (held sender is) (sym (told_events deliveries.items) ∙ listed.events)))
+
+    no_answer : {X : Type 0} (events : List Event) → AreEvents (Request deliveries) events → X
+    no_answer events are = absurd (false≢true (sym are.1))
+
+    pub steps_by_request : StepsTo roster routes old was (Send command) given.events.items new left
+    steps_by_request = record {
+      comes = record {
+        nobody = λ none. no_answer [] (comes.nobody none);
+        refused = λ refusal stamps. no_answer _ (comes.refused refusal stamps);
+        carried = λ packet stamps other. absurd (false≢true (sym other ∙ sym (comes.request packet stamps)));
+      };
+      told = λ names.
+          let sender = names.0 in
+          by_sender command sender given.events.items new.administration names.1
+          (answered_so sender names.1 (refusal_of sender command) refl (told ports receives sender (stands_as_listed roster routes old was stands) names.1));
+      nobody = λ none. no_answer [] (comes.nobody none);
+      stands = after;
+    }

@@ -1,0 +1,176 @@
+//! One command over the fabric, and subnet administration's answers.
+
+ghost use Rattle.std.specs.Prelude.{◌≡◌, [], IfErr, IfOk, OnOk};
+ghost use Rattle.subnet_core.specs.Answering.{AnswersRequests, AsksOnce, StepsTo};
+ghost use Rattle.subnet_core.specs.BringUp.{Stands};
+ghost use Rattle.subnet_model.specs.declared.command.Command.TheVariants.{Ask, Send};
+
+use crate::acknowledging::acknowledgements;
+use crate::roster::Roster;
+use fabric_wire::{Delivery, Fabric};
+use mad_layout::Mad;
+use sa_answer::Registry;
+use sa_fabric::{AnswerFault, answer};
+use std::alloc::Global;
+use subnet_model::{AskCommand, Command, SendCommand};
+use subnet_sends::{Event, Sent, ask, manager_key, reply, send};
+use updn_routes::Routes;
+
+/// The MADs that answer a request, and what happens at ports.
+#[derive(Debug, Drop)]
+pub(crate) struct Answer {
+    /// The MADs, in order.
+    pub(crate) mads: Vec<Mad>,
+    /// The events, in order.
+    pub(crate) events: Vec<Event>,
+}
+
+impl Answer {
+    /// These events, and no answer.
+    fn none(alloc: Global, events: Vec<Event>) -> Answer
+        ensures mads { result.mads.items ≡ [] }
+        ensures events { result.events ≡ events }
+    {
+        Answer {
+            mads: Vec::new(alloc),
+            events,
+        }
+    }
+}
+
+/// Carries out a command over the fabric, with the registry of subnet administration.
+pub(crate) fn carried_out(
+    alloc: Global,
+    roster: &Roster,
+    routes: &Routes,
+    fabric: &mut Fabric,
+    registry: &mut Registry,
+    command: &Command,
+) -> Result<Vec<Event>, AnswerFault>
+    requires { Stands roster.now routes.now registry.old fabric.old }
+    ensures steps { IfOk result (λ events.
+        StepsTo roster.now routes.now registry.old fabric.old command.now events.items registry.new fabric.new) }
+    ensures no_push { IfErr result (λ fault. fault ≡ AnswerFault.NoMemory) }
+{
+    match command {
+        Command::Send(command) => sent(alloc, roster, routes, fabric, registry, command),
+        Command::Ask(command) => asked(alloc, roster, routes, fabric, registry, command),
+    }
+}
+
+/// Carries out a command to send.
+fn sent(
+    alloc: Global,
+    roster: &Roster,
+    routes: &Routes,
+    fabric: &mut Fabric,
+    registry: &mut Registry,
+    command: &SendCommand,
+) -> Result<Vec<Event>, AnswerFault>
+    requires { Stands roster.now routes.now registry.old fabric.old }
+    ensures steps { IfOk result (λ events.
+        StepsTo roster.now routes.now registry.old fabric.old (Send command.now) events.items registry.new fabric.new) }
+    ensures no_push { IfErr result (λ fault. fault ≡ AnswerFault.NoMemory) }
+{
+    match send(alloc, fabric, command)? {
+        Sent::Events(events) => Ok(events),
+        Sent::Request(deliveries) => {
+            let given = answered(
+                alloc,
+                roster,
+                routes,
+                fabric,
+                registry,
+                command.port_guid,
+                &deliveries,
+            )?;
+            Ok(given.events)
+        }
+    }
+}
+
+/// Carries out a command to ask: what answers it in segments the port acknowledges, in the same way as it asked.
+fn asked(
+    alloc: Global,
+    roster: &Roster,
+    routes: &Routes,
+    fabric: &mut Fabric,
+    registry: &mut Registry,
+    command: &AskCommand,
+) -> Result<Vec<Event>, AnswerFault>
+    requires { Stands roster.now routes.now registry.old fabric.old }
+    ensures steps { IfOk result (λ events.
+        StepsTo roster.now routes.now registry.old fabric.old (Ask command.now) events.items registry.new fabric.new) }
+    ensures no_push { IfErr result (λ fault. fault ≡ AnswerFault.NoMemory) }
+{
+    let first = asked_once(alloc, roster, routes, fabric, registry, command)?;
+    let mut events = first.events;
+    let acks = acknowledgements(alloc, &first.mads)?;
+    for ack in &acks {
+        let next = AskCommand {
+            port_guid: command.port_guid,
+            mad: *ack,
+        };
+        let mut more = asked_once(alloc, roster, routes, fabric, registry, &next)?;
+        events.append(&mut more.events)?;
+    }
+    Ok(events)
+}
+
+/// Has the port ask this one MAD.
+fn asked_once(
+    alloc: Global,
+    roster: &Roster,
+    routes: &Routes,
+    fabric: &mut Fabric,
+    registry: &mut Registry,
+    command: &AskCommand,
+) -> Result<Answer, AnswerFault>
+    requires { Stands roster.now routes.now registry.old fabric.old }
+    ensures once { IfOk result (λ given.
+        AsksOnce roster.now routes.now registry.old fabric.old command.now given registry.new fabric.new) }
+    ensures no_push { IfErr result (λ fault. fault ≡ AnswerFault.NoMemory) }
+{
+    match ask(alloc, fabric, command)? {
+        Sent::Events(events) => Ok(Answer::none(alloc, events)),
+        Sent::Request(deliveries) => answered(
+            alloc,
+            roster,
+            routes,
+            fabric,
+            registry,
+            command.port_guid,
+            &deliveries,
+        ),
+    }
+}
+
+/// What comes of a request of the port of a GUID that the fabric delivers so: where the subnet manager's port received it,
+/// its MADs are carried back.
+fn answered(
+    alloc: Global,
+    roster: &Roster,
+    routes: &Routes,
+    fabric: &mut Fabric,
+    registry: &mut Registry,
+    port: u64,
+    deliveries: &[Delivery],
+) -> Result<Answer, AnswerFault>
+    requires { Stands roster.now routes.now registry.old fabric.old }
+    ensures answers { IfOk result (λ given. AnswersRequests roster.now registry.old port deliveries.now given registry.new) }
+    ensures none { deliveries.now ≡ [] → IfOk result (λ given. (given.mads.items ≡ []) × (given.events.items ≡ [])
+        × (registry.new ≡ registry.old) × (fabric.new ≡ fabric.old)) }
+    ensures stands { OnOk result (Stands roster.now routes.now registry.new fabric.new) }
+    ensures no_push { IfErr result (λ fault. fault ≡ AnswerFault.NoMemory) }
+{
+    let Some(request) = deliveries.first() else {
+        return Ok(Answer::none(alloc, Vec::new(alloc)));
+    };
+    let packet = request.packet();
+    let Some(key) = manager_key(roster.configuration().ports(), packet.p_key) else {
+        return Ok(Answer::none(alloc, Vec::new(alloc)));
+    };
+    let mads = answer(fabric, routes, registry, port, packet.payload.as_slice())?;
+    let events = reply(alloc, fabric, request, key, &mads)?;
+    Ok(Answer { mads, events })
+}
