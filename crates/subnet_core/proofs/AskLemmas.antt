@@ -14,6 +14,7 @@ use Rattle.smp_wire.specs.FabricState.{FabricState}
 use Rattle.subnet_core.specs.Answering.{AnswersUnder, AsksOnce, AsksUnder, IsStep, StepsTo}
 use Rattle.subnet_core.specs.BringUp.{Stands}
 use Rattle.subnet_core.specs.Roster.{RosterState}
+use Rattle.subnet_core.specs.Senders.{MadComes, MadsCome}
 use Rattle.subnet_core.specs.declared.answering.Answer.{Answer}
 use Rattle.subnet_model.specs.Delivery.{asking_key, manager_key}
 use Rattle.subnet_model.specs.Report.{answered_in_turn, answered_whole, asked, reply_to}
@@ -54,8 +55,32 @@ pub record OnTheWay (roster : RosterState) (routes : RoutesState) (old : Registr
       → Finishes roster old.administration command own (answering_key roster.configuration.ports own) left events registry.administration
   pub nobody : (HasPort was.nodes command.port_guid → ⊥) → (left ≡ []) × (events ≡ []) × (registry ≡ old) × (fabric ≡ was)
   pub refused : (at : PortRef) (own : AdapterState) (refusal : Refusal) → adapter_at was.nodes at ≡ Some own → own.port_guid ≡ command.port_guid
-      → given_to_ask own command ≡ Err refusal → (left ≡ []) × (events ≡ Refused command.port_guid refusal ∷ [])
+      → given_to_ask own command ≡ Err refusal
+      → (left ≡ []) × (events ≡ Refused command.port_guid refusal ∷ []) × (registry ≡ old) × (fabric ≡ was)
+  pub acked : List (List ℕ)
+  pub answered : MadsCome was fabric command.port_guid (command.mad ∷ acked) events
   pub stands : Stands roster routes registry fabric
+
+-- one MAD more comes
+mads_come_more : (was mid left : FabricState) (port_guid : ℕ) (mads : List (List ℕ)) (ack : List ℕ) (events more : List Event)
+    → MadsCome was mid port_guid mads events → MadComes mid left (record { port_guid = port_guid; mad = ack }) more
+    → MadsCome was left port_guid (mads ++ ack ∷ []) (events ++ more)
+mads_come_more was mid left port_guid [] ack events more before one = (
+  left,
+  more,
+  [],
+  subst (λ (from : FabricState). MadComes from left (record { port_guid = port_guid; mad = ack }) more) (sym before.0) one,
+  (refl, refl),
+  ap (λ (some : List Event). some ++ more) before.1 ∙ sym (append-nil more),
+)
+mads_come_more was mid left port_guid (mad ∷ mads) ack events more before one = (
+  before.0,
+  before.1,
+  before.2 ++ more,
+  before.3,
+  mads_come_more before.0 mid left port_guid mads ack before.2 more before.4 one,
+  ap (λ (some : List Event). some ++ more) before.5 ∙ append_assoc before.1 before.2 more,
+)
 
 no_acks : (mads : List (List ℕ)) → mads ≡ [] → acknowledgements mads ≡ []
 no_acks mads none = rw none refl
@@ -95,7 +120,10 @@ module _ (roster : RosterState) (routes : RoutesState) (old : RegistryState) (wa
         let nothing = once.nobody none in
         (no_acks given.mads.items nothing.0, once.comes.nobody none, nothing.1, nothing.2);
     refused = λ at own refusal there guid gives.
-        (no_acks given.mads.items (once.unanswered at own refusal there guid gives), once.comes.refused at own refusal there guid gives);
+        let nothing = once.unanswered at own refusal there guid gives in
+        (no_acks given.mads.items nothing.0, once.comes.refused at own refusal there guid gives, nothing.1, nothing.2);
+    acked = [];
+    answered = (left, given.events.items, [], once.comes, (refl, refl), sym (append-nil given.events.items));
     stands = once.stands;
   }
 
@@ -129,18 +157,19 @@ module _ (roster : RosterState) (routes : RoutesState) (old : RegistryState) (wa
     one_more_asked own None events state next given asks before = none_left before.0
     one_more_asked own (Some key) events state next given asks before = one_more own (manager_key ports key) events state next given asks before
 
-    pub goes_on : (events : List Event) (registry next : RegistryState) (fabric left : FabricState) (acking : AskCommand) (given : Answer)
-        → acking.port_guid ≡ command.port_guid → acking.mad ≡ ack
+    pub goes_on : (events : List Event) (registry next : RegistryState) (fabric left : FabricState) (given : Answer)
         → OnTheWay roster routes old was command (ack ∷ rest) events registry fabric
-        → AsksOnce roster routes registry fabric acking given next left
+        → AsksOnce roster routes registry fabric (record { port_guid = command.port_guid; mad = ack }) given next left
         → OnTheWay roster routes old was command rest (events ++ given.events.items) next left
-    goes_on events registry next fabric left acking given guid mad before once = record {
+    goes_on events registry next fabric left given before once = record {
       told = λ own sends.
-          let asking : IsSender ports (asked_as acking true) own = record { named = rw guid sends.named; adapter = sends.adapter } in
-          let asks = subst (λ (bytes : List ℕ). AsksUnder ports own (asking_key own.keys) bytes registry.administration given next.administration) mad (once.told own asking) in
+          let asks = once.told own (record { named = sends.named; adapter = sends.adapter }) in
           one_more_asked own (asking_key own.keys) events registry.administration next.administration given asks (before.told own sends);
       nobody = λ none. none_left (before.nobody none).0;
       refused = λ at own refusal there guid gives. none_left (before.refused at own refusal there guid gives).0;
+      acked = before.acked ++ ack ∷ [];
+      answered =
+          mads_come_more was fabric left command.port_guid (command.mad ∷ before.acked) ack events given.events.items before.answered once.comes;
       stands = once.stands;
     }
 
@@ -162,6 +191,8 @@ module _ (roster : RosterState) (routes : RoutesState) (old : RegistryState) (wa
     comes = record {
       nobody = λ none. (before.nobody none).1;
       refused = λ at own refusal there guid gives. (before.refused at own refusal there guid gives).1;
+      acks = before.acked;
+      answered = before.answered;
     };
     told = λ names.
         let own = names.0 in
@@ -169,6 +200,9 @@ module _ (roster : RosterState) (routes : RoutesState) (old : RegistryState) (wa
         (sym names.1.named)
         (finished own (asking_key own.keys) refl events registry.administration (before.told own names.1));
     nobody = λ none. let nothing = before.nobody none in (nothing.2, nothing.3);
+    refused = λ refuses.
+        let nothing = before.refused refuses.0 refuses.1 refuses.2 refuses.3 refuses.4 refuses.5 in
+        (nothing.2, nothing.3);
     stands = before.stands;
   }
 
@@ -196,7 +230,7 @@ module _ (roster : RosterState) (routes : RoutesState) (command : AskCommand) (a
       → Acknowledges roster routes command acks first begun from rest (events ++ given.events.items) next after
   acknowledges_more left ack rest are events registry next fabric after given before once = record {
     way = λ old was begin same begin_events asked_first.
-        goes_on roster routes old was command ack rest events registry next fabric after (record { port_guid = command.port_guid; mad = ack }) given refl refl
+        goes_on roster routes old was command ack rest events registry next fabric after given
         (subst (λ (some : List (List ℕ)). OnTheWay roster routes old was command some events registry fabric) are (before.way old was begin same begin_events asked_first))
         once;
     stands = once.stands;

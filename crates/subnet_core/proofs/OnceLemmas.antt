@@ -1,11 +1,12 @@
 -- What comes of one MAD that a port asks, and of one packet that it sends.
-use Rattle.std.proofs.Common.{ℕ, ◌≡◌, ◌∙◌, ap, refl, sym, subst, inl, inr, Bool, true, false, List, [], map, Option, Some, None, Result, Ok, Err, IfOk, OnOk, Vec, Global}
+use Rattle.std.proofs.Common.{ℕ, ◌≡◌, ◌∙◌, ap, refl, sym, subst, inl, inr, Bool, true, false, List, [], ◌∷◌, map, Option, Some, None, Result, Ok, Err, IfOk, OnOk, Vec, Global}
 use Rattle.std.proofs.lemmas.Bool.{cases_Bool, false≢true}
 use Rattle.std.proofs.lemmas.Option.{none-some, same_Some}
+use Rattle.data_packet.specs.declared.packet.Packet.{Packet}
 use Rattle.data_packet.specs.declared.refusal.Refusal.{Refusal}
 use Rattle.data_packet.specs.declared.refusal.Refusal.TheVariants.{KeyNotHeld}
 use Rattle.fabric_parts.specs.declared.cable.PortRef.{PortRef}
-use Rattle.packet_ways.specs.Deliveries.{adapter_at}
+use Rattle.packet_ways.specs.Deliveries.{DeliveryState, adapter_at}
 use Rattle.pkey_rules.specs.KeyTable.{holds}
 use Rattle.pkey_rules.specs.PKey.{default_base, key_of}
 use Rattle.port_model.specs.AdapterState.{AdapterState}
@@ -19,6 +20,7 @@ use Rattle.subnet_core.proofs.AnswerLemmas.{stands_as_listed}
 use Rattle.subnet_core.specs.Answering.{AnswersRequests, AnswersUnder, AsksOnce, AsksUnder, IsStep, StepsTo}
 use Rattle.subnet_core.specs.BringUp.{Stands}
 use Rattle.subnet_core.specs.Roster.{RosterState}
+use Rattle.subnet_core.specs.Senders.{AreSentBack, IsAnswered}
 use Rattle.subnet_core.specs.declared.answering.Answer.{Answer}
 use Rattle.subnet_model.specs.Delivery.{asking_key, is_for_sa, manager_key, refusal_of, sent_to_ask}
 use Rattle.subnet_model.specs.Report.{delivered, replied, sent, step_by, unless_refused}
@@ -28,8 +30,9 @@ use Rattle.subnet_model.specs.declared.command.SendCommand.{SendCommand}
 use Rattle.subnet_model.specs.declared.subnet_port.SubnetPort.{SubnetPort}
 use Rattle.subnet_sends.proofs.SendLemmas.{told_events}
 use Rattle.subnet_sends.specs.Laws.{IsSender}
-use Rattle.subnet_sends.specs.Sends.{AreEvents, AskIsAsListed, AsksAsListed, AsksBy, ComesOf, ComesOfAsk, IsAsListed, SendIsAsListed, asked_as, event_of, given_to_ask}
+use Rattle.subnet_sends.specs.Sends.{AreEvents, AreReceived, AskIsAsListed, AsksAsListed, AsksBy, ComesOf, ComesOfAsk, IsAsListed, SendIsAsListed, asked_as, event_of, given_to_ask}
 use Rattle.subnet_sends.specs.declared.event.Event.{Event}
+use Rattle.subnet_sends.specs.declared.event.Event.TheVariants.{Received}
 use Rattle.subnet_sends.specs.declared.sent.Sent.TheVariants.{Events, Request}
 use Rattle.fabric_wire.specs.declared.delivery.Delivery.{Delivery}
 use Rattle.updn_routes.specs.Subnet.{RoutesState}
@@ -47,6 +50,24 @@ asking_holds keys key is = elim (cases_Bool (holds (key_of default_base true) ke
     | inr none ↦ absurd (none-some key (sym (rw (not_full, none) refl) ∙ is))
   ]
 ]
+
+-- what is delivered of a request is what was received, so that its answers are sent back
+same_deliveries : (some others : List DeliveryState) → map Received some ≡ map Received others → some ≡ others
+same_deliveries [] [] same = refl
+same_deliveries [] (other ∷ others) same = absurd (cc)
+same_deliveries (one ∷ some) [] same = absurd (cc)
+same_deliveries (one ∷ some) (other ∷ others) same =
+    let head : one ≡ other = cc in
+    let tail : map Received some ≡ map Received others = cc in
+    ap (λ (x : DeliveryState). x ∷ some) head ∙ ap (λ (xs : List DeliveryState). other ∷ xs) (same_deliveries some others tail)
+
+answered_back : (was left : FabricState) (sender : ℕ) (packet : Packet) (deliveries : Vec Delivery Global) (events : List Event)
+    → AreReceived was sender packet (map Received deliveries.items) → AreSentBack left deliveries.items events → IsAnswered was left sender packet events
+answered_back was left sender packet deliveries events received back = record {
+  deliveries = received.deliveries;
+  are = received.are;
+  back = subst (λ (some : List DeliveryState). AreSentBack left some events) (same_deliveries deliveries.items received.deliveries received.told) back;
+}
 
 module _ (roster : RosterState) (routes : RoutesState) (old : RegistryState) (was : FabricState) (stands : Stands roster routes old was) where
   abbrev ports : List SubnetPort
@@ -66,6 +87,9 @@ module _ (roster : RosterState) (routes : RoutesState) (old : RegistryState) (wa
     items : given.events.items ≡ events.items
     items = ap (λ (v : Vec Event Global). v.items) same
 
+    no_request : {X : Type 0} (packet : Packet) → AsksBy was command.port_guid (Ok packet) (Events events) → X
+    no_request packet by = absurd (false≢true by.1)
+
     refused_so : (at : PortRef) (own : AdapterState) (refusal : Refusal) → adapter_at was.nodes at ≡ Some own → own.port_guid ≡ command.port_guid
         → given_to_ask own command ≡ Err refusal → AsksBy was command.port_guid (Err refusal) (Events events)
     refused_so at own refusal there guid gives =
@@ -76,8 +100,10 @@ module _ (roster : RosterState) (routes : RoutesState) (old : RegistryState) (wa
       comes = record {
         nobody = λ none. items ∙ (comes.nobody none).0;
         refused = λ at own refusal there guid gives. items ∙ (refused_so at own refusal there guid gives).0;
+        answered = λ at own packet there guid gives.
+            no_request packet (subst (λ g. AsksBy was command.port_guid g (Events events)) gives (comes.asked at own there guid));
       };
-      unanswered = λ at own refusal there guid gives. mads;
+      unanswered = λ at own refusal there guid gives. (mads, refl, refl);
       told = λ own sends. under own (asking_key own.keys) (told ports receives own (stands_as_listed roster routes old was stands) sends);
       nobody = λ none. (mads, refl, refl);
       stands = stands;
@@ -86,7 +112,7 @@ module _ (roster : RosterState) (routes : RoutesState) (old : RegistryState) (wa
   -- ---- or it is a request
   module _ (command : AskCommand) (deliveries : Vec Delivery Global) (comes : ComesOfAsk was command (Request deliveries)) (told : AskIsAsListed was command (Request deliveries))
       (given : Answer) (new : RegistryState) (left : FabricState) (after : Stands roster routes new left)
-      (answers : AnswersRequests roster old command.port_guid deliveries.items given new) where
+      (answers : AnswersRequests roster old command.port_guid deliveries.items given new) (back : AreSentBack left deliveries.items given.events.items) where
     asked_under : (own : SubnetPort) → IsSender ports (asked_as command true) own → (key : Option ℕ) → asking_key own.keys ≡ key
         → AsksAsListed ports receives own command key (Request deliveries) → AsksUnder ports own key command.mad old.administration given new.administration
     asked_under own sends None is listed = absurd (false≢true (sym listed.1))
@@ -107,6 +133,9 @@ module _ (roster : RosterState) (routes : RoutesState) (old : RegistryState) (wa
       comes = record {
         nobody = λ none. no_events [] (comes.nobody none);
         refused = λ at own refusal there guid gives. refused_not at own refusal there guid gives;
+        answered = λ at own packet there guid gives.
+            answered_back was left command.port_guid packet deliveries given.events.items
+            (subst (λ g. AsksBy was command.port_guid g (Request deliveries)) gives (comes.asked at own there guid)).0 back;
       };
       unanswered = λ at own refusal there guid gives. refused_not at own refusal there guid gives;
       told = λ own sends.
@@ -118,10 +147,11 @@ module _ (roster : RosterState) (routes : RoutesState) (old : RegistryState) (wa
   -- unless memory is refused
   pub once_if_ok : (command : AskCommand) (deliveries : Vec Delivery Global) → ComesOfAsk was command (Request deliveries) → AskIsAsListed was command (Request deliveries)
       → (new : RegistryState) (left : FabricState) (result : Result Answer AnswerFault)
-      → IfOk result (λ given. AnswersRequests roster old command.port_guid deliveries.items given new) → OnOk result (Stands roster routes new left)
+      → IfOk result (λ given. AnswersRequests roster old command.port_guid deliveries.items given new)
+      → IfOk result (λ given. AreSentBack left deliveries.items given.events.items) → OnOk result (Stands roster routes new left)
       → IfOk result (λ given. AsksOnce roster routes old was command given new left)
-  once_if_ok command deliveries comes told new left (Ok given) answers after = once_by_request command deliveries comes told given new left after answers
-  once_if_ok command deliveries comes told new left (Err fault) answers after = tt
+  once_if_ok command deliveries comes told new left (Ok given) answers back after = once_by_request command deliveries comes told given new left after answers back
+  once_if_ok command deliveries comes told new left (Err fault) answers back after = tt
 
   -- ---- a packet that a port sends
   abbrev Step : SendCommand → List Event → Administration → Type 0
@@ -145,6 +175,7 @@ module _ (roster : RosterState) (routes : RoutesState) (old : RegistryState) (wa
       comes = record {
         nobody = λ none. (comes.nobody none).0;
         refused = λ refusal stamps. (comes.refused refusal stamps).0;
+        answered = λ packet stamps for_sa. absurd (false≢true (comes.request packet stamps ∙ for_sa));
         carried = λ packet stamps other. comes.carried packet stamps;
       };
       told = λ names.
@@ -152,12 +183,13 @@ module _ (roster : RosterState) (routes : RoutesState) (old : RegistryState) (wa
           by_sender command sender events.items old.administration names.1
           (sent_so sender (refusal_of sender command) refl (told ports receives sender (stands_as_listed roster routes old was stands) names.1));
       nobody = λ none. (refl, refl);
+      refused = λ refuses. (refl, refl);
       stands = stands;
     }
 
   module _ (command : SendCommand) (deliveries : Vec Delivery Global) (comes : ComesOf was command (Request deliveries))
       (told : SendIsAsListed was command (Request deliveries)) (given : Answer) (new : RegistryState) (left : FabricState) (after : Stands roster routes new left)
-      (answers : AnswersRequests roster old command.port_guid deliveries.items given new) where
+      (answers : AnswersRequests roster old command.port_guid deliveries.items given new) (back : AreSentBack left deliveries.items given.events.items) where
     -- a port that does not refuse holds the key
     held : (sender : SubnetPort) → refusal_of sender command ≡ None → holds command.p_key sender.keys ≡ true
     held sender allowed = by (holds command.p_key sender.keys) refl
@@ -190,6 +222,8 @@ module _ (roster : RosterState) (routes : RoutesState) (old : RegistryState) (wa
       comes = record {
         nobody = λ none. no_answer [] (comes.nobody none);
         refused = λ refusal stamps. no_answer _ (comes.refused refusal stamps);
+        answered = λ packet stamps for_sa.
+            answered_back was left command.port_guid packet deliveries given.events.items (comes.carried packet stamps) back;
         carried = λ packet stamps other. absurd (false≢true (sym other ∙ sym (comes.request packet stamps)));
       };
       told = λ names.
@@ -197,5 +231,6 @@ module _ (roster : RosterState) (routes : RoutesState) (old : RegistryState) (wa
           by_sender command sender given.events.items new.administration names.1
           (answered_so sender names.1 (refusal_of sender command) refl (told ports receives sender (stands_as_listed roster routes old was stands) names.1));
       nobody = λ none. no_answer [] (comes.nobody none);
+      refused = λ refuses. no_answer _ (comes.refused refuses.0 refuses.1);
       stands = after;
     }

@@ -13,7 +13,7 @@ use Rattle.sa_runs.specs.Administration.{subnet_administration}
 use Rattle.smp_wire.specs.FabricState.{FabricState}
 use Rattle.subnet_core.specs.BringUp.{Stands, SubnetState}
 use Rattle.subnet_core.specs.Roster.{RosterState}
-use Rattle.subnet_core.specs.Senders.{AskComes, Comes, NamesSender}
+use Rattle.subnet_core.specs.Senders.{Comes, MadComes, NamesSender, Refuses}
 use Rattle.subnet_core.specs.declared.answering.Answer.{Answer}
 use Rattle.subnet_model.specs.Delivery.{asking_key, is_for_sa, manager_key, reaches_joined}
 use Rattle.subnet_model.specs.Report.{received_by, reply_to, step_by}
@@ -58,10 +58,11 @@ AnswersRequests roster old port deliveries given new =
 -- one MAD that a port asks, and what comes of it
 pub record AsksOnce (roster : RosterState) (routes : RoutesState) (old : RegistryState) (was : FabricState) (command : AskCommand)
     (given : Answer) (new : RegistryState) (left : FabricState) : Type 0 where
-  pub comes : AskComes was command given.events.items
+  pub comes : MadComes was left command given.events.items
   -- a port that refuses to send it is not answered
   pub unanswered : (at : PortRef) (own : AdapterState) (refusal : Refusal) → adapter_at was.nodes at ≡ Some own
-      → own.port_guid ≡ command.port_guid → given_to_ask own command ≡ Err refusal → given.mads.items ≡ []
+      → own.port_guid ≡ command.port_guid → given_to_ask own command ≡ Err refusal
+      → (given.mads.items ≡ []) × (new ≡ old) × (left ≡ was)
   pub told : (own : SubnetPort) → IsSender roster.configuration.ports (asked_as command true) own
       → AsksUnder roster.configuration.ports own (asking_key own.keys) command.mad old.administration given new.administration
   pub nobody : (HasPort was.nodes command.port_guid → ⊥) → (given.mads.items ≡ []) × (new ≡ old) × (left ≡ was)
@@ -74,13 +75,15 @@ IsStep after events new = (map event_of events ≡ after.0) × (new ≡ after.1)
 
 pub record StepsTo (roster : RosterState) (routes : RoutesState) (old : RegistryState) (was : FabricState) (command : Command)
     (events : List Event) (new : RegistryState) (left : FabricState) : Type 0 where
-  pub comes : Comes was command events
+  pub comes : Comes was left command events
   pub told : NamesSender roster.configuration.ports command
       → IsStep (step_by subnet_administration roster.configuration old.administration command) events new.administration
   pub nobody : (HasPort was.nodes (actor command) → ⊥) → (new ≡ old) × (left ≡ was)
+  pub refused : Refuses was command → (new ≡ old) × (left ≡ was)
   pub stands : Stands roster routes new left
 
--- the subnet after it: who is in it and the routes stay; what is remembered is the definition's; of no port nothing comes
+-- the subnet after it: who is in it and the routes stay; what is remembered is the definition's; where no port has the
+-- command's GUID, or that port refuses to send, all stays
 pub record IsNext (old : SubnetState) (command : Command) (new : SubnetState) : Type 0 where
   pub roster : new.roster ≡ old.roster
   pub routes : new.routes ≡ old.routes
@@ -88,3 +91,4 @@ pub record IsNext (old : SubnetState) (command : Command) (new : SubnetState) : 
   pub administration : NamesSender old.roster.configuration.ports command
       → new.administration ≡ (step_by subnet_administration old.roster.configuration old.administration command).1
   pub nobody : (HasPort old.fabric.nodes (actor command) → ⊥) → new ≡ old
+  pub refused : Refuses old.fabric command → new ≡ old

@@ -19,7 +19,8 @@ use Rattle.script_lines.specs.Script.{commands_in}
 abbrev pub noted_at : ConfigurationState → ℕ → List Command → List NotedEvent
 noted_at configuration p commands = filter (λ one. one.event.port_guid == p) (noted_report configuration commands)
 
--- these events are those beside which it is noted; and each byte of a record that p is answered comes from a port near p, or
+-- these events are those beside which it is noted (that what is noted is the data of each answer says `data_of_runs_is_noted`
+-- of `sa_runs`); and each byte of a record that p is answered comes from a port near p, or
 -- from the partition file
 pub record RecordsComeFromNear (configuration : ConfigurationState) (p : ℕ) (commands : List Command) (events : List PortEvent)
     : Type 0 where

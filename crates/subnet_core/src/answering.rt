@@ -3,6 +3,7 @@
 ghost use Rattle.std.specs.Prelude.{◌≡◌, [], IfErr, IfOk, OnOk};
 ghost use Rattle.subnet_core.specs.Answering.{AnswersRequests, AsksOnce, StepsTo};
 ghost use Rattle.subnet_core.specs.BringUp.{Stands};
+ghost use Rattle.subnet_core.specs.Senders.{AreSentBack};
 ghost use Rattle.subnet_model.specs.declared.command.Command.TheVariants.{Ask, Send};
 
 use crate::acknowledging::acknowledgements;
@@ -160,6 +161,7 @@ fn answered(
     ensures answers { IfOk result (λ given. AnswersRequests roster.now registry.old port deliveries.now given registry.new) }
     ensures none { deliveries.now ≡ [] → IfOk result (λ given. (given.mads.items ≡ []) × (given.events.items ≡ [])
         × (registry.new ≡ registry.old) × (fabric.new ≡ fabric.old)) }
+    ensures back { IfOk result (λ given. AreSentBack fabric.new deliveries.now given.events.items) }
     ensures stands { OnOk result (Stands roster.now routes.now registry.new fabric.new) }
     ensures no_push { IfErr result (λ fault. fault ≡ AnswerFault.NoMemory) }
 {

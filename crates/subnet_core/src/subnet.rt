@@ -141,7 +141,7 @@ impl Subnet {
     /// A command of [`Subnet::parse`] names a listed port of a channel adapter; `comes` holds of any other too.
     pub fn step(&mut self, command: &Command) -> Result<Vec<Event>, StepFault>
         // What comes of a command is said by what the ports and switches of the fabric hold.
-        ensures comes { IfOk result (λ events. Comes self.old.fabric command.now events.items) }
+        ensures comes { IfOk result (λ events. Comes self.old.fabric self.new.fabric command.now events.items) }
         // And it is what the list of ports gives.
         ensures events { IfOk result (λ events. NamesSender self.old.roster.configuration.ports command.now → map event_of events.items
             ≡ (step_by subnet_administration self.old.roster.configuration self.old.administration command.now).0) }

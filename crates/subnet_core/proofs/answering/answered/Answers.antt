@@ -1,5 +1,8 @@
-use Rattle.std.proofs.Common.{◌∙◌, ap, refl, sym, Vec, Global}
+use Rattle.std.proofs.Common.{◌≡◌, ◌∙◌, ap, refl, subst, sym, List, [], ◌∷◌, Vec, Global}
+use Rattle.packet_ways.specs.Deliveries.{DeliveryState}
+use Rattle.smp_wire.specs.FabricState.{FabricState}
 use Rattle.subnet_core.proofs.AnswerLemmas.{first_none, first_some, is_answered, nothing_came, nothing_matches, stands_after}
+use Rattle.subnet_core.specs.Senders.{AreSentBack}
 use Rattle.subnet_sends.specs.declared.event.Event.{Event}
 use Rattle.subnet_core.proofs.answering.answered.Goals as goal
 
@@ -32,3 +35,23 @@ returns-clause-answers c =
     c.in_ok-mads.mads.items c.answer.new.registry c.answer.new.fabric (returns-clause-stands c)
     (rw (c.as_slice.ensures.value, c.packet-packet.ensures) at c.in_ok-mads.ensures.answers)
     (record { mads = c.in_ok-mads.mads; events = c.in_ok-events.events }) refl (rw c.deref.ensures.value at c.in_ok-events.ensures.told)
+
+-- ---- what was received is answered by MADs that are sent back
+none_back : (left : FabricState) (deliveries : List DeliveryState) (events : List Event) → events ≡ [] → AreSentBack left deliveries events
+none_back left [] events none = none
+none_back left (request ∷ rest) events none = (0, [], none)
+
+pub returns-in_default-clause-back : goal.returns-in_default-clause-back
+returns-in_default-clause-back c =
+    none_back c.args.fabric.now c.args.deliveries.now c.none.result.events.items (ap (λ (v : Vec Event Global). v.items) c.none.ensures.events ∙ c.new.ensures.items)
+
+pub returns-in_default-manager_key-clause-back : goal.returns-in_default-manager_key-clause-back
+returns-in_default-manager_key-clause-back c =
+    none_back c.args.fabric.now c.args.deliveries.now c.none-in_default-manager_key.result.events.items
+    (ap (λ (v : Vec Event Global). v.items) c.none-in_default-manager_key.ensures.events ∙ c.new-in_default-manager_key.ensures.items)
+
+pub returns-clause-back : goal.returns-clause-back
+returns-clause-back c =
+    let first = first_some c.args.deliveries.now c.in-Some.request.now (sym c.in-Some.ensures.value) in
+    subst (λ (deliveries : List DeliveryState). AreSentBack c.answer.new.fabric deliveries c.in_ok-events.events.items) (sym first.1)
+    (c.in-Some-manager_key.key, c.deref.result.now, c.in_ok-events.ensures.comes)

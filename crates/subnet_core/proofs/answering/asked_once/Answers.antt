@@ -1,6 +1,7 @@
 use Rattle.std.proofs.Common.{subst, List, IfOk}
 use Rattle.packet_ways.specs.Deliveries.{DeliveryState}
 use Rattle.subnet_core.specs.Answering.{AnswersRequests}
+use Rattle.subnet_core.specs.Senders.{AreSentBack}
 use Rattle.subnet_core.proofs.OnceLemmas.{once_by_events, once_if_ok}
 use Rattle.subnet_core.proofs.answering.asked_once.Goals as goal
 
@@ -18,4 +19,6 @@ returns-in-Request-clause-once c =
     (subst (λ (some : List DeliveryState). IfOk c.answered.result (λ given.
     AnswersRequests c.args.roster.now c.args.registry.now c.args.command.now.port_guid some given c.answered.new.registry))
     c.deref.ensures.value c.answered.ensures.answers)
+    (subst (λ (some : List DeliveryState). IfOk c.answered.result (λ given. AreSentBack c.answered.new.fabric some given.events.items))
+    c.deref.ensures.value c.answered.ensures.back)
     c.answered.ensures.stands

@@ -1,6 +1,7 @@
 use Rattle.std.proofs.Common.{subst, List}
 use Rattle.packet_ways.specs.Deliveries.{DeliveryState}
 use Rattle.subnet_core.specs.Answering.{AnswersRequests}
+use Rattle.subnet_core.specs.Senders.{AreSentBack}
 use Rattle.subnet_core.proofs.OnceLemmas.{steps_by_events, steps_by_request}
 use Rattle.subnet_core.proofs.answering.sent.Goals as goal
 
@@ -17,3 +18,5 @@ returns-in_ok-given-in-Request-clause-steps c =
     (subst (λ (some : List DeliveryState).
     AnswersRequests c.args.roster.now c.args.registry.now c.args.command.now.port_guid some c.in_ok-given-in-Request.given c.answered.new.registry)
     c.deref.ensures.value c.in_ok-given-in-Request.ensures.answers)
+    (subst (λ (some : List DeliveryState). AreSentBack c.answered.new.fabric some c.in_ok-given-in-Request.given.events.items) c.deref.ensures.value
+    c.in_ok-given-in-Request.ensures.back)
