@@ -1,5 +1,5 @@
 -- The names of files are words as they stand.
-use Rattle.std.proofs.Common.{ℕ, ◌≡◌, ◌∙◌, Ok, ap, Bool, true, false, List, [], Option, Some, None, option_map, codes, refl, subst, if◌then◌else◌}
+use Rattle.std.proofs.Common.{ℕ, ◌≡◌, ◌∙◌, Ok, ap, Bool, true, false, List, [], ◌∷◌, Option, Some, None, option_map, codes, refl, subst, if◌then◌else◌}
 use Rattle.std.specs.List.{All}
 use Rattle.std.specs.Option.{option_to_list}
 use Rattle.std.specs.Str.{bytes_eq}
@@ -8,12 +8,12 @@ use Rattle.clap.specs.Words.{Row, Text, first_of}
 use Rattle.clap.proofs.OnLiterals.{clap_on_literals}
 use Rattle.code_texts.specs.declared.code.Code.{Code}
 use Rattle.call_words.specs.Laws.{FilesAreNamedAsGiven, IsWordOf, NamesKeepTheirBlanks}
-use Rattle.call_words.specs.Words.{Names, all_names, asked_by, asked_by_command, asked_of, asked_or, call_in, diff_by, explain_by, file_in, in_subnet, packet_by, run_by}
+use Rattle.call_words.specs.Words.{Names, all_names, asked_by, asked_by_command, asked_of, asked_or, call_in, compare_by, diff_by, explain_by, file_in, in_subnet, packet_by, run_by, scripts_by}
 use Rattle.call_words.specs.Words.{subcommand_in, text_for, work_names}
 use Rattle.call_words.specs.declared.call.Call.{Call}
 use Rattle.call_words.specs.declared.call.Call.TheVariants.{Explain, Subnet}
 use Rattle.call_words.specs.declared.call.Work.{Work}
-use Rattle.call_words.specs.declared.call.Work.TheVariants.{Check, Diff, Inspect, Run, Shares}
+use Rattle.call_words.specs.declared.call.Work.TheVariants.{Check, Compare, Diff, Inspect, Run, Shares}
 use Rattle.call_words.specs.declared.call.Inspection.TheVariants.{Graph, Keys, Tables, Trace}
 use Rattle.call_words.specs.declared.call.Subcommand.{Subcommand}
 use Rattle.call_words.specs.declared.call.Subcommand.TheVariants as command
@@ -80,6 +80,20 @@ packet_given rows (Some port) (Some dlid) None asked e = absurd cc
 packet_given rows (Some port) None p_key asked e = absurd cc
 packet_given rows None dlid p_key asked e = absurd cc
 
+compare_given : (rows : List Row) → WorkIsGiven rows (compare_by rows)
+compare_given rows asked e = by (first_of (codes "S1") rows) refl (first_of (codes "S2") rows) refl (first_of (codes "PORT") rows) e
+  where
+    by : (first : Option Text) → first_of (codes "S1") rows ≡ first → (second : Option Text) → first_of (codes "S2") rows ≡ second → (port : Option Text)
+        → scripts_by first second port ≡ Some asked → All (IsWordOf rows) (work_names asked)
+    by (Some first) one (Some second) two (Some port) is =
+        let same : Compare first second port ≡ asked = cc in
+        subst (λ (w : Work Text Text). All (IsWordOf rows) (work_names w)) same
+        (All-cons (IsWordOf rows) first (second ∷ []) (codes "S1", one)
+        (All-cons (IsWordOf rows) second [] (codes "S2", two) (All-nil (IsWordOf rows))))
+    by (Some first) one (Some second) two None is = absurd cc
+    by (Some first) one None two port is = absurd cc
+    by None one second two port is = absurd cc
+
 explain_given : (rows : List Row) (code : Option Text) (names : Names) → explain_by code ≡ Some (Subnet names) → All (IsWordOf rows) (all_names names)
 explain_given rows None names e = absurd cc
 explain_given rows (Some word) names e = absurd (no-subnet _ e)
@@ -97,6 +111,7 @@ command_given command.Keys rows names is = subnet_given rows _ names (without_fi
 command_given command.Trace rows names is = subnet_given rows _ names (packet_given rows _ _ _) is
 command_given command.Graph rows names is = subnet_given rows _ names (without_file rows (Inspect Graph) refl) is
 command_given command.Run rows names is = subnet_given rows _ names (run_given rows) is
+command_given command.Compare rows names is = subnet_given rows _ names (compare_given rows) is
 command_given command.Explain rows names is = explain_given rows (first_of (codes "CODE") rows) names is
 
 pub files_are_given : FilesAreNamedAsGiven

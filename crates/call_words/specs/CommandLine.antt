@@ -41,6 +41,11 @@ graph_command = subnet_command (codes "graph")
 abbrev pub run_command : App
 run_command = with_rule (subnet_command (codes "run")) (wanted (codes "SCRIPT"))
 
+abbrev pub compare_command : App
+compare_command =
+    let scripts = with_rule (with_rule (subnet_command (codes "compare")) (wanted (codes "S1"))) (wanted (codes "S2")) in
+    with_rule scripts (wanted (codes "PORT"))
+
 abbrev pub explain_command : App
 explain_command = with_rule (new_app (codes "explain")) (optional (codes "CODE"))
 
@@ -52,10 +57,11 @@ abbrev pub fabric_command : App
 fabric_command =
     let checks = with_subcommand fabric_top check_command.top in
     let shares = with_subcommand checks shares_command.top in
-    let compares = with_subcommand shares diff_command.top in
-    let tables = with_subcommand compares tables_command.top in
+    let changes = with_subcommand shares diff_command.top in
+    let tables = with_subcommand changes tables_command.top in
     let keys = with_subcommand tables keys_command.top in
     let traces = with_subcommand keys trace_command.top in
     let graphs = with_subcommand traces graph_command.top in
     let runs = with_subcommand graphs run_command.top in
-    with_subcommand runs explain_command.top
+    let compares = with_subcommand runs compare_command.top in
+    with_subcommand compares explain_command.top

@@ -40,6 +40,9 @@ about_graph = codes "Draws a subnet's fabric, as a text for Graphviz"
 abbrev pub about_run : List ℕ
 about_run = codes "Runs a script in a subnet, and prints what its ports receive"
 
+abbrev pub about_compare : List ℕ
+about_compare = codes "Tells whether two scripts agree for a port, and whether the same happens at it"
+
 abbrev pub about_explain : List ℕ
 about_explain = codes "Tells what the code of a fault or a refusal means, or lists all codes"
 
@@ -69,6 +72,15 @@ help_of_code = codes "A code as it is told: `PF2`, or `memory`"
 
 abbrev pub help_of_script : List ℕ
 help_of_script = codes "The script: what ports send and ask"
+
+abbrev pub help_of_first_script : List ℕ
+help_of_first_script = codes "The first script"
+
+abbrev pub help_of_second_script : List ℕ
+help_of_second_script = codes "The second script"
+
+abbrev pub help_of_compared : List ℕ
+help_of_compared = codes "The port, of a channel adapter: `h1/1`; it may be the subnet manager's"
 
 -- ---- for words that are refused by the program itself
 abbrev pub not_text_line : List ℕ

@@ -21,7 +21,7 @@ use Rattle.call_words.specs.declared.call.Inspection.TheVariants.{Graph, Keys, T
 use Rattle.call_words.specs.declared.call.Subcommand.{Subcommand}
 use Rattle.call_words.specs.declared.call.Subcommand.TheVariants as command
 use Rattle.call_words.specs.declared.help.TheConstants.{NO_SUCH_CODE, NO_SUCH_NUMBER}
-use Rattle.call_words.specs.declared.call.Work.TheVariants.{Check, Diff, Inspect, Run, Shares}
+use Rattle.call_words.specs.declared.call.Work.TheVariants.{Check, Compare, Diff, Inspect, Run, Shares}
 use Rattle.text_words.specs.Number.{u16_in}
 
 -- ---- what is asked for, with the names of the files as texts
@@ -42,6 +42,7 @@ named_work (Shares port) = Shares (option_map (λ word. word.now) port)
 named_work (Diff second) = Diff (option_map (λ word. word.now) second)
 named_work (Inspect what) = Inspect (named_inspection what)
 named_work (Run script) = Run script.now
+named_work (Compare first second port) = Compare first.now second.now port.now
 
 abbrev pub names : Asked → Names
 names asked = record {
@@ -73,6 +74,13 @@ diff_by second = option_map (λ word. Diff (file_in word)) second
 abbrev pub run_by : Option Text → Option (Work Text Text)
 run_by script = option_map (λ name. Run name) script
 
+abbrev pub scripts_by : Option Text → Option Text → Option Text → Option (Work Text Text)
+scripts_by (Some first) (Some second) (Some port) = Some (Compare first second port)
+scripts_by _ _ _ = None
+
+abbrev pub compare_by : List Row → Option (Work Text Text)
+compare_by rows = scripts_by (first_of (codes "S1") rows) (first_of (codes "S2") rows) (first_of (codes "PORT") rows)
+
 -- a number of 16 bits, as scripts write it
 abbrev pub u16_by : Option Text → Option ℕ
 u16_by word = option_and_then u16_in word
@@ -100,7 +108,7 @@ explain_by None = Some (Explain None)
 explain_by (Some word) = option_map (λ code. Explain (Some code)) (code_of word)
 
 -- `check`, `tables`, `keys` and `graph` need no more words than their subnet's, `shares` takes a port, `diff` needs other
--- partitions, `trace` a packet and `run` a script; `explain` takes a code
+-- partitions, `trace` a packet, `run` a script, and `compare` two scripts and a port; `explain` takes a code
 abbrev pub call_in : Subcommand → List Row → Option (Call Names)
 call_in command.Check rows = in_subnet rows (Some Check)
 call_in command.Shares rows = in_subnet rows (Some (Shares (first_of (codes "PORT") rows)))
@@ -110,6 +118,7 @@ call_in command.Keys rows = in_subnet rows (Some (Inspect Keys))
 call_in command.Trace rows = in_subnet rows (trace_by rows)
 call_in command.Graph rows = in_subnet rows (Some (Inspect Graph))
 call_in command.Run rows = in_subnet rows (run_by (first_of (codes "SCRIPT") rows))
+call_in command.Compare rows = in_subnet rows (compare_by rows)
 call_in command.Explain rows = explain_by (first_of (codes "CODE") rows)
 
 -- ---- all words
@@ -123,6 +132,7 @@ subcommand_in word =
     else if bytes_eq word (codes "trace") then Some command.Trace
     else if bytes_eq word (codes "graph") then Some command.Graph
     else if bytes_eq word (codes "run") then Some command.Run
+    else if bytes_eq word (codes "compare") then Some command.Compare
     else if bytes_eq word (codes "explain") then Some command.Explain
     else None
 
@@ -185,6 +195,7 @@ work_names (Shares port) = []
 work_names (Diff second) = option_to_list second
 work_names (Inspect what) = []
 work_names (Run script) = script ∷ []
+work_names (Compare first second port) = first ∷ second ∷ []
 
 abbrev pub all_names : Names → List Text
 all_names asked = asked.topology ∷ (option_to_list asked.partitions ++ work_names asked.work)

@@ -25,6 +25,8 @@ pub enum Subcommand {
     Graph,
     /// `run`, which runs a script in it.
     Run,
+    /// `compare`, which compares two scripts for a port.
+    Compare,
     /// `explain`, which says what codes mean.
     Explain,
 }
@@ -42,6 +44,15 @@ pub enum Work<W, S> {
     Inspect(Inspection<W>),
     /// Run a script.
     Run(S),
+    /// Compare two scripts for a port, that a word names.
+    Compare {
+        /// The first script.
+        first: S,
+        /// The second.
+        second: S,
+        /// The word for the port.
+        port: W,
+    },
 }
 
 /// What to look at in the fabric of a subnet.

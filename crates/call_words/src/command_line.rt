@@ -3,24 +3,24 @@
 ghost use Rattle.std.specs.Prelude.{◌≡◌, false, List, ℕ, Option, None, Some, codes, map, string_bytes, IfOk, IfErr, IsSomeAnd};
 ghost use Rattle.clap.specs.Words.{app_of, rule_of, subcommand_rows_of};
 ghost use Rattle.clap.specs.declared.builder.command.Command.TheViews.{out-Command as fields_of};
-ghost use Rattle.call_words.specs.CommandLine.{check_command, diff_command, explain_command, fabric_command, graph_command, keys_command};
-ghost use Rattle.call_words.specs.CommandLine.{optional, run_command, shares_command, subnet_command, tables_command, trace_command};
+ghost use Rattle.call_words.specs.CommandLine.{check_command, compare_command, diff_command, explain_command, fabric_command, graph_command};
+ghost use Rattle.call_words.specs.CommandLine.{keys_command, optional, run_command, shares_command, subnet_command, tables_command, trace_command};
 ghost use Rattle.call_words.specs.CommandLine.{wanted};
-ghost use Rattle.call_words.specs.Help.{about_check, about_diff, about_explain, about_graph, about_keys, about_program, about_run};
+ghost use Rattle.call_words.specs.Help.{about_check, about_compare, about_diff, about_explain, about_graph, about_keys, about_program, about_run};
 ghost use Rattle.call_words.specs.Help.{about_shares, about_tables, about_trace, help_of_code, help_of_dlid, help_of_key};
-ghost use Rattle.call_words.specs.Help.{help_of_partitions};
+ghost use Rattle.call_words.specs.Help.{help_of_compared, help_of_first_script, help_of_partitions, help_of_second_script};
 ghost use Rattle.call_words.specs.Help.{help_of_port, help_of_script, help_of_second_partitions, help_of_sender, help_of_topology};
 ghost use Rattle.call_words.specs.Help.{program_name, program_version, text_in};
 ghost use Rattle.call_words.specs.Refusals.{IsShown};
 ghost use Rattle.call_words.specs.Words.{asked_in, asked_of};
-ghost use Rattle.call_words.specs.declared.help.TheConstants.{CHANGES, CODES, GRAPH, KEYS, LISTING, REPORT, SHARES, STATUSES, TABLES};
+ghost use Rattle.call_words.specs.declared.help.TheConstants.{CHANGES, CODES, COMPARISON, GRAPH, KEYS, LISTING, REPORT, SHARES, STATUSES, TABLES};
 ghost use Rattle.call_words.specs.declared.help.TheConstants.{TRACE};
 
 use crate::call::Refused;
 use crate::help::{
-    ABOUT, ABOUT_CHECK, ABOUT_DIFF, ABOUT_EXPLAIN, ABOUT_GRAPH, ABOUT_KEYS, ABOUT_RUN,
-    ABOUT_SHARES, ABOUT_TABLES, ABOUT_TRACE, CHANGES, CODES, GRAPH, KEYS, LISTING, REPORT, SHARES,
-    STATUSES, TABLES, TRACE,
+    ABOUT, ABOUT_CHECK, ABOUT_COMPARE, ABOUT_DIFF, ABOUT_EXPLAIN, ABOUT_GRAPH, ABOUT_KEYS,
+    ABOUT_RUN, ABOUT_SHARES, ABOUT_TABLES, ABOUT_TRACE, CHANGES, CODES, COMPARISON, GRAPH, KEYS,
+    LISTING, REPORT, SHARES, STATUSES, TABLES, TRACE,
 };
 use clap::error::ErrorKind;
 use clap::{Arg, ArgAction, ArgMatches, Command, Error};
@@ -105,6 +105,34 @@ fn wanted_script<'a>(alloc: Global) -> Arg<'a>
     ensures help { text_in result.help ≡ Some help_of_script }
 {
     wanted(alloc, "SCRIPT", "The script: what ports send and ask")
+}
+
+fn wanted_first_script<'a>(alloc: Global) -> Arg<'a>
+    ensures global { result.global ≡ false }
+    ensures rule { rule_of result ≡ wanted (codes "S1") }
+    ensures help { text_in result.help ≡ Some help_of_first_script }
+{
+    wanted(alloc, "S1", "The first script")
+}
+
+fn wanted_second_script<'a>(alloc: Global) -> Arg<'a>
+    ensures global { result.global ≡ false }
+    ensures rule { rule_of result ≡ wanted (codes "S2") }
+    ensures help { text_in result.help ≡ Some help_of_second_script }
+{
+    wanted(alloc, "S2", "The second script")
+}
+
+fn wanted_compared<'a>(alloc: Global) -> Arg<'a>
+    ensures global { result.global ≡ false }
+    ensures rule { rule_of result ≡ wanted (codes "PORT") }
+    ensures help { text_in result.help ≡ Some help_of_compared }
+{
+    wanted(
+        alloc,
+        "PORT",
+        "The port, of a channel adapter: `h1/1`; it may be the subnet manager's",
+    )
 }
 
 fn optional_port<'a>(alloc: Global) -> Arg<'a>
@@ -232,6 +260,19 @@ fn run_command<'a>(alloc: Global) -> Result<Command<'a>, AllocError>
     Ok(command.about(ABOUT_RUN).after_help(REPORT))
 }
 
+/// The command that compares two scripts.
+fn compare_command<'a>(alloc: Global) -> Result<Command<'a>, AllocError>
+    ensures words { IfOk result (λ command. app_of command ≡ compare_command) }
+    ensures about { IfOk result (λ command. text_in (fields_of command).about ≡ Some about_compare) }
+    ensures help { IfOk result (λ command. text_in (fields_of command).after_help ≡ Some COMPARISON.now) }
+{
+    let command = subnet_command(alloc, "compare")?
+        .arg(wanted_first_script(alloc))?
+        .arg(wanted_second_script(alloc))?
+        .arg(wanted_compared(alloc))?;
+    Ok(command.about(ABOUT_COMPARE).after_help(COMPARISON))
+}
+
 /// The command that says what codes mean.
 fn explain_command<'a>(alloc: Global) -> Result<Command<'a>, AllocError>
     ensures words { IfOk result (λ command. app_of command ≡ explain_command) }
@@ -260,6 +301,7 @@ fn fabric_command<'a>(alloc: Global) -> Result<Command<'a>, AllocError>
         .subcommand(trace_command(alloc)?)?
         .subcommand(graph_command(alloc)?)?
         .subcommand(run_command(alloc)?)?
+        .subcommand(compare_command(alloc)?)?
         .subcommand(explain_command(alloc)?)?
         .bin_name("fabric")?;
     Ok(command.version("0.1.0").about(ABOUT).after_help(STATUSES))

@@ -22,6 +22,9 @@ pub(crate) const ABOUT_GRAPH: &str = "Draws a subnet's fabric, as a text for Gra
 
 pub(crate) const ABOUT_RUN: &str = "Runs a script in a subnet, and prints what its ports receive";
 
+pub(crate) const ABOUT_COMPARE: &str =
+    "Tells whether two scripts agree for a port, and whether the same happens at it";
+
 pub(crate) const ABOUT_EXPLAIN: &str =
     "Tells what the code of a fault or a refusal means, or lists all codes";
 
@@ -52,8 +55,8 @@ pub(crate) const STATUSES: &str = with_statuses!(
     "
 
 A fault is told as `fault CODE topology line L`, `fault CODE partitions line L`,
-`fault CODE partitions2 line L`, `fault CODE script line L`, `fault CODE port`,
-`fault memory`, `fault read NAME` or `fault write`."
+`fault CODE partitions2 line L`, `fault CODE script line L`, `fault CODE script2 line L`,
+`fault CODE port`, `fault memory`, `fault read NAME` or `fault write`."
 );
 
 pub(crate) const NOT_TEXT: &str = "error: a word is not text\n";
@@ -210,11 +213,26 @@ HEX leaves out the zero bytes at the end of the N bytes.
     ""
 );
 
+pub(crate) const COMPARISON: &str = with_statuses!(
+    "Each script is run on the subnet as it is brought up, and two lines are printed:
+  scripts agree: yes|no    the ports near PORT have the same commands in both, in the same order
+  events equal: yes|no     the same happens at PORT in both runs, in the same order
+
+The ports near PORT are PORT itself and each end port that shares a partition with it, as `shares`
+lists them. Commands are the same by what they ask for, however they are spelt; what all other
+ports do may differ. Where the scripts agree the events are equal: `no` behind `yes` is proved
+never to come.
+
+",
+    "help",
+    ""
+);
+
 pub(crate) const CODES: &str = with_statuses!(
     "A code stands behind `fault` where a call does not complete, and behind `refused` in a report:
   TF1 to TF12            a fault of the topology
   PF1 to PF9             a fault of a partition file
-  SF1 to SF6             a fault of the script, or of the PORT of `shares` or `trace`
+  SF1 to SF6             a fault of a script, or of the PORT of `shares`, `trace` or `compare`
   AR1 to AR4             why a port refuses to send a packet
   SW1 to SW4, UR1, TP1 to TP3
                          why the fabric of a topology is not brought up

@@ -3,7 +3,7 @@
 ghost use Rattle.std.specs.Prelude.{◌≡◌, Ok, Some, map, string_bytes, option_map, IfOk, IfErr};
 ghost use Rattle.clap.specs.Words.{first_of, found_of, rows_of, subcommand_rows_of};
 ghost use Rattle.call_words.specs.Refusals.{IsOfGiven, IsOfWords, TellsAll};
-ghost use Rattle.call_words.specs.Words.{asked_in, asked_of, call_in, diff_by, explain_by, file_in, given_items, in_subnet};
+ghost use Rattle.call_words.specs.Words.{asked_in, asked_of, call_in, compare_by, diff_by, explain_by, file_in, given_items, in_subnet};
 ghost use Rattle.call_words.specs.Words.{named_call, named_found};
 ghost use Rattle.call_words.specs.Words.{named_work, run_by, subcommand_in, text_for, trace_by, u16_by};
 
@@ -89,6 +89,7 @@ fn subcommand_in(word: &str) -> Option<Subcommand>
         "trace" => Some(Subcommand::Trace),
         "graph" => Some(Subcommand::Graph),
         "run" => Some(Subcommand::Run),
+        "compare" => Some(Subcommand::Compare),
         "explain" => Some(Subcommand::Explain),
         _ => None,
     }
@@ -117,6 +118,7 @@ fn call_of<'a>(command: Subcommand, found: &ArgMatches<'a>) -> Option<Call<Asked
         Subcommand::Trace => in_subnet(found, traced(found)),
         Subcommand::Graph => in_subnet(found, Some(Work::Inspect(Inspection::Graph))),
         Subcommand::Run => in_subnet(found, run_by(word_of(found, "SCRIPT"))),
+        Subcommand::Compare => in_subnet(found, compared(found)),
         Subcommand::Explain => explain_by(word_of(found, "CODE")),
     }
 }
@@ -159,6 +161,17 @@ fn run_by(script: Option<&str>) -> Option<Work<&str, &str>>
     ensures { option_map named_work result ≡ run_by (option_map (λ word. word.now) script.entry) }
 {
     Some(Work::Run(script?))
+}
+
+/// Two scripts and a port.
+fn compared<'a>(found: &ArgMatches<'a>) -> Option<Work<&'a str, &'a str>>
+    ensures { option_map named_work result ≡ compare_by (rows_of (found_of found.now)) }
+{
+    Some(Work::Compare {
+        first: word_of(found, "S1")?,
+        second: word_of(found, "S2")?,
+        port: word_of(found, "PORT")?,
+    })
 }
 
 /// A packet from a port, if the numbers have 16 bits.

@@ -128,10 +128,7 @@ const REFUSED: [(&[&str], &str); 13] = [
     (&["fabric", "run", "a", "-", "b", "c"], "unexpected"),
     (&["fabric", "check"], "TOPO"),
     (&["fabric", "check", "a"], "PARTS"),
-    (
-        &["fabric", "compare", "a", "-", "b", "c", "h1/1"],
-        "compare",
-    ),
+    (&["fabric", "compare", "a", "-", "b", "c"], "PORT"),
     (&["fabric", "run", "--fast", "a", "-", "b"], "--fast"),
     (&["fabric", "--help"], "Exit statuses:"),
     (&["fabric", "check", "--help"], "partition NUMBER BASE NAME"),

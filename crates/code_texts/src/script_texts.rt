@@ -52,8 +52,8 @@ pub const SF2: &str = with_script!(
 SF2: there is no such port
 
 PORT is `NAME/NUMBER`, and the topology has an adapter NAME with a port NUMBER; switches send
-nothing. The same is asked of the PORT of `fabric trace`; that of `fabric shares` may be port 0 of a
-switch besides.
+nothing. The same is asked of the PORT of `fabric trace` and of `fabric compare`; that of
+`fabric shares` may be port 0 of a switch besides.
 ",
     "fault SF2 script line 1",
     "send i1 1 0xffff 7 1:01",
@@ -75,8 +75,8 @@ pub const SF4: &str = with_script!(
     "\
 SF4: the port has no cable
 
-PORT has a cable in the topology. That is asked of the PORT of `fabric shares` and of
-`fabric trace` too.
+PORT has a cable in the topology. That is asked of the PORT of `fabric shares`, of `fabric trace`
+and of `fabric compare` too.
 ",
     "fault SF4 script line 1",
     "send i/2 1 0xffff 7 1:01",

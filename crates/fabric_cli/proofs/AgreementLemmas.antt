@@ -35,6 +35,12 @@ module _ (file other : Contents) where
   work_alike (work.Diff (Some name)) same = rw (bytes_alike name (All-head (λ one. file one ≡ other one) name [] same)) refl
   work_alike (work.Inspect what) same = refl
   work_alike (work.Run name) same = rw (bytes_alike name (All-head (λ one. file one ≡ other one) name [] same)) refl
+  work_alike (work.Compare first second port) same =
+      let more = All-tail (λ one. file one ≡ other one) first (second ∷ []) same in
+      rw (
+        bytes_alike first (All-head (λ one. file one ≡ other one) first (second ∷ []) same),
+        bytes_alike second (All-head (λ one. file one ≡ other one) second [] more),
+      ) refl
 
   texts_alike : (names : Names) → agree (names.topology ∷ (option_to_list names.partitions ++ work_names names.work))
       → texts_of file names ≡ texts_of other names

@@ -7,7 +7,7 @@ use Rattle.std.specs.declared.vec.IntoIter.{IntoIter}
 use Rattle.subnet_core.specs.declared.fault.RunFault.{RunFault}
 use Rattle.subnet_core.specs.declared.fault.RunFault.TheVariants as run
 use Rattle.fabric_cli.specs.declared.faults.Stop.{Stop}
-use Rattle.fabric_cli.specs.declared.faults.Stop.TheVariants.{Words, NoMemory, Unread, Unwritten, Run, Port, Second}
+use Rattle.fabric_cli.specs.declared.faults.Stop.TheVariants.{Words, NoMemory, Unread, Unwritten, Run, Second}
 use Rattle.fabric_cli.specs.Faults.{line_of, memory_line, run_line, run_status, status_of, stop_of, NamesUnread}
 use Rattle.fabric_cli.specs.Files.{Contents, OpensAll, OpensInOrder}
 use Rattle.fabric_cli.specs.Serving.{AppendsSome, Bytes, ComesTo, Ending, complete, faulted, judged_for, output_in, refused, texts_of}
@@ -52,7 +52,9 @@ run_ends judged (run.Partitions line cause) answer out err err' is other told = 
 run_ends judged (run.Sweep fault) answer out err err' is other told = fault_ends judged _ answer out err err' is.1 (told.0 ∙ is.0) told.1
 run_ends judged (run.NoLegalPath switch node number) answer out err err' is other told = fault_ends judged _ answer out err err' is.1 told.0 told.1
 run_ends judged (run.Push fault) answer out err err' is other told = fault_ends judged _ answer out err err' is.1 (told.0 ∙ is.0) told.1
+run_ends judged (run.Port cause) answer out err err' is other told = fault_ends judged _ answer out err err' is.1 told.0 told.1
 run_ends judged (run.Script line cause) answer out err err' is other told = fault_ends judged _ answer out err err' is.1 told.0 told.1
+run_ends judged (run.SecondScript line cause) answer out err err' is other told = fault_ends judged _ answer out err err' is.1 told.0 told.1
 
 -- refused words, with their text
 refusal_ends : (text : List ℕ) (answer : ℕ) (out err err' : Option (List ℕ)) → (answer ≡ 2) × Appends err err' text → (ending : Ending)
@@ -71,7 +73,6 @@ stop_ends judged NoMemory answer out err err' is other told = absurd (other told
 stop_ends judged (Unread name) answer out err err' is other told = absurd (other told.0)
 stop_ends judged Unwritten answer out err err' is other told = absurd is
 stop_ends judged (Run fault) answer out err err' is other told = run_ends judged fault answer out err err' is other told
-stop_ends judged (Port cause) answer out err err' is other told = fault_ends judged _ answer out err err' is told.0 told.1
 stop_ends judged (Second line cause) answer out err err' is other told = fault_ends judged _ answer out err err' is told.0 told.1
 
 -- it is said of files that were read
@@ -81,7 +82,6 @@ is_told X NoMemory answer other is = absurd (other is)
 is_told X (Unread name) answer other is = absurd (other is)
 is_told X Unwritten answer other is = absurd (other is)
 is_told X (Run fault) answer other is = tt
-is_told X (Port cause) answer other is = tt
 is_told X (Second line cause) answer other is = tt
 
 pub for_some_told : {A B : Contents → Type 0} (told : Option Contents) → ((file : Contents) → A file → B file) → IfSome told A → IfSome told B

@@ -25,9 +25,9 @@ use Rattle.data_packet.specs.Refusal.{code_of as refusal_code}
 use Rattle.data_packet.specs.declared.refusal.Refusal.{Refusal}
 use Rattle.data_packet.specs.declared.refusal.Refusal.TheVariants as refusal
 use Rattle.fabric_cli.specs.Explained.{IsExplained, NamesCode, TellsCode, told_word}
-use Rattle.fabric_cli.specs.Faults.{fabric_line, partitions_line, port_line, run_line, script_line, second_line, topology_line}
+use Rattle.fabric_cli.specs.Faults.{fabric_line, partitions_line, port_line, run_line, script_line, second_line, second_script_line, topology_line}
 use Rattle.fabric_cli.specs.declared.faults.Stop.{Stop}
-use Rattle.fabric_cli.specs.declared.faults.Stop.TheVariants.{Words, NoMemory, Unread, Unwritten, Run, Port, Second}
+use Rattle.fabric_cli.specs.declared.faults.Stop.TheVariants.{Words, NoMemory, Unread, Unwritten, Run, Second}
 
 explained_as : (c : Code) → code_of (spelling c) ≡ Some c → IsExplained (spelling c)
 explained_as c read = record { code = c; read = read; begins = begins_with_code c }
@@ -80,6 +80,14 @@ script_told script.UncabledPort number = told_as code.Sf4 _ refl refl refl
 script_told script.PayloadTooLong number = told_as code.Sf5 _ refl refl refl
 script_told script.BadField number = told_as code.Sf6 _ refl refl refl
 
+second_script_told : (cause : ScriptCause) (number : ℕ) → TellsCode (second_script_line (script_code cause) number)
+second_script_told script.Malformed number = told_as code.Sf1 _ refl refl refl
+second_script_told script.UnknownPort number = told_as code.Sf2 _ refl refl refl
+second_script_told script.ManagerPort number = told_as code.Sf3 _ refl refl refl
+second_script_told script.UncabledPort number = told_as code.Sf4 _ refl refl refl
+second_script_told script.PayloadTooLong number = told_as code.Sf5 _ refl refl refl
+second_script_told script.BadField number = told_as code.Sf6 _ refl refl refl
+
 port_told : (cause : ScriptCause) → TellsCode (port_line (script_code cause))
 port_told script.Malformed = told_as code.Sf1 _ refl refl refl
 port_told script.UnknownPort = told_as code.Sf2 _ refl refl refl
@@ -111,8 +119,9 @@ stops_are_told (Run (run.Partitions line cause)) = partitions_told cause line
 stops_are_told (Run (run.Sweep fault)) = sweep_told fault
 stops_are_told (Run (run.NoLegalPath switch node number)) = told_as code.Ur1 _ refl refl refl
 stops_are_told (Run (run.Push fault)) = push_told fault
+stops_are_told (Run (run.Port cause)) = port_told cause
 stops_are_told (Run (run.Script line cause)) = script_told cause line
-stops_are_told (Port cause) = port_told cause
+stops_are_told (Run (run.SecondScript line cause)) = second_script_told cause line
 stops_are_told (Second line cause) = second_told cause line
 
 pub refusals_are_explained : (refusal : Refusal) → IsExplained (refusal_code refusal)

@@ -1,13 +1,13 @@
 -- Names opened one after the other.
-use Rattle.std.proofs.Common.{ℕ, ◌≡◌, inl, inr, Bool, true, is_some, IfSome, option_map, Ok, List, [], ◌∷◌, ◌++◌, length, Option, Some, None}
+use Rattle.std.proofs.Common.{ℕ, ◌≡◌, inl, inr, Bool, true, is_some, IfSome, option_map, Ok, List, [], ◌∷◌, ◌++◌, ◌+◌, length, take, Option, Some, None}
 use Rattle.std.proofs.Common.{append_assoc, append-nil, ap, refl, sym, ◌∙◌}
-use Rattle.std.proofs.Math.Seq.{take-append_seam}
+use Rattle.std.proofs.Math.Seq.{take-append-add, take-append_seam}
 use Rattle.std.proofs.lemmas.List.Folds.{list_all-append}
 use Rattle.std.specs.Borrow.{Bor}
 use Rattle.std.specs.Option.{option_to_list}
 use Rattle.result_words.specs.Steps.{◌>>=◌}
 use Rattle.fabric_cli.specs.declared.faults.Stop.{Stop}
-use Rattle.fabric_cli.specs.declared.faults.Stop.TheVariants.{Words, NoMemory, Unread, Unwritten, Run, Port, Second}
+use Rattle.fabric_cli.specs.declared.faults.Stop.TheVariants.{Words, NoMemory, Unread, Unwritten, Run, Second}
 use Rattle.fabric_cli.specs.Faults.{NamesUnread}
 use Rattle.fabric_cli.specs.Files.{Contents, OpensAll, IsEndless, OpensInOrder, StopsAt, all_open}
 use Rattle.fabric_cli.specs.Serving.{bytes_if_named, opened_bytes}
@@ -28,6 +28,12 @@ opens_more first before after names more (inr opened) (inr next) =
 pub opens_first : (before after : Option (List (List ℕ))) (names more : List (List ℕ)) → OpensAll before after names
     → OpensInOrder before after (names ++ more)
 opens_first before after names more opened = (length names, rw (take-append_seam names more) opened)
+
+-- and of more names the first few
+pub opens_then : (first before after : Option (List (List ℕ))) (names more : List (List ℕ)) → OpensAll first before names → OpensInOrder before after more
+    → OpensInOrder first after (names ++ more)
+opens_then first before after names more opened next =
+    (length names + next.0, rw (take-append-add names more next.0) (opens_more first before after names (take next.0 more) opened next.1))
 
 pub opens_whole : (before after : Option (List (List ℕ))) (names : List (List ℕ)) → OpensAll before after names → OpensInOrder before after names
 opens_whole before after names opened =
@@ -57,7 +63,6 @@ unread_first (Some file) reads old new names more (Words text) unread = tt
 unread_first (Some file) reads old new names more NoMemory unread = tt
 unread_first (Some file) reads old new names more Unwritten unread = tt
 unread_first (Some file) reads old new names more (Run fault) unread = tt
-unread_first (Some file) reads old new names more (Port cause) unread = tt
 unread_first (Some file) reads old new names more (Second line cause) unread = tt
 
 -- where some names opened to bytes, reading stopped after them
@@ -84,7 +89,6 @@ unread_after (Some file) now reads reading first before after names more (Words 
 unread_after (Some file) now reads reading first before after names more NoMemory same stays opened read unread = tt
 unread_after (Some file) now reads reading first before after names more Unwritten same stays opened read unread = tt
 unread_after (Some file) now reads reading first before after names more (Run fault) same stays opened read unread = tt
-unread_after (Some file) now reads reading first before after names more (Port cause) same stays opened read unread = tt
 unread_after (Some file) now reads reading first before after names more (Second line cause) same stays opened read unread = tt
 
 -- a name with bytes behind it opens to them

@@ -1,5 +1,5 @@
 -- What comes of texts and of their fabric.
-use Rattle.std.proofs.Common.{ℕ, ◌≡◌, List, [], Option, Some, None, Result, Ok, Err, Vec, Global, refl, sym, ◌∙◌, ap, subst}
+use Rattle.std.proofs.Common.{ℕ, ◌≡◌, false, List, [], Option, Some, None, Result, Ok, Err, Vec, Global, refl, sym, ◌∙◌, ap, subst}
 use Rattle.std.specs.Prelude.{IfErr, IfOk, IsErr}
 use Rattle.std.specs.declared.alloc.AllocError.{AllocError}
 use Rattle.result_words.specs.AtLine.{AtLine}
@@ -9,11 +9,16 @@ use Rattle.result_words.proofs.StepLemmas.{same_err}
 use Rattle.topo_file.specs.Topology.{TopologyState, topology_of}
 use Rattle.partition_file.specs.declared.partition.Partition.{Partition}
 use Rattle.fabric_parts.specs.declared.cable.PortRef.{PortRef}
+use Rattle.subnet_core.proofs.BringUpLemmas.{same_roster}
 use Rattle.subnet_core.specs.BringUp.{Becomes, FailsWith, IsUp, Turns, WithFabric, stop_of, up_from}
 use Rattle.subnet_core.specs.Listing.{listing_text}
 use Rattle.subnet_core.specs.EventLines.{report_text}
 use Rattle.subnet_core.specs.Roster.{RosterState, fault_in, of_text, partitions_for, roster_of}
+use Rattle.subnet_core.specs.Comparison.{Compares, TwoRunsState, TwoScriptsState, of_port, two_runs_of, two_scripts_of}
 use Rattle.subnet_core.specs.Run.{ReportState, report_of}
+use Rattle.subnet_core.specs.declared.comparing.Comparison.{Comparison}
+use Rattle.script_lines.specs.NamedPort.{named_adapter_port}
+use Rattle.script_lines.specs.declared.script_cause.ScriptCause.{ScriptCause}
 use Rattle.script_lines.specs.Script.{commands_in}
 use Rattle.subnet_core.specs.declared.fault.RunFault.{RunFault}
 use Rattle.subnet_core.specs.declared.fault.RunFault.TheVariants as run
@@ -21,10 +26,10 @@ use Rattle.subnet_fabric.specs.BringUp.{BroughtUpState}
 use Rattle.subnet_model.specs.declared.command.Command.{Command}
 use Rattle.sweep.specs.declared.fault.SweepFault.TheVariants as sweep
 use Rattle.fabric_cli.specs.Faults.{run_line, run_status, IsOfRun}
-use Rattle.fabric_cli.specs.Serving.{Bytes, Comes, ComesTo, Ending, ForEnding, ForTexts, RunStops, Stops, complete, ending_by, ending_over, faulted, inspected, looked_at, second_stop, shares_in, changes_in, texts_with}
+use Rattle.fabric_cli.specs.Serving.{Bytes, Comes, ComesTo, Ending, ForEnding, ForTexts, RunStops, Stops, comparison_text, complete, ending_by, ending_over, faulted, inspected, looked_at, second_stop, shares_in, changes_in, texts_with}
 use Rattle.call_words.specs.declared.call.Inspection.{Inspection}
 use Rattle.fabric_cli.specs.declared.faults.Stop.{Stop}
-use Rattle.fabric_cli.specs.declared.faults.Stop.TheVariants.{Words, NoMemory, Unread, Unwritten, Run, Port, Second}
+use Rattle.fabric_cli.specs.declared.faults.Stop.TheVariants.{Words, NoMemory, Unread, Unwritten, Run, Second}
 use Rattle.call_words.specs.declared.call.Work.{Work}
 use Rattle.call_words.specs.declared.call.Work.TheVariants as work
 
@@ -59,7 +64,9 @@ stop_at_one roster (run.Sweep sweep.TooManyHops) is = refl
 stop_at_one roster (run.Sweep sweep.TooManyNodes) is = absurd is
 stop_at_one roster (run.NoLegalPath switch node number) is = refl
 stop_at_one roster (run.Push fault) is = absurd is
+stop_at_one roster (run.Port cause) is = absurd is
 stop_at_one roster (run.Script line cause) is = absurd is
+stop_at_one roster (run.SecondScript line cause) is = absurd is
 
 up_at_one : (topology : List ℕ) (partitions : Option (List ℕ)) (stop : Option RunFault) (fault : RunFault) → Becomes (roster_of topology partitions) stop
     → up_from (roster_of topology partitions) stop ≡ Err fault → run_status fault ≡ 1
@@ -88,9 +95,42 @@ report_at_one topology partitions script stop fault becomes is = by (up_from (ro
     by (Err other) e = let same : other ≡ fault = same_err _ _ (rw e at is) in up_at_one topology partitions stop fault becomes (e ∙ ap Err same)
     by (Ok roster) e = script_by roster e (of_text run.Script (commands_in roster.plan script)) refl
 
+two_scripts_at_one : (plan : TopologyState) (first second port : List ℕ) (fault : RunFault) → two_scripts_of plan first second port ≡ Err fault → run_status fault ≡ 1
+unfolding two_scripts_of
+two_scripts_at_one plan first second port fault is = by (named_adapter_port plan port) refl
+  where
+    second_by : (guid : ℕ) → of_port (named_adapter_port plan port) ≡ Ok guid → (commands : List Command) → of_text run.Script (commands_in plan first) ≡ Ok commands
+        → (read : Result (List Command) RunFault) → of_text run.SecondScript (commands_in plan second) ≡ read → run_status fault ≡ 1
+    second_by guid p commands c (Err other) o =
+        let same : other ≡ fault = same_err _ _ (rw (p, c, o) at is) in of_text_at_one run.SecondScript (λ line cause. refl) _ fault (o ∙ ap Err same)
+    second_by guid p commands c (Ok others) o = let none : Ok _ ≡ Err fault = rw (p, c, o) at is in absurd cc
+
+    first_by : (guid : ℕ) → of_port (named_adapter_port plan port) ≡ Ok guid
+        → (read : Result (List Command) RunFault) → of_text run.Script (commands_in plan first) ≡ read → run_status fault ≡ 1
+    first_by guid p (Err other) c = let same : other ≡ fault = same_err _ _ (rw (p, c) at is) in of_text_at_one run.Script (λ line cause. refl) _ fault (c ∙ ap Err same)
+    first_by guid p (Ok commands) c = second_by guid p commands c (of_text run.SecondScript (commands_in plan second)) refl
+
+    by : (named : Result ℕ ScriptCause) → named_adapter_port plan port ≡ named → run_status fault ≡ 1
+    by (Err cause) p = let same : run.Port cause ≡ fault = same_err _ _ (rw p at is) in rw (sym same) refl
+    by (Ok guid) p = first_by guid (rw p refl) (of_text run.Script (commands_in plan first)) refl
+
+two_runs_at_one : (topology : List ℕ) (partitions : Option (List ℕ)) (first second port : List ℕ) (stop : Option RunFault) (fault : RunFault)
+    → Becomes (roster_of topology partitions) stop → two_runs_of topology partitions first second port stop ≡ Err fault → run_status fault ≡ 1
+unfolding two_runs_of
+two_runs_at_one topology partitions first second port stop fault becomes is = by (up_from (roster_of topology partitions) stop) refl
+  where
+    scripts_by : (roster : RosterState) → up_from (roster_of topology partitions) stop ≡ Ok roster
+        → (scripts : Result TwoScriptsState RunFault) → two_scripts_of roster.plan first second port ≡ scripts → run_status fault ≡ 1
+    scripts_by roster e (Err other) c = let same : other ≡ fault = same_err _ _ (rw (e, c) at is) in two_scripts_at_one roster.plan first second port fault (c ∙ ap Err same)
+    scripts_by roster e (Ok scripts) c = let none : Ok _ ≡ Err fault = rw (e, c) at is in absurd cc
+
+    by : (up : Result RosterState RunFault) → up_from (roster_of topology partitions) stop ≡ up → run_status fault ≡ 1
+    by (Err other) e = let same : other ≡ fault = same_err _ _ (rw e at is) in up_at_one topology partitions stop fault becomes (e ∙ ap Err same)
+    by (Ok roster) e = scripts_by roster e (two_scripts_of roster.plan first second port) refl
+
 -- ---- one ending
 pub for_ending : (judged : Result Bytes Ending) (P Q : Ending → Type 0) → ((ending : Ending) → P ending → Q ending) → ForEnding judged P → ForEnding judged Q
-for_ending (Ok texts) P Q f so = record { outcome = so.outcome; comes = so.comes; is = f _ so.is }
+for_ending (Ok texts) P Q f so = record { outcome = so.outcome; comparison = so.comparison; comes = so.comes; is = f _ so.is }
 for_ending (Err ending) P Q f so = f ending so
 
 -- a text that is made comes as it is, unless memory for it is refused
@@ -117,7 +157,9 @@ stopped_by judged (run.Partitions line cause) f = f refl
 stopped_by judged (run.Sweep fault) f = f refl
 stopped_by judged (run.NoLegalPath switch node number) f = f refl
 stopped_by judged (run.Push fault) f = f refl
+stopped_by judged (run.Port cause) f = f refl
 stopped_by judged (run.Script line cause) f = f refl
+stopped_by judged (run.SecondScript line cause) f = f refl
 
 -- ---- what becomes of a fabric, and with it the fabric itself
 nothing_at : PortRef
@@ -133,6 +175,10 @@ nothing_up = record {
   fabric = record { nodes = []; cables = []; cut = []; manager = nothing_at };
 }
 
+-- where nothing is compared
+abbrev none_compared : Comparison
+none_compared = record { scripts_agree = false; events_equal = false }
+
 outcome_of : (given : Result RosterState RunFault) (stop : Option RunFault) → Becomes given stop
     → (outcome : Result BroughtUpState RunFault) × Turns given outcome × (stop_of outcome ≡ stop)
 outcome_of (Ok roster) None becomes = (Ok becomes.0, becomes.1, refl)
@@ -145,12 +191,12 @@ module _ (topology : List ℕ) (partitions : Option (List ℕ)) (asked : Work (L
   texts = texts_with topology partitions asked
 
   -- where this becomes of their fabric
-  module _ (outcome : Result BroughtUpState RunFault) (comes : Comes topology partitions asked outcome) where
+  module _ (outcome : Result BroughtUpState RunFault) (comes : Comes topology partitions asked outcome none_compared) where
     abbrev over : Result Bytes Ending
-    over = Err (ending_over topology partitions asked outcome)
+    over = Err (ending_over topology partitions asked outcome none_compared)
 
     for_over : (Is : Ending → Type 0) → ForEnding over Is → ForEnding texts Is
-    for_over Is is = record { outcome = outcome; comes = comes; is = is }
+    for_over Is is = record { outcome = outcome; comparison = none_compared; comes = comes; is = is }
 
     pub run_over : (fault : RunFault) → RunStops over fault → RunStops texts fault
     run_over run.NoMemory is = tt
@@ -159,7 +205,9 @@ module _ (topology : List ℕ) (partitions : Option (List ℕ)) (asked : Work (L
     run_over (run.Sweep fault) is = (is.0, for_over _ is.1)
     run_over (run.NoLegalPath switch node number) is = (is.0, for_over _ is.1)
     run_over (run.Push fault) is = (is.0, for_over _ is.1)
+    run_over (run.Port cause) is = (is.0, for_over _ is.1)
     run_over (run.Script line cause) is = (is.0, for_over _ is.1)
+    run_over (run.SecondScript line cause) is = (is.0, for_over _ is.1)
 
     stops_over : (stop : Stop) → Stops over stop → Stops texts stop
     stops_over (Words text) is = for_over _ is
@@ -167,7 +215,6 @@ module _ (topology : List ℕ) (partitions : Option (List ℕ)) (asked : Work (L
     stops_over (Unread name) is = tt
     stops_over Unwritten is = absurd is
     stops_over (Run fault) is = run_over fault is
-    stops_over (Port cause) is = for_over _ is
     stops_over (Second line cause) is = for_over _ is
 
     pub comes_over : (result : Result (Vec ℕ Global) Stop) → ComesTo (λ text. text.items) over result → ComesTo (λ text. text.items) texts result
@@ -194,13 +241,13 @@ module _ (topology : List ℕ) (partitions : Option (List ℕ)) where
       let up : WithFabric given (λ stop. up_from given stop ≡ Err fault) = rw told at fails in
       let turns = outcome_of given up.stop up.becomes in
       let one : run_status fault ≡ 1 = up_at_one topology partitions up.stop fault up.becomes up.is in
-      (one, record { outcome = turns.0; comes = turns.1; is = rw (turns.2, up.is, one) refl }))
+      (one, record { outcome = turns.0; comparison = none_compared; comes = turns.1; is = rw (turns.2, up.is, one) refl }))
 
   pub is_listed : (roster : RosterState) (text : List ℕ) → WithFabric given (λ stop. up_from given stop ≡ Ok roster) → text ≡ listing_text roster.configuration
       → ForEnding (texts_with topology partitions work.Check) (λ ending. ending ≡ complete text)
   is_listed roster text up told =
       let turns = outcome_of given up.stop up.becomes in
-      record { outcome = turns.0; comes = turns.1; is = rw (turns.2, up.is, told) refl }
+      record { outcome = turns.0; comparison = none_compared; comes = turns.1; is = rw (turns.2, up.is, told) refl }
 
   -- ---- a report
   pub report_stops : (script : List ℕ) (fault : RunFault) → FailsWith given (fault_in fault) (report_of topology partitions script)
@@ -210,22 +257,33 @@ module _ (topology : List ℕ) (partitions : Option (List ℕ)) where
       let up : WithFabric given (λ stop. report_of topology partitions script stop ≡ Err fault) = rw told at fails in
       let turns = outcome_of given up.stop up.becomes in
       let one : run_status fault ≡ 1 = report_at_one topology partitions script up.stop fault up.becomes up.is in
-      (one, record { outcome = turns.0; comes = turns.1; is = rw (turns.2, up.is, one) refl }))
+      (one, record { outcome = turns.0; comparison = none_compared; comes = turns.1; is = rw (turns.2, up.is, one) refl }))
 
   pub is_reported : (script : List ℕ) (report : ReportState) (text : List ℕ)
       → WithFabric given (λ stop. report_of topology partitions script stop ≡ Ok report) → text ≡ report_text report.ports report.events
       → ForEnding (texts_with topology partitions (work.Run script)) (λ ending. ending ≡ complete text)
   is_reported script report text up told =
       let turns = outcome_of given up.stop up.becomes in
-      record { outcome = turns.0; comes = turns.1; is = rw (turns.2, up.is, told) refl }
+      record { outcome = turns.0; comparison = none_compared; comes = turns.1; is = rw (turns.2, up.is, told) refl }
+
+  -- ---- two scripts, compared
+  pub comparison_stops : (first second port : List ℕ) (fault : RunFault) → FailsWith given (fault_in fault) (two_runs_of topology partitions first second port)
+      → RunStops (texts_with topology partitions (work.Compare first second port)) fault
+  comparison_stops first second port fault fails =
+      stopped_by (texts_with topology partitions (work.Compare first second port)) fault (λ told.
+      let up : WithFabric given (λ stop. two_runs_of topology partitions first second port stop ≡ Err fault) = rw told at fails in
+      let turns = outcome_of given up.stop up.becomes in
+      let one : run_status fault ≡ 1 = two_runs_at_one topology partitions first second port up.stop fault up.becomes up.is in
+      (one, record { outcome = turns.0; comparison = none_compared; comes = (turns.1, rw (turns.2, up.is) tt); is = rw (turns.2, up.is, one) refl }))
+
+  pub is_compared : (first second port : List ℕ) (comparison : Comparison) (text : List ℕ) (runs : TwoRunsState)
+      → WithFabric given (λ stop. two_runs_of topology partitions first second port stop ≡ Ok runs) → Compares runs comparison → text ≡ comparison_text comparison
+      → ForEnding (texts_with topology partitions (work.Compare first second port)) (λ ending. ending ≡ complete text)
+  is_compared first second port comparison text runs up compares told =
+      let turns = outcome_of given up.stop up.becomes in
+      record { outcome = turns.0; comparison = comparison; comes = (turns.1, rw (turns.2, up.is) compares); is = rw (turns.2, up.is, told) refl }
 
   -- ---- what a fabric holds
-  same_roster : (found : Result RosterState RunFault) (stop : Option RunFault) (roster : RosterState) → up_from found stop ≡ Ok roster → found ≡ Ok roster
-  unfolding up_from
-  same_roster (Ok other) None roster is = is
-  same_roster (Ok other) (Some fault) roster is = absurd cc
-  same_roster (Err fault) stop roster is = absurd cc
-
   pub is_inspected : (what : Inspection (List ℕ)) (roster : RosterState) (up : BroughtUpState) (result : Result (Vec ℕ Global) Stop)
       → WithFabric given (λ stop. up_from given stop ≡ Ok roster) → IsUp roster up
       → ComesTo (λ text. text.items) (Err (looked_at roster up what)) result
@@ -241,7 +299,7 @@ module _ (topology : List ℕ) (partitions : Option (List ℕ)) where
       let up : WithFabric given (λ stop. up_from given stop ≡ Err fault) = rw told at fails in
       let one : run_status fault ≡ 1 = up_at_one topology partitions up.stop fault up.becomes up.is in
       let turns = stop_turns given up.stop fault up.becomes up.is in
-      (one, record { outcome = Err fault; comes = turns.0; is = turns.1 what ∙ ap (λ (status : ℕ). faulted status (run_line fault)) one }))
+      (one, record { outcome = Err fault; comparison = none_compared; comes = turns.0; is = turns.1 what ∙ ap (λ (status : ℕ). faulted status (run_line fault)) one }))
 
   -- ---- shares and changes, which take no fabric
   pub roster_stops : (fault : RunFault) (ending : Ending) → Fails (fault_in fault) given → (given ≡ Err fault → ending ≡ faulted (run_status fault) (run_line fault))
@@ -280,4 +338,6 @@ second_stops before topology second (run.Partitions line cause) fails = rw fails
 second_stops before topology second (run.Sweep fault) fails = roster_stops topology second (run.Sweep fault) (changes_in (Ok before) (roster_of topology second)) fails (λ at. rw at refl)
 second_stops before topology second (run.NoLegalPath switch node number) fails = roster_stops topology second (run.NoLegalPath switch node number) (changes_in (Ok before) (roster_of topology second)) fails (λ at. rw at refl)
 second_stops before topology second (run.Push fault) fails = roster_stops topology second (run.Push fault) (changes_in (Ok before) (roster_of topology second)) fails (λ at. rw at refl)
+second_stops before topology second (run.Port cause) fails = roster_stops topology second (run.Port cause) (changes_in (Ok before) (roster_of topology second)) fails (λ at. rw at refl)
 second_stops before topology second (run.Script line cause) fails = roster_stops topology second (run.Script line cause) (changes_in (Ok before) (roster_of topology second)) fails (λ at. rw at refl)
+second_stops before topology second (run.SecondScript line cause) fails = roster_stops topology second (run.SecondScript line cause) (changes_in (Ok before) (roster_of topology second)) fails (λ at. rw at refl)

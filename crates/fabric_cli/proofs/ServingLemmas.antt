@@ -4,7 +4,7 @@ use Rattle.std.specs.Io.KnownBytes.{Keeps}
 use Rattle.subnet_core.specs.declared.fault.RunFault.{RunFault}
 use Rattle.subnet_core.specs.declared.fault.RunFault.TheVariants as run
 use Rattle.fabric_cli.specs.declared.faults.Stop.{Stop}
-use Rattle.fabric_cli.specs.declared.faults.Stop.TheVariants.{Words, NoMemory, Unread, Unwritten, Run, Port, Second}
+use Rattle.fabric_cli.specs.declared.faults.Stop.TheVariants.{Words, NoMemory, Unread, Unwritten, Run, Second}
 use Rattle.fabric_cli.specs.Faults.{NamesUnread, line_of, memory_line, port_line, run_line, run_status, second_line, unwritten_line}
 use Rattle.fabric_cli.specs.Files.{Contents}
 use Rattle.fabric_cli.specs.Serving.{AppendsSome, Bytes, Ending, complete, faulted, refused, ForEnding, IsLineOf, IsRefusal, IsRefused, RunStops, Stops, TellsStop}
@@ -80,7 +80,9 @@ module _ (file : Contents) (reads : Bool) (old new : Option (List (List ℕ))) (
   of_run (run.Sweep fault) is part = of_fault _ _ is.0 is.1 part.told part.status
   of_run (run.NoLegalPath switch node number) is part = of_fault _ _ is.0 is.1 part.told part.status
   of_run (run.Push fault) is part = of_fault _ _ is.0 is.1 part.told part.status
+  of_run (run.Port cause) is part = of_fault _ _ is.0 is.1 part.told part.status
   of_run (run.Script line cause) is part = of_fault _ _ is.0 is.1 part.told part.status
+  of_run (run.SecondScript line cause) is part = of_fault _ _ is.0 is.1 part.told part.status
 
   of_stop : (stop : Stop) → Stops judged stop → NamesUnread (Some file) reads old new names stop → TellsStop stop answer b err err' ⊎ Writes b err err' memory_line
       → IsRefused file reads old new names judged a b err err'
@@ -97,7 +99,6 @@ module _ (file : Contents) (reads : Bool) (old new : Option (List (List ℕ))) (
   of_stop (Unread name) is unread (inl part) = record { line = line_of (Unread name); is = inr (inl (name.now, unread, refl)); told = part.told }
   of_stop Unwritten is unread (inl part) = absurd is
   of_stop (Run fault) is unread (inl part) = of_run fault is part
-  of_stop (Port cause) is unread (inl part) = of_fault _ 1 refl is part.told part.status
   of_stop (Second line cause) is unread (inl part) = of_fault _ 1 refl is part.told part.status
 
 -- a call that stops

@@ -15,7 +15,7 @@ use Rattle.subnet_core.specs.declared.fault.RunFault.{RunFault}
 use Rattle.subnet_core.specs.declared.fault.RunFault.TheVariants as run
 use Rattle.fabric_cli.specs.Files.{Contents, Opened, StopsAt}
 use Rattle.fabric_cli.specs.declared.faults.Stop.{Stop}
-use Rattle.fabric_cli.specs.declared.faults.Stop.TheVariants.{Words, NoMemory, Unread, Unwritten, Run, Port, Second}
+use Rattle.fabric_cli.specs.declared.faults.Stop.TheVariants.{Words, NoMemory, Unread, Unwritten, Run, Second}
 
 -- `fault CODE topology line L` and LF
 abbrev pub topology_line : List ℕ → ℕ → List ℕ
@@ -30,6 +30,10 @@ second_line code number = codes "fault " ++ (code ++ (codes " partitions2 line "
 
 abbrev pub script_line : List ℕ → ℕ → List ℕ
 script_line code number = codes "fault " ++ (code ++ (codes " script line " ++ (decimal number ++ codes "\n")))
+
+-- of the second script
+abbrev pub second_script_line : List ℕ → ℕ → List ℕ
+second_script_line code number = codes "fault " ++ (code ++ (codes " script2 line " ++ (decimal number ++ codes "\n")))
 
 -- `fault CODE`, of a fabric
 abbrev pub fabric_line : List ℕ → List ℕ
@@ -60,7 +64,9 @@ run_line (run.Partitions line cause) = partitions_line (partitions_code cause) l
 run_line (run.Sweep fault) = option_map_or fabric_line (sweep_code fault) memory_line
 run_line (run.NoLegalPath switch node number) = no_path_line switch node number
 run_line (run.Push fault) = fabric_line (push_code fault)
+run_line (run.Port cause) = port_line (script_code cause)
 run_line (run.Script line cause) = script_line (script_code cause) line
+run_line (run.SecondScript line cause) = second_script_line (script_code cause) line
 
 -- of a topology's own fabric a sweep finds all but what is too far, and nothing refuses a push
 abbrev pub sweep_status : SweepFault → ℕ
@@ -80,7 +86,6 @@ line_of NoMemory = memory_line
 line_of (Unread name) = unread_line name.now
 line_of Unwritten = unwritten_line
 line_of (Run fault) = run_line fault
-line_of (Port cause) = port_line (script_code cause)
 line_of (Second line cause) = second_line (partitions_code cause) line
 
 abbrev pub status_of : Stop → ℕ
@@ -89,7 +94,6 @@ status_of NoMemory = 3
 status_of (Unread name) = 3
 status_of Unwritten = 3
 status_of (Run fault) = run_status fault
-status_of (Port cause) = 1
 status_of (Second line cause) = 1
 
 -- words that ask for nothing
@@ -107,7 +111,6 @@ IsOfFiles _ = ⊥
 abbrev pub IsOfRun : Stop → Type 0
 IsOfRun NoMemory = Unit {0}
 IsOfRun (Run fault) = Unit {0}
-IsOfRun (Port cause) = Unit {0}
 IsOfRun (Second line cause) = Unit {0}
 IsOfRun _ = ⊥
 

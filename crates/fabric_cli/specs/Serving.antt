@@ -1,6 +1,6 @@
 -- What a call answers, from its words, the bytes of its files, and what becomes of the fabric that they describe.
 use Rattle.std.specs.Prelude.{ℕ, ◌≡◌, ◌≢◌, ◌⊎◌, Bool, true, List, [], Option, Some, None, is_some, option_map}
-use Rattle.std.specs.Prelude.{string_bytes, IfSome, Result, Ok, Err, Vec}
+use Rattle.std.specs.Prelude.{codes, if◌then◌else◌, string_bytes, ◌++◌, IfOk, IfSome, Result, Ok, Err, Vec}
 use Rattle.std.specs.Borrow.{Bor}
 use Rattle.std.specs.Global.{Global}
 use Rattle.std.specs.Io.KnownBytes.{Appends, Keeps}
@@ -22,7 +22,9 @@ use Rattle.script_lines.specs.NamedPort.{adapter_place, named_port}
 use Rattle.subnet_fabric.specs.BringUp.{BroughtUpState}
 use Rattle.subnet_core.specs.BringUp.{Turns, stop_of, up_from}
 use Rattle.subnet_core.specs.Roster.{RosterState, roster_of}
+use Rattle.subnet_core.specs.Comparison.{Compares, TwoRunsState, two_runs_of}
 use Rattle.subnet_core.specs.Run.{report_of}
+use Rattle.subnet_core.specs.declared.comparing.Comparison.{Comparison}
 use Rattle.topo_file.specs.Topology.{TopologyState}
 use Rattle.result_words.specs.Steps.{◌>>=◌}
 use Rattle.subnet_core.specs.EventLines.{report_text}
@@ -34,7 +36,7 @@ use Rattle.call_words.specs.declared.call.Inspection.{Inspection}
 use Rattle.call_words.specs.declared.call.Inspection.TheVariants.{Graph, Keys, Tables, Trace}
 use Rattle.call_words.specs.declared.call.Work.{Work}
 use Rattle.call_words.specs.declared.call.Work.TheVariants as work
-use Rattle.fabric_cli.specs.declared.faults.Stop.TheVariants.{Words, NoMemory, Unread, Unwritten, Run, Port, Second}
+use Rattle.fabric_cli.specs.declared.faults.Stop.TheVariants.{Words, NoMemory, Unread, Unwritten, Run, Second}
 use Rattle.fabric_cli.specs.Faults.{line_of, status_of, memory_line, port_line, run_line, second_line, run_status, unread_line}
 use Rattle.fabric_cli.specs.Faults.{unwritten_line}
 use Rattle.fabric_cli.specs.Files.{Contents, Opened, StopsAt}
@@ -59,6 +61,7 @@ work_bytes (work.Shares port) = work.Shares (option_map (λ word. word.now) port
 work_bytes (work.Diff second) = work.Diff (option_map (λ bytes. bytes.items) second)
 work_bytes (work.Inspect what) = work.Inspect (named_inspection what)
 work_bytes (work.Run script) = work.Run script.items
+work_bytes (work.Compare first second port) = work.Compare first.items second.items port.now
 
 abbrev pub texts_in : Texts → Bytes
 texts_in texts = record {
@@ -89,6 +92,10 @@ work_of file (work.Shares port) = Ok (work.Shares port)
 work_of file (work.Diff name) = bytes_if_named file name >>= λ bytes. Ok (work.Diff bytes)
 work_of file (work.Inspect what) = Ok (work.Inspect what)
 work_of file (work.Run name) = bytes_of file name >>= λ bytes. Ok (work.Run bytes)
+work_of file (work.Compare first second port) = do
+  bytes ← bytes_of file first
+  others ← bytes_of file second
+  Ok (work.Compare bytes others port)
 
 -- all files are read before any of them is judged
 abbrev pub texts_of : Contents → Names → Result Bytes Ending
@@ -107,7 +114,20 @@ abbrev pub reported : List ℕ → Option (List ℕ) → List ℕ → Option Run
 reported topology partitions script stop =
     report_of topology partitions script stop >>= λ told. Ok (report_text told.ports told.events)
 
--- of a fault its line alone is printed, and an output comes whole
+-- ---- two scripts, compared for a port
+abbrev pub yes_or_no : Bool → List ℕ
+yes_or_no truth = if truth then codes "yes" else codes "no"
+
+abbrev pub comparison_text : Comparison → List ℕ
+comparison_text comparison =
+    codes "scripts agree: "
+    ++ (yes_or_no comparison.scripts_agree ++ (codes "\nevents equal: " ++ (yes_or_no comparison.events_equal ++ codes "\n")))
+
+-- where there are two runs, they are compared so
+abbrev pub compared : Result TwoRunsState RunFault → Comparison → Result (List ℕ) RunFault
+compared given comparison = given >>= λ runs. Ok (comparison_text comparison)
+
+-- ---- of a fault its line alone is printed, and an output comes whole
 abbrev pub ending_by : Result (List ℕ) RunFault → Ending
 ending_by (Ok output) = complete output
 ending_by (Err fault) = faulted (run_status fault) (run_line fault)
@@ -157,27 +177,35 @@ inspected (Ok roster) what outcome = looked_in roster what outcome
 inspected (Err fault) what outcome = faulted (run_status fault) (run_line fault)
 
 -- ---- all of it
--- by what becomes of the fabric: it is up, or this fault stops it
-abbrev pub ending_over : List ℕ → Option (List ℕ) → Work (List ℕ) (List ℕ) → Result BroughtUpState RunFault → Ending
-ending_over topology partitions work.Check outcome = ending_by (listed topology partitions (stop_of outcome))
-ending_over topology partitions (work.Shares port) outcome = shares_in (roster_of topology partitions) port
-ending_over topology partitions (work.Diff second) outcome = changes_in (roster_of topology partitions) (roster_of topology second)
-ending_over topology partitions (work.Inspect what) outcome = inspected (roster_of topology partitions) what outcome
-ending_over topology partitions (work.Run script) outcome = ending_by (reported topology partitions script (stop_of outcome))
+-- by what becomes of the fabric: it is up, or this fault stops it; and by what two runs are compared as
+abbrev pub ending_over : List ℕ → Option (List ℕ) → Work (List ℕ) (List ℕ) → Result BroughtUpState RunFault → Comparison → Ending
+ending_over topology partitions work.Check outcome comparison = ending_by (listed topology partitions (stop_of outcome))
+ending_over topology partitions (work.Shares port) outcome comparison = shares_in (roster_of topology partitions) port
+ending_over topology partitions (work.Diff second) outcome comparison =
+    changes_in (roster_of topology partitions) (roster_of topology second)
+ending_over topology partitions (work.Inspect what) outcome comparison = inspected (roster_of topology partitions) what outcome
+ending_over topology partitions (work.Run script) outcome comparison =
+    ending_by (reported topology partitions script (stop_of outcome))
+ending_over topology partitions (work.Compare first second port) outcome comparison =
+    ending_by (compared (two_runs_of topology partitions first second port (stop_of outcome)) comparison)
 
 -- shares and changes take no fabric
-abbrev pub Comes : List ℕ → Option (List ℕ) → Work (List ℕ) (List ℕ) → Result BroughtUpState RunFault → Type 0
-Comes topology partitions work.Check outcome = Turns (roster_of topology partitions) outcome
-Comes topology partitions (work.Shares port) outcome = Unit {0}
-Comes topology partitions (work.Diff second) outcome = Unit {0}
-Comes topology partitions (work.Inspect what) outcome = Turns (roster_of topology partitions) outcome
-Comes topology partitions (work.Run script) outcome = Turns (roster_of topology partitions) outcome
+abbrev pub Comes : List ℕ → Option (List ℕ) → Work (List ℕ) (List ℕ) → Result BroughtUpState RunFault → Comparison → Type 0
+Comes topology partitions work.Check outcome comparison = Turns (roster_of topology partitions) outcome
+Comes topology partitions (work.Shares port) outcome comparison = Unit {0}
+Comes topology partitions (work.Diff second) outcome comparison = Unit {0}
+Comes topology partitions (work.Inspect what) outcome comparison = Turns (roster_of topology partitions) outcome
+Comes topology partitions (work.Run script) outcome comparison = Turns (roster_of topology partitions) outcome
+Comes topology partitions (work.Compare first second port) outcome comparison =
+    Turns (roster_of topology partitions) outcome
+    × IfOk (two_runs_of topology partitions first second port (stop_of outcome)) (λ runs. Compares runs comparison)
 
 -- it is so of what comes of these texts and of their fabric
 pub record ForTexts (texts : Bytes) (Is : Ending → Type 0) : Type 0 where
   pub outcome : Result BroughtUpState RunFault
-  pub comes : Comes texts.topology texts.partitions texts.work outcome
-  pub is : Is (ending_over texts.topology texts.partitions texts.work outcome)
+  pub comparison : Comparison
+  pub comes : Comes texts.topology texts.partitions texts.work outcome comparison
+  pub is : Is (ending_over texts.topology texts.partitions texts.work outcome comparison)
 
 -- it is so of how a call ends: over these texts, or in an ending that is known without them
 abbrev pub ForEnding : Result Bytes Ending → (Ending → Type 0) → Type 0
@@ -197,6 +225,7 @@ without_files (work.Shares port) = work.Shares port
 without_files (work.Diff second) = work.Diff (option_map (λ file. tt) second)
 without_files (work.Inspect what) = work.Inspect what
 without_files (work.Run script) = work.Run tt
+without_files (work.Compare first second port) = work.Compare tt tt port
 
 -- bytes for each of the files that are asked for, and for no other
 abbrev pub AreFor : Names → Bytes → Type 0
@@ -278,7 +307,6 @@ Stops judged NoMemory = Unit {0}
 Stops judged (Unread name) = Unit {0}
 Stops judged Unwritten = ⊥
 Stops judged (Run fault) = RunStops judged fault
-Stops judged (Port cause) = ForEnding judged (λ ending. ending ≡ faulted 1 (port_line (script_code cause)))
 Stops judged (Second line cause) = ForEnding judged (λ ending. ending ≡ faulted 1 (second_line (partitions_code cause) line))
 
 -- of a stop its line is printed, and with its status where the line can go out
@@ -291,7 +319,6 @@ abbrev pub IsTold : {X : Type 0} → Result X Stop → Type 0
 IsTold (Ok output) = Unit {0}
 IsTold (Err (Words text)) = Unit {0}
 IsTold (Err (Run fault)) = Unit {0}
-IsTold (Err (Port cause)) = Unit {0}
 IsTold (Err (Second line cause)) = Unit {0}
 IsTold _ = ⊥
 

@@ -39,8 +39,6 @@ pub enum Stop<'a> {
     Unwritten,
     /// A text faults.
     Run(RunFault),
-    /// The word for a port names no end port.
-    Port(ScriptCause),
     /// The second partition file has a fault.
     Second {
         /// The line of the fault's place, counted from 1.
@@ -69,7 +67,7 @@ impl<'a> Stop<'a> {
             Stop::Words(_) => WORDS_REFUSED,
             Stop::NoMemory | Stop::Unread(_) | Stop::Unwritten => REFUSED,
             Stop::Run(fault) => run_status(fault),
-            Stop::Port(_) | Stop::Second { .. } => FAULT,
+            Stop::Second { .. } => FAULT,
         }
     }
 
@@ -83,7 +81,6 @@ impl<'a> Stop<'a> {
             Stop::Unread(name) => Ok(format!(in alloc; "fault read {name}\n")?.into_bytes()),
             Stop::Unwritten => Vec::from_slice(alloc, b"fault write\n"),
             Stop::Run(fault) => run_line(alloc, fault),
-            Stop::Port(cause) => port_line(alloc, *cause),
             Stop::Second { line, cause } => second_line(alloc, *line, *cause),
         }
     }
@@ -98,7 +95,9 @@ fn run_status(fault: &RunFault) -> u8
         RunFault::Topology { .. }
         | RunFault::Partitions { .. }
         | RunFault::NoLegalPath { .. }
-        | RunFault::Script { .. } => FAULT,
+        | RunFault::Port(_)
+        | RunFault::Script { .. }
+        | RunFault::SecondScript { .. } => FAULT,
     }
 }
 
@@ -140,9 +139,14 @@ fn run_line(alloc: Global, fault: &RunFault) -> Result<Vec<u8>, AllocError>
             number,
         } => no_path_line(alloc, switch.as_slice(), node.as_slice(), *number),
         RunFault::Push(fault) => fabric_line(alloc, fault.code()),
+        RunFault::Port(cause) => port_line(alloc, *cause),
         RunFault::Script { line, cause } => {
             let code = cause.code();
             Ok(format!(in alloc; "fault {code} script line {line}\n")?.into_bytes())
+        }
+        RunFault::SecondScript { line, cause } => {
+            let code = cause.code();
+            Ok(format!(in alloc; "fault {code} script2 line {line}\n")?.into_bytes())
         }
     }
 }

@@ -6,7 +6,7 @@ ghost use Rattle.call_words.specs.declared.call.Inspection.TheVariants.{Graph as
 ghost use Rattle.call_words.specs.declared.call.Work.TheVariants as work;
 ghost use Rattle.fabric_cli.specs.Faults.{IsOfRun};
 ghost use Rattle.fabric_cli.specs.Serving.{asked_port, changes_in, looked_at, second_stop, shares_in, texts_in, texts_with, traced};
-ghost use Rattle.fabric_cli.specs.Serving.{ComesTo};
+ghost use Rattle.fabric_cli.specs.Serving.{ComesTo, comparison_text, yes_or_no};
 ghost use Rattle.fabric_cli.specs.declared.faults.Stop.TheVariants.{NoMemory};
 ghost use Rattle.subnet_core.specs.BringUp.{up_in};
 ghost use Rattle.script_lines.specs.NamedPort.{adapter_place};
@@ -21,7 +21,9 @@ use packet_trace::trace_text;
 use partition_changes::changes_text;
 use port_shares::shares_text;
 use std::alloc::{AllocError, Global};
-use subnet_core::{Roster, RunFault, ScriptCause, Subnet, bring_up, read_roster, run};
+use subnet_core::{
+    Comparison, Roster, RunFault, ScriptCause, Subnet, bring_up, compare, read_roster, run,
+};
 
 /// The output over these texts.
 pub fn output_of_texts<'a>(alloc: Global, texts: &Texts<'_>) -> Result<Vec<u8>, Stop<'a>>
@@ -36,6 +38,18 @@ pub fn output_of_texts<'a>(alloc: Global, texts: &Texts<'_>) -> Result<Vec<u8>, 
         Work::Diff(second) => changed(alloc, topology, partitions, slice_of(second)),
         Work::Inspect(what) => inspected(alloc, topology, partitions, what),
         Work::Run(script) => reported(alloc, topology, partitions, script.as_slice()),
+        Work::Compare {
+            first,
+            second,
+            port,
+        } => compared(
+            alloc,
+            topology,
+            partitions,
+            first.as_slice(),
+            second.as_slice(),
+            port,
+        ),
     }
 }
 
@@ -78,7 +92,7 @@ fn shares_in<'a>(alloc: Global, roster: &Roster, port: Option<&str>) -> Result<V
 {
     match asked_port(roster, port) {
         Ok(asked) => text_or_stop(shares_text(alloc, roster.configuration().ports(), asked)),
-        Err(cause) => Err(Stop::Port(cause)),
+        Err(cause) => Err(Stop::Run(RunFault::Port(cause))),
     }
 }
 
@@ -231,7 +245,7 @@ fn traced<'a>(
             dlid,
             p_key,
         )),
-        Err(cause) => Err(Stop::Port(cause)),
+        Err(cause) => Err(Stop::Run(RunFault::Port(cause))),
     }
 }
 
@@ -250,6 +264,40 @@ fn reported<'a>(
         Ok(report) => text_or_stop(report.text()),
         Err(fault) => Err(Stop::Run(fault)),
     }
+}
+
+/// What two scripts in a subnet have in common for the port that a word names.
+fn compared<'a>(
+    alloc: Global,
+    topology: &[u8],
+    partitions: Option<&[u8]>,
+    first: &[u8],
+    second: &[u8],
+    port: &str,
+) -> Result<Vec<u8>, Stop<'a>>
+    ensures exact { ComesTo (λ text. text.items)
+        (texts_with topology.now (option_copied partitions.entry) (work.Compare first.now second.now port.now)) result }
+    ensures fault { IfErr result IsOfRun }
+{
+    match compare(alloc, topology, partitions, first, second, port.as_bytes()) {
+        Ok(comparison) => text_or_stop(comparison_text(alloc, comparison)),
+        Err(fault) => Err(Stop::Run(fault)),
+    }
+}
+
+fn comparison_text(alloc: Global, comparison: Comparison) -> Result<Vec<u8>, AllocError>
+    ensures { IfOk result (λ text. text.items ≡ comparison_text comparison) }
+{
+    let agree = yes_or_no(comparison.scripts_agree);
+    let equal = yes_or_no(comparison.events_equal);
+    let text = format!(in alloc; "scripts agree: {agree}\nevents equal: {equal}\n")?;
+    Ok(text.into_bytes())
+}
+
+fn yes_or_no(truth: bool) -> &'static str
+    ensures { result.now ≡ yes_or_no truth }
+{
+    if truth { "yes" } else { "no" }
 }
 
 /// A text that is made, or that memory for it is refused.

@@ -20,7 +20,7 @@ pub struct Texts<'a> {
     pub topology: Vec<u8>,
     /// Of the partitions, if there is a file of them.
     pub partitions: Option<Vec<u8>>,
-    /// What to do, with the bytes of its own file.
+    /// What to do, with the bytes of its own files.
     pub work: Work<&'a str, Vec<u8>>,
 }
 
@@ -83,13 +83,14 @@ fn copy_of<'a>(what: &Inspection<&'a str>) -> Inspection<&'a str>
     }
 }
 
-/// The work with the bytes of its file, if it has one.
+/// The work with the bytes of its files, if it has some.
 fn read_work<'a, F: Files>(
     alloc: Global,
     files: &mut F,
     work: &Work<&'a str, &'a str>,
 ) -> Result<Work<&'a str, Vec<u8>>, Stop<'a>>
-    ensures opened { OpensAll (F.opened files.old) (F.opened files.new) (work_names (named_work work.now)) }
+    ensures order { OpensInOrder (F.opened files.old) (F.opened files.new) (work_names (named_work work.now)) }
+    ensures all { OnOk result (OpensAll (F.opened files.old) (F.opened files.new) (work_names (named_work work.now))) }
     ensures same { F.told files.new ≡ F.told files.old }
     ensures stays { F.reads files.new ≡ F.reads files.old }
     ensures bytes { IfOk result (λ bytes. IfSome (F.told files.old) (λ file.
@@ -105,5 +106,14 @@ fn read_work<'a, F: Files>(
         Work::Diff(second) => Ok(Work::Diff(read_if_named(alloc, files, *second)?)),
         Work::Inspect(what) => Ok(Work::Inspect(copy_of(what))),
         Work::Run(script) => Ok(Work::Run(read_file(alloc, files, *script)?)),
+        Work::Compare {
+            first,
+            second,
+            port,
+        } => Ok(Work::Compare {
+            first: read_file(alloc, files, *first)?,
+            second: read_file(alloc, files, *second)?,
+            port: *port,
+        }),
     }
 }

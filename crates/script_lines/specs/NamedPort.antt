@@ -50,3 +50,7 @@ place_if_cabled plan at =
 
 unfoldable pub adapter_place : TopologyState → List ℕ → Result PortRef ScriptCause
 adapter_place plan word = named_place plan word >>= λ at. place_if_cabled plan at
+
+-- and its GUID
+unfoldable pub named_adapter_port : TopologyState → List ℕ → Result ℕ ScriptCause
+named_adapter_port plan word = adapter_place plan word >>= λ at. Ok (port_guid_at plan.nodes at)

@@ -2,7 +2,8 @@
 
 ghost use Rattle.std.specs.Prelude.{◌≡◌, ◌≤◌, false, IfOk};
 ghost use Rattle.topo_file.specs.Node.{is_switch_at, ports_at};
-ghost use Rattle.script_lines.specs.NamedPort.{adapter_place, adapter_port, cabled_port, named_place, named_port, place_if_cabled, switch_guid, switch_port};
+ghost use Rattle.script_lines.specs.NamedPort.{adapter_place, adapter_port, cabled_port, named_adapter_port, named_place, named_port};
+ghost use Rattle.script_lines.specs.NamedPort.{place_if_cabled, switch_guid, switch_port};
 
 use crate::script_cause::ScriptCause;
 use fabric_parts::PortRef;
@@ -43,14 +44,27 @@ pub fn named_port(topology: &Topology, word: &[u8]) -> Result<u64, ScriptCause>
 /// Where the port of a channel adapter is that a word names, if it has a cable.
 #[tactic(auto, unfolding(crate::specs::NamedPort::adapter_place))]
 pub fn adapter_place(topology: &Topology, word: &[u8]) -> Result<PortRef, ScriptCause>
-    ensures { result ≡ adapter_place topology.now word.now }
+    ensures place { result ≡ adapter_place topology.now word.now }
+    ensures adapter { IfOk result (λ at. is_switch_at topology.now.nodes at.node ≡ false) }
+    ensures within { IfOk result (λ at. at.port ≤ ports_at topology.now.nodes at.node) }
 {
     let at = named_place(topology, word)?;
     place_if_cabled(topology, at)
 }
 
+/// The GUID of the port of a channel adapter that a word names, if it has a cable.
+#[tactic(auto, unfolding(crate::specs::NamedPort::named_adapter_port))]
+pub fn named_adapter_port(topology: &Topology, word: &[u8]) -> Result<u64, ScriptCause>
+    ensures { result ≡ named_adapter_port topology.now word.now }
+{
+    let at = adapter_place(topology, word)?;
+    Ok(topology.guid_of(at))
+}
+
 fn place_if_cabled(topology: &Topology, at: PortRef) -> Result<PortRef, ScriptCause>
-    ensures { result ≡ place_if_cabled topology.now at }
+    ensures place { result ≡ place_if_cabled topology.now at }
+    ensures adapter { IfOk result (λ at. is_switch_at topology.now.nodes at.node ≡ false) }
+    ensures same { IfOk result (λ found. found ≡ at) }
 {
     if topology.is_switch_at(at.node) {
         Err(ScriptCause::UnknownPort)

@@ -9,7 +9,7 @@ use Rattle.result_words.specs.Gives.{Fails}
 use Rattle.subnet_core.specs.BringUp.{Becomes, ComesTo, FailsWith, IsUp, WithFabric, up_from}
 use Rattle.subnet_core.specs.Roster.{IsRostered, RosterState, fault_in}
 use Rattle.subnet_core.specs.declared.fault.RunFault.{RunFault}
-use Rattle.subnet_core.specs.declared.fault.RunFault.TheVariants.{NoMemory, Topology, Partitions, Sweep, NoLegalPath, Push, Script}
+use Rattle.subnet_core.specs.declared.fault.RunFault.TheVariants.{NoMemory, Topology, Partitions, Sweep, NoLegalPath, Push, Port, Script, SecondScript}
 use Rattle.fabric_wire.specs.OfTopology.{fabric_of}
 use Rattle.subnet_fabric.specs.BringUp.{HasNoPath, BroughtUpState}
 use Rattle.subnet_fabric.specs.SetUp.{AreAssigned, IsLaidOut}
@@ -53,9 +53,17 @@ fabric_fails given roster (Partitions line cause) is comes = absurd comes
 fabric_fails given roster (Sweep fault) is comes = stopped given roster (Sweep fault) is comes
 fabric_fails given roster (NoLegalPath switch node number) is comes = stopped given roster (NoLegalPath switch node number) is comes
 fabric_fails given roster (Push fault) is comes = absurd comes
+fabric_fails given roster (Port cause) is comes = absurd comes
 fabric_fails given roster (Script line cause) is comes = absurd comes
+fabric_fails given roster (SecondScript line cause) is comes = absurd comes
 
--- it is brought up
+-- it is brought up, and the roster is that of the texts
+pub same_roster : (given : Result RosterState RunFault) (stop : Option RunFault) (roster : RosterState) → up_from given stop ≡ Ok roster → given ≡ Ok roster
+unfolding up_from
+same_roster (Ok other) None roster is = is
+same_roster (Ok other) (Some fault) roster is = absurd cc
+same_roster (Err fault) stop roster is = absurd cc
+
 pub comes_up : (given : Result RosterState RunFault) (roster : RosterState) (up : BroughtUpState) → given ≡ Ok roster → IsUp roster up
     → WithFabric given (λ stop. up_from given stop ≡ Ok roster)
 unfolding up_from

@@ -12,3 +12,6 @@ pub mod FateLemmas
 pub mod AnswerLemmas
 pub mod OnceLemmas
 pub mod AskLemmas
+pub mod WrongLemmas
+pub mod ComparisonLemmas
+pub mod SameLemmas

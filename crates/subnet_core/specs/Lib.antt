@@ -10,3 +10,5 @@ pub mod EventLines
 pub mod WholeLines
 pub mod Listing
 pub mod Headline
+pub mod Comparison
+pub mod WrongRules

@@ -8,7 +8,7 @@ use Rattle.result_words.specs.AtLine.{AtLine}
 use Rattle.result_words.specs.Gives.{Gives}
 use Rattle.result_words.specs.Steps.{◌>>=◌}
 use Rattle.subnet_core.specs.declared.fault.RunFault.{RunFault}
-use Rattle.subnet_core.specs.declared.fault.RunFault.TheVariants.{NoMemory, Topology, Partitions, Sweep, NoLegalPath, Push, Script}
+use Rattle.subnet_core.specs.declared.fault.RunFault.TheVariants.{NoMemory, Topology, Partitions, Sweep, NoLegalPath, Push, Port, Script, SecondScript}
 use Rattle.subnet_model.specs.Configuration.{ConfigurationState}
 use Rattle.subnet_ports.specs.Ports.{configuration_of}
 use Rattle.topo_file.specs.Sound.{IsSound}
@@ -54,7 +54,9 @@ fault_in (Partitions line cause) = Some (Partitions line cause)
 fault_in (Sweep fault) = Some (Sweep fault)
 fault_in (NoLegalPath switch node number) = Some (NoLegalPath switch node number)
 fault_in (Push fault) = Some (Push fault)
+fault_in (Port cause) = Some (Port cause)
 fault_in (Script line cause) = Some (Script line cause)
+fault_in (SecondScript line cause) = Some (SecondScript line cause)
 
 abbrev pub RunGives : {X Y : Type 0} → (X → Y) → Result X RunFault → Result Y RunFault → Type 0
 RunGives view answer given = Gives fault_in view answer given

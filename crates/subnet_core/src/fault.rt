@@ -49,9 +49,20 @@ pub enum RunFault {
     /// An agent did not take what was pushed to it. Those of a simulated fabric do.
     #[error("{0}")]
     Push(PushFault),
+    /// What is wrong with the word for a port.
+    #[error("port: {0}")]
+    Port(ScriptCause),
     /// The first fault of the script.
     #[error("script line {line}: {cause}")]
     Script {
+        /// The line, counted from 1.
+        line: usize,
+        /// What is wrong.
+        cause: ScriptCause,
+    },
+    /// The first fault of the second script, where two are compared.
+    #[error("second script line {line}: {cause}")]
+    SecondScript {
         /// The line, counted from 1.
         line: usize,
         /// What is wrong.

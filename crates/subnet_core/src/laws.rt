@@ -3,6 +3,7 @@
 
 ghost use Rattle.subnet_core.specs.Laws.{EachCommandNamesASender, OneThingBecomesOfAFabric, TextsHaveOneAnswer};
 ghost use Rattle.subnet_core.specs.WholeLines.{ReportLinesAreWhole};
+ghost use Rattle.subnet_core.specs.WrongRules.{CountedEventsTellOfFarPorts};
 
 /// Each command that a script gives names a port of a channel adapter that the roster lists.
 pub fn each_command_names_a_sender()
@@ -23,4 +24,10 @@ pub fn report_lines_are_whole()
 /// What a run answers by `report_of` depends on its three texts alone.
 pub fn texts_have_one_answer()
     ensures { TextsHaveOneAnswer }
+{}
+
+/// Events that bear their place in the whole report, as by a line number or by a counter over all ports, do not depend on
+/// the ports near a port alone. So those of a report bear none.
+pub fn counted_events_tell_of_far_ports()
+    ensures { CountedEventsTellOfFarPorts }
 {}

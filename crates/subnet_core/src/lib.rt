@@ -12,6 +12,7 @@
 mod acknowledging;
 mod answering;
 mod bringing_up;
+mod comparing;
 mod event_lines;
 mod fault;
 mod laws;
@@ -23,10 +24,11 @@ mod running;
 mod subnet;
 
 pub use crate::bringing_up::bring_up;
+pub use crate::comparing::{Comparison, compare};
 pub use crate::fault::{RunFault, StepFault};
 pub use crate::laws::{
-    each_command_names_a_sender, one_thing_becomes_of_a_fabric, report_lines_are_whole,
-    texts_have_one_answer,
+    counted_events_tell_of_far_ports, each_command_names_a_sender, one_thing_becomes_of_a_fabric,
+    report_lines_are_whole, texts_have_one_answer,
 };
 pub use crate::report::Report;
 pub use crate::roster::{Roster, read_roster};

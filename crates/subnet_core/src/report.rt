@@ -7,7 +7,7 @@ ghost use Rattle.subnet_core.specs.EventLines.{report_text};
 use crate::event_lines;
 use std::alloc::{AllocError, Global};
 use std::marker::Model;
-use subnet_model::Configuration;
+use subnet_model::{Configuration, SubnetPort};
 use subnet_sends::Event;
 
 /// What happened in a run: its events, in order, at ports that have names.
@@ -46,6 +46,19 @@ impl Report {
         ensures { map event_of result.now ≡ self.now.events }
     {
         self.events.as_slice()
+    }
+
+    /// The ports at which they happen, and all others.
+    pub(crate) fn ports(&self) -> &[SubnetPort]
+        ensures { result.now ≡ self.now.ports }
+    {
+        self.configuration.ports()
+    }
+
+    pub(crate) fn into_events(self) -> Vec<Event>
+        ensures { map event_of result.items ≡ self.events }
+    {
+        self.events
     }
 
     /// The report as it is printed: a line for each event, in ASCII.

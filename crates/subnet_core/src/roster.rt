@@ -3,7 +3,7 @@
 ghost use Rattle.std.specs.Prelude.{◌≡◌, IfOk};
 ghost use Rattle.std.specs.Option.{option_copied};
 ghost use Rattle.subnet_core.specs.Listing.{listing_text};
-ghost use Rattle.script_lines.specs.NamedPort.{adapter_place, named_port};
+ghost use Rattle.script_lines.specs.NamedPort.{adapter_place, named_adapter_port, named_port};
 ghost use Rattle.subnet_core.specs.Roster.{IsRostered, RunGives, of_text, partitions_for, roster_of};
 ghost use Rattle.subnet_core.specs.declared.fault.RunFault.TheVariants as run;
 ghost use Rattle.topo_file.specs.Topology.{topology_of};
@@ -12,7 +12,7 @@ use crate::fault::RunFault;
 use crate::listing;
 use fabric_parts::PortRef;
 use partition_file::{PartFault, Partitions, no_file};
-use script_lines::{ScriptCause, adapter_place, named_port};
+use script_lines::{ScriptCause, adapter_place, named_adapter_port, named_port};
 use std::alloc::{AllocError, Global};
 use std::marker::Model;
 use subnet_model::Configuration;
@@ -111,6 +111,13 @@ impl Roster {
         ensures { result ≡ adapter_place self.now.plan word.now }
     {
         adapter_place(&self.topology, word)
+    }
+
+    /// The GUID of the port of a channel adapter that a word names: one that has a cable.
+    pub fn named_adapter_port(&self, word: &[u8]) -> Result<u64, ScriptCause>
+        ensures { result ≡ named_adapter_port self.now.plan word.now }
+    {
+        named_adapter_port(&self.topology, word)
     }
 
     /// Who is in the subnet, as it is printed in ASCII: a line for each end port by LID, then for each

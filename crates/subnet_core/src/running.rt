@@ -54,7 +54,11 @@ fn in_turn(
 }
 
 /// The commands of a script, or its first fault.
-fn commands_in(alloc: Global, subnet: &Subnet, script: &[u8]) -> Result<Vec<Command>, RunFault>
+pub(crate) fn commands_in(
+    alloc: Global,
+    subnet: &Subnet,
+    script: &[u8],
+) -> Result<Vec<Command>, RunFault>
     ensures { RunGives (λ commands. commands.items) result
         (of_text Script (commands_in subnet.now.roster.plan script.now)) }
 {

@@ -3,6 +3,7 @@
 ghost use Rattle.std.specs.Prelude.{◌≡◌, false, true, ◌↔◌, ◌++◌, map, All, IsErrOf, IfOk, IfSome, OnOk, OnErr};
 ghost use Rattle.sa_replies.specs.State.{at_start};
 ghost use Rattle.sa_runs.specs.Administration.{subnet_administration};
+ghost use Rattle.subnet_model.specs.Near.{near};
 ghost use Rattle.subnet_model.specs.Report.{events_from, step_by};
 ghost use Rattle.subnet_core.specs.Answering.{IsNext};
 ghost use Rattle.subnet_core.specs.BringUp.{IsStarted, IsUp, StaysUp};
@@ -22,7 +23,7 @@ use script_lines::command_of;
 use std::alloc::{AllocError, Global};
 use std::marker::Model;
 use subnet_fabric::BroughtUp;
-use subnet_model::Command;
+use subnet_model::{Command, near};
 use subnet_sends::Event;
 use updn_routes::Routes;
 
@@ -112,6 +113,14 @@ impl Subnet {
         ensures { IfOk result (λ text. text.items ≡ listing_text self.now.roster.configuration) }
     {
         self.roster.listing()
+    }
+
+    /// The GUIDs of the ports near the port of that GUID, by LID: its own, and those of the ports that share a partition
+    /// with it. What the port receives depends on these alone.
+    pub fn near(&self, port: u64) -> Result<Vec<u64>, AllocError>
+        ensures { IfOk result (λ guids. guids.items ≡ near self.now.roster.configuration.ports port) }
+    {
+        near(self.alloc, self.roster.configuration().ports(), port)
     }
 
     /// The command that a line gives; none for a line without words. The line may have its LF and

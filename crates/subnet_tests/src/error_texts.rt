@@ -156,6 +156,8 @@ fn a_fault_of_a_script_tells_its_line_and_cause(rt: HostRuntime) -> Result<(), F
     for (cause, text) in SCRIPTS {
         let fault = RunFault::Script { line: 7, cause };
         says_at_7(&rt, rt.alloc(), &fault, "script ", text)?;
+        let fault = RunFault::SecondScript { line: 7, cause };
+        says_at_7(&rt, rt.alloc(), &fault, "second script ", text)?;
     }
     Ok(())
 }

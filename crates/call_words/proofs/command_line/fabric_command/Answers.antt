@@ -1,6 +1,6 @@
 use Rattle.std.proofs.Common.{◌≡◌, ◌∙◌, true, ap, codes, refl}
 use Rattle.clap.specs.Words.{App, app_of, new_app, with_subcommand}
-use Rattle.call_words.specs.CommandLine.{check_command, diff_command, explain_command, graph_command, keys_command, run_command, shares_command, tables_command, trace_command}
+use Rattle.call_words.specs.CommandLine.{check_command, compare_command, diff_command, explain_command, graph_command, keys_command, run_command, shares_command, tables_command, trace_command}
 use Rattle.call_words.proofs.CommandLemmas.{adds_shape}
 use Rattle.call_words.proofs.command_line.fabric_command.Goals as goal
 
@@ -35,6 +35,9 @@ with_graph = with_subcommand with_trace graph_command.top
 abbrev with_run : App
 with_run = with_subcommand with_graph run_command.top
 
+abbrev with_compare : App
+with_compare = with_subcommand with_run compare_command.top
+
 pub returns-clause-words : goal.returns-clause-words
 returns-clause-words c =
     let top_is : app_of c.subcommand_required.result ≡ with_requirement (new_app (codes "fabric")) =
@@ -45,12 +48,12 @@ returns-clause-words c =
     let lists : app_of c.in_ok-subcommand-2.field-0 ≡ with_shares =
     adds_shape _ _ _ shares_command c.in_ok-subcommand-2.ensures c.in_ok-shares_command.ensures.words refl
     ∙ ap (λ (a : App). with_subcommand a shares_command.top) checks in
-    let compares : app_of c.in_ok-subcommand-3.field-0 ≡ with_diff =
+    let changes : app_of c.in_ok-subcommand-3.field-0 ≡ with_diff =
     adds_shape _ _ _ diff_command c.in_ok-subcommand-3.ensures c.in_ok-diff_command.ensures.words refl
     ∙ ap (λ (a : App). with_subcommand a diff_command.top) lists in
     let tables : app_of c.in_ok-subcommand-4.field-0 ≡ with_tables =
     adds_shape _ _ _ tables_command c.in_ok-subcommand-4.ensures c.in_ok-tables_command.ensures.words refl
-    ∙ ap (λ (a : App). with_subcommand a tables_command.top) compares in
+    ∙ ap (λ (a : App). with_subcommand a tables_command.top) changes in
     let keys : app_of c.in_ok-subcommand-5.field-0 ≡ with_keys =
     adds_shape _ _ _ keys_command c.in_ok-subcommand-5.ensures c.in_ok-keys_command.ensures.words refl
     ∙ ap (λ (a : App). with_subcommand a keys_command.top) tables in
@@ -63,6 +66,9 @@ returns-clause-words c =
     let runs : app_of c.in_ok-subcommand-8.field-0 ≡ with_run =
     adds_shape _ _ _ run_command c.in_ok-subcommand-8.ensures c.in_ok-run_command.ensures.words refl
     ∙ ap (λ (a : App). with_subcommand a run_command.top) graphs in
-    let explains = adds_shape _ _ _ explain_command c.in_ok-subcommand-9.ensures c.in_ok-explain_command.ensures.words refl
-    ∙ ap (λ (a : App). with_subcommand a explain_command.top) runs in
+    let compares : app_of c.in_ok-subcommand-9.field-0 ≡ with_compare =
+    adds_shape _ _ _ compare_command c.in_ok-subcommand-9.ensures c.in_ok-compare_command.ensures.words refl
+    ∙ ap (λ (a : App). with_subcommand a compare_command.top) runs in
+    let explains = adds_shape _ _ _ explain_command c.in_ok-subcommand-10.ensures c.in_ok-explain_command.ensures.words refl
+    ∙ ap (λ (a : App). with_subcommand a explain_command.top) compares in
     rw (c.after_help.ensures, c.about.ensures, c.version.ensures, c.in_ok-command.ensures.0) (ap with_version explains)

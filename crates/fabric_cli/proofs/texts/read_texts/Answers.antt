@@ -1,5 +1,5 @@
 use Rattle.std.proofs.lemmas.Result.{err_from_is_err_and}
-use Rattle.fabric_cli.proofs.FilesLemmas.{named_open, one_open, opens_first, opens_more, opens_whole, unread_after, unread_first}
+use Rattle.fabric_cli.proofs.FilesLemmas.{named_open, one_open, opens_first, opens_more, opens_then, unread_after, unread_first}
 use Rattle.fabric_cli.proofs.texts.read_texts.Goals as goal
 
 pub returns-in_err-partitions-clause-order : goal.returns-in_err-partitions-clause-order
@@ -8,11 +8,11 @@ returns-in_err-partitions-clause-order g c =
 
 pub returns-in_err-work-clause-order : goal.returns-in_err-work-clause-order
 returns-in_err-work-clause-order g c =
-    opens_whole _ _ _ (opens_more _ _ _ _ _ (opens_more _ _ _ _ _ c.read_file.ensures.opened c.read_if_named.ensures.opened) c.read_work.ensures.opened)
+    opens_then _ _ _ _ _ (opens_more _ _ _ _ _ c.read_file.ensures.opened c.read_if_named.ensures.opened) c.read_work.ensures.order
 
 pub returns-clause-order : goal.returns-clause-order
 returns-clause-order g c =
-    opens_whole _ _ _ (opens_more _ _ _ _ _ (opens_more _ _ _ _ _ c.read_file.ensures.opened c.read_if_named.ensures.opened) c.read_work.ensures.opened)
+    opens_then _ _ _ _ _ (opens_more _ _ _ _ _ c.read_file.ensures.opened c.read_if_named.ensures.opened) c.read_work.ensures.order
 
 pub returns-in_err-work-clause-unread : goal.returns-in_err-work-clause-unread
 returns-in_err-work-clause-unread g c =

@@ -1,0 +1,23 @@
+-- Two ports that share no partition: the second event of a report is the first one where the other port does nothing.
+use Rattle.std.proofs.Common.{ℕ, ◌≡◌, zero, suc, List, [], ◌∷◌, ap}
+use Rattle.sa_groups.specs.Examples.{adapter}
+use Rattle.subnet_core.specs.WrongRules.{CountedEvent, CountedEventsTellOfFarPorts}
+use Rattle.subnet_model.specs.Configuration.{ConfigurationState}
+use Rattle.subnet_model.specs.declared.command.Command.{Command}
+use Rattle.subnet_model.specs.declared.command.Command.TheVariants.{Send}
+
+abbrev apart : ConfigurationState
+apart = record { ports = adapter 4 0x111 (0x8001 ∷ []) ∷ adapter 5 0x121 (0x8002 ∷ []) ∷ []; partitions = [] }
+
+-- under a key that neither holds, so that each port refuses
+abbrev refused_of : ℕ → Command
+refused_of port_guid = Send (record { port_guid = port_guid; dlid = 4; p_key = 0x8003; destination_qp = 7; payload = [] })
+
+abbrev first_number : List CountedEvent → ℕ
+first_number [] = 0
+first_number (one ∷ others) = one.number
+
+pub counted_events_tell_of_far_ports : CountedEventsTellOfFarPorts
+counted_events_tell_of_far_ports law =
+    let told : suc (suc zero) ≡ suc zero = ap first_number (law apart 0x111 (refused_of 0x121 ∷ refused_of 0x111 ∷ [])) in
+    absurd (cc)
