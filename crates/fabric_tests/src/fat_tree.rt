@@ -1,4 +1,5 @@
-//! Fat trees that are read, swept and routed. `bench/measure` counts the instructions of these tests.
+//! Fat trees that are read, swept and routed. `bench/measure` counts the instructions of each call of the functions that are
+//! not inlined.
 
 ghost use Rattle.std.specs.Prelude.{◌≤◌, ◌<◌, length};
 ghost use Rattle.sweep.specs.Joined.{AllJoined};
@@ -14,11 +15,6 @@ use std::test::Fail;
 use sweep::{Graph, sweep};
 use test_fabrics::fat_tree_of;
 use updn_routes::Routes;
-
-/// The greatest fabric.
-fn fat_tree(alloc: Global) -> Result<Fabric, Fail> {
-    fat_tree_of(alloc, 32)
-}
 
 /// Reads NodeInfo along 320 paths, of each as many hops as are asked for: to the leaf of the subnet
 /// manager, up to a spine, down to a leaf, and on to one of its adapters or spines.
@@ -37,39 +33,35 @@ fn read_along_paths(rt: &impl Abort, fabric: &mut Fabric, hops: usize)
     }
 }
 
-#[test]
-fn a_fat_tree_of_8_switches_is_made(rt: HostRuntime) -> Result<(), Fail> {
-    fat_tree_of(rt.alloc(), 4)?;
+/// A fat tree, and nothing of it.
+#[inline(never)]
+fn is_made(alloc: Global, leaves: u16) -> Result<(), Fail>
+    requires some { 0 < leaves }
+    requires few { leaves ≤ 32 }
+{
+    fat_tree_of(alloc, leaves)?;
     Ok(())
 }
 
-#[test]
-fn a_fat_tree_of_16_switches_is_made(rt: HostRuntime) -> Result<(), Fail> {
-    fat_tree_of(rt.alloc(), 8)?;
+/// The greatest fabric, read along its paths.
+#[inline(never)]
+fn is_read(rt: &impl Abort, alloc: Global, hops: usize) -> Result<(), Fail>
+    requires { hops ≤ 4 }
+{
+    read_along_paths(rt, &mut fat_tree_of(alloc, 32)?, hops);
     Ok(())
 }
 
+/// At the subnet manager's own port, and along 320 paths of 4 hops.
 #[test]
-fn a_fat_tree_of_64_switches_is_made(rt: HostRuntime) -> Result<(), Fail> {
-    fat_tree(rt.alloc())?;
-    Ok(())
-}
-
-#[test]
-fn all_of_a_fat_tree_is_read(rt: HostRuntime) -> Result<(), Fail> {
-    read_along_paths(&rt, &mut fat_tree(rt.alloc())?, 4);
-    Ok(())
-}
-
-#[test]
-fn a_fat_tree_is_read_at_the_subnet_managers_port(rt: HostRuntime) -> Result<(), Fail> {
-    read_along_paths(&rt, &mut fat_tree(rt.alloc())?, 0);
-    Ok(())
+fn a_fat_tree_is_read(rt: HostRuntime) -> Result<(), Fail> {
+    is_read(&rt, rt.alloc(), 0)?;
+    is_read(&rt, rt.alloc(), 4)
 }
 
 /// Sweeps a fat tree. Of each switch 36 ports are asked for PortInfo, what is behind each port with a cable for
 /// NodeInfo, the subnet manager's port and its switch before that, and each node for its name.
-fn is_swept(rt: &impl Abort, alloc: Global, leaves: u16) -> Result<Graph, Fail>
+fn swept(rt: &impl Abort, alloc: Global, leaves: u16) -> Result<Graph, Fail>
     requires some { 0 < leaves }
     requires few { leaves ≤ 32 }
 {
@@ -88,35 +80,33 @@ fn is_swept(rt: &impl Abort, alloc: Global, leaves: u16) -> Result<Graph, Fail>
     Ok(graph)
 }
 
-#[test]
-fn a_fat_tree_of_8_switches_is_swept(rt: HostRuntime) -> Result<(), Fail> {
-    is_swept(&rt, rt.alloc(), 4)?;
+/// The greatest has 4,674 SMPs for that; 4,900 are allowed.
+#[inline(never)]
+fn is_swept(rt: &impl Abort, alloc: Global, leaves: u16) -> Result<(), Fail>
+    requires some { 0 < leaves }
+    requires few { leaves ≤ 32 }
+{
+    swept(rt, alloc, leaves)?;
     Ok(())
 }
 
-#[test]
-fn a_fat_tree_of_16_switches_is_swept(rt: HostRuntime) -> Result<(), Fail> {
-    is_swept(&rt, rt.alloc(), 8)?;
-    Ok(())
-}
-
-/// It has 4,674 SMPs for that; 4,900 are allowed.
-#[test]
-fn a_fat_tree_of_64_switches_is_swept(rt: HostRuntime) -> Result<(), Fail> {
-    is_swept(&rt, rt.alloc(), 32)?;
-    Ok(())
-}
-
-#[test]
-fn a_fat_tree_of_64_switches_has_320_lids(rt: HostRuntime) -> Result<(), Fail> {
-    let graph = is_swept(&rt, rt.alloc(), 32)?;
-    let lids = assign(rt.alloc(), &graph).or(Err("memory"))?;
+/// The greatest fabric, swept, with its LIDs.
+#[inline(never)]
+fn has_320_lids(rt: &impl Abort, alloc: Global) -> Result<(), Fail> {
+    let graph = swept(rt, alloc, 32)?;
+    let lids = assign(alloc, &graph).or(Err("memory"))?;
     assert!(rt; lids.port_of(320).is_some());
     assert_eq!(rt; lids.port_of(321), None);
     Ok(())
 }
 
+#[test]
+fn a_fat_tree_of_64_switches_has_320_lids(rt: HostRuntime) -> Result<(), Fail> {
+    has_320_lids(&rt, rt.alloc())
+}
+
 /// Routes of a fat tree, whose spines are the roots: each leaf sends up what is for an adapter of another.
+#[inline(never)]
 fn is_routed(rt: &impl Abort, alloc: Global, leaves: u16) -> Result<(), Fail>
     requires some { 0 < leaves }
     requires few { leaves ≤ 32 }
@@ -146,17 +136,18 @@ fn leaves_know_the_way(rt: &impl Abort, routes: &Routes) {
     }
 }
 
-#[test]
-fn a_fat_tree_of_8_switches_is_routed(rt: HostRuntime) -> Result<(), Fail> {
-    is_routed(&rt, rt.alloc(), 4)
+fn is_swept_and_routed(rt: &impl Abort, alloc: Global, leaves: u16) -> Result<(), Fail>
+    requires some { 0 < leaves }
+    requires few { leaves ≤ 32 }
+{
+    is_made(alloc, leaves)?;
+    is_swept(rt, alloc, leaves)?;
+    is_routed(rt, alloc, leaves)
 }
 
 #[test]
-fn a_fat_tree_of_16_switches_is_routed(rt: HostRuntime) -> Result<(), Fail> {
-    is_routed(&rt, rt.alloc(), 8)
-}
-
-#[test]
-fn a_fat_tree_of_64_switches_is_routed(rt: HostRuntime) -> Result<(), Fail> {
-    is_routed(&rt, rt.alloc(), 32)
+fn fat_trees_of_8_16_and_64_switches_are_swept_and_routed(rt: HostRuntime) -> Result<(), Fail> {
+    is_swept_and_routed(&rt, rt.alloc(), 4)?;
+    is_swept_and_routed(&rt, rt.alloc(), 8)?;
+    is_swept_and_routed(&rt, rt.alloc(), 32)
 }

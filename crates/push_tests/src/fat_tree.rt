@@ -1,4 +1,4 @@
-//! Fat trees that are brought up. `bench/measure` counts the instructions of these tests.
+//! Fat trees that are brought up.
 
 ghost use Rattle.std.specs.Prelude.{◌≤◌, ◌<◌};
 
@@ -65,7 +65,8 @@ fn routed<W: SmpWire>(alloc: Global, wire: &mut W, leaves: u16) -> Result<Routes
     routes_over(alloc, wire, &roots)
 }
 
-/// One push over a fat tree.
+/// One push over a fat tree that is made, swept and routed for it. `bench/measure` counts the instructions of each call.
+#[inline(never)]
 fn is_pushed(rt: &impl Abort, alloc: Global, leaves: u16, push: Push) -> Result<(), Fail>
     requires some { 0 < leaves }
     requires few { leaves ≤ 32 }
@@ -93,69 +94,28 @@ fn count_of(
     Ok(counting.count)
 }
 
-#[test]
-fn a_fat_tree_of_8_switches_is_routed(rt: HostRuntime) -> Result<(), Fail> {
-    is_pushed(&rt, rt.alloc(), 4, Push::Nothing)
+/// Each push alone, and none.
+fn each_is_pushed(rt: &impl Abort, alloc: Global, leaves: u16) -> Result<(), Fail>
+    requires some { 0 < leaves }
+    requires few { leaves ≤ 32 }
+{
+    for push in [
+        Push::Nothing,
+        Push::Ports,
+        Push::Keys,
+        Push::Linear,
+        Push::Multicast,
+    ] {
+        is_pushed(rt, alloc, leaves, push)?;
+    }
+    Ok(())
 }
 
 #[test]
-fn a_fat_tree_of_8_switches_has_its_ports(rt: HostRuntime) -> Result<(), Fail> {
-    is_pushed(&rt, rt.alloc(), 4, Push::Ports)
-}
-
-#[test]
-fn a_fat_tree_of_8_switches_has_its_keys(rt: HostRuntime) -> Result<(), Fail> {
-    is_pushed(&rt, rt.alloc(), 4, Push::Keys)
-}
-
-#[test]
-fn a_fat_tree_of_8_switches_has_its_tables(rt: HostRuntime) -> Result<(), Fail> {
-    is_pushed(&rt, rt.alloc(), 4, Push::Linear)
-}
-
-#[test]
-fn a_fat_tree_of_16_switches_is_routed(rt: HostRuntime) -> Result<(), Fail> {
-    is_pushed(&rt, rt.alloc(), 8, Push::Nothing)
-}
-
-#[test]
-fn a_fat_tree_of_16_switches_has_its_ports(rt: HostRuntime) -> Result<(), Fail> {
-    is_pushed(&rt, rt.alloc(), 8, Push::Ports)
-}
-
-#[test]
-fn a_fat_tree_of_16_switches_has_its_keys(rt: HostRuntime) -> Result<(), Fail> {
-    is_pushed(&rt, rt.alloc(), 8, Push::Keys)
-}
-
-#[test]
-fn a_fat_tree_of_16_switches_has_its_tables(rt: HostRuntime) -> Result<(), Fail> {
-    is_pushed(&rt, rt.alloc(), 8, Push::Linear)
-}
-
-#[test]
-fn a_fat_tree_of_64_switches_has_its_masks(rt: HostRuntime) -> Result<(), Fail> {
-    is_pushed(&rt, rt.alloc(), 32, Push::Multicast)
-}
-
-#[test]
-fn a_fat_tree_of_64_switches_is_routed(rt: HostRuntime) -> Result<(), Fail> {
-    is_pushed(&rt, rt.alloc(), 32, Push::Nothing)
-}
-
-#[test]
-fn a_fat_tree_of_64_switches_has_its_ports(rt: HostRuntime) -> Result<(), Fail> {
-    is_pushed(&rt, rt.alloc(), 32, Push::Ports)
-}
-
-#[test]
-fn a_fat_tree_of_64_switches_has_its_keys(rt: HostRuntime) -> Result<(), Fail> {
-    is_pushed(&rt, rt.alloc(), 32, Push::Keys)
-}
-
-#[test]
-fn a_fat_tree_of_64_switches_has_its_tables(rt: HostRuntime) -> Result<(), Fail> {
-    is_pushed(&rt, rt.alloc(), 32, Push::Linear)
+fn fat_trees_of_8_16_and_64_switches_have_what_is_pushed(rt: HostRuntime) -> Result<(), Fail> {
+    each_is_pushed(&rt, rt.alloc(), 4)?;
+    each_is_pushed(&rt, rt.alloc(), 8)?;
+    each_is_pushed(&rt, rt.alloc(), 32)
 }
 
 /// A fat tree that is swept, routed and brought up by all three pushes, over one wire.
@@ -185,18 +145,10 @@ fn all_is_pushed<W: SmpWire>(
     Ok(push_all(wire, routes, &keys).or(Err("a push"))?)
 }
 
+/// The greatest takes 12,930 SMPs, of which the sweep has 4,674; 14,000 are allowed.
 #[test]
-fn a_fat_tree_of_8_switches_is_brought_up(rt: HostRuntime) -> Result<(), Fail> {
-    is_brought_up(&rt, rt.alloc(), 4, 850)
-}
-
-#[test]
-fn a_fat_tree_of_16_switches_is_brought_up(rt: HostRuntime) -> Result<(), Fail> {
-    is_brought_up(&rt, rt.alloc(), 8, 1954)
-}
-
-/// It takes 12,930 SMPs, of which the sweep has 4,674; 14,000 are allowed.
-#[test]
-fn a_fat_tree_of_64_switches_is_brought_up(rt: HostRuntime) -> Result<(), Fail> {
+fn fat_trees_of_8_16_and_64_switches_are_brought_up(rt: HostRuntime) -> Result<(), Fail> {
+    is_brought_up(&rt, rt.alloc(), 4, 850)?;
+    is_brought_up(&rt, rt.alloc(), 8, 1954)?;
     is_brought_up(&rt, rt.alloc(), 32, 12930)
 }

@@ -1,6 +1,7 @@
 //! Multicast forwarding tables of the two-switch fabric, of a switch of 36 ports, and of a ring.
 
 mod by_chance;
+mod changes;
 
 ghost use Rattle.std.specs.Prelude.{◌≤◌, length};
 

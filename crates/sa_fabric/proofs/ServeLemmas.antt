@@ -15,12 +15,12 @@ use Rattle.topo_file.specs.Topology.{TopologyState}
 use Rattle.updn_routes.specs.Subnet.{RoutesState}
 use Rattle.sa_fabric.proofs.GroupLemmas.{few_numbers}
 use Rattle.sa_fabric.proofs.ListedLemmas.{served_is_up}
-use Rattle.sa_fabric.proofs.SliceLemmas.{all_alike, slices_make, where_in}
+use Rattle.sa_fabric.proofs.SliceLemmas.{all_alike, slices_make}
 use Rattle.sa_fabric.proofs.ToldLemmas.{told_are_low, told_is_all}
 use Rattle.sa_fabric.proofs.ReceiveLemmas.{in_its_slice}
 use Rattle.sa_fabric.specs.Laws.{OneFabricIsServed}
 use Rattle.sa_fabric.specs.Served.{IsServed, Serves, receives_at}
-use Rattle.sa_fabric.specs.Slices.{CanBePushed, slices_pushed}
+use Rattle.sa_fabric.specs.Slices.{CanBePushed, slices_pushed, where_in}
 
 pub one_fabric_is_served : OneFabricIsServed
 one_fabric_is_served plan ports partitions routes one other first second =
@@ -69,7 +69,7 @@ module _ (plan : TopologyState) (routes : RoutesState) (registry next : Registry
   still : IsRememberedOf registry.configuration next.administration.remembered
   still = subst (λ (configuration : ConfigurationState). IsRememberedOf configuration next.administration.remembered) same is
 
-  told : (mlid lid : ℕ) → where_in numbers now (receives_at ports before) mlid lid ≡ now mlid lid
+  pub told : (mlid lid : ℕ) → where_in numbers now (receives_at ports before) mlid lid ≡ now mlid lid
   told mlid lid =
       subst (λ (some : List SubnetPort). where_in numbers (receives_at some after) (receives_at ports before) mlid lid ≡ receives_at some after mlid lid)
       (sym (ap (λ (configuration : ConfigurationState). configuration.ports) same))

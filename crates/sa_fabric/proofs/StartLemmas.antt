@@ -48,7 +48,7 @@ none_received mlid guid number (heading ∷ headings) =
     ap (λ b. b || is_receiver_of (start_from (number + 1) headings) mlid guid) (none_in_group mlid guid number heading.base heading.group)
     ∙ none_received mlid guid (number + 1) headings
 
-nobody_receives : (ports : List SubnetPort) (headings : List Heading) (mlid lid : ℕ) → receives_at ports (start_from 0 headings) mlid lid ≡ false
+pub nobody_receives : (ports : List SubnetPort) (headings : List Heading) (mlid lid : ℕ) → receives_at ports (start_from 0 headings) mlid lid ≡ false
 nobody_receives ports headings mlid lid =
     any_alike (λ port. (port.lid == lid) && (not (is_switch_type port.node_type) && is_receiver_of (start_from 0 headings) mlid port.guid)) (λ port. false)
     (λ port. ap (λ b. (port.lid == lid) && (not (is_switch_type port.node_type) && b)) (none_received mlid port.guid 0 headings)

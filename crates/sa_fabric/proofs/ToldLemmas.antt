@@ -16,8 +16,8 @@ use Rattle.subnet_model.specs.declared.group_receiver.GroupReceiver.{GroupReceiv
 use Rattle.subnet_model.specs.declared.subnet_port.SubnetPort.{SubnetPort}
 use Rattle.table_push.specs.Masks.{is_in_slice, receives_of}
 use Rattle.sa_fabric.proofs.ReceiveLemmas.{in_its_slice, of_a_partition}
-use Rattle.sa_fabric.proofs.SliceLemmas.{where_in}
 use Rattle.sa_fabric.specs.Served.{receives_at}
+use Rattle.sa_fabric.specs.Slices.{where_in}
 
 -- who is among receivers receives by them
 pub among_is : (all : List GroupReceiver) (mlid lid : ℕ) → is_among all (record { mlid = mlid; lid = lid }) ≡ receives_of all mlid lid

@@ -1,3 +1,3 @@
-pub mod Served
 pub mod Slices
+pub mod Served
 pub mod Laws

@@ -13,10 +13,12 @@ use Rattle.subnet_fabric.specs.BringUp.{IsBroughtUpBy}
 use Rattle.subnet_fabric.specs.Laws.{all_keys}
 use Rattle.subnet_model.specs.declared.subnet_port.SubnetPort.{SubnetPort}
 use Rattle.subnet_ports.specs.Ports.{configuration_of}
+use Rattle.subnet_model.specs.declared.group_receiver.GroupReceiver.{GroupReceiver}
 use Rattle.table_push.specs.Masks.{all_masks_pushed}
 use Rattle.topo_file.specs.Sound.{IsSound}
 use Rattle.topo_file.specs.Topology.{TopologyState}
 use Rattle.updn_routes.specs.Subnet.{RoutesState}
+use Rattle.sa_fabric.specs.Slices.{AreRight}
 
 -- the port of that LID is one of a channel adapter, and receives what is sent to the groups of that MLID
 abbrev pub receives_at : List SubnetPort → List PartitionGroups → (mlid lid : ℕ) → Bool
@@ -37,3 +39,8 @@ pub record Serves (plan : TopologyState) (routes : RoutesState) (registry : Regi
   pub whole : ArePartitions partitions
   pub configured : registry.configuration ≡ configuration_of partitions plan
   pub served : IsServed plan registry.configuration.ports registry.administration.remembered.partitions routes fabric
+
+-- who is kept to receive in a partition receives there by what the registry remembers
+abbrev pub IsInformed : RegistryState → List (List GroupReceiver) → Type 0
+IsInformed registry received =
+    AreRight (receives_at registry.configuration.ports registry.administration.remembered.partitions) received

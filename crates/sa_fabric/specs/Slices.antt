@@ -1,12 +1,13 @@
 -- The slices of partitions, pushed one after another: the clauses of `src/slices.rt`.
-use Rattle.std.specs.Prelude.{ℕ, ◌≡◌, Bool, List}
-use Rattle.std.specs.List.{fold}
+use Rattle.std.specs.Prelude.{ℕ, ◌≡◌, Bool, true, if◌then◌else◌, List, slice_get, Some}
+use Rattle.std.specs.List.{fold, list_any}
 use Rattle.sa_answer.specs.Registry.{RegistryState}
 use Rattle.sa_groups.specs.Receivers.{receivers_of}
 use Rattle.smp_wire.specs.FabricState.{FabricState}
 use Rattle.smp_wire.specs.Good.{IsGood}
+use Rattle.subnet_model.specs.declared.group_receiver.GroupReceiver.{GroupReceiver}
 use Rattle.sweep.specs.OfFabric.{IsGraphOf}
-use Rattle.table_push.specs.Masks.{masks_pushed, receives_of}
+use Rattle.table_push.specs.Masks.{all_masks_pushed, is_in_slice, masks_pushed, receives_of}
 use Rattle.updn_routes.specs.Subnet.{RoutesState}
 
 -- who receives what is sent to the groups of the partition of a number, as a registry remembers them
@@ -30,3 +31,29 @@ pub record CanBePushed (routes : RoutesState) (fabric : FabricState) : Type 0 wh
 pub record IsPushed (routes : RoutesState) (wanted fabric : FabricState) : Type 0 where
   pub is : fabric ≡ wanted
   pub stands : CanBePushed routes fabric
+
+-- ---- who received when they were pushed last
+-- in the slice of a partition those who receive by this test
+abbrev pub IsRightIn : (receives : ℕ → ℕ → Bool) → (number : ℕ) → List GroupReceiver → Type 0
+IsRightIn receives number receivers =
+    (mlid lid : ℕ) → is_in_slice number mlid ≡ true → receives_of receivers mlid lid ≡ receives mlid lid
+
+-- of each partition of which they are kept
+abbrev pub AreRight : (receives : ℕ → ℕ → Bool) → List (List GroupReceiver) → Type 0
+AreRight receives received =
+    (number : ℕ) (receivers : List GroupReceiver) → slice_get received number ≡ Some receivers → IsRightIn receives number receivers
+
+-- and the fabric has the masks of these
+pub record IsKept (routes : RoutesState) (base : FabricState) (receives : ℕ → ℕ → Bool) (fabric : FabricState)
+    (received : List (List GroupReceiver)) : Type 0 where
+  pub masks : fabric ≡ all_masks_pushed routes receives base
+  pub right : AreRight receives received
+
+-- a test that agrees with a registry wherever that has partitions
+abbrev pub AgreesWith : RegistryState → (ℕ → ℕ → Bool) → Type 0
+AgreesWith registry receives =
+    (number mlid lid : ℕ) → is_in_slice number mlid ≡ true → slice_receives registry number mlid lid ≡ receives mlid lid
+
+-- one test in the slices of these partitions, and another outside
+abbrev pub where_in : (numbers : List ℕ) → (now was : ℕ → ℕ → Bool) → (mlid lid : ℕ) → Bool
+where_in numbers now was mlid lid = if list_any (λ number. is_in_slice number mlid) numbers then now mlid lid else was mlid lid

@@ -6,11 +6,12 @@ ghost use Rattle.sa_fabric.specs.Served.{Serves};
 ghost use Rattle.sa_fabric.specs.declared.answering.AnswerFault.{AnswerFault};
 ghost use Rattle.topo_file.specs.Topology.{TopologyState};
 
+use crate::administrator::Administrator;
 use crate::slices::push_slices;
 use fabric_wire::Fabric;
 use mad_layout::Mad;
-use sa_answer::Registry;
-use std::alloc::AllocError;
+use std::alloc::{AllocError, Global};
+use std::mem;
 use table_push::PushFault;
 use thiserror::Error;
 use updn_routes::Routes;
@@ -38,30 +39,39 @@ impl From<AllocError> for AnswerFault {
 }
 
 /// What subnet administration answers where the port of a GUID sends it these bytes; in the fabric the masks of all who
-/// receive then stand.
+/// receive then stand. Of these only what changes is pushed.
 ///
 /// Memory alone can be refused. Then the fabric may have other masks, and the registry may be broken for good.
 pub fn answer(
+    alloc: Global,
     fabric: &mut Fabric,
     routes: &Routes,
-    registry: &mut Registry,
+    administrator: &mut Administrator,
     port: u64,
     payload: &[u8],
 ) -> Result<Vec<Mad>, AnswerFault>
-    requires served { (plan : TopologyState) × Serves plan routes.now registry.old fabric.old }
-    requires whole { registry.old.is_broken ≡ false }
+    requires served { (plan : TopologyState) × Serves plan routes.now administrator.old fabric.old }
+    requires whole { administrator.old.is_broken ≡ false }
     ensures answers { IfOk result (λ mads.
-        Answers (answer_to_port registry.old.configuration.ports port payload.now registry.old.administration)
-        mads.items registry.old registry.new) }
-    ensures serves { OnOk result ((plan : TopologyState) → Serves plan routes.now registry.old fabric.old
-        → Serves plan routes.now registry.new fabric.new) }
+        Answers (answer_to_port administrator.old.configuration.ports port payload.now administrator.old.administration)
+        mads.items administrator.old administrator.new) }
+    ensures serves { OnOk result ((plan : TopologyState) → Serves plan routes.now administrator.old fabric.old
+        → Serves plan routes.now administrator.new fabric.new) }
     ensures no_push { IfErr result (λ fault. fault ≡ AnswerFault.NoMemory) }
-    ensures configuration { registry.new.configuration ≡ registry.old.configuration }
+    ensures configuration { administrator.new.configuration ≡ administrator.old.configuration }
 {
     // What is remembered is sound before and after, so each slice is that of its own partition, and numbers are few.
-    registry.known_remembered();
-    let reaction = registry.handle(port, payload)?;
-    registry.known_remembered();
-    push_slices(fabric, routes, registry, reaction.changed.as_slice())?;
+    administrator.registry.known_remembered();
+    let mut received = mem::replace(&mut administrator.received, Vec::new(alloc));
+    let reaction = administrator.registry.handle(port, payload)?;
+    administrator.registry.known_remembered();
+    push_slices(
+        fabric,
+        routes,
+        &administrator.registry,
+        &mut received,
+        reaction.changed.as_slice(),
+    )?;
+    administrator.received = received;
     Ok(reaction.replies)
 }

@@ -1,53 +1,112 @@
 //! The slices of partitions, pushed as a registry has their receivers.
 
-ghost use Rattle.std.specs.Prelude.{ℕ, ◌≡◌, ◌<◌, true, nat_lt, IfErr, OnOk};
+ghost use Rattle.std.specs.Prelude.{ℕ, ◌≡◌, ◌<◌, [], true, Bool, length, nat_lt, slice_set, IfErr, OnOk, Some};
 ghost use Rattle.std.specs.List.{list_all};
 ghost use Rattle.pkey_rules.specs.declared.key_table.TheConstants.{PARTITIONS};
-ghost use Rattle.sa_fabric.specs.Slices.{CanBePushed, IsPushed, slice_pushed, slices_pushed};
+ghost use Rattle.sa_groups.specs.Receivers.{receivers_of};
+ghost use Rattle.sa_groups.specs.Sound.{is_sound};
+ghost use Rattle.smp_wire.specs.FabricState.{FabricState};
+ghost use Rattle.sa_fabric.specs.Slices.{AgreesWith, AreRight, CanBePushed, IsKept, IsPushed, slice_pushed, slices_pushed, where_in};
 ghost use Rattle.sa_fabric.specs.declared.answering.AnswerFault.{AnswerFault};
+ghost use Rattle.table_push.specs.Masks.{masks_pushed, receives_of};
+ghost use Rattle.table_push.specs.Pushes.{Leaves};
 
 use crate::answering::AnswerFault;
+use crate::received::Received;
 use fabric_wire::Fabric;
 use sa_answer::Registry;
-use table_push::push_multicast;
+use subnet_model::GroupReceiver;
+use table_push::{PushFault, push_changed, push_multicast};
 use updn_routes::Routes;
 
-/// Pushes the slices of the partitions of these numbers, one after another, over the fabric of the routes' graph. Memory
-/// alone can be refused.
+/// Pushes the slices of the partitions of these numbers, one after another, over the fabric of the routes' graph, and keeps who
+/// receives in them. Memory alone can be refused.
 pub(crate) fn push_slices(
     fabric: &mut Fabric,
     routes: &Routes,
     registry: &Registry,
+    received: &mut Vec<Received>,
     numbers: &[u16],
 ) -> Result<(), AnswerFault>
     requires stands { CanBePushed routes.now fabric.old }
     requires numbers { list_all (λ number. nat_lt number PARTITIONS) numbers.now ≡ true }
+    requires sound { is_sound registry.now.configuration.ports registry.now.administration.remembered.partitions ≡ true }
+    requires kept { (base : FabricState) × (was : ℕ → ℕ → Bool) × IsKept routes.now base was fabric.old received.old.items }
     ensures pushed { OnOk result
         (IsPushed routes.now (slices_pushed routes.now registry.now numbers.now fabric.old) fabric.new) }
+    ensures right { OnOk result ((was now : ℕ → ℕ → Bool) → AgreesWith registry.now now → AreRight was received.old.items
+        → AreRight (where_in numbers.now now was) received.new.items) }
     ensures no_push { IfErr result (λ fault. fault ≡ AnswerFault.NoMemory) }
 {
     for number in numbers {
-        push_slice(fabric, routes, registry, *number)?;
+        push_slice(fabric, routes, registry, received, *number)?;
     }
     Ok(())
 }
 
-/// Pushes the slice of the partition of a number. Memory alone can be refused.
+/// Pushes the slice of the partition of a number, and keeps who receives in it. Memory alone can be refused.
 fn push_slice(
     fabric: &mut Fabric,
     routes: &Routes,
     registry: &Registry,
+    received: &mut Vec<Received>,
     number: u16,
 ) -> Result<(), AnswerFault>
     requires stands { CanBePushed routes.now fabric.old }
     requires number { number < PARTITIONS }
+    requires kept { (base : FabricState) × (was : ℕ → ℕ → Bool) × IsKept routes.now base was fabric.old received.old.items }
     ensures pushed { OnOk result
         (IsPushed routes.now (slice_pushed routes.now registry.now fabric.old number) fabric.new) }
+    ensures received { OnOk result (received.new.items ≡ slice_set received.old.items number
+        (receivers_of registry.now.configuration.ports number registry.now.administration.remembered.partitions)) }
     ensures no_push { IfErr result (λ fault. fault ≡ AnswerFault.NoMemory) }
 {
     let receivers = registry.receivers(number)?;
-    match push_multicast(fabric, routes, number, &receivers) {
-        Ok(()) => Ok(()),
+    match push_receivers(fabric, routes, received, number, &receivers) {
+        Ok(()) => {
+            keep(received, number, receivers);
+            Ok(())
+        }
         Err(fault) => Err(AnswerFault::Push(fault)),
+    }
+}
+
+/// Pushes the slice of a partition with these receivers: what changes of it, where it is kept who received before.
+fn push_receivers(
+    fabric: &mut Fabric,
+    routes: &Routes,
+    received: &[Received],
+    number: u16,
+    receivers: &[GroupReceiver],
+) -> Result<(), PushFault>
+    requires stands { CanBePushed routes.now fabric.old }
+    requires number { number < PARTITIONS }
+    requires kept { (base : FabricState) × (was : ℕ → ℕ → Bool) × IsKept routes.now base was fabric.old received.now }
+    ensures { Leaves result (Some fabric.new) fabric.old (masks_pushed routes.now number (receives_of receivers.now) fabric.old) }
+{
+    let place = usize::from(number);
+    if place < received.len() {
+        match push_changed(
+            fabric,
+            routes,
+            number,
+            received[place].receivers(),
+            receivers,
+        ) {
+            Ok(_) => Ok(()),
+            Err(fault) => Err(fault),
+        }
+    } else {
+        push_multicast(fabric, routes, number, receivers)
+    }
+}
+
+/// Keeps who receives in the partition of a number, if it is kept of that.
+fn keep(received: &mut Vec<Received>, number: u16, receivers: Vec<GroupReceiver>)
+    ensures { received.new.items ≡ slice_set received.old.items number receivers.items }
+{
+    let place = usize::from(number);
+    if place < received.len() {
+        received[place] = Received::of(receivers);
     }
 }

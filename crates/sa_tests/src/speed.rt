@@ -1,4 +1,5 @@
-//! What a request costs in a subnet of 64 switches and 256 adapters: `bench/measure` counts instructions of these.
+//! What a request costs in a subnet of 64 switches and 256 adapters: `bench/measure` counts the instructions of each call of
+//! the functions that are not inlined.
 
 use crate::fixtures::{Parts, mad_of};
 use fabric_parts::NodeType;
@@ -166,22 +167,18 @@ fn with_groups(rt: &impl Abort, alloc: Global) -> Result<Registry, Fail> {
     Ok(made(rt, alloc, &partitions).expect(rt, "there is memory"))
 }
 
-/// The port of LID 5 sends a MAD so often; it is answered each time.
-fn asked(rt: &impl Abort, registry: &mut Registry, mad: &Mad, times: usize) -> Result<(), Fail> {
-    asked_by(rt, registry, 5, mad, times)
+/// The port of a LID sends a MAD; it is answered by one.
+fn is_answered(rt: &impl Abort, registry: &mut Registry, lid: u16, mad: &Mad) -> Result<(), Fail> {
+    let reaction = registry.handle(guid_of(lid), mad)?;
+    assert!(rt; reaction.replies.len() == 1);
+    Ok(())
 }
 
-/// The port of a LID does.
-fn asked_by(
-    rt: &impl Abort,
-    registry: &mut Registry,
-    lid: u16,
-    mad: &Mad,
-    times: usize,
-) -> Result<(), Fail> {
-    for _time in 0..times {
-        let reaction = registry.handle(guid_of(lid), mad)?;
-        assert!(rt; reaction.replies.len() == 1);
+/// The port of LID 5 sends it 1,000 times.
+#[inline(never)]
+fn is_answered_1000_times(rt: &impl Abort, registry: &mut Registry, mad: &Mad) -> Result<(), Fail> {
+    for _time in 0..1000u16 {
+        is_answered(rt, registry, 5, mad)?;
     }
     Ok(())
 }
@@ -199,67 +196,14 @@ fn set_of(lid: u16, number: u8) -> Mad {
     mad
 }
 
-#[test]
-fn a_subnet_is_made(rt: HostRuntime) -> Result<(), Fail> {
-    let mut registry = fat_tree(&rt, rt.alloc());
-    asked(&rt, &mut registry, &mad_of(NODE), 0)
-}
-
-#[test]
-fn a_path_is_got_1000_times(rt: HostRuntime) -> Result<(), Fail> {
-    let mut registry = fat_tree(&rt, rt.alloc());
-    asked(&rt, &mut registry, &mad_of(PATH), 1000)
-}
-
-/// There are several, so that it is refused.
-#[test]
-fn a_node_is_got_1000_times(rt: HostRuntime) -> Result<(), Fail> {
-    let mut registry = fat_tree(&rt, rt.alloc());
-    asked(&rt, &mut registry, &mad_of(NODE), 1000)
-}
-
-#[test]
-fn a_subnet_with_groups_is_made(rt: HostRuntime) -> Result<(), Fail> {
-    let mut registry = with_groups(&rt, rt.alloc())?;
-    asked(&rt, &mut registry, &mad_of(BY_MGID), 0)
-}
-
-#[test]
-fn a_group_is_got_by_mgid_1000_times(rt: HostRuntime) -> Result<(), Fail> {
-    let mut registry = with_groups(&rt, rt.alloc())?;
-    asked(&rt, &mut registry, &mad_of(BY_MGID), 1000)
-}
-
-#[test]
-fn a_group_is_got_by_mgid_and_p_key_1000_times(rt: HostRuntime) -> Result<(), Fail> {
-    let mut registry = with_groups(&rt, rt.alloc())?;
-    asked(&rt, &mut registry, &mad_of(BY_MGID_AND_P_KEY), 1000)
-}
-
-#[test]
-fn a_group_is_got_by_mlid_1000_times(rt: HostRuntime) -> Result<(), Fail> {
-    let mut registry = with_groups(&rt, rt.alloc())?;
-    asked(&rt, &mut registry, &mad_of(BY_MLID), 1000)
-}
-
 /// All 320 nodes, with each ACK of the 180 segments.
-#[test]
-fn a_table_of_all_nodes_is_sent_10_times(rt: HostRuntime) -> Result<(), Fail> {
-    let mut registry = fat_tree(&rt, rt.alloc());
-    let asks = mad_of(NODES);
-    for _time in 0..10 {
-        asked(&rt, &mut registry, &asks, 1)?;
-        are_acknowledged(&rt, &mut registry)?;
-    }
-    Ok(())
-}
-
-fn are_acknowledged(rt: &impl Abort, registry: &mut Registry) -> Result<(), Fail> {
+fn table_is_sent(rt: &impl Abort, registry: &mut Registry, asks: &Mad) -> Result<(), Fail> {
+    is_answered(rt, registry, 5, asks)?;
     let mut ack = mad_of(ACK);
     for segment in 1..180u8 {
         ack[31] = segment;
         ack[35] = segment + 1;
-        asked(rt, registry, &ack, 1)?;
+        is_answered(rt, registry, 5, &ack)?;
     }
     ack[31] = 180;
     ack[35] = 180;
@@ -268,34 +212,49 @@ fn are_acknowledged(rt: &impl Abort, registry: &mut Registry) -> Result<(), Fail
     Ok(())
 }
 
+#[inline(never)]
+fn ten_tables_are_sent(rt: &impl Abort, registry: &mut Registry) -> Result<(), Fail> {
+    let asks = mad_of(NODES);
+    for _time in 0..10u8 {
+        table_is_sent(rt, registry, &asks)?;
+    }
+    Ok(())
+}
+
+/// One path; a node, of which there are several, so that it is refused; and the table of all nodes.
+#[test]
+fn paths_and_nodes_are_got(rt: HostRuntime) -> Result<(), Fail> {
+    let mut registry = fat_tree(&rt, rt.alloc());
+    is_answered_1000_times(&rt, &mut registry, &mad_of(PATH))?;
+    is_answered_1000_times(&rt, &mut registry, &mad_of(NODE))?;
+    ten_tables_are_sent(&rt, &mut registry)
+}
+
+#[test]
+fn groups_are_got(rt: HostRuntime) -> Result<(), Fail> {
+    let mut registry = with_groups(&rt, rt.alloc())?;
+    is_answered_1000_times(&rt, &mut registry, &mad_of(BY_MGID))?;
+    is_answered_1000_times(&rt, &mut registry, &mad_of(BY_MGID_AND_P_KEY))?;
+    is_answered_1000_times(&rt, &mut registry, &mad_of(BY_MLID))
+}
+
 /// Each of the 256 adapters offers 16 services; a ServiceID belongs to one of them.
 fn with_services(rt: &impl Abort, alloc: Global) -> Result<Registry, Fail> {
     let mut registry = fat_tree(rt, alloc);
     for lid in 1..257u16 {
         for number in 0..16u8 {
-            asked_by(rt, &mut registry, lid, &set_of(lid, number), 1)?;
+            is_answered(rt, &mut registry, lid, &set_of(lid, number))?;
         }
     }
     Ok(registry)
 }
 
+/// The last of a port, by Set again and again, and by Get.
 #[test]
-fn each_adapter_sets_16_services(rt: HostRuntime) -> Result<(), Fail> {
+fn a_service_is_set_and_got(rt: HostRuntime) -> Result<(), Fail> {
     let mut registry = with_services(&rt, rt.alloc())?;
-    asked(&rt, &mut registry, &mad_of(SERVICE_BY_ID), 0)
-}
-
-/// The last of its port, again and again.
-#[test]
-fn a_service_is_set_1000_times(rt: HostRuntime) -> Result<(), Fail> {
-    let mut registry = with_services(&rt, rt.alloc())?;
-    asked(&rt, &mut registry, &set_of(5, 15), 1000)
-}
-
-#[test]
-fn a_service_is_got_1000_times(rt: HostRuntime) -> Result<(), Fail> {
-    let mut registry = with_services(&rt, rt.alloc())?;
-    asked(&rt, &mut registry, &mad_of(SERVICE_BY_ID), 1000)
+    is_answered_1000_times(&rt, &mut registry, &set_of(5, 15))?;
+    is_answered_1000_times(&rt, &mut registry, &mad_of(SERVICE_BY_ID))
 }
 
 /// The port of a LID asks that of the group of this number in the partition of a base.
@@ -336,7 +295,7 @@ fn with_all_groups(rt: &impl Abort, alloc: Global) -> Result<Registry, Fail> {
 
 fn groups_are_made(rt: &impl Abort, registry: &mut Registry, base: u16) -> Result<(), Fail> {
     for number in 0..32u8 {
-        asked_by(rt, registry, 1, &membership_of(MADE, 1, base, number), 1)?;
+        is_answered(rt, registry, 1, &membership_of(MADE, 1, base, number))?;
     }
     Ok(())
 }
@@ -344,88 +303,67 @@ fn groups_are_made(rt: &impl Abort, registry: &mut Registry, base: u16) -> Resul
 /// All other adapters join the last group of the last partition.
 fn all_join(rt: &impl Abort, registry: &mut Registry) -> Result<(), Fail> {
     for lid in 2..257u16 {
-        asked_by(rt, registry, lid, &membership_of(JOINED, lid, 31, 31), 1)?;
+        is_answered(rt, registry, lid, &membership_of(JOINED, lid, 31, 31))?;
+    }
+    Ok(())
+}
+
+/// The Get of the last group of the last partition, by MGID and P_Key.
+fn get_of_the_last_group() -> Mad {
+    let mut mad = membership_of(JOINED, 5, 31, 31);
+    mad[3] = 1;
+    mad[53] = 0;
+    mad[55] = 0x81;
+    mad
+}
+
+/// The last of 256 members.
+#[inline(never)]
+fn leaves_and_joins_1000_times(rt: &impl Abort, registry: &mut Registry) -> Result<(), Fail> {
+    let leave = membership_of(LEFT, 256, 31, 31);
+    let join = membership_of(JOINED, 256, 31, 31);
+    for _time in 0..1000u16 {
+        is_answered(rt, registry, 256, &leave)?;
+        is_answered(rt, registry, 256, &join)?;
     }
     Ok(())
 }
 
 #[test]
-fn all_groups_are_made(rt: HostRuntime) -> Result<(), Fail> {
-    let mut registry = with_all_groups(&rt, rt.alloc())?;
-    all_join(&rt, &mut registry)
-}
-
-#[test]
-fn a_group_of_1024_is_got_1000_times(rt: HostRuntime) -> Result<(), Fail> {
+fn one_of_1024_groups_is_got_left_and_joined(rt: HostRuntime) -> Result<(), Fail> {
     let mut registry = with_all_groups(&rt, rt.alloc())?;
     all_join(&rt, &mut registry)?;
-    let mut asks = membership_of(JOINED, 5, 31, 31);
-    asks[3] = 1;
-    asks[53] = 0;
-    asks[55] = 0x81;
-    asked(&rt, &mut registry, &asks, 1000)
-}
-
-/// The last of 256 members leaves and joins.
-#[test]
-fn a_member_leaves_and_joins_1000_times(rt: HostRuntime) -> Result<(), Fail> {
-    let mut registry = with_all_groups(&rt, rt.alloc())?;
-    all_join(&rt, &mut registry)?;
-    for _time in 0..1000 {
-        asked_by(
-            &rt,
-            &mut registry,
-            256,
-            &membership_of(LEFT, 256, 31, 31),
-            1,
-        )?;
-        asked_by(
-            &rt,
-            &mut registry,
-            256,
-            &membership_of(JOINED, 256, 31, 31),
-            1,
-        )?;
-    }
-    Ok(())
+    is_answered_1000_times(&rt, &mut registry, &get_of_the_last_group())?;
+    leaves_and_joins_1000_times(&rt, &mut registry)
 }
 
 /// A port joins the last group of each partition.
 fn joins_everywhere(rt: &impl Abort, registry: &mut Registry) -> Result<(), Fail> {
     for number in 0..32u16 {
-        asked_by(
+        is_answered(
             rt,
             registry,
             256,
             &membership_of(JOINED, 256, base_of(number), 31),
-            1,
         )?;
     }
     Ok(())
 }
 
-#[test]
-fn a_port_joins_everywhere_10_times(rt: HostRuntime) -> Result<(), Fail> {
-    let mut registry = with_all_groups(&rt, rt.alloc())?;
-    for _time in 0..10 {
-        joins_everywhere(&rt, &mut registry)?;
-    }
-    Ok(())
+/// It leaves them by one MAD.
+#[inline(never)]
+fn leaves_everywhere(rt: &impl Abort, registry: &mut Registry) -> Result<(), Fail> {
+    is_answered(
+        rt,
+        registry,
+        256,
+        &membership_of(LEFT_EVERYWHERE, 256, 1, 31),
+    )
 }
 
-/// It leaves by one MAD each time.
 #[test]
-fn a_port_joins_and_leaves_everywhere_10_times(rt: HostRuntime) -> Result<(), Fail> {
+fn a_port_joins_and_leaves_a_group_of_each_partition(rt: HostRuntime) -> Result<(), Fail> {
     let mut registry = with_all_groups(&rt, rt.alloc())?;
-    for _time in 0..10 {
-        joins_everywhere(&rt, &mut registry)?;
-        asked_by(
-            &rt,
-            &mut registry,
-            256,
-            &membership_of(LEFT_EVERYWHERE, 256, 1, 31),
-            1,
-        )?;
-    }
-    Ok(())
+    joins_everywhere(&rt, &mut registry)?;
+    leaves_everywhere(&rt, &mut registry)
 }

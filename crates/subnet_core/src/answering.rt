@@ -10,8 +10,7 @@ use crate::acknowledging::acknowledgements;
 use crate::roster::Roster;
 use fabric_wire::{Delivery, Fabric};
 use mad_layout::Mad;
-use sa_answer::Registry;
-use sa_fabric::{AnswerFault, answer};
+use sa_fabric::{Administrator, AnswerFault, answer};
 use std::alloc::Global;
 use subnet_model::{AskCommand, Command, SendCommand};
 use subnet_sends::{Event, Sent, ask, manager_key, reply, send};
@@ -39,23 +38,23 @@ impl Answer {
     }
 }
 
-/// Carries out a command over the fabric, with the registry of subnet administration.
+/// Carries out a command over the fabric, with subnet administration.
 pub(crate) fn carried_out(
     alloc: Global,
     roster: &Roster,
     routes: &Routes,
     fabric: &mut Fabric,
-    registry: &mut Registry,
+    administrator: &mut Administrator,
     command: &Command,
 ) -> Result<Vec<Event>, AnswerFault>
-    requires { Stands roster.now routes.now registry.old fabric.old }
+    requires { Stands roster.now routes.now administrator.old fabric.old }
     ensures steps { IfOk result (λ events.
-        StepsTo roster.now routes.now registry.old fabric.old command.now events.items registry.new fabric.new) }
+        StepsTo roster.now routes.now administrator.old fabric.old command.now events.items administrator.new fabric.new) }
     ensures no_push { IfErr result (λ fault. fault ≡ AnswerFault.NoMemory) }
 {
     match command {
-        Command::Send(command) => sent(alloc, roster, routes, fabric, registry, command),
-        Command::Ask(command) => asked(alloc, roster, routes, fabric, registry, command),
+        Command::Send(command) => sent(alloc, roster, routes, fabric, administrator, command),
+        Command::Ask(command) => asked(alloc, roster, routes, fabric, administrator, command),
     }
 }
 
@@ -65,12 +64,12 @@ fn sent(
     roster: &Roster,
     routes: &Routes,
     fabric: &mut Fabric,
-    registry: &mut Registry,
+    administrator: &mut Administrator,
     command: &SendCommand,
 ) -> Result<Vec<Event>, AnswerFault>
-    requires { Stands roster.now routes.now registry.old fabric.old }
+    requires { Stands roster.now routes.now administrator.old fabric.old }
     ensures steps { IfOk result (λ events.
-        StepsTo roster.now routes.now registry.old fabric.old (Send command.now) events.items registry.new fabric.new) }
+        StepsTo roster.now routes.now administrator.old fabric.old (Send command.now) events.items administrator.new fabric.new) }
     ensures no_push { IfErr result (λ fault. fault ≡ AnswerFault.NoMemory) }
 {
     match send(alloc, fabric, command)? {
@@ -81,7 +80,7 @@ fn sent(
                 roster,
                 routes,
                 fabric,
-                registry,
+                administrator,
                 command.port_guid,
                 &deliveries,
             )?;
@@ -96,15 +95,15 @@ fn asked(
     roster: &Roster,
     routes: &Routes,
     fabric: &mut Fabric,
-    registry: &mut Registry,
+    administrator: &mut Administrator,
     command: &AskCommand,
 ) -> Result<Vec<Event>, AnswerFault>
-    requires { Stands roster.now routes.now registry.old fabric.old }
+    requires { Stands roster.now routes.now administrator.old fabric.old }
     ensures steps { IfOk result (λ events.
-        StepsTo roster.now routes.now registry.old fabric.old (Ask command.now) events.items registry.new fabric.new) }
+        StepsTo roster.now routes.now administrator.old fabric.old (Ask command.now) events.items administrator.new fabric.new) }
     ensures no_push { IfErr result (λ fault. fault ≡ AnswerFault.NoMemory) }
 {
-    let first = asked_once(alloc, roster, routes, fabric, registry, command)?;
+    let first = asked_once(alloc, roster, routes, fabric, administrator, command)?;
     let mut events = first.events;
     let acks = acknowledgements(alloc, &first.mads)?;
     for ack in &acks {
@@ -112,7 +111,7 @@ fn asked(
             port_guid: command.port_guid,
             mad: *ack,
         };
-        let mut more = asked_once(alloc, roster, routes, fabric, registry, &next)?;
+        let mut more = asked_once(alloc, roster, routes, fabric, administrator, &next)?;
         events.append(&mut more.events)?;
     }
     Ok(events)
@@ -124,12 +123,12 @@ fn asked_once(
     roster: &Roster,
     routes: &Routes,
     fabric: &mut Fabric,
-    registry: &mut Registry,
+    administrator: &mut Administrator,
     command: &AskCommand,
 ) -> Result<Answer, AnswerFault>
-    requires { Stands roster.now routes.now registry.old fabric.old }
+    requires { Stands roster.now routes.now administrator.old fabric.old }
     ensures once { IfOk result (λ given.
-        AsksOnce roster.now routes.now registry.old fabric.old command.now given registry.new fabric.new) }
+        AsksOnce roster.now routes.now administrator.old fabric.old command.now given administrator.new fabric.new) }
     ensures no_push { IfErr result (λ fault. fault ≡ AnswerFault.NoMemory) }
 {
     match ask(alloc, fabric, command)? {
@@ -139,7 +138,7 @@ fn asked_once(
             roster,
             routes,
             fabric,
-            registry,
+            administrator,
             command.port_guid,
             &deliveries,
         ),
@@ -153,16 +152,16 @@ fn answered(
     roster: &Roster,
     routes: &Routes,
     fabric: &mut Fabric,
-    registry: &mut Registry,
+    administrator: &mut Administrator,
     port: u64,
     deliveries: &[Delivery],
 ) -> Result<Answer, AnswerFault>
-    requires { Stands roster.now routes.now registry.old fabric.old }
-    ensures answers { IfOk result (λ given. AnswersRequests roster.now registry.old port deliveries.now given registry.new) }
+    requires { Stands roster.now routes.now administrator.old fabric.old }
+    ensures answers { IfOk result (λ given. AnswersRequests roster.now administrator.old port deliveries.now given administrator.new) }
     ensures none { deliveries.now ≡ [] → IfOk result (λ given. (given.mads.items ≡ []) × (given.events.items ≡ [])
-        × (registry.new ≡ registry.old) × (fabric.new ≡ fabric.old)) }
+        × (administrator.new ≡ administrator.old) × (fabric.new ≡ fabric.old)) }
     ensures back { IfOk result (λ given. AreSentBack fabric.new deliveries.now given.events.items) }
-    ensures stands { OnOk result (Stands roster.now routes.now registry.new fabric.new) }
+    ensures stands { OnOk result (Stands roster.now routes.now administrator.new fabric.new) }
     ensures no_push { IfErr result (λ fault. fault ≡ AnswerFault.NoMemory) }
 {
     let Some(request) = deliveries.first() else {
@@ -172,7 +171,14 @@ fn answered(
     let Some(key) = manager_key(roster.configuration().ports(), packet.p_key) else {
         return Ok(Answer::none(alloc, Vec::new(alloc)));
     };
-    let mads = answer(fabric, routes, registry, port, packet.payload.as_slice())?;
+    let mads = answer(
+        alloc,
+        fabric,
+        routes,
+        administrator,
+        port,
+        packet.payload.as_slice(),
+    )?;
     let events = reply(alloc, fabric, request, key, &mads)?;
     Ok(Answer { mads, events })
 }

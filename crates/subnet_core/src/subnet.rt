@@ -18,7 +18,7 @@ use crate::fault::{RunFault, StepFault};
 use crate::report::Report;
 use crate::roster::Roster;
 use fabric_wire::Fabric;
-use sa_answer::Registry;
+use sa_fabric::Administrator;
 use script_lines::command_of;
 use std::alloc::{AllocError, Global};
 use std::marker::Model;
@@ -37,7 +37,7 @@ pub struct Subnet {
     roster: Roster,
     routes: Routes,
     fabric: Fabric,
-    registry: Registry,
+    administrator: Administrator,
     is_broken: bool,
 }
 
@@ -51,11 +51,11 @@ impl Model for Subnet {
       roster = subnet.roster;
       routes = subnet.routes;
       fabric = subnet.fabric;
-      administration = subnet.registry.administration;
+      administration = subnet.administrator.administration;
       is_broken = subnet.is_broken;
     } };
 
-    ghost invariant = { λ subnet. subnet.is_broken ≡ false → Stands subnet.roster subnet.routes subnet.registry subnet.fabric };
+    ghost invariant = { λ subnet. subnet.is_broken ≡ false → Stands subnet.roster subnet.routes subnet.administrator subnet.fabric };
 }
 
 impl Subnet {
@@ -66,13 +66,13 @@ impl Subnet {
         ensures roster { IfOk result (λ subnet. subnet.roster ≡ roster) }
     {
         roster.known_listed();
-        let registry = Registry::of(alloc, roster.configuration())?;
+        let administrator = Administrator::of(alloc, roster.configuration())?;
         Ok(Subnet {
             alloc,
             roster,
             routes: up.routes,
             fabric: up.fabric,
-            registry,
+            administrator,
             is_broken: false,
         })
     }
@@ -171,7 +171,7 @@ impl Subnet {
             &self.roster,
             &self.routes,
             &mut self.fabric,
-            &mut self.registry,
+            &mut self.administrator,
             command,
         )?;
         self.is_broken = false;

@@ -7,12 +7,14 @@ pub mod GuidLemmas
 pub mod LinearLemmas
 pub mod MaskLemmas
 pub mod SliceLemmas
+pub mod ChangedLemmas
 pub mod ReachLemmas
 pub mod MaskWordLemmas
 pub mod SeatBitLemmas
 pub mod AwayLemmas
 pub mod HopLemmas
 pub mod TreeMaskLemmas
+pub mod AboveLemmas
 pub mod TreeBitLemmas
 pub mod NumberedLemmas
 pub mod PartLemmas

@@ -231,7 +231,7 @@ set_at row s node value true same low =
 set_at row s node value false other low = get_or-set_other row node s value 0 (λ equal. false≢true (sym other ∙ eq-eqb s node equal))
 
 -- the value of the switch's own, where it is that one
-own_bit : (row : List ℕ) (x s node n port : ℕ) → node < length row → (b : Bool) → (s == node) ≡ b → (bit_at x n == 1) ≡ (port == n)
+pub own_bit : (row : List ℕ) (x s node n port : ℕ) → node < length row → (b : Bool) → (s == node) ≡ b → (bit_at x n == 1) ≡ (port == n)
     → (bit_at (get_or (slice_set row node (bit_or (get_or row node 0) x)) s 0) n == 1) ≡ ((bit_at (get_or row s 0) n == 1) || ((node == s) && (port == n)))
 own_bit row x s node n port low b is its =
     ap (λ (value : ℕ). bit_at value n == 1) (set_at row s node (bit_or (get_or row node 0) x) b is low ∙ here b is)

@@ -155,7 +155,7 @@ push_begins stood fabric routes partition receives stands good =
     begins_as stood fabric (with_switches (masks_before routes partition receives 0) fabric) stands good
     (none_written (masks_before routes partition receives 0) fabric (λ guid held. refl))
 
-keeps_before : (routes : RoutesState) (partition : ℕ) (receives : ℕ → ℕ → Bool) (count guid : ℕ) (held : SwitchState)
+pub keeps_before : (routes : RoutesState) (partition : ℕ) (receives : ℕ → ℕ → Bool) (count guid : ℕ) (held : SwitchState)
     → (masks_before routes partition receives count guid held).node_guid ≡ held.node_guid
 keeps_before routes partition receives count guid held = by (list_any (λ switch. switch.guid == guid) (take count routes.graph.switches))
   where
@@ -163,7 +163,7 @@ keeps_before routes partition receives count guid held = by (list_any (λ switch
     by true = refl
     by false = refl
 
-its_masks : (routes : RoutesState) (partition : ℕ) (receives : ℕ → ℕ → Bool) (place guid : ℕ) (held : SwitchState) → place_of routes.graph.switches guid ≡ Some place
+pub its_masks : (routes : RoutesState) (partition : ℕ) (receives : ℕ → ℕ → Bool) (place guid : ℕ) (held : SwitchState) → place_of routes.graph.switches guid ≡ Some place
     → with_masks routes partition receives guid held ≡ set_slice partition (wanted_slice routes partition receives place) held
 its_masks routes partition receives place guid held is = rw is refl
 
@@ -182,7 +182,7 @@ none_before p (x ∷ xs) = by (p x) refl (none_before p xs)
     by true is rest = subst (λ (k : ℕ). list_any p (take k (x ∷ xs)) ≡ false) (sym (place_now p x xs is)) refl
     by false is rest = subst (λ (k : ℕ). list_any p (take k (x ∷ xs)) ≡ false) (sym (place_later p x xs is)) (or_from (p x) _ is rest)
 
-place_first : (switches : List GraphSwitch) (guid place : ℕ) → place_of switches guid ≡ Some place
+pub place_first : (switches : List GraphSwitch) (guid place : ℕ) → place_of switches guid ≡ Some place
     → list_any (λ switch. switch.guid == guid) (take place switches) ≡ false
 place_first switches guid place is =
     subst (λ (k : ℕ). list_any (λ switch. switch.guid == guid) (take k switches) ≡ false)
@@ -215,6 +215,22 @@ before_more routes partition receives place switch within there own guid held =
     (λ same. ap (place_of switches) (sym (eqb-true switch.guid guid same)) ∙ place_is switches place switch own there) refl refl
     ∙ ap (λ (some : Bool). if some then with_masks routes partition receives guid held else held) (sym grown)
 
+-- the switch at one place more is written
+pub push_on : (stood left : Option FabricState) (result : Result (Unit {0}) PushFault) (fabric : FabricState) (routes : RoutesState) (partition : ℕ) (receives : ℕ → ℕ → Bool)
+    (place : ℕ) (switch : GraphSwitch) (blocks : List (List ℕ)) → place < length routes.graph.switches → slice_get routes.graph.switches place ≡ Some switch
+    → IsDistinct (λ a b. a == b) (map (λ one. one.guid) routes.graph.switches) → blocks ≡ wanted_slice routes partition receives place
+    → Stands stood fabric (with_switches (masks_before routes partition receives place) fabric)
+    → Leaves result left (with_switches (masks_before routes partition receives place) fabric)
+    (with_switches (on_switch switch.guid (set_slice partition blocks)) (with_switches (masks_before routes partition receives place) fabric))
+    → Leaves result left fabric (with_switches (masks_before routes partition receives (place + 1)) fabric)
+push_on stood left result fabric routes partition receives place switch blocks within there own is stands leaves =
+    let now = with_switches (masks_before routes partition receives place) fabric in
+    goes_on result stood left fabric now _ _ stands leaves
+    (ap (λ (some : List (List ℕ)). with_switches (on_switch switch.guid (set_slice partition some)) now) is
+    ∙ both_written (on_switch switch.guid (set_slice partition (wanted_slice routes partition receives place))) (masks_before routes partition receives place)
+    (masks_before routes partition receives (place + 1)) fabric (keeps_before routes partition receives place)
+    (before_more routes partition receives place switch within there own))
+
 pub push_more : (stood left : Option FabricState) (result : Result (Unit {0}) PushFault) (fabric : FabricState) (routes : RoutesState) (partition : ℕ) (receives : ℕ → ℕ → Bool)
     (place : ℕ) (switch : GraphSwitch) (blocks : List (List ℕ)) → place < length routes.graph.switches → slice_get routes.graph.switches place ≡ Some switch
     → IsDistinct (λ a b. a == b) (map (λ one. one.guid) routes.graph.switches) → blocks ≡ wanted_slice routes partition receives place
@@ -224,12 +240,8 @@ pub push_more : (stood left : Option FabricState) (result : Result (Unit {0}) Pu
     → Leaves result left fabric (with_switches (masks_before routes partition receives (place + 1)) fabric)
 push_more stood left result fabric routes partition receives place switch blocks within there own is leads stands sets =
     let now = with_switches (masks_before routes partition receives place) fabric in
-    let leaves = sets now stands.is switch.guid stands.good (leads_on fabric now switch.path switch.guid stands.shape leads) in
-    goes_on result stood left fabric now _ _ stands leaves
-    (ap (λ (some : List (List ℕ)). with_switches (on_switch switch.guid (set_slice partition some)) now) is
-    ∙ both_written (on_switch switch.guid (set_slice partition (wanted_slice routes partition receives place))) (masks_before routes partition receives place)
-    (masks_before routes partition receives (place + 1)) fabric (keeps_before routes partition receives place)
-    (before_more routes partition receives place switch within there own))
+    push_on stood left result fabric routes partition receives place switch blocks within there own is stands
+    (sets now stands.is switch.guid stands.good (leads_on fabric now switch.path switch.guid stands.shape leads))
 
 all_before : (routes : RoutesState) (partition : ℕ) (receives : ℕ → ℕ → Bool) (guid : ℕ) (held : SwitchState) (b : Bool)
     → list_any (λ switch. switch.guid == guid) routes.graph.switches ≡ b

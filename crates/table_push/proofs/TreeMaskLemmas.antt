@@ -1,12 +1,13 @@
 -- What is kept of the tree, and the masks that are made of it.
-use Rattle.std.proofs.Common.{ℕ, zero, suc, ◌≡◌, ◌+◌, ◌-◌, ◌^◌, ◌<◌, ◌==◌, ◌&&◌, ◌||◌, not, ◌∙◌, ap, refl, sym, subst, Bool, true, false, if◌then◌else◌, List, length, get_or, bit_or, slice_set, w64, Option, Some, None, arith}
+use Rattle.std.proofs.Common.{ℕ, zero, suc, ◌≡◌, ◌+◌, ◌-◌, ◌^◌, ◌<◌, ◌==◌, ◌&&◌, ◌||◌, not, ◌∙◌, ap, refl, sym, subst, Bool, true, false, if◌then◌else◌, List, [], ◌∷◌, length, get_or, bit_or, slice_set, w64, Option, Some, None, arith}
 use Rattle.std.specs.Int.{bit_at}
+use Rattle.std.specs.List.{list_any, range_with_len}
 use Rattle.std.proofs.lemmas.Bool.{eq-eqb, eqb-true, false≢true}
 use Rattle.std.proofs.lemmas.List.{get_or-set_other, get_or-set_same}
 use Rattle.std.proofs.lemmas.Nat.Bits.{bit_at-lt, bit_at_not}
 use Rattle.result_words.proofs.TestLemmas.{same_either_way}
 use Rattle.table_push.specs.MaskSteps.{is_that_port}
-use Rattle.table_push.specs.TreeSteps.{IsBelowSet, IsNode, IsOutsideSet, IsTree, leads_down, leads_up, meets, some_lead_down, where_meets}
+use Rattle.table_push.specs.TreeSteps.{IsBelowSet, IsNode, IsOutsideSet, IsSpread, IsTree, leads_down, leads_up, meets, some_lead_down, where_meets}
 use Rattle.table_push.specs.declared.trees.Tree.{Tree}
 use Rattle.table_push.proofs.AwayLemmas.{range_any}
 use Rattle.table_push.proofs.ReachLemmas.{either_bit, no_bits}
@@ -130,3 +131,32 @@ no_down tree row masks next switches k s number of becomes so_far =
     ∙ ap (λ (o : Option ℕ). some_lead_down tree k switches s number
     || (is_that_port o s && (meets switches (get_or tree.below k 0) && (bit_at (get_or tree.ends k 0) number == 1)))) (sym of)
     ∙ sym (down_any tree k switches s number))
+
+-- ---- where nothing hangs
+meets_none : (set : ℕ) → meets 0 set ≡ false
+meets_none set = refl
+
+pub none_spread : (tree : Tree) (row : List ℕ) (switches : ℕ) → switches ≡ 0 → IsSpread tree row switches row
+unfolding some_lead_down
+none_spread tree row switches none s number low =
+    let up : leads_up tree switches s number ≡ false =
+    ap (λ (n : ℕ). meets n (get_or tree.outside s 0) && (bit_at (get_or tree.ups s 0) number == 1)) none
+    ∙ ap (λ (b : Bool). b && (bit_at (get_or tree.ups s 0) number == 1)) (meets_none (get_or tree.outside s 0)) in
+    let down : list_any (leads_down tree switches s number) (range_with_len 0 64) ≡ false =
+    none_leads (range_with_len 0 64) in
+    or_none (bit_at (get_or row s 0) number == 1) ∙ or_none ((bit_at (get_or row s 0) number == 1) || false)
+    ∙ sym (ap (λ (b : Bool). ((bit_at (get_or row s 0) number == 1) || b) || list_any (leads_down tree switches s number) (range_with_len 0 64)) up
+    ∙ ap (λ (b : Bool). ((bit_at (get_or row s 0) number == 1) || false) || b) down)
+  where
+    none_there : (a b : Bool) → (a && (false && b)) ≡ false
+    none_there true b = refl
+    none_there false b = refl
+
+    none_leads : (xs : List ℕ) → list_any (leads_down tree switches s number) xs ≡ false
+    none_leads [] = refl
+    none_leads (c ∷ xs) =
+        let one : leads_down tree switches s number c ≡ false =
+        ap (λ (n : ℕ). is_that_port (get_or tree.parents c None) s && (meets n (get_or tree.below c 0) && (bit_at (get_or tree.ends c 0) number == 1))) none
+        ∙ ap (λ (b : Bool). is_that_port (get_or tree.parents c None) s && (b && (bit_at (get_or tree.ends c 0) number == 1))) (meets_none (get_or tree.below c 0))
+        ∙ none_there (is_that_port (get_or tree.parents c None) s) (bit_at (get_or tree.ends c 0) number == 1) in
+        (λ i. one i || list_any (leads_down tree switches s number) xs) ∙ none_leads xs

@@ -2,6 +2,7 @@ pub mod Fault
 pub mod Nodes
 pub mod Linear
 pub mod Masks
+pub mod Changes
 pub mod MaskSteps
 pub mod TreeSteps
 pub mod Keys

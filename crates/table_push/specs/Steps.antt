@@ -1,7 +1,9 @@
--- What each step of a push comes to: the clauses of `src/ports.rt`, `keys.rt` and `setting.rt`. A wire stood for a fabric
+-- What each step of a push comes to: the clauses of `src/ports.rt`, `keys.rt`, `multicast.rt` and `setting.rt`. A wire stood for a fabric
 -- before the step, and is left standing for one.
-use Rattle.std.specs.Prelude.{ℕ, ◌≡◌, ◌==◌, ◌&&◌, ◌||◌, Bool, List, length, slice_get, Option, Some, Result, Ok}
+use Rattle.std.specs.Prelude.{ℕ, ◌≡◌, ◌+◌, ◌*◌, ◌==◌, ◌&&◌, ◌||◌, Bool, List, length, slice_get, Option, Some, Result, Ok}
+use Rattle.attr_tables.specs.Blocks.{word_bytes}
 use Rattle.attr_tables.specs.declared.smp_attribute.SmpAttribute.{SmpAttribute}
+use Rattle.attr_tables.specs.declared.smp_attribute.SmpAttribute.TheVariants.{MulticastForwardingTable}
 use Rattle.smp_wire.specs.FabricState.{FabricState}
 use Rattle.smp_wire.specs.Good.{IsGood, ShowsLinks}
 use Rattle.smp_wire.specs.Set.{takes_along}
@@ -22,6 +24,12 @@ abbrev pub TakesAndGives : FabricState → (left : Option FabricState) → (path
 TakesAndGives fabric left path attribute modifier wanted result =
     (next : FabricState) → IsGood fabric → takes_along fabric path attribute modifier wanted ≡ Some (Ok next)
     → (IsSameShape fabric next → Gives next path attribute modifier wanted) → Leaves result left fabric next
+
+-- the same of the block of a partition at a position of the multicast table
+abbrev pub SetsBlock : FabricState → (left : Option FabricState) → (path : List ℕ) → (position partition : ℕ) → (block : List ℕ)
+    → Result (Unit {0}) PushFault → Type 0
+SetsBlock fabric left path position partition block result =
+    TakesAndGives fabric left path MulticastForwardingTable (position * 268435456 + partition) (word_bytes block) result
 
 -- ---- ports
 -- where the ports that pass a test are set up, those that pass one more are set up too

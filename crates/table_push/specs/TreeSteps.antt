@@ -1,12 +1,12 @@
 -- What each step of the computation of masks along the tree comes to: the clauses of `src/trees.rt`.
-use Rattle.std.specs.Prelude.{ℕ, ◌≡◌, ◌<◌, ◌^◌, ◌==◌, ◌&&◌, ◌||◌, not, bit_and, Bool, if◌then◌else◌}
-use Rattle.std.specs.Prelude.{List, [], get_or, map, Option, Some, None, option_map}
+use Rattle.std.specs.Prelude.{ℕ, zero, suc, ◌≡◌, ◌<◌, ◌^◌, ◌==◌, ◌&&◌, ◌||◌, not, bit_and, Bool, if◌then◌else◌}
+use Rattle.std.specs.Prelude.{List, [], get_or, length, map, Option, Some, None, option_map}
 use Rattle.std.specs.Int.{bit_at}
 use Rattle.std.specs.List.{list_any, range_with_len}
-use Rattle.table_push.specs.Masks.{tree_end}
+use Rattle.table_push.specs.Masks.{tree_end, wanted_slice}
 use Rattle.table_push.specs.MaskSteps.{AreBits, is_that_port, words_at}
 use Rattle.table_push.specs.declared.trees.Tree.{Tree}
-use Rattle.updn_routes.specs.Sides.{is_below, parent}
+use Rattle.updn_routes.specs.Sides.{above, is_below, parent}
 use Rattle.updn_routes.specs.Subnet.{RoutesState}
 use Rattle.updn_routes.specs.Tree.{tree_port}
 
@@ -18,6 +18,18 @@ meets a b = not (bit_and a b == 0)
 abbrev pub IsBelowSet : RoutesState → (s set : ℕ) → Type 0
 IsBelowSet routes s set =
     (t : ℕ) → t < 64 → (bit_at set t == 1) ≡ is_below routes.between.rows routes.between.depths s t
+
+-- a bit is put into the sets of those switches that pass the test
+abbrev pub ArePut : (ℕ → Bool) → (bit : ℕ) → (before after : List ℕ) → Type 0
+ArePut passes bit before after =
+    (length after ≡ length before) × ((s t : ℕ) → s < 64
+    → (bit_at (get_or after s 0) t == 1) ≡ ((bit_at (get_or before s 0) t == 1) || (passes s && (bit == t))))
+
+-- of a switch s: t, or one of the first so many above t
+unfoldable pub is_up_to : RoutesState → (count t s : ℕ) → Bool
+is_up_to routes zero t s = t == s
+is_up_to routes (suc count) t s =
+    is_up_to routes count t s || is_that_port (above routes.between.rows routes.between.depths (suc count) t) s
 
 abbrev pub IsOutsideSet : RoutesState → (s set : ℕ) → Type 0
 IsOutsideSet routes s set =
@@ -75,3 +87,8 @@ AreSpread tree ports switches count masks =
 -- ---- the blocks of a switch
 abbrev pub blocks_of : (masks : List (List ℕ)) → (place : ℕ) → List (List ℕ)
 blocks_of masks place = map (λ position. words_at position (map (λ row. get_or row place 0) masks)) (range_with_len 0 3)
+
+-- such masks give each switch of the graph the slice that it is to have
+abbrev pub AreMasksOf : RoutesState → (partition : ℕ) → (receives : ℕ → ℕ → Bool) → (masks : List (List ℕ)) → Type 0
+AreMasksOf routes partition receives masks =
+    (place : ℕ) → place < length routes.graph.switches → blocks_of masks place ≡ wanted_slice routes partition receives place

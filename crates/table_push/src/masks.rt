@@ -3,7 +3,6 @@
 ghost use Rattle.std.specs.Prelude.{◌≡◌, ◌<◌, [], get_or, option_map};
 ghost use Rattle.table_push.specs.MaskSteps.{AreBits, is_that_port, words_at};
 ghost use Rattle.table_push.specs.Masks.{link_at, tree_end};
-ghost use Rattle.updn_routes.specs.Sides.{above, is_below};
 
 use attr_tables::WORDS_PER_BLOCK;
 use fabric_parts::PortRef;
@@ -29,35 +28,6 @@ pub(crate) fn port_bit(port: Option<u8>) -> u64
     match port {
         Some(number) => { if number < 64 { 1 << number } else { 0 } }
         None => 0,
-    }
-}
-
-/// Where so many steps up the tree lead from a switch.
-fn above(routes: &Routes, hops: usize, switch: usize) -> Option<usize>
-    ensures { result ≡ above routes.now.between.rows routes.now.between.depths hops switch }
-{
-    let between = routes.between();
-    let mut at = switch;
-    for step in 0..hops {
-        match between.parent(at) {
-            Some(parent) => at = parent,
-            None => return None,
-        }
-    }
-    Some(at)
-}
-
-/// Whether the other switch is this one, or is below it in the tree.
-pub(crate) fn is_below(routes: &Routes, switch: usize, other: usize) -> bool
-    ensures { result ≡ is_below routes.now.between.rows routes.now.between.depths switch other }
-{
-    let between = routes.between();
-    let hops = between
-        .depth_of(other)
-        .saturating_sub(between.depth_of(switch));
-    match above(routes, hops, other) {
-        Some(top) => top == switch,
-        None => false,
     }
 }
 

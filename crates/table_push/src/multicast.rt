@@ -10,12 +10,15 @@ ghost use Rattle.sweep.specs.OfFabric.{IsGraphOf};
 ghost use Rattle.table_push.specs.Masks.{masks_pushed, receives_of, set_slice};
 ghost use Rattle.table_push.specs.Nodes.{on_switch, with_switches};
 ghost use Rattle.table_push.specs.Pushes.{LeadsToSwitch, Leaves};
+ghost use Rattle.table_push.specs.Steps.{SetsBlock};
+ghost use Rattle.table_push.specs.TreeSteps.{AreMasksOf, IsTree};
 
 use crate::fault::PushFault;
 use crate::seats::bits_of_seats;
 use crate::setting::set;
-use crate::trees::{blocks_of, masks_along, tree_of};
+use crate::trees::{Tree, blocks_of, masks_along, tree_of};
 use attr_tables::{SmpAttribute, WORDS_PER_BLOCK, WordBlock};
+use fabric_parts::SWITCHES;
 use smp_wire::SmpWire;
 use subnet_model::GroupReceiver;
 use switch_model::POSITIONS;
@@ -38,11 +41,8 @@ pub fn push_multicast<W: SmpWire>(
     let graph = routes.graph();
     graph.known_graph();
     let switches = graph.switches();
-    routes.known_of_graph();
-    routes.between().known_routes();
-    let seats = bits_of_seats(routes, partition, receivers);
     let tree = tree_of(routes);
-    let masks = masks_along(&tree, &seats);
+    let masks = masks_of_slice(routes, &tree, partition, receivers);
     let mut transaction_id = 0;
     for place in 0..switches.len() {
         let blocks = blocks_of(&masks, place);
@@ -60,6 +60,24 @@ pub fn push_multicast<W: SmpWire>(
     Ok(())
 }
 
+/// The masks of the slice of a partition, for each switch.
+pub(crate) fn masks_of_slice(
+    routes: &Routes,
+    tree: &Tree,
+    partition: u16,
+    receivers: &[GroupReceiver],
+) -> [[u64; SWITCHES]; WORDS_PER_BLOCK]
+    requires tree { IsTree routes.now tree.now 64 }
+    requires partition { partition < 32 }
+    ensures { AreMasksOf routes.now partition (receives_of receivers.now) result }
+{
+    routes.graph().known_graph();
+    routes.known_of_graph();
+    routes.between().known_routes();
+    let seats = bits_of_seats(routes, partition, receivers);
+    masks_along(tree, &seats)
+}
+
 /// Sets the slice of a partition at the switch at the end of a path, position by position.
 fn set_slice<W: SmpWire>(
     wire: &mut W,
@@ -74,22 +92,47 @@ fn set_slice<W: SmpWire>(
         → Leaves result (W.fabric wire.new) fabric (with_switches (on_switch guid (set_slice partition blocks.now)) fabric)) }
 {
     for position in 0..POSITIONS {
-        let masks = block_bytes(&blocks[position]);
-        // The position stands in the first 4 bits, the block in the last 9.
-        let modifier = position as u32 * 0x1000_0000 + partition as u32;
-        match set(
+        match set_block(
             wire,
             transaction_id,
-            SmpAttribute::MulticastForwardingTable,
-            modifier,
             path,
-            &masks,
+            partition,
+            position,
+            &blocks[position],
         ) {
             Ok(()) => {}
             Err(fault) => return Err(fault),
         }
     }
     Ok(())
+}
+
+/// Sets the block of a partition at one position at the switch at the end of a path.
+pub(crate) fn set_block<W: SmpWire>(
+    wire: &mut W,
+    transaction_id: &mut u64,
+    path: &[u8],
+    partition: u16,
+    position: usize,
+    block: &[u16; WORDS_PER_BLOCK],
+) -> Result<(), PushFault>
+    requires path { length path.now ≤ 63 }
+    requires partition { partition < 32 }
+    requires position { position < 3 }
+    ensures words { IsTable 32 65536 block.now }
+    ensures set { ForSome (W.fabric wire.old) (λ fabric. SetsBlock fabric (W.fabric wire.new) path.now position partition block.now result) }
+{
+    let masks = block_bytes(block);
+    // The position stands in the first 4 bits, the block in the last 9.
+    let modifier = position as u32 * 0x1000_0000 + partition as u32;
+    set(
+        wire,
+        transaction_id,
+        SmpAttribute::MulticastForwardingTable,
+        modifier,
+        path,
+        &masks,
+    )
 }
 
 /// The masks of a block, as an attribute.

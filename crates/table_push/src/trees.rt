@@ -1,11 +1,13 @@
 //! What the spanning tree tells of each switch, and the masks that follow.
 
 ghost use Rattle.std.specs.Prelude.{ℕ, ◌≡◌, ◌<◌, None, bit_or, get_or, length, map, option_map};
+ghost use Rattle.std.specs.Option.{option_and_then};
 ghost use Rattle.table_push.specs.MaskSteps.{AreBits, is_that_port};
 ghost use Rattle.table_push.specs.Masks.{tree_end};
-ghost use Rattle.table_push.specs.TreeSteps.{AreSpread, IsBelowSet, IsLow, IsParent, IsSpread, IsTree, blocks_of, where_meets};
+ghost use Rattle.table_push.specs.TreeSteps.{ArePut, AreSpread, IsBelowSet, IsLow, IsParent, IsSpread, IsTree, blocks_of, where_meets};
+ghost use Rattle.updn_routes.specs.Sides.{is_below, parent};
 
-use crate::masks::{is_below, port_bit, tree_end, words_at};
+use crate::masks::{port_bit, tree_end, words_at};
 use crate::seats::{SeatBits, no_ports};
 use attr_tables::WORDS_PER_BLOCK;
 use fabric_parts::SWITCHES;
@@ -38,8 +40,9 @@ pub(crate) fn tree_of(routes: &Routes) -> Tree
         ups: [0; SWITCHES],
         ends: [0; SWITCHES],
     };
+    let sets = below_sets(routes);
     for switch in 0..SWITCHES {
-        let below = below_of(routes, switch);
+        let below = sets[switch];
         tree.below[switch] = below;
         tree.outside[switch] = !below;
         tree.parents[switch] = parent_of(routes, switch);
@@ -49,17 +52,54 @@ pub(crate) fn tree_of(routes: &Routes) -> Tree
     tree
 }
 
-/// The bits of the switches that are below one, and of itself.
-fn below_of(routes: &Routes, switch: usize) -> u64
-    ensures { IsBelowSet routes.now switch result }
+/// For each switch the bits of the switches that are below it, and of itself.
+fn below_sets(routes: &Routes) -> [u64; SWITCHES]
+    ensures { (s : ℕ) → s < 64 → IsBelowSet routes.now s (get_or result s 0) }
 {
-    let mut bits = 0;
+    let mut sets = [0; SWITCHES];
     for other in 0..SWITCHES {
-        if is_below(routes, switch, other) {
-            bits |= 1 << other;
-        }
+        put_above(routes, &mut sets, other);
     }
-    bits
+    sets
+}
+
+/// Puts the bit of a switch into its own set and those of the switches on its way up the tree.
+fn put_above(routes: &Routes, sets: &mut [u64; SWITCHES], switch: usize)
+    requires { switch < 64 }
+    ensures { ArePut (λ s. is_below routes.now.between.rows routes.now.between.depths s switch) switch sets.old sets.new }
+{
+    let between = routes.between();
+    let mut at = Some(switch);
+    put_bit(sets, at, switch);
+    for hop in 0..between.depth_of(switch) {
+        at = parent_of_some(routes, at);
+        put_bit(sets, at, switch);
+    }
+}
+
+/// The switch next above one, if there is one.
+fn parent_of_some(routes: &Routes, switch: Option<usize>) -> Option<usize>
+    ensures { result ≡ option_and_then (parent routes.now.between.rows routes.now.between.depths) switch }
+{
+    match switch {
+        Some(place) => routes.between().parent(place),
+        None => None,
+    }
+}
+
+/// Puts a bit into the set at that place, if there is one.
+fn put_bit(sets: &mut [u64; SWITCHES], at: Option<usize>, bit: usize)
+    requires { bit < 64 }
+    ensures { ArePut (is_that_port at) bit sets.old sets.new }
+{
+    match at {
+        Some(place) => {
+            if place < SWITCHES {
+                sets[place] |= 1 << bit;
+            }
+        }
+        None => {}
+    }
 }
 
 /// The switch that the tree port of a switch leads to.
@@ -108,6 +148,9 @@ fn masks_of(tree: &Tree, row: &[u64; SWITCHES], switches: u64) -> [u64; SWITCHES
     ensures long { length result ≡ 64 }
     ensures spread { IsSpread tree.now row.now switches result }
 {
+    if switches == 0 {
+        return *row;
+    }
     let mut masks = with_ups(tree, row, switches);
     for switch in 0..SWITCHES {
         match tree.parents[switch] {
@@ -153,7 +196,10 @@ pub(crate) fn blocks_of(
 }
 
 /// The masks of a switch.
-fn bits_of(masks: &[[u64; SWITCHES]; WORDS_PER_BLOCK], place: usize) -> [u64; WORDS_PER_BLOCK]
+pub(crate) fn bits_of(
+    masks: &[[u64; SWITCHES]; WORDS_PER_BLOCK],
+    place: usize,
+) -> [u64; WORDS_PER_BLOCK]
     requires { place < 64 }
     ensures { result ≡ map (λ row. get_or row place 0) masks.now }
 {

@@ -16,7 +16,7 @@ use updn_routes::Routes;
 
 /// The text of a fabric of up to 6 switches in a tree, with further cables between them now and then, and an adapter on port 10
 /// of each, and on port 11 of some.
-fn fabric_text(alloc: Global, chance: &mut Chance) -> Result<Vec<u8>, Fail> {
+pub fn fabric_text(alloc: Global, chance: &mut Chance) -> Result<Vec<u8>, Fail> {
     let switches = 1 + chance.below(6);
     let mut text = Vec::new(alloc);
     for i in 0..switches {
@@ -53,9 +53,9 @@ fn some_fabric(alloc: Global, chance: &mut Chance) -> Result<Fabric, Fail> {
 }
 
 /// The LIDs of the ports of adapters, rising.
-fn adapter_lids(alloc: Global, routes: &Routes) -> Result<Vec<u16>, Fail> {
+pub fn adapter_lids(alloc: Global, routes: &Routes) -> Result<Vec<u16>, Fail> {
     let mut lids = Vec::new(alloc);
-    for lid in 1..64u16 {
+    for lid in 1..100u16 {
         if let Some(home) = routes.between().home_of(lid) {
             if home.port != 0 {
                 lids.push(lid).ok().ok_or("memory")?;

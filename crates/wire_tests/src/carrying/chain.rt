@@ -1,4 +1,4 @@
-//! Five switches in a row, with an adapter on each. `bench/measure` counts the instructions of these tests.
+//! Five switches in a row, with an adapter on each. `bench/measure` counts the instructions of each call of `carry_1000`.
 
 use crate::carrying::fixtures::{BOTH_WAYS, packet, put_enforcement, put_entries};
 use data_packet::Packet;
@@ -50,46 +50,21 @@ fn receivers(alloc: Global, fabric: &Fabric, sent: &Packet) -> Result<usize, Fai
     Ok(deliveries.len())
 }
 
-fn carry_many(rt: &impl Abort, alloc: Global, fabric: &Fabric, sent: &Packet) -> Result<(), Fail> {
+/// Carries 1,000 packets from the first adapter to that LID.
+#[inline(never)]
+fn carry_1000(rt: &impl Abort, alloc: Global, fabric: &Fabric, lid: u16) -> Result<(), Fail> {
+    let sent = packet(1, lid, 0xffff, 7)?;
     for _ in 0..1000u16 {
-        assert_eq!(rt; receivers(alloc, fabric, sent)?, 1);
+        assert_eq!(rt; receivers(alloc, fabric, &sent)?, 1);
     }
     Ok(())
 }
 
-/// Carries 1,000 packets from the first adapter to that LID.
-fn carry_1000(rt: &impl Abort, alloc: Global, lid: u16) -> Result<(), Fail> {
-    carry_many(rt, alloc, &chain(alloc)?, &packet(1, lid, 0xffff, 7)?)
-}
-
 #[test]
-fn a_row_of_five_switches_is_made(rt: HostRuntime) -> Result<(), Fail> {
+fn packets_go_over_1_to_5_switches(rt: HostRuntime) -> Result<(), Fail> {
     let fabric = chain(rt.alloc())?;
-    assert!(rt; fabric.has_port(FIRST));
+    for lid in 1..6u16 {
+        carry_1000(&rt, rt.alloc(), &fabric, lid)?;
+    }
     Ok(())
-}
-
-#[test]
-fn packets_go_over_1_switch(rt: HostRuntime) -> Result<(), Fail> {
-    carry_1000(&rt, rt.alloc(), 1)
-}
-
-#[test]
-fn packets_go_over_2_switches(rt: HostRuntime) -> Result<(), Fail> {
-    carry_1000(&rt, rt.alloc(), 2)
-}
-
-#[test]
-fn packets_go_over_3_switches(rt: HostRuntime) -> Result<(), Fail> {
-    carry_1000(&rt, rt.alloc(), 3)
-}
-
-#[test]
-fn packets_go_over_4_switches(rt: HostRuntime) -> Result<(), Fail> {
-    carry_1000(&rt, rt.alloc(), 4)
-}
-
-#[test]
-fn packets_go_over_5_switches(rt: HostRuntime) -> Result<(), Fail> {
-    carry_1000(&rt, rt.alloc(), 5)
 }

@@ -8,14 +8,14 @@ use Rattle.subnet_core.proofs.answering.answered.Goals as goal
 
 pub returns-in_default-clause-answers : goal.returns-in_default-clause-answers
 returns-in_default-clause-answers c =
-    nothing_came c.args.roster.now c.args.routes.now c.args.registry.now c.args.fabric.now c.requires c.args.port c.args.deliveries.now c.none.result
+    nothing_came c.args.roster.now c.args.routes.now c.args.administrator.now c.args.fabric.now c.requires c.args.port c.args.deliveries.now c.none.result
     c.none.ensures.mads (ap (λ (v : Vec Event Global). v.items) c.none.ensures.events ∙ c.new.ensures.items)
     (first_none c.args.deliveries.now (sym c.in_default.ensures.value))
 
 pub returns-in_default-manager_key-clause-answers : goal.returns-in_default-manager_key-clause-answers
 returns-in_default-manager_key-clause-answers c =
     let first = first_some c.args.deliveries.now c.in-Some.request.now (sym c.in-Some.ensures.value) in
-    nothing_matches c.args.roster.now c.args.routes.now c.args.registry.now c.args.fabric.now c.requires c.args.port c.args.deliveries.now
+    nothing_matches c.args.roster.now c.args.routes.now c.args.administrator.now c.args.fabric.now c.requires c.args.port c.args.deliveries.now
     c.none-in_default-manager_key.result c.none-in_default-manager_key.ensures.mads
     (ap (λ (v : Vec Event Global). v.items) c.none-in_default-manager_key.ensures.events ∙ c.new-in_default-manager_key.ensures.items)
     c.in-Some.request.now first.0 first.1
@@ -23,16 +23,16 @@ returns-in_default-manager_key-clause-answers c =
 
 pub returns-clause-stands : goal.returns-clause-stands
 returns-clause-stands c =
-    stands_after c.args.roster.now c.args.routes.now c.args.registry.now c.args.fabric.now c.requires c.args.port c.as_slice.result.now c.in_ok-mads.mads.items
-    c.answer.new.registry c.answer.new.fabric c.in_ok-mads.ensures.answers c.in_ok-mads.ensures.serves
+    stands_after c.args.roster.now c.args.routes.now c.args.administrator.now c.args.fabric.now c.requires c.args.port c.as_slice.result.now c.in_ok-mads.mads.items
+    c.answer.new.administrator c.answer.new.fabric c.in_ok-mads.ensures.answers c.in_ok-mads.ensures.serves
 
 pub returns-clause-answers : goal.returns-clause-answers
 returns-clause-answers c =
     let first = first_some c.args.deliveries.now c.in-Some.request.now (sym c.in-Some.ensures.value) in
-    is_answered c.args.roster.now c.args.routes.now c.args.registry.now c.args.fabric.now c.requires c.args.port c.args.deliveries.now
+    is_answered c.args.roster.now c.args.routes.now c.args.administrator.now c.args.fabric.now c.requires c.args.port c.args.deliveries.now
     c.in-Some.request.now first.0 first.1 c.in-Some-manager_key.key
     (rw (c.packet-packet.ensures, c.ports.ensures, c.configuration.ensures) at (sym c.in-Some-manager_key.ensures))
-    c.in_ok-mads.mads.items c.answer.new.registry c.answer.new.fabric (returns-clause-stands c)
+    c.in_ok-mads.mads.items c.answer.new.administrator c.answer.new.fabric (returns-clause-stands c)
     (rw (c.as_slice.ensures.value, c.packet-packet.ensures) at c.in_ok-mads.ensures.answers)
     (record { mads = c.in_ok-mads.mads; events = c.in_ok-events.events }) refl (rw c.deref.ensures.value at c.in_ok-events.ensures.told)
 

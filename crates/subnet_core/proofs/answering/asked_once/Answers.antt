@@ -7,17 +7,17 @@ use Rattle.subnet_core.proofs.answering.asked_once.Goals as goal
 
 pub returns-in-Events-clause-once : goal.returns-in-Events-clause-once
 returns-in-Events-clause-once c =
-    once_by_events c.args.roster.now c.args.routes.now c.args.registry.now c.args.fabric.now c.requires c.args.command.now c.in-Events.events
+    once_by_events c.args.roster.now c.args.routes.now c.args.administrator.now c.args.fabric.now c.requires c.args.command.now c.in-Events.events
     (rw c.in-Events.is at c.in_ok-events.ensures.comes) (rw c.in-Events.is at c.in_ok-events.ensures.told)
     c.none.result c.none.ensures.mads c.none.ensures.events
 
 pub returns-in-Request-clause-once : goal.returns-in-Request-clause-once
 returns-in-Request-clause-once c =
-    once_if_ok c.args.roster.now c.args.routes.now c.args.registry.now c.args.fabric.now c.requires c.args.command.now c.in-Request.deliveries
+    once_if_ok c.args.roster.now c.args.routes.now c.args.administrator.now c.args.fabric.now c.requires c.args.command.now c.in-Request.deliveries
     (rw c.in-Request.is at c.in_ok-events.ensures.comes) (rw c.in-Request.is at c.in_ok-events.ensures.told)
-    c.answered.new.registry c.answered.new.fabric c.answered.result
+    c.answered.new.administrator c.answered.new.fabric c.answered.result
     (subst (λ (some : List DeliveryState). IfOk c.answered.result (λ given.
-    AnswersRequests c.args.roster.now c.args.registry.now c.args.command.now.port_guid some given c.answered.new.registry))
+    AnswersRequests c.args.roster.now c.args.administrator.now c.args.command.now.port_guid some given c.answered.new.administrator))
     c.deref.ensures.value c.answered.ensures.answers)
     (subst (λ (some : List DeliveryState). IfOk c.answered.result (λ given. AreSentBack c.answered.new.fabric some given.events.items))
     c.deref.ensures.value c.answered.ensures.back)

@@ -7,16 +7,16 @@ use Rattle.subnet_core.proofs.answering.sent.Goals as goal
 
 pub returns-in-Events-clause-steps : goal.returns-in-Events-clause-steps
 returns-in-Events-clause-steps c =
-    steps_by_events c.args.roster.now c.args.routes.now c.args.registry.now c.args.fabric.now c.requires c.args.command.now c.in-Events.events
+    steps_by_events c.args.roster.now c.args.routes.now c.args.administrator.now c.args.fabric.now c.requires c.args.command.now c.in-Events.events
     (rw c.in-Events.is at c.in_ok-events.ensures.comes) (rw c.in-Events.is at c.in_ok-events.ensures.told)
 
 pub returns-in_ok-given-in-Request-clause-steps : goal.returns-in_ok-given-in-Request-clause-steps
 returns-in_ok-given-in-Request-clause-steps c =
-    steps_by_request c.args.roster.now c.args.routes.now c.args.registry.now c.args.fabric.now c.requires c.args.command.now c.in-Request.deliveries
+    steps_by_request c.args.roster.now c.args.routes.now c.args.administrator.now c.args.fabric.now c.requires c.args.command.now c.in-Request.deliveries
     (rw c.in-Request.is at c.in_ok-events.ensures.comes) (rw c.in-Request.is at c.in_ok-events.ensures.told)
-    c.in_ok-given-in-Request.given c.answered.new.registry c.answered.new.fabric c.in_ok-given-in-Request.ensures.stands
+    c.in_ok-given-in-Request.given c.answered.new.administrator c.answered.new.fabric c.in_ok-given-in-Request.ensures.stands
     (subst (λ (some : List DeliveryState).
-    AnswersRequests c.args.roster.now c.args.registry.now c.args.command.now.port_guid some c.in_ok-given-in-Request.given c.answered.new.registry)
+    AnswersRequests c.args.roster.now c.args.administrator.now c.args.command.now.port_guid some c.in_ok-given-in-Request.given c.answered.new.administrator)
     c.deref.ensures.value c.in_ok-given-in-Request.ensures.answers)
     (subst (λ (some : List DeliveryState). AreSentBack c.answered.new.fabric some c.in_ok-given-in-Request.given.events.items) c.deref.ensures.value
     c.in_ok-given-in-Request.ensures.back)

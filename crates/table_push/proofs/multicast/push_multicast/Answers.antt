@@ -1,17 +1,15 @@
 use Rattle.result_words.proofs.DistinctLemmas.{left_part}
-use Rattle.std.proofs.Common.{ℕ, ◌≡◌, ◌==◌, ◌+◌, ◌∙◌, ap, sym, subst, arith, List, map, length, slice_get, Some, Result}
+use Rattle.std.proofs.Common.{ℕ, ◌≡◌, ◌==◌, ◌+◌, ◌<◌, ◌∙◌, ap, sym, subst, arith, List, map, length, slice_get, Some, Result}
 use Rattle.std.specs.List.{IsDistinct}
 use Rattle.std.proofs.lemmas.Option.{slice_get-get_or}
 use Rattle.sweep.specs.Graph.{GraphState, end_guids}
 use Rattle.sweep.specs.declared.graph.GraphSwitch.{GraphSwitch}
-use Rattle.table_push.specs.Masks.{masks_before, receives_of}
+use Rattle.table_push.specs.Masks.{masks_before, receives_of, wanted_slice}
 use Rattle.table_push.specs.Nodes.{with_switches}
 use Rattle.table_push.specs.Pushes.{LeadsToSwitch, Leaves}
 use Rattle.table_push.specs.declared.fault.PushFault.{PushFault}
 use Rattle.table_push.proofs.LeadLemmas.{graph_leads, no_fault}
 use Rattle.table_push.proofs.SliceLemmas.{push_begins, push_ends, push_more}
-use Rattle.table_push.proofs.TreeBitLemmas.{wanted_is}
-use Rattle.updn_routes.specs.Routes.{AreRoutes}
 use Rattle.table_push.proofs.multicast.push_multicast.Goals as goal
 
 pub loop-place-init : goal.loop-place-init
@@ -29,15 +27,12 @@ returns-in-Err g c x stands of good =
     let path : c.as_slice.result.now ≡ switch.path = c.as_slice.ensures.value ∙ ap (λ (one : GraphSwitch). one.path) (sym c.index-switches-place.is) in
     let own : IsDistinct (λ a b. a == b) (map (λ one. one.guid) c.args.routes.now.graph.switches) =
     left_part (λ a b. a == b) _ _ (subst (λ (graph : GraphState). IsDistinct (λ a b. a == b) (end_guids graph.switches graph.ports)) c.graph-graph.ensures c.known_graph.ensures.guids) in
-    let few = c.known_graph.ensures.few_switches in
-    let graph_long = ap (λ (graph : GraphState). length graph.switches) c.graph-graph.ensures in
-    let right = wanted_is c.args.routes.now c.tree_of-tree.result c.loop-place.place c.args.partition c.args.receivers.now c.bits_of_seats-seats.result.ports c.masks_along-masks.result
-    c.blocks_of-blocks.result c.bits_of_seats-seats.result.switches (omega (arith, c.requires)) c.known_of_graph.ensures (subst AreRoutes c.between.ensures c.known_routes.ensures)
-    (omega (arith, c.loop-place-test.true, long, graph_long, few)) c.tree_of-tree.ensures c.bits_of_seats-seats.ensures c.masks_along-masks.ensures.long c.masks_along-masks.ensures.spread
-    c.blocks_of-blocks.ensures in
+    let less : c.loop-place.place < length c.args.routes.now.graph.switches = omega (arith, c.loop-place-test.true, long) in
+    let right : c.blocks_of-blocks.result ≡ wanted_slice c.args.routes.now c.args.partition (receives_of c.args.receivers.now) c.loop-place.place =
+    c.blocks_of-blocks.ensures ∙ c.masks_of_slice-masks.ensures c.loop-place.place less in
     absurd (no_fault c.in-Err.fault _ x _ (subst (λ (result : Result (Unit {0}) PushFault). Leaves result (g.W.SmpWire.fabric c.set_slice.new.wire) x (with_switches (masks_before c.args.routes.now c.args.partition (receives_of c.args.receivers.now) (c.loop-place.place + 1)) x)) c.in-Err.is
     (push_more _ _ _ x c.args.routes.now c.args.partition (receives_of c.args.receivers.now) c.loop-place.place switch c.blocks_of-blocks.result
-    (omega (arith, c.loop-place-test.true, long)) there own right
+    less there own right
     (graph_leads x c.args.routes.now.graph c.loop-place.place switch of there) (c.loop-place.invariant x stands of good)
     (λ fabric is guid well leads. c.set_slice.ensures fabric is guid well (subst (λ (some : List ℕ). LeadsToSwitch fabric some guid) (sym path) leads)))))
 
@@ -53,14 +48,11 @@ loop-place-preserved g c x stands of good =
     let path : c.as_slice.result.now ≡ switch.path = c.as_slice.ensures.value ∙ ap (λ (one : GraphSwitch). one.path) (sym c.index-switches-place.is) in
     let own : IsDistinct (λ a b. a == b) (map (λ one. one.guid) c.args.routes.now.graph.switches) =
     left_part (λ a b. a == b) _ _ (subst (λ (graph : GraphState). IsDistinct (λ a b. a == b) (end_guids graph.switches graph.ports)) c.graph-graph.ensures c.known_graph.ensures.guids) in
-    let few = c.known_graph.ensures.few_switches in
-    let graph_long = ap (λ (graph : GraphState). length graph.switches) c.graph-graph.ensures in
-    let right = wanted_is c.args.routes.now c.tree_of-tree.result c.loop-place.place c.args.partition c.args.receivers.now c.bits_of_seats-seats.result.ports c.masks_along-masks.result
-    c.blocks_of-blocks.result c.bits_of_seats-seats.result.switches (omega (arith, c.requires)) c.known_of_graph.ensures (subst AreRoutes c.between.ensures c.known_routes.ensures)
-    (omega (arith, c.loop-place-test.true, long, graph_long, few)) c.tree_of-tree.ensures c.bits_of_seats-seats.ensures c.masks_along-masks.ensures.long c.masks_along-masks.ensures.spread
-    c.blocks_of-blocks.ensures in
+    let less : c.loop-place.place < length c.args.routes.now.graph.switches = omega (arith, c.loop-place-test.true, long) in
+    let right : c.blocks_of-blocks.result ≡ wanted_slice c.args.routes.now c.args.partition (receives_of c.args.receivers.now) c.loop-place.place =
+    c.blocks_of-blocks.ensures ∙ c.masks_of_slice-masks.ensures c.loop-place.place less in
     (push_more _ _ _ x c.args.routes.now c.args.partition (receives_of c.args.receivers.now) c.loop-place.place switch c.blocks_of-blocks.result
-    (omega (arith, c.loop-place-test.true, long)) there own right
+    less there own right
     (graph_leads x c.args.routes.now.graph c.loop-place.place switch of there) (c.loop-place.invariant x stands of good)
     (λ fabric is guid well leads. c.set_slice.ensures fabric is guid well (subst (λ (some : List ℕ). LeadsToSwitch fabric some guid) (sym path) leads))).stands
 
@@ -69,6 +61,3 @@ returns g c x stands of good =
     let long = ap (λ (graph : GraphState). length graph.switches) c.graph-graph.ensures in
     let count = ap length c.switches-switches.ensures in
     push_ends _ x c.args.routes.now c.args.partition (receives_of c.args.receivers.now) c.loop-place.place (omega (arith, c.loop-place-test.false, c.loop-place.auto.place-end, long, count)) (c.loop-place.invariant x stands of good)
-
-pub masks_along-masks-requires : goal.masks_along-masks-requires
-masks_along-masks-requires g c place low = (c.tree_of-tree.ensures place low).is_low

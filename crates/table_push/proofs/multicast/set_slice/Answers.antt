@@ -1,4 +1,4 @@
-use Rattle.std.proofs.Common.{arith}
+use Rattle.std.proofs.Common.{arith, refl}
 use Rattle.std.proofs.lemmas.Option.{slice_get-get_or}
 use Rattle.table_push.proofs.LeadLemmas.{no_fault}
 use Rattle.table_push.proofs.SliceLemmas.{slice_begins, slice_ends, slice_more}
@@ -9,15 +9,15 @@ loop-position-init g c fabric guid stands good leads = slice_begins _ fabric gui
 
 pub returns-in-Err : goal.returns-in-Err
 returns-in-Err g c x stands guid good leads =
-    absurd (no_fault c.in-Err.fault _ _ _ (slice_more _ _ _ x c.args.path.now guid c.loop-position.position c.args.partition c.args.blocks.now _ c.block_bytes-masks.result
+    absurd (no_fault c.in-Err.fault _ _ _ (slice_more _ _ _ x c.args.path.now guid c.loop-position.position c.args.partition c.args.blocks.now _ _
     c.loop-position-test.true c.requires.partition (slice_get-get_or c.args.blocks.now c.loop-position.position _ (omega (arith, c.told-blocks, c.loop-position-test.true)))
-    c.block_bytes-masks.ensures.words c.block_bytes-masks.ensures.bytes leads (c.loop-position.invariant x guid stands good leads) c.in-Err.ensures.left))
+    c.set_block.ensures.words refl leads (c.loop-position.invariant x guid stands good leads) c.in-Err.ensures.set))
 
 pub loop-position-preserved : goal.loop-position-preserved
 loop-position-preserved g c fabric guid stands good leads =
-    (slice_more _ _ _ fabric c.args.path.now guid c.loop-position.position c.args.partition c.args.blocks.now _ c.block_bytes-masks.result
+    (slice_more _ _ _ fabric c.args.path.now guid c.loop-position.position c.args.partition c.args.blocks.now _ _
     c.loop-position-test.true c.requires.partition (slice_get-get_or c.args.blocks.now c.loop-position.position _ (omega (arith, c.told-blocks, c.loop-position-test.true)))
-    c.block_bytes-masks.ensures.words c.block_bytes-masks.ensures.bytes leads (c.loop-position.invariant fabric guid stands good leads) c.set.ensures.left).stands
+    c.set_block.ensures.words refl leads (c.loop-position.invariant fabric guid stands good leads) c.set_block.ensures.set).stands
 
 pub returns : goal.returns
 returns g c x stands guid good leads =

@@ -1,6 +1,6 @@
 use Rattle.std.proofs.Common.{◌∙◌, ap, length, arith}
 use Rattle.std.proofs.lemmas.List.{length-set}
-use Rattle.table_push.proofs.TreeMaskLemmas.{down_more, no_down, ups_are}
+use Rattle.table_push.proofs.TreeMaskLemmas.{down_more, no_down, none_spread, ups_are}
 use Rattle.table_push.proofs.trees.masks_of.Goals.{in-Some, in-None}
 use Rattle.table_push.proofs.trees.masks_of.Goals as goal
 
@@ -24,3 +24,6 @@ loop-switch-preserved c = elim c.match-tree-switch.branch [
         w.in-None.is w.masks-is (c.loop-switch.invariant.are s number low);
   }
 ]
+
+pub returns-then-switches-eq0-clause-spread : goal.returns-then-switches-eq0-clause-spread
+returns-then-switches-eq0-clause-spread c = none_spread c.args.tree.now c.args.row.now c.args.switches c.if-switches-eq0.true

@@ -1,4 +1,4 @@
-use Rattle.std.proofs.Common.{ℕ, ◌∙◌, ap, Option, arith}
+use Rattle.std.proofs.Common.{ℕ, ◌∙◌, ap, get_or, Option, arith}
 use Rattle.table_push.specs.MaskSteps.{is_that_port}
 use Rattle.updn_routes.specs.Routes.{SwitchRoutesState}
 use Rattle.updn_routes.specs.Tree.{tree_port}
@@ -17,9 +17,10 @@ loop-switch-preserved c = record {
       (omega (arith, c.loop-switch.invariant.below, c.loop-switch-test.true)) (omega (arith, c.loop-switch.invariant.outside, c.loop-switch-test.true))
       (omega (arith, c.loop-switch.invariant.parents, c.loop-switch-test.true)) (omega (arith, c.loop-switch.invariant.ups, c.loop-switch-test.true))
       (omega (arith, c.loop-switch.invariant.ends, c.loop-switch-test.true)) (record {
-        is_below = c.below_of-below.ensures;
-        is_outside = outside_is c.args.routes.now c.loop-switch.switch c.below_of-below.result c.below_of-below.type_inv c.below_of-below.ensures;
-        below_fits = c.below_of-below.type_inv;
+        is_below = c.below_sets-sets.ensures c.loop-switch.switch c.loop-switch-test.true;
+        is_outside = outside_is c.args.routes.now c.loop-switch.switch (get_or c.below_sets-sets.result c.loop-switch.switch 0) c.loop-switch-test.element_fits.fits
+            (c.below_sets-sets.ensures c.loop-switch.switch c.loop-switch-test.true);
+        below_fits = c.loop-switch-test.element_fits.fits;
         outside_fits = omega arith;
         is_parent = c.parent_of.ensures.is;
         is_low = c.parent_of.ensures.low;

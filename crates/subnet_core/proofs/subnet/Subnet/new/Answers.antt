@@ -8,12 +8,12 @@ of-requires c = rw c.configuration.ensures (roster_is_configured c.args.roster c
 
 pub invariant_of-result : goal.invariant_of-result
 invariant_of-result c = λ whole.
-    stands_at_start c.args.roster (record { routes = c.up.inside.routes; fabric = c.up.inside.fabric }) c.in_ok-registry.registry
-    c.known_listed.ensures (rw (← c.up.view_is) at c.requires) (rw c.configuration.ensures at c.in_ok-registry.ensures)
+    stands_at_start c.args.roster (record { routes = c.up.inside.routes; fabric = c.up.inside.fabric }) c.in_ok-administrator.administrator
+    c.known_listed.ensures (rw (← c.up.view_is) at c.requires) (rw c.configuration.ensures at c.in_ok-administrator.ensures)
 
 pub returns-clause-started : goal.returns-clause-started
 returns-clause-started c = record {
   up = rw (← c.up.view_is) at c.requires;
-  administration = ap (λ (registry : RegistryState). registry.administration) (rw c.configuration.ensures at c.in_ok-registry.ensures);
+  administration = ap (λ (registry : RegistryState). registry.administration) (rw c.configuration.ensures at c.in_ok-administrator.ensures);
   whole = refl;
 }

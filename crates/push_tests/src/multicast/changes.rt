@@ -1,0 +1,187 @@
+//! Blocks of masks that change are set, and no others.
+
+use super::by_chance::{adapter_lids, fabric_text};
+use super::{MLID, TWO, block_of, push};
+use crate::fixtures::{found, routes_over};
+use fabric_wire::{CountingWire, Fabric, SmpWire};
+use std::alloc::Global;
+use std::process::Abort;
+use std::test::Fail;
+use subnet_model::GroupReceiver;
+use table_push::push_changed;
+use test_fabrics::{Chance, fabric_of, fat_tree_of};
+use updn_routes::Routes;
+
+/// The blocks of the slice of partition 1 at all switches.
+fn blocks<W: SmpWire>(alloc: Global, wire: &mut W, routes: &Routes) -> Result<Vec<[u8; 64]>, Fail> {
+    let mut blocks = Vec::new(alloc);
+    for switch in routes.graph().switches() {
+        for position in 0..3u32 {
+            let block = block_of(wire, switch.path.as_slice(), 1, position)?;
+            blocks.push(block).ok().ok_or("memory")?;
+        }
+    }
+    Ok(blocks)
+}
+
+fn differing(blocks: &[[u8; 64]], others: &[[u8; 64]]) -> usize {
+    blocks
+        .iter()
+        .zip(others)
+        .filter(|(block, other)| block != other)
+        .count()
+}
+
+/// Pushes what changes in the slice of partition 1, by one SMP for each block that is told and then differs.
+fn change(
+    rt: &impl Abort,
+    alloc: Global,
+    wire: &mut CountingWire<Fabric>,
+    routes: &Routes,
+    before: &[GroupReceiver],
+    after: &[GroupReceiver],
+) -> Result<u32, Fail> {
+    let blocks_before = blocks(alloc, wire, routes)?;
+    wire.count = 0;
+    let count = push_changed(wire, routes, 1, before, after).or(Err("a push"))?;
+    assert_eq!(rt; wire.count, u64::from(count));
+    let blocks_after = blocks(alloc, wire, routes)?;
+    assert_eq!(rt; differing(&blocks_before, &blocks_after), count as usize);
+    Ok(count)
+}
+
+const ONE: [GroupReceiver; 1] = [GroupReceiver { mlid: MLID, lid: 4 }];
+
+/// h1 joins a group, h2 does, both join again, and the group ends: A and B have another mask each time, or the same.
+const CHANGES: [(&[GroupReceiver], &[GroupReceiver], u32); 4] = [
+    (&[], &ONE, 2),
+    (&ONE, &TWO, 2),
+    (&TWO, &TWO, 0),
+    (&TWO, &[], 2),
+];
+
+#[test]
+fn blocks_of_the_switches_that_change_are_set(rt: HostRuntime) -> Result<(), Fail> {
+    let (wire, routes) = found(rt.alloc())?;
+    let mut counting = CountingWire { wire, count: 0 };
+    for (before, after, count) in CHANGES {
+        assert_eq!(rt;
+            change(&rt, rt.alloc(), &mut counting, &routes, before, after)?,
+            count
+        );
+    }
+    Ok(())
+}
+
+/// One receiver of one of three groups more, or one fewer.
+fn one_changed(
+    alloc: Global,
+    before: &[GroupReceiver],
+    lids: &[u16],
+    chance: &mut Chance,
+) -> Result<Vec<GroupReceiver>, Fail> {
+    let place = usize::from(chance.below(250)) % lids.len().max(1);
+    let one = GroupReceiver {
+        mlid: MLID + u16::from(chance.below(3)),
+        lid: *lids.get(place).ok_or("a LID")?,
+    };
+    let mut after = Vec::new(alloc);
+    for other in before {
+        if *other != one {
+            after.push(*other).ok().ok_or("memory")?;
+        }
+    }
+    if after.len() == before.len() {
+        after.push(one).ok().ok_or("memory")?;
+    }
+    Ok(after)
+}
+
+/// Who receives after 200 joins and leaves.
+fn change_200_times(
+    rt: &impl Abort,
+    alloc: Global,
+    wire: &mut CountingWire<Fabric>,
+    routes: &Routes,
+    chance: &mut Chance,
+) -> Result<Vec<GroupReceiver>, Fail> {
+    let lids = adapter_lids(alloc, routes)?;
+    let mut receivers = Vec::new(alloc);
+    for _ in 0..200u16 {
+        let after = one_changed(alloc, &receivers, &lids, chance)?;
+        change(rt, alloc, wire, routes, &receivers, &after)?;
+        receivers = after;
+    }
+    Ok(receivers)
+}
+
+/// The blocks that a whole push leaves on a fabric that had none.
+fn blocks_pushed(
+    alloc: Global,
+    text: &[u8],
+    routes: &Routes,
+    receivers: &[GroupReceiver],
+) -> Result<Vec<[u8; 64]>, Fail> {
+    let mut fabric = fabric_of(alloc, text)?;
+    push(&mut fabric, routes, 1, receivers)?;
+    blocks(alloc, &mut fabric, routes)
+}
+
+fn masks_are_as_pushed(
+    rt: &impl Abort,
+    alloc: Global,
+    text: &[u8],
+    chance: &mut Chance,
+) -> Result<(), Fail> {
+    let mut counting = CountingWire {
+        wire: fabric_of(alloc, text)?,
+        count: 0,
+    };
+    let routes = routes_over(alloc, &mut counting, &[])?;
+    let receivers = change_200_times(rt, alloc, &mut counting, &routes, chance)?;
+    let changed = blocks(alloc, &mut counting, &routes)?;
+    assert_eq!(rt; changed, blocks_pushed(alloc, text, &routes, &receivers)?);
+    Ok(())
+}
+
+#[test]
+fn by_chance_changes_come_to_what_a_whole_push_leaves(rt: HostRuntime) -> Result<(), Fail> {
+    let mut chance = Chance { state: 73 };
+    for _ in 0..20u16 {
+        let text = fabric_text(rt.alloc(), &mut chance)?;
+        masks_are_as_pushed(&rt, rt.alloc(), &text, &mut chance)?;
+    }
+    Ok(())
+}
+
+/// A group of all adapters of eight leaves ends: each of the 16 switches had a mask.
+#[test]
+fn a_group_on_eight_switches_ends(rt: HostRuntime) -> Result<(), Fail> {
+    let mut counting = CountingWire {
+        wire: fat_tree_of(rt.alloc(), 8)?,
+        count: 0,
+    };
+    let routes = routes_over(rt.alloc(), &mut counting, &[])?;
+    let lids = adapter_lids(rt.alloc(), &routes)?;
+    let receivers = of_all(rt.alloc(), &lids)?;
+    let begun = change(&rt, rt.alloc(), &mut counting, &routes, &[], &receivers)?;
+    assert!(rt; begun >= 16);
+    assert_eq!(rt;
+        change(&rt, rt.alloc(), &mut counting, &routes, &receivers, &[])?,
+        begun
+    );
+    Ok(())
+}
+
+/// All of them receive.
+fn of_all(alloc: Global, lids: &[u16]) -> Result<Vec<GroupReceiver>, Fail> {
+    let mut receivers = Vec::new(alloc);
+    for lid in lids {
+        let one = GroupReceiver {
+            mlid: MLID,
+            lid: *lid,
+        };
+        receivers.push(one).ok().ok_or("memory")?;
+    }
+    Ok(receivers)
+}

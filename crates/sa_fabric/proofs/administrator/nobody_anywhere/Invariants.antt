@@ -1,0 +1,6 @@
+use Rattle.std.proofs.Common.{◌≡◌, []}
+use Rattle.std.specs.List.{All}
+use Rattle.sa_fabric.proofs.administrator.nobody_anywhere.Given as goal
+
+abbrev pub invariant-loop-number : goal.invariant-loop-number
+invariant-loop-number l = All (λ receivers. receivers ≡ []) l.received.items

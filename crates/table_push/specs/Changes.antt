@@ -1,0 +1,33 @@
+-- What a push of changed blocks is over, and how many blocks those are.
+use Rattle.std.specs.Prelude.{ℕ, ◌≡◌, Bool, not, nat_eq, List, [], filter, get_or, length}
+use Rattle.std.specs.Cmp.Lexicographic.{pointwise}
+use Rattle.std.specs.List.{range_with_len, sum_by}
+use Rattle.smp_wire.specs.FabricState.{FabricState}
+use Rattle.table_push.specs.Masks.{masks_pushed, set_slice, wanted_slice}
+use Rattle.table_push.specs.Nodes.{on_switch, with_switches}
+use Rattle.updn_routes.specs.Subnet.{RoutesState}
+
+-- the masks of the slice are those of this test already: to push them changes nothing
+abbrev pub HasSlice : RoutesState → (partition : ℕ) → (receives : ℕ → ℕ → Bool) → FabricState → Type 0
+HasSlice routes partition receives fabric = masks_pushed routes partition receives fabric ≡ fabric
+
+-- the switch of that GUID has these blocks of the slice already
+abbrev pub HasBlocks : (guid partition : ℕ) → (blocks : List (List ℕ)) → FabricState → Type 0
+HasBlocks guid partition blocks fabric = with_switches (on_switch guid (set_slice partition blocks)) fabric ≡ fabric
+
+-- the blocks at a position are not the same
+abbrev pub is_changed : (before after : List (List ℕ)) → (position : ℕ) → Bool
+is_changed before after position = not (pointwise nat_eq (get_or before position []) (get_or after position []))
+
+-- of a switch's blocks how many are others after than before
+abbrev pub blocks_changed : (before after : List (List ℕ)) → ℕ
+blocks_changed before after = length (filter (is_changed before after) (range_with_len 0 3))
+
+-- of all switches'
+abbrev pub changed_at : RoutesState → (partition : ℕ) → (before after : ℕ → ℕ → Bool) → (place : ℕ) → ℕ
+changed_at routes partition before after place =
+    blocks_changed (wanted_slice routes partition before place) (wanted_slice routes partition after place)
+
+abbrev pub all_changed : RoutesState → (partition : ℕ) → (before after : ℕ → ℕ → Bool) → ℕ
+all_changed routes partition before after =
+    sum_by (changed_at routes partition before after) (range_with_len 0 (length routes.graph.switches))
