@@ -1,5 +1,5 @@
--- What each step of a push comes to: the clauses of `src/ports.rt`, `keys.rt`, `multicast.rt` and `setting.rt`. A wire stood for a fabric
--- before the step, and is left standing for one.
+-- What each step of a push comes to: the clauses of `src/ports.rt`, `keys.rt`, `multicast.rt` and `setting.rt`. A wire stood
+-- for a fabric before the step, and is left standing for one.
 use Rattle.std.specs.Prelude.{ℕ, ◌≡◌, ◌+◌, ◌*◌, ◌==◌, ◌&&◌, ◌||◌, Bool, List, length, slice_get, Option, Some, Result, Ok}
 use Rattle.attr_tables.specs.Blocks.{word_bytes}
 use Rattle.attr_tables.specs.declared.smp_attribute.SmpAttribute.{SmpAttribute}

@@ -13,8 +13,8 @@ ghost use Rattle.table_push.specs.Pushes.{LeadsToSwitch, Leaves};
 ghost use Rattle.table_push.specs.TreeSteps.{blocks_of};
 
 use crate::fault::PushFault;
-use crate::multicast::{masks_of_slice, set_block};
-use crate::trees::{bits_of, blocks_of, tree_of};
+use crate::multicast::{put_slice, set_block};
+use crate::trees::{blocks_of, tree_of};
 use attr_tables::WORDS_PER_BLOCK;
 use fabric_parts::SWITCHES;
 use smp_wire::SmpWire;
@@ -45,8 +45,10 @@ pub fn push_changed<W: SmpWire>(
     graph.known_graph();
     let switches = graph.switches();
     let tree = tree_of(routes);
-    let masks_before = masks_of_slice(routes, &tree, partition, before);
-    let masks_after = masks_of_slice(routes, &tree, partition, after);
+    let mut masks_before = [[0; SWITCHES]; WORDS_PER_BLOCK];
+    put_slice(routes, &tree, partition, before, &mut masks_before);
+    let mut masks_after = [[0; SWITCHES]; WORDS_PER_BLOCK];
+    put_slice(routes, &tree, partition, after, &mut masks_after);
     let mut transaction_id = 0;
     let mut count = 0;
     for place in 0..switches.len() {
@@ -78,7 +80,12 @@ fn is_same_at(
     requires { place < 64 }
     ensures { result ≡ true → blocks_of masks.now place ≡ blocks_of others.now place }
 {
-    bits_of(masks, place) == bits_of(others, place)
+    for slot in 0..WORDS_PER_BLOCK {
+        if masks[slot][place] != others[slot][place] {
+            return false;
+        }
+    }
+    true
 }
 
 /// Sets the blocks of a partition that differ at the switch at the end of a path, and answers how many.

@@ -4,9 +4,10 @@
 //! ports of switches that they hang on, [`push_linear`] the linear forwarding tables of all switches. Nodes are reached by
 //! the paths that the sweep found, blocks are set whole, and each reply is compared with what was set: [`PushFault`] says
 //! why a push stops. [`push_multicast`] writes the multicast forwarding tables of a partition, by who receives what is sent
-//! to each multicast LID, and [`push_changed`] the blocks of it that differ from those that stand there. [`push_all`] does the first three: `specs/BroughtUp.antt` says what a fabric holds then, that it does is
-//! [`pushes_bring_up`], and that every packet goes by its LID then is [`brought_up_forwards_by_lid`], for routes that lead
-//! to each port ([`known_to_lead_home`]).
+//! to each multicast LID, and [`push_changed`] the blocks of them that differ from those that stand there. [`push_all`] does
+//! the first three: `specs/BroughtUp.antt` says what a fabric holds then, that it does is [`pushes_bring_up`], and that every
+//! packet goes by its LID then is [`brought_up_forwards_by_lid`], for routes that lead to each port
+//! ([`known_to_lead_home`]).
 //! The attributes are those of the IBA volume 1, chapter 14.
 #![tactic(auto)]
 

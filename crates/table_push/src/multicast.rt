@@ -14,9 +14,9 @@ ghost use Rattle.table_push.specs.Steps.{SetsBlock};
 ghost use Rattle.table_push.specs.TreeSteps.{AreMasksOf, IsTree};
 
 use crate::fault::PushFault;
-use crate::seats::bits_of_seats;
+use crate::seats::put_seats;
 use crate::setting::set;
-use crate::trees::{Tree, blocks_of, masks_along, tree_of};
+use crate::trees::{Tree, blocks_of, put_masks, tree_of};
 use attr_tables::{SmpAttribute, WORDS_PER_BLOCK, WordBlock};
 use fabric_parts::SWITCHES;
 use smp_wire::SmpWire;
@@ -42,7 +42,8 @@ pub fn push_multicast<W: SmpWire>(
     graph.known_graph();
     let switches = graph.switches();
     let tree = tree_of(routes);
-    let masks = masks_of_slice(routes, &tree, partition, receivers);
+    let mut masks = [[0; SWITCHES]; WORDS_PER_BLOCK];
+    put_slice(routes, &tree, partition, receivers, &mut masks);
     let mut transaction_id = 0;
     for place in 0..switches.len() {
         let blocks = blocks_of(&masks, place);
@@ -60,22 +61,25 @@ pub fn push_multicast<W: SmpWire>(
     Ok(())
 }
 
-/// The masks of the slice of a partition, for each switch.
-pub(crate) fn masks_of_slice(
+/// Puts the masks of the slice of a partition, for each switch.
+pub(crate) fn put_slice(
     routes: &Routes,
     tree: &Tree,
     partition: u16,
     receivers: &[GroupReceiver],
-) -> [[u64; SWITCHES]; WORDS_PER_BLOCK]
+    masks: &mut [[u64; SWITCHES]; WORDS_PER_BLOCK],
+)
     requires tree { IsTree routes.now tree.now 64 }
     requires partition { partition < 32 }
-    ensures { AreMasksOf routes.now partition (receives_of receivers.now) result }
+    ensures { AreMasksOf routes.now partition (receives_of receivers.now) masks.new }
 {
     routes.graph().known_graph();
     routes.known_of_graph();
     routes.between().known_routes();
-    let seats = bits_of_seats(routes, partition, receivers);
-    masks_along(tree, &seats)
+    let mut ports = [[0; SWITCHES]; WORDS_PER_BLOCK];
+    let mut switches = [0; WORDS_PER_BLOCK];
+    put_seats(routes, partition, receivers, &mut ports, &mut switches);
+    put_masks(tree, &ports, &switches, masks);
 }
 
 /// Sets the slice of a partition at the switch at the end of a path, position by position.

@@ -16,26 +16,20 @@ pub(crate) struct Seat {
     pub(crate) home: PortRef,
 }
 
-/// For each multicast LID of a slice, where its receivers hang.
-#[derive(Debug, Drop)]
-pub(crate) struct SeatBits {
-    /// For each switch the bits of its ports.
-    pub(crate) ports: [[u64; SWITCHES]; WORDS_PER_BLOCK],
-    /// The bits of the switches.
-    pub(crate) switches: [u64; WORDS_PER_BLOCK],
-}
-
-/// Where the receivers of the multicast LIDs of a slice hang.
-pub(crate) fn bits_of_seats(
+/// Puts where the receivers of the multicast LIDs of a slice hang, where nobody hangs yet: for each of these LIDs the bits of
+/// the ports of each switch, and the bits of the switches.
+pub(crate) fn put_seats(
     routes: &Routes,
     partition: u16,
     receivers: &[GroupReceiver],
-) -> SeatBits
-    requires { partition < 32 }
-    ensures { AreHanging routes.now partition receivers.now result.ports result.switches }
+    ports: &mut [[u64; SWITCHES]; WORDS_PER_BLOCK],
+    switches: &mut [u64; WORDS_PER_BLOCK],
+)
+    requires partition { partition < 32 }
+    requires ports { ports.old ≡ replicate 32 (replicate 64 0) }
+    requires switches { switches.old ≡ replicate 32 0 }
+    ensures { AreHanging routes.now partition receivers.now ports.new switches.new }
 {
-    let mut ports = no_ports();
-    let mut switches = [0; WORDS_PER_BLOCK];
     for index in 0..receivers.len() {
         match seat_of(routes, partition, &receivers[index]) {
             Some(seat) => {
@@ -45,14 +39,6 @@ pub(crate) fn bits_of_seats(
             None => {}
         }
     }
-    SeatBits { ports, switches }
-}
-
-/// No port of any switch.
-pub(crate) fn no_ports() -> [[u64; SWITCHES]; WORDS_PER_BLOCK]
-    ensures { result ≡ replicate 32 (replicate 64 0) }
-{
-    [[0; SWITCHES]; WORDS_PER_BLOCK]
 }
 
 /// The seat of a receiver, if its multicast LID is of the slice and an adapter's port has its LID.

@@ -8,7 +8,6 @@ ghost use Rattle.table_push.specs.TreeSteps.{ArePut, AreSpread, IsBelowSet, IsLo
 ghost use Rattle.updn_routes.specs.Sides.{is_below, parent};
 
 use crate::masks::{port_bit, tree_end, words_at};
-use crate::seats::{SeatBits, no_ports};
 use attr_tables::WORDS_PER_BLOCK;
 use fabric_parts::SWITCHES;
 use switch_model::POSITIONS;
@@ -129,17 +128,20 @@ fn end_bit(routes: &Routes, switch: usize) -> u64
     }
 }
 
-/// The masks of each multicast LID of a slice, for each switch.
-pub(crate) fn masks_along(tree: &Tree, seats: &SeatBits) -> [[u64; SWITCHES]; WORDS_PER_BLOCK]
+/// Puts the masks of each multicast LID of a slice, for each switch, by the ports and switches on which receivers hang.
+pub(crate) fn put_masks(
+    tree: &Tree,
+    ports: &[[u64; SWITCHES]; WORDS_PER_BLOCK],
+    switches: &[u64; WORDS_PER_BLOCK],
+    masks: &mut [[u64; SWITCHES]; WORDS_PER_BLOCK],
+)
     requires { (c : ℕ) → c < 64 → IsLow (get_or tree.now.parents c None) }
-    ensures long { length result ≡ 32 }
-    ensures spread { AreSpread tree.now seats.now.ports seats.now.switches 32 result }
+    ensures long { length masks.new ≡ 32 }
+    ensures spread { AreSpread tree.now ports.now switches.now 32 masks.new }
 {
-    let mut masks = no_ports();
     for slot in 0..WORDS_PER_BLOCK {
-        masks[slot] = masks_of(tree, &seats.ports[slot], seats.switches[slot]);
+        masks[slot] = masks_of(tree, &ports[slot], switches[slot]);
     }
-    masks
 }
 
 /// The masks of a multicast LID, for each switch.
@@ -196,10 +198,7 @@ pub(crate) fn blocks_of(
 }
 
 /// The masks of a switch.
-pub(crate) fn bits_of(
-    masks: &[[u64; SWITCHES]; WORDS_PER_BLOCK],
-    place: usize,
-) -> [u64; WORDS_PER_BLOCK]
+fn bits_of(masks: &[[u64; SWITCHES]; WORDS_PER_BLOCK], place: usize) -> [u64; WORDS_PER_BLOCK]
     requires { place < 64 }
     ensures { result ≡ map (λ row. get_or row place 0) masks.now }
 {

@@ -38,9 +38,9 @@ returns-in-Err-clause-pushed g c x stands of good slice =
     left_part (λ a b. a == b) _ _ (subst (λ (graph : GraphState). IsDistinct (λ a b. a == b) (end_guids graph.switches graph.ports)) c.graph-graph.ensures c.known_graph.ensures.guids) in
     let less : c.loop-place.place < length c.args.routes.now.graph.switches = omega (arith, c.loop-place-test.true, long) in
     let had : c.blocks_of-blocks_before.result ≡ wanted_slice c.args.routes.now c.args.partition (receives_of c.args.before.now) c.loop-place.place =
-    c.blocks_of-blocks_before.ensures ∙ c.masks_of_slice-masks_before.ensures c.loop-place.place less in
+    c.blocks_of-blocks_before.ensures ∙ c.put_slice.ensures c.loop-place.place less in
     let has : c.blocks_of-blocks_after.result ≡ wanted_slice c.args.routes.now c.args.partition (receives_of c.args.after.now) c.loop-place.place =
-    c.blocks_of-blocks_after.ensures ∙ c.masks_of_slice-masks_after.ensures c.loop-place.place less in
+    c.blocks_of-blocks_after.ensures ∙ c.put_slice-2.ensures c.loop-place.place less in
     let leaves = place_more _ _ _ x c.args.routes.now c.args.partition (receives_of c.args.before.now) (receives_of c.args.after.now) c.loop-place.place switch c.as_slice.result.now
     c.blocks_of-blocks_before.result c.blocks_of-blocks_after.result less there own path had has of slice (c.loop-place.invariant.stands x stands of good slice) c.set_changed.ensures.pushed in
     absurd (false≢true (subst (λ (result : Result ℕ PushFault). IsOk result) c.in-Err.is leaves.done))
@@ -62,9 +62,9 @@ loop-place-preserved g c =
           left_part (λ a b. a == b) _ _ (subst (λ (graph : GraphState). IsDistinct (λ a b. a == b) (end_guids graph.switches graph.ports)) c.graph-graph.ensures c.known_graph.ensures.guids) in
           let less : c.loop-place.place < length c.args.routes.now.graph.switches = omega (arith, c.loop-place-test.true, long) in
           let had : w.blocks_of-blocks_before.result ≡ wanted_slice c.args.routes.now c.args.partition (receives_of c.args.before.now) c.loop-place.place =
-          w.blocks_of-blocks_before.ensures ∙ c.masks_of_slice-masks_before.ensures c.loop-place.place less in
+          w.blocks_of-blocks_before.ensures ∙ c.put_slice.ensures c.loop-place.place less in
           let has : w.blocks_of-blocks_after.result ≡ wanted_slice c.args.routes.now c.args.partition (receives_of c.args.after.now) c.loop-place.place =
-          w.blocks_of-blocks_after.ensures ∙ c.masks_of_slice-masks_after.ensures c.loop-place.place less in
+          w.blocks_of-blocks_after.ensures ∙ c.put_slice-2.ensures c.loop-place.place less in
           record {
             stands = λ fabric stands of good slice.
                 subst (λ (stood : Option FabricState). Stands stood fabric (with_switches (masks_before c.args.routes.now c.args.partition (receives_of c.args.after.now) (c.loop-place.place + 1)) fabric))
@@ -85,7 +85,7 @@ loop-place-preserved g c =
           let there = some_there c.args.routes.now.graph.switches c.loop-place.place less in
           let same : wanted_slice c.args.routes.now c.args.partition (receives_of c.args.before.now) c.loop-place.place
           ≡ wanted_slice c.args.routes.now c.args.partition (receives_of c.args.after.now) c.loop-place.place =
-          sym (c.masks_of_slice-masks_before.ensures c.loop-place.place less) ∙ c.is_same_at.ensures w.if-not-is_same_at.false ∙ c.masks_of_slice-masks_after.ensures c.loop-place.place less in
+          sym (c.put_slice.ensures c.loop-place.place less) ∙ c.is_same_at.ensures w.if-not-is_same_at.false ∙ c.put_slice-2.ensures c.loop-place.place less in
           let none : test c.loop-place.place ≡ 0 = none_changed _ _ same in
           let zero : c.loop-place.count ≡ c.loop-place.count + 0 = omega arith in
           record {

@@ -29,7 +29,7 @@ returns-in-Err g c x stands of good =
     left_part (λ a b. a == b) _ _ (subst (λ (graph : GraphState). IsDistinct (λ a b. a == b) (end_guids graph.switches graph.ports)) c.graph-graph.ensures c.known_graph.ensures.guids) in
     let less : c.loop-place.place < length c.args.routes.now.graph.switches = omega (arith, c.loop-place-test.true, long) in
     let right : c.blocks_of-blocks.result ≡ wanted_slice c.args.routes.now c.args.partition (receives_of c.args.receivers.now) c.loop-place.place =
-    c.blocks_of-blocks.ensures ∙ c.masks_of_slice-masks.ensures c.loop-place.place less in
+    c.blocks_of-blocks.ensures ∙ c.put_slice.ensures c.loop-place.place less in
     absurd (no_fault c.in-Err.fault _ x _ (subst (λ (result : Result (Unit {0}) PushFault). Leaves result (g.W.SmpWire.fabric c.set_slice.new.wire) x (with_switches (masks_before c.args.routes.now c.args.partition (receives_of c.args.receivers.now) (c.loop-place.place + 1)) x)) c.in-Err.is
     (push_more _ _ _ x c.args.routes.now c.args.partition (receives_of c.args.receivers.now) c.loop-place.place switch c.blocks_of-blocks.result
     less there own right
@@ -50,7 +50,7 @@ loop-place-preserved g c x stands of good =
     left_part (λ a b. a == b) _ _ (subst (λ (graph : GraphState). IsDistinct (λ a b. a == b) (end_guids graph.switches graph.ports)) c.graph-graph.ensures c.known_graph.ensures.guids) in
     let less : c.loop-place.place < length c.args.routes.now.graph.switches = omega (arith, c.loop-place-test.true, long) in
     let right : c.blocks_of-blocks.result ≡ wanted_slice c.args.routes.now c.args.partition (receives_of c.args.receivers.now) c.loop-place.place =
-    c.blocks_of-blocks.ensures ∙ c.masks_of_slice-masks.ensures c.loop-place.place less in
+    c.blocks_of-blocks.ensures ∙ c.put_slice.ensures c.loop-place.place less in
     (push_more _ _ _ x c.args.routes.now c.args.partition (receives_of c.args.receivers.now) c.loop-place.place switch c.blocks_of-blocks.result
     less there own right
     (graph_leads x c.args.routes.now.graph c.loop-place.place switch of there) (c.loop-place.invariant x stands of good)

@@ -1,11 +1,13 @@
-use Rattle.std.proofs.Common.{◌∙◌, sym}
+use Rattle.std.proofs.Common.{◌∙◌, subst, sym, []}
 use Rattle.std.proofs.lemmas.Option.{slice_get-get_or}
-use Rattle.table_push.proofs.SeatBitLemmas.{all_seated, none_hang, seated, unseated}
-use Rattle.table_push.proofs.seats.bits_of_seats.Goals.{in-Some, in-None}
-use Rattle.table_push.proofs.seats.bits_of_seats.Goals as goal
+use Rattle.table_push.proofs.SeatBitLemmas.{SoFar, all_seated, none_hang, seated, unseated}
+use Rattle.table_push.proofs.seats.put_seats.Goals.{in-Some, in-None}
+use Rattle.table_push.proofs.seats.put_seats.Goals as goal
 
 pub loop-index-init : goal.loop-index-init
-loop-index-init c = none_hang c.args.routes.now c.args.partition c.no_ports-ports.result c.no_ports-ports.ensures
+loop-index-init c =
+    subst (SoFar c.args.routes.now c.args.partition [] c.args.ports.now) (sym c.requires.switches)
+    (none_hang c.args.routes.now c.args.partition c.args.ports.now c.requires.ports)
 
 pub loop-index-preserved : goal.loop-index-preserved
 loop-index-preserved c = elim c.match-seat_of.branch [

@@ -1,6 +1,6 @@
 use Rattle.std.proofs.Common.{take}
 use Rattle.table_push.proofs.SeatBitLemmas.{SoFar}
-use Rattle.table_push.proofs.seats.bits_of_seats.Given as goal
+use Rattle.table_push.proofs.seats.put_seats.Given as goal
 
 -- where the first receivers hang
 abbrev pub invariant-loop-index : goal.invariant-loop-index
