@@ -11,3 +11,12 @@ send h1/1 0xc000 0xffff 7 2:beef
 pub const REPORT: &str = "h2/1 recv 0x0004 0x0005 0xffff 0x000007 2:beef
 h1/1 recv 0x0004 0x0004 0xffff 0x000007 2:beef
 ";
+
+/// A fault behind the first of these lines.
+pub const FAULTY: &str = "send h1/1 5 0xffff 7 2:beef
+frob h1/1
+send h1/1 4 0xffff 7 2:beef
+";
+
+/// What is told before it.
+pub const FIRST: &str = "h2/1 recv 0x0004 0x0005 0xffff 0x000007 2:beef\n";

@@ -1,7 +1,7 @@
 //! Files, outputs and words that are refused.
 
 use crate::calls::{RUN, plain, read_so, sink, told};
-use crate::fixtures::{REPORT, SENDS};
+use crate::fixtures::{FAULTY, FIRST, REPORT, SENDS};
 use crate::memory::{Manner, Refusal, Source};
 use example_texts::TWO_SWITCHES;
 use std::alloc::Global;
@@ -10,8 +10,15 @@ use std::test::Fail;
 
 /// The names of the topology, the partition file and the script; the status, both outputs, and how many files
 /// were opened.
-const READ: [([&str; 3], u8, &str, &str, usize); 12] = [
+const READ: [([&str; 3], u8, &str, &str, usize); 13] = [
     (["net", "-", "sends"], 0, REPORT, "", 2),
+    (
+        ["net", "-", "faulty"],
+        1,
+        FIRST,
+        "fault SF1 script line 2\n",
+        2,
+    ),
     (["net", "-", "slow"], 0, REPORT, "", 2),
     (["net", "-", "long"], 0, "", "", 2),
     (["net", "-", "endless"], 3, "", "fault read endless\n", 2),
@@ -49,6 +56,7 @@ fn files_that_are_not_read(rt: HostRuntime) -> Result<(), Fail> {
     let files = [
         ("net", plain(TWO_SWITCHES.as_bytes())),
         ("sends", plain(SENDS.as_bytes())),
+        ("faulty", plain(FAULTY.as_bytes())),
         ("bad", plain(b"swich")),
         ("slow", read_so(Manner::Interrupted, SENDS.as_bytes())),
         ("failing", read_so(Manner::Failing, SENDS.as_bytes())),
@@ -85,6 +93,9 @@ fn is_answered(
 /// The report is of 94 bytes: eleven writes of eight bytes, and one of the rest.
 const LAST: usize = 11;
 
+/// What is told of the faulty script is of 47 bytes: six writes.
+const LAST_OF_FIRST: usize = 6;
+
 /// After how many writes an output refuses, how, whether it can be flushed, and the status.
 const WRITTEN: [(usize, Refusal, bool, u8); 9] = [
     (0, Refusal::Broken, true, 3),
@@ -109,6 +120,34 @@ fn output_that_is_not_written(rt: HostRuntime) -> Result<(), Fail> {
         let told = told(rt.alloc(), &RUN, &files, &mut sink)?;
         let line: &str = if status == 0 { "" } else { "fault write\n" };
         let part = REPORT.as_bytes().get(..REPORT.len().min(8 * writes));
+        assert_eq!(rt; told.status, status, "after {writes} writes");
+        assert_eq!(rt;
+            told.err.as_slice(),
+            line.as_bytes(),
+            "after {writes} writes"
+        );
+        assert_eq!(rt; Some(told.out.as_slice()), part, "after {writes} writes");
+    }
+    Ok(())
+}
+
+/// After how many writes an output refuses the report of a script with a fault; the status, and why.
+const BROKEN: [(usize, u8, &str); 3] = [
+    (0, 3, "fault write\n"),
+    (LAST_OF_FIRST - 1, 3, "fault write\n"),
+    (LAST_OF_FIRST, 1, "fault SF1 script line 2\n"),
+];
+
+#[test]
+fn output_up_to_a_fault_that_is_not_written(rt: HostRuntime) -> Result<(), Fail> {
+    let files = [
+        ("net.topo", plain(TWO_SWITCHES.as_bytes())),
+        ("sends", plain(FAULTY.as_bytes())),
+    ];
+    for (writes, status, line) in BROKEN {
+        let mut sink = sink(rt.alloc(), writes, Refusal::Broken, true);
+        let told = told(rt.alloc(), &RUN, &files, &mut sink)?;
+        let part = FIRST.as_bytes().get(..FIRST.len().min(8 * writes));
         assert_eq!(rt; told.status, status, "after {writes} writes");
         assert_eq!(rt;
             told.err.as_slice(),

@@ -11,8 +11,9 @@ pub const READ: &str = "\
 read: a file is not read
 
 Each file that the words name is there, no read of it fails, and its end comes within 1,048,576
-reads of at most 256 bytes. That is asked of all files before any is judged. PARTS and PARTS2 are
-`-` where there is no such file. The status is 3.
+reads of at most 256 bytes. That is asked of all files before any is judged; but SCRIPT has only to
+be there then, and is read while it runs, so part of the report may have gone out. PARTS and PARTS2
+are `-` where there is no such file. The status is 3.
 
 Where there is no file `net.topo`, `fabric check net.topo -` is told as `fault read net.topo`.
 ";

@@ -9,7 +9,7 @@ use Rattle.call_words.specs.declared.call.Work.{Work}
 use Rattle.call_words.specs.declared.call.Work.TheVariants as work
 use Rattle.fabric_cli.specs.Files.{Contents}
 use Rattle.fabric_cli.specs.Laws.{FilesThatAgreeAreJudgedAlike}
-use Rattle.fabric_cli.specs.Serving.{Bytes, Ending, bytes_if_named, bytes_of, opened_bytes, texts_of, work_of}
+use Rattle.fabric_cli.specs.Serving.{Ending, bytes_if_named, bytes_of, opened_bytes, texts_of, work_of}
 use Rattle.result_words.specs.Steps.{◌>>=◌}
 
 module _ (file other : Contents) where

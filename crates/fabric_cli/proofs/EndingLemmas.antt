@@ -1,6 +1,6 @@
 -- How a call ends, from what was written to both streams.
-use Rattle.std.proofs.Common.{ℕ, ◌≡◌, ◌≢◌, ◌⊎◌, ◌∙◌, inl, inr, refl, sym, append-nil, arith, ap, Bool, List, [], Option, Some, None, IfSome}
-use Rattle.std.proofs.Common.{Result, Ok, Err, option_map, map, string_bytes, String, Global, Vec, subst}
+use Rattle.std.proofs.Common.{ℕ, ◌≡◌, ◌≢◌, ◌⊎◌, ◌∙◌, inl, inr, refl, sym, append-nil, ap, Bool, true, List, [], ◌∷◌, take, length, is_some, unwrap_or, Option, Some, None, IfSome}
+use Rattle.std.proofs.Common.{Result, Ok, Err, option_map, map, string_bytes, String, Global, subst}
 use Rattle.std.specs.Io.KnownBytes.{Appends, Keeps}
 use Rattle.std.specs.declared.io.Error.{Error}
 use Rattle.std.specs.declared.vec.IntoIter.{IntoIter}
@@ -8,98 +8,252 @@ use Rattle.subnet_core.specs.declared.fault.RunFault.{RunFault}
 use Rattle.subnet_core.specs.declared.fault.RunFault.TheVariants as run
 use Rattle.fabric_cli.specs.declared.faults.Stop.{Stop}
 use Rattle.fabric_cli.specs.declared.faults.Stop.TheVariants.{Words, NoMemory, Unread, Unwritten, Run, Second}
-use Rattle.fabric_cli.specs.Faults.{line_of, memory_line, run_line, run_status, status_of, stop_of, NamesUnread}
+use Rattle.fabric_cli.specs.Faults.{line_of, memory_line, run_line, run_status, status_of, stop_of, IsOfFiles, NamesUnread}
 use Rattle.fabric_cli.specs.Files.{Contents, OpensAll, OpensInOrder}
-use Rattle.fabric_cli.specs.Serving.{AppendsSome, Bytes, ComesTo, Ending, complete, faulted, judged_for, output_in, refused, texts_of}
-use Rattle.fabric_cli.specs.Serving.{Ends, EndsAs, ForEnding, ForSomeBytes, IsRefusal, IsRefused, IsTold, RunStops, Stops, TellsStop}
+use Rattle.fabric_cli.specs.Serving.{AppendsSome, Bytes, Ending, broken_off, complete, faulted, judged_for, left_in, output_in, refused, script_in, texts_in, texts_of}
+use Rattle.fabric_cli.specs.Serving.{Answers, BreaksOff, Ends, EndsAs, ForEnding, ForSomeBytes, GoesOut, GoesPartly, IsRefusal, IsRefused, IsToldStop, OfScript, RunStops, Stops, StopsBehind, TellsStop}
+use Rattle.fabric_cli.specs.declared.texts.Texts.{Texts}
 use Rattle.code_texts.specs.Texts.{explained}
 use Rattle.call_words.specs.Refusals.{IsOfGiven, IsOfWords}
 use Rattle.call_words.specs.Words.{Asking, Names, asked_by_given, given_items, given_texts, opened_for}
 use Rattle.call_words.specs.declared.call.Call.TheVariants.{Explain, Subnet}
 use Rattle.call_words.specs.declared.call.Refused.{Refused}
 use Rattle.call_words.specs.declared.call.Refused.TheVariants as refusal
-use Rattle.fabric_cli.specs.Writing.{AppendsPart, Writes}
+use Rattle.text_streams.specs.Writing.{AppendsPart, Writes}
 use Rattle.fabric_cli.proofs.JudgedLemmas.{for_ending}
 use Rattle.fabric_cli.proofs.ServingLemmas.{stop_is_refused}
 
-kept : (known : Option (List ℕ)) → Keeps known known
+pub kept : (known : Option (List ℕ)) → Keeps known known
 kept None = tt
 kept (Some xs) = refl
 
 -- a whole output
-pub written_ends : (judged : Result Bytes Ending) (output : List ℕ) (out out' err : Option (List ℕ)) → ForEnding judged (λ ending. ending ≡ complete output)
-    → Appends out out' output → EndsAs judged 0 out out' err err
-written_ends judged output out out' err is wrote =
-    for_ending judged (λ ending. ending ≡ complete output) (λ ending. Ends ending 0 out out' err err) (λ ending same. rw same (refl, wrote, kept err)) is
+goes_out_ends : (out out' err : Option (List ℕ)) (ending : Ending) → GoesOut ending out out' → Ends ending 0 out out' err err
+goes_out_ends out out' err (refused shown) is = absurd is
+goes_out_ends out out' err (faulted status line) is = absurd is
+goes_out_ends out out' err (complete output) is = (refl, is, kept err)
+goes_out_ends out out' err (broken_off line output) is = absurd is
 
--- and what of it went out
-pub written_some : (judged : Result Bytes Ending) (output : List ℕ) (out out' : Option (List ℕ)) → ForEnding judged (λ ending. ending ≡ complete output)
-    → AppendsPart out out' output → AppendsSome judged out out'
-written_some judged output out out' is wrote =
-    inr (for_ending judged (λ ending. ending ≡ complete output) (λ ending. AppendsPart out out' (output_in ending)) (λ ending same. rw same wrote) is)
+pub done_ends : (judged : Result Bytes Ending) (out out' err : Option (List ℕ)) → ForEnding judged (λ ending. GoesOut ending out out') → EndsAs judged 0 out out' err err
+done_ends judged out out' err is =
+    for_ending judged (λ ending. GoesOut ending out out') (λ ending. Ends ending 0 out out' err err) (goes_out_ends out out' err) is
 
 -- a fault that is printed, and is no refusal of the machine
-fault_ends : (judged : Result Bytes Ending) (line : List ℕ) (answer : ℕ) (out err err' : Option (List ℕ)) → ForEnding judged (λ ending. ending ≡ faulted 1 line)
-    → answer ≡ 1 → Appends err err' line → EndsAs judged answer out out err err'
-fault_ends judged line answer out err err' is one told =
-    for_ending judged (λ ending. ending ≡ faulted 1 line) (λ ending. Ends ending answer out out err err') (λ ending same. rw same (one, kept out, told)) is
+fault_ends : (judged : Result Bytes Ending) (line : List ℕ) (answer : ℕ) (out out' err err' : Option (List ℕ)) → ForEnding judged (λ ending. ending ≡ faulted 1 line)
+    → Keeps out out' → answer ≡ 1 → Appends err err' line → EndsAs judged answer out out' err err'
+fault_ends judged line answer out out' err err' is same one told =
+    for_ending judged (λ ending. ending ≡ faulted 1 line) (λ ending. Ends ending answer out out' err err') (λ ending at. rw at (one, same, told)) is
 
-run_ends : (judged : Result Bytes Ending) (fault : RunFault) (answer : ℕ) (out err err' : Option (List ℕ)) → RunStops judged fault → answer ≢ 3
-    → (answer ≡ run_status fault) × Appends err err' (run_line fault) → EndsAs judged answer out out err err'
-run_ends judged run.NoMemory answer out err err' is other told = absurd (other told.0)
-run_ends judged (run.Topology line cause) answer out err err' is other told = fault_ends judged _ answer out err err' is.1 told.0 told.1
-run_ends judged (run.Partitions line cause) answer out err err' is other told = fault_ends judged _ answer out err err' is.1 told.0 told.1
-run_ends judged (run.Sweep fault) answer out err err' is other told = fault_ends judged _ answer out err err' is.1 (told.0 ∙ is.0) told.1
-run_ends judged (run.NoLegalPath switch node number) answer out err err' is other told = fault_ends judged _ answer out err err' is.1 told.0 told.1
-run_ends judged (run.Push fault) answer out err err' is other told = fault_ends judged _ answer out err err' is.1 (told.0 ∙ is.0) told.1
-run_ends judged (run.Port cause) answer out err err' is other told = fault_ends judged _ answer out err err' is.1 told.0 told.1
-run_ends judged (run.Script line cause) answer out err err' is other told = fault_ends judged _ answer out err err' is.1 told.0 told.1
-run_ends judged (run.SecondScript line cause) answer out err err' is other told = fault_ends judged _ answer out err err' is.1 told.0 told.1
+run_ends : (judged : Result Bytes Ending) (fault : RunFault) (answer : ℕ) (out out' err err' : Option (List ℕ)) → RunStops judged fault → Keeps out out' → answer ≢ 3
+    → (answer ≡ run_status fault) × Appends err err' (run_line fault) → EndsAs judged answer out out' err err'
+run_ends judged run.NoMemory answer out out' err err' is same other told = absurd (other told.0)
+run_ends judged (run.Topology line cause) answer out out' err err' is same other told = fault_ends judged _ answer out out' err err' is.1 same told.0 told.1
+run_ends judged (run.Partitions line cause) answer out out' err err' is same other told = fault_ends judged _ answer out out' err err' is.1 same told.0 told.1
+run_ends judged (run.Sweep fault) answer out out' err err' is same other told = fault_ends judged _ answer out out' err err' is.1 same (told.0 ∙ is.0) told.1
+run_ends judged (run.NoLegalPath switch node number) answer out out' err err' is same other told = fault_ends judged _ answer out out' err err' is.1 same told.0 told.1
+run_ends judged (run.Push fault) answer out out' err err' is same other told = fault_ends judged _ answer out out' err err' is.1 same (told.0 ∙ is.0) told.1
+run_ends judged (run.Port cause) answer out out' err err' is same other told = fault_ends judged _ answer out out' err err' is.1 same told.0 told.1
+run_ends judged (run.Script line cause) answer out out' err err' is same other told = fault_ends judged _ answer out out' err err' is.1 same told.0 told.1
+run_ends judged (run.SecondScript line cause) answer out out' err err' is same other told = fault_ends judged _ answer out out' err err' is.1 same told.0 told.1
+run_ends judged run.Read answer out out' err err' is same other told = absurd (other told.0)
+run_ends judged run.Write answer out out' err err' is same other told = absurd (other told.0)
 
 -- refused words, with their text
-refusal_ends : (text : List ℕ) (answer : ℕ) (out err err' : Option (List ℕ)) → (answer ≡ 2) × Appends err err' text → (ending : Ending)
-    → IsRefusal ending text → Ends ending answer out out err err'
-refusal_ends text answer out err err' told (refused shown) is = (told.0, kept out, (text, is, told.1))
-refusal_ends text answer out err err' told (faulted status line) is = absurd is
-refusal_ends text answer out err err' told (complete output) is = absurd is
+refusal_ends : (text : List ℕ) (answer : ℕ) (out out' err err' : Option (List ℕ)) → Keeps out out' → (answer ≡ 2) × Appends err err' text → (ending : Ending)
+    → IsRefusal ending text → Ends ending answer out out' err err'
+refusal_ends text answer out out' err err' same told (refused shown) is = (told.0, same, (text, is, told.1))
+refusal_ends text answer out out' err err' same told (faulted status line) is = absurd is
+refusal_ends text answer out out' err err' same told (complete output) is = absurd is
+refusal_ends text answer out out' err err' same told (broken_off line output) is = absurd is
 
 -- a stop
-pub stop_ends : (judged : Result Bytes Ending) (stop : Stop) (answer : ℕ) (out err err' : Option (List ℕ)) → Stops judged stop → answer ≢ 3
-    → (answer ≡ status_of stop) × Appends err err' (line_of stop) → EndsAs judged answer out out err err'
-stop_ends judged (Words text) answer out err err' is other told =
-    for_ending judged (λ ending. IsRefusal ending (string_bytes text)) (λ ending. Ends ending answer out out err err')
-    (refusal_ends (string_bytes text) answer out err err' told) is
-stop_ends judged NoMemory answer out err err' is other told = absurd (other told.0)
-stop_ends judged (Unread name) answer out err err' is other told = absurd (other told.0)
-stop_ends judged Unwritten answer out err err' is other told = absurd is
-stop_ends judged (Run fault) answer out err err' is other told = run_ends judged fault answer out err err' is other told
-stop_ends judged (Second line cause) answer out err err' is other told = fault_ends judged _ answer out err err' is told.0 told.1
+pub stop_ends : (judged : Result Bytes Ending) (stop : Stop) (answer : ℕ) (out out' err err' : Option (List ℕ)) → Stops judged stop → Keeps out out' → answer ≢ 3
+    → (answer ≡ status_of stop) × Appends err err' (line_of stop) → EndsAs judged answer out out' err err'
+stop_ends judged (Words text) answer out out' err err' is same other told =
+    for_ending judged (λ ending. IsRefusal ending (string_bytes text)) (λ ending. Ends ending answer out out' err err')
+    (refusal_ends (string_bytes text) answer out out' err err' same told) is
+stop_ends judged NoMemory answer out out' err err' is same other told = absurd (other told.0)
+stop_ends judged (Unread name) answer out out' err err' is same other told = absurd (other told.0)
+stop_ends judged Unwritten answer out out' err err' is same other told = absurd is
+stop_ends judged (Run fault) answer out out' err err' is same other told = run_ends judged fault answer out out' err err' is same other told
+stop_ends judged (Second line cause) answer out out' err err' is same other told = fault_ends judged _ answer out out' err err' is same told.0 told.1
+
+-- a stop behind what was told
+broken_ends : (stop : Stop) (answer : ℕ) (out out' err err' : Option (List ℕ)) → (answer ≡ status_of stop) × Appends err err' (line_of stop) → (ending : Ending)
+    → BreaksOff stop ending out out' → Ends ending answer out out' err err'
+broken_ends stop answer out out' err err' told (refused shown) is = absurd is
+broken_ends stop answer out out' err err' told (faulted status line) is = absurd is
+broken_ends stop answer out out' err err' told (complete output) is = absurd is
+broken_ends stop answer out out' err err' told (broken_off line output) is = (told.0 ∙ is.1, is.2, subst (λ (text : List ℕ). Appends err err' text) is.0 told.1)
+
+module _ (judged : Result Bytes Ending) (stop : Stop) (answer : ℕ) (out out' err err' : Option (List ℕ)) where
+  either_ends : (Stops judged stop × Keeps out out') ⊎ ForEnding judged (λ ending. BreaksOff stop ending out out') → answer ≢ 3
+      → (answer ≡ status_of stop) × Appends err err' (line_of stop) → EndsAs judged answer out out' err err'
+  either_ends (inl is) other told = stop_ends judged stop answer out out' err err' is.0 is.1 other told
+  either_ends (inr is) other told =
+      for_ending judged (λ ending. BreaksOff stop ending out out') (λ ending. Ends ending answer out out' err err')
+      (broken_ends stop answer out out' err err' told) is
+
+-- it ends early, with its output written as far as it went
+pub answer_ends : (judged : Result Bytes Ending) (stop : Stop) (answer : ℕ) (a : Bool) (out out' err err' : Option (List ℕ))
+    → StopsBehind judged stop a out out' → answer ≢ 3
+    → (answer ≡ status_of stop) × Appends err err' (line_of stop) → EndsAs judged answer out out' err err'
+answer_ends judged (Words text) answer a out out' err err' is other told = either_ends judged (Words text) answer out out' err err' is other told
+answer_ends judged NoMemory answer a out out' err err' is other told = absurd (other told.0)
+answer_ends judged (Unread name) answer a out out' err err' is other told = absurd (other told.0)
+answer_ends judged Unwritten answer a out out' err err' is other told = absurd (other told.0)
+answer_ends judged (Run fault) answer a out out' err err' is other told = either_ends judged (Run fault) answer out out' err err' is other told
+answer_ends judged (Second line cause) answer a out out' err err' is other told = either_ends judged (Second line cause) answer out out' err err' is other told
+
+-- ---- what has gone out
+take_whole : (text : List ℕ) → take (length text) text ≡ text
+take_whole [] = refl
+take_whole (byte ∷ text) = ap (λ (rest : List ℕ). byte ∷ rest) (take_whole text)
+
+pub whole_part : (out out' : Option (List ℕ)) (text : List ℕ) → Appends out out' text → AppendsPart out out' text
+whole_part out out' text wrote = (length text, rw (take_whole text) wrote)
+
+out_some : (out out' : Option (List ℕ)) (ending : Ending) → GoesOut ending out out' → AppendsPart out out' (output_in ending)
+out_some out out' (refused shown) is = absurd is
+out_some out out' (faulted status line) is = absurd is
+out_some out out' (complete output) is = whole_part out out' output is
+out_some out out' (broken_off line output) is = absurd is
+
+partly_some : (out out' : Option (List ℕ)) (ending : Ending) → GoesPartly ending out out' → AppendsPart out out' (output_in ending)
+partly_some out out' (refused shown) is = absurd is
+partly_some out out' (faulted status line) is = absurd is
+partly_some out out' (complete output) is = is
+partly_some out out' (broken_off line output) is = is
+
+broken_some : (stop : Stop) (out out' : Option (List ℕ)) (ending : Ending) → BreaksOff stop ending out out' → AppendsPart out out' (output_in ending)
+broken_some stop out out' (refused shown) is = absurd is
+broken_some stop out out' (faulted status line) is = absurd is
+broken_some stop out out' (complete output) is = absurd is
+broken_some stop out out' (broken_off line output) is = whole_part out out' output is.2
+
+module _ (judged : Result Bytes Ending) (out out' : Option (List ℕ)) where
+  abbrev some_of : (Ending → Type 0) → Type 0
+  some_of Is = ((ending : Ending) → Is ending → AppendsPart out out' (output_in ending)) → ForEnding judged Is → AppendsSome judged out out'
+
+  some_by : (Is : Ending → Type 0) → some_of Is
+  some_by Is f is = inr (for_ending judged Is (λ ending. AppendsPart out out' (output_in ending)) f is)
+
+  either_some : (stop : Stop) → (Stops judged stop × Keeps out out') ⊎ ForEnding judged (λ ending. BreaksOff stop ending out out') → AppendsSome judged out out'
+  either_some stop (inl is) = inl is.1
+  either_some stop (inr is) = some_by (λ ending. BreaksOff stop ending out out') (broken_some stop out out') is
+
+  pub done_some : ForEnding judged (λ ending. GoesOut ending out out') → AppendsSome judged out out'
+  done_some is = some_by (λ ending. GoesOut ending out out') (out_some out out') is
+
+  pub answer_some : (stop : Stop) (a : Bool) → StopsBehind judged stop a out out' → AppendsSome judged out out'
+  answer_some (Words text) a is = either_some (Words text) is
+  answer_some NoMemory a is = is
+  answer_some (Unread name) a is = is
+  answer_some Unwritten a is = some_by (λ ending. GoesPartly ending out out') (partly_some out out') is.1
+  answer_some (Run fault) a is = either_some (Run fault) is
+  answer_some (Second line cause) a is = either_some (Second line cause) is
+
+-- a stop with nothing written
+pub stop_answers : (judged : Result Bytes Ending) (stop : Stop) (a : Bool) (out : Option (List ℕ)) → Stops judged stop → StopsBehind judged stop a out out
+stop_answers judged (Words text) a out is = inl (is, kept out)
+stop_answers judged NoMemory a out is = inl (kept out)
+stop_answers judged (Unread name) a out is = inl (kept out)
+stop_answers judged Unwritten a out is = absurd is
+stop_answers judged (Run fault) a out is = inl (is, kept out)
+stop_answers judged (Second line cause) a out is = inl (is, kept out)
+
+-- files that are not read
+pub files_stop : (judged : Result Bytes Ending) (stop : Stop) → IsOfFiles stop → Stops judged stop
+files_stop judged (Words text) is = absurd is
+files_stop judged NoMemory is = tt
+files_stop judged (Unread name) is = tt
+files_stop judged Unwritten is = absurd is
+files_stop judged (Run fault) is = absurd is
+files_stop judged (Second line cause) is = absurd is
+
+-- a text that is made, and goes out whole or in part
+pub made_goes_out : (judged : Result Bytes Ending) (text : List ℕ) (out out' : Option (List ℕ)) → ForEnding judged (λ ending. ending ≡ complete text)
+    → Appends out out' text → ForEnding judged (λ ending. GoesOut ending out out')
+made_goes_out judged text out out' is wrote =
+    for_ending judged (λ ending. ending ≡ complete text) (λ ending. GoesOut ending out out') (λ ending same. rw same wrote) is
+
+pub made_goes_partly : (judged : Result Bytes Ending) (text : List ℕ) (out out' : Option (List ℕ)) → ForEnding judged (λ ending. ending ≡ complete text)
+    → AppendsPart out out' text → ForEnding judged (λ ending. GoesPartly ending out out')
+made_goes_partly judged text out out' is wrote =
+    for_ending judged (λ ending. ending ≡ complete text) (λ ending. GoesPartly ending out out') (λ ending same. rw same wrote) is
 
 -- it is said of files that were read
-pub is_told : (X : Type 0) (stop : Stop) (answer : ℕ) → answer ≢ 3 → answer ≡ status_of stop → let result : Result X Stop = Err stop in IsTold result
-is_told X (Words text) answer other is = tt
-is_told X NoMemory answer other is = absurd (other is)
-is_told X (Unread name) answer other is = absurd (other is)
-is_told X Unwritten answer other is = absurd (other is)
-is_told X (Run fault) answer other is = tt
-is_told X (Second line cause) answer other is = tt
+pub is_told : (stop : Stop) (answer : ℕ) → answer ≢ 3 → answer ≡ status_of stop → IsToldStop stop
+is_told (Words text) answer other is = tt
+is_told NoMemory answer other is = absurd (other is)
+is_told (Unread name) answer other is = absurd (other is)
+is_told Unwritten answer other is = absurd (other is)
+is_told (Run fault) answer other is = tt
+is_told (Second line cause) answer other is = tt
 
 pub for_some_told : {A B : Contents → Type 0} (told : Option Contents) → ((file : Contents) → A file → B file) → IfSome told A → IfSome told B
 for_some_told None f a = tt
 for_some_told (Some file) f a = f file a
 
--- what comes of texts that were read is what comes of the files
-pub of_texts : (told : Option Contents) (names : Names) (texts : Bytes) (result : Result (Vec ℕ Global) Stop) → IfSome told (λ file. texts_of file names ≡ Ok texts)
-    → ComesTo (λ text. text.items) (Ok texts) result → IfSome told (λ file. ComesTo (λ text. text.items) (texts_of file names) result)
-of_texts None names texts result are comes = tt
-of_texts (Some file) names texts result are comes =
-    subst (λ (read : Result Bytes Ending). ComesTo (λ (text : Vec ℕ Global). text.items) read result) (sym are) comes
+-- what is answered of texts that were read is what is answered of the files
+pub of_texts : (X I : Type 0) (told : Option Contents) (names : Names) (remaining : I → Option (List ℕ)) (texts : Texts I) (result : Result X Stop) (a : Bool) (out out' : Option (List ℕ))
+    → IfSome told (λ _. is_some (left_in remaining texts.task) ≡ true)
+    → IfSome told (λ file. texts_of file names ≡ Ok (texts_in (script_in remaining texts.task) texts))
+    → OfScript (left_in remaining texts.task) (λ script. Answers (Ok (texts_in script texts)) result a out out')
+    → IfSome told (λ file. Answers (texts_of file names) result a out out')
+of_texts X I None names remaining texts result a out out' known are some = tt
+of_texts X I (Some file) names remaining texts result a out out' known are some =
+    let same = known_script (left_in remaining texts.task) some.0 known some.1 in
+    rw (are, sym same) some.2
+  where
+    known_script : (left : Option (List ℕ)) (script : List ℕ) → is_some left ≡ true → IfSome left (λ all. script ≡ all) → script ≡ unwrap_or left []
+    known_script None script none is = absurd cc
+    known_script (Some all) script known is = is
 
 pub for_some_bytes : (asked : Asking) (P Q : Result Bytes Ending → Type 0) → ((judged : Result Bytes Ending) → P judged → Q judged) → ForSomeBytes asked P
     → ForSomeBytes asked Q
 for_some_bytes (Err shown) P Q f some = f (Err (refused shown)) some
 for_some_bytes (Ok (Subnet names)) P Q f some = (some.0, some.1, f (Ok some.0) some.2)
 for_some_bytes (Ok (Explain code)) P Q f some = f (Err (complete (explained code))) some
+
+-- ---- of a call
+-- where the files say what they hold
+module _ (told : Option Contents) (judged : Contents → Result Bytes Ending) where
+  pub told_done_ends : (out out' err : Option (List ℕ)) → IfSome told (λ file. ForEnding (judged file) (λ ending. GoesOut ending out out'))
+      → IfSome told (λ file. EndsAs (judged file) 0 out out' err err)
+  told_done_ends out out' err is = for_some_told told (λ file one. done_ends (judged file) out out' err one) is
+
+  pub told_done_some : (out out' : Option (List ℕ)) → IfSome told (λ file. ForEnding (judged file) (λ ending. GoesOut ending out out'))
+      → IfSome told (λ file. AppendsSome (judged file) out out')
+  told_done_some out out' is = for_some_told told (λ file one. done_some (judged file) out out' one) is
+
+  pub told_ends : (stop : Stop) (answer : ℕ) (a : Bool) (out out' err err' : Option (List ℕ)) → IfSome told (λ file. StopsBehind (judged file) stop a out out') → answer ≢ 3
+      → (answer ≡ status_of stop) × Appends err err' (line_of stop) → IfSome told (λ file. EndsAs (judged file) answer out out' err err')
+  told_ends stop answer a out out' err err' is other line = for_some_told told (λ file one. answer_ends (judged file) stop answer a out out' err err' one other line) is
+
+  pub told_some : (stop : Stop) (a : Bool) (out out' : Option (List ℕ)) → IfSome told (λ file. StopsBehind (judged file) stop a out out')
+      → IfSome told (λ file. AppendsSome (judged file) out out')
+  told_some stop a out out' is = for_some_told told (λ file one. answer_some (judged file) out out' stop a one) is
+
+  pub told_stops : (stop : Stop) (a : Bool) (out : Option (List ℕ)) → IfSome told (λ file. Stops (judged file) stop) → IfSome told (λ file. StopsBehind (judged file) stop a out out)
+  told_stops stop a out is = for_some_told told (λ file one. stop_answers (judged file) stop a out one) is
+
+-- and where they do not
+pub any_done_ends : (asked : Asking) (out out' err : Option (List ℕ)) → ForSomeBytes asked (λ judged. ForEnding judged (λ ending. GoesOut ending out out'))
+    → ForSomeBytes asked (λ judged. EndsAs judged 0 out out' err err)
+any_done_ends asked out out' err is =
+    for_some_bytes asked (λ judged. ForEnding judged (λ ending. GoesOut ending out out')) (λ judged. EndsAs judged 0 out out' err err)
+    (λ judged one. done_ends judged out out' err one) is
+
+pub any_ends : (asked : Asking) (stop : Stop) (answer : ℕ) (a : Bool) (out out' err err' : Option (List ℕ)) → ForSomeBytes asked (λ judged. StopsBehind judged stop a out out') → answer ≢ 3
+    → (answer ≡ status_of stop) × Appends err err' (line_of stop) → ForSomeBytes asked (λ judged. EndsAs judged answer out out' err err')
+any_ends asked stop answer a out out' err err' is other line =
+    for_some_bytes asked (λ judged. StopsBehind judged stop a out out') (λ judged. EndsAs judged answer out out' err err')
+    (λ judged one. answer_ends judged stop answer a out out' err err' one other line) is
+
+pub any_stops : (asked : Asking) (stop : Stop) (a : Bool) (out : Option (List ℕ)) → ForSomeBytes asked (λ judged. Stops judged stop) → ForSomeBytes asked (λ judged. StopsBehind judged stop a out out)
+any_stops asked stop a out is =
+    for_some_bytes asked (λ judged. Stops judged stop) (λ judged. StopsBehind judged stop a out out) (λ judged one. stop_answers judged stop a out one) is
 
 nothing_opened : (opened : Option (List (List ℕ))) → OpensAll opened opened []
 nothing_opened None = inr refl
@@ -120,7 +274,7 @@ words_stop file (Err shown) (refusal.Words text) is = is
 words_stop file asked refusal.NoMemory is = tt
 
 pub words_any : (asked : Asking) (stop : Refused (String Global)) → IsOfWords asked stop
-    → let result : Result (Vec ℕ Global) Stop = Err (stop_of stop) in IsTold result → ForSomeBytes asked (λ judged. ComesTo (λ text. text.items) judged result)
+    → IsToldStop (stop_of stop) → ForSomeBytes asked (λ judged. Stops judged (stop_of stop))
 words_any (Ok call) (refusal.Words text) is told = absurd is
 words_any (Err shown) (refusal.Words text) is told = is
 words_any asked refusal.NoMemory is told = absurd told
@@ -143,14 +297,14 @@ module _ (given : Result (IntoIter (String Global) Global) Error) (stop : Refuse
     pub not_given_ends : (told : Option Contents) → answer ≢ 3 → (answer ≡ status_of (stop_of stop)) × Appends err err' (line_of (stop_of stop))
         → IfSome told (λ file. EndsAs (judged_for file asked) answer out out err err')
     not_given_ends None other written = tt
-    not_given_ends (Some file) other written = stop_ends (judged_for file asked) (stop_of stop) answer out err err' (stops file) other written
+    not_given_ends (Some file) other written = stop_ends (judged_for file asked) (stop_of stop) answer out out err err' (stops file) (kept out) other written
 
     pub not_given_any : answer ≢ 3 → (answer ≡ status_of (stop_of stop)) × Appends err err' (line_of (stop_of stop))
         → ForSomeBytes asked (λ judged. EndsAs judged answer out out err err')
     not_given_any other written =
-        for_some_bytes asked (λ judged. ComesTo (λ (text : Vec ℕ Global). text.items) judged (Err (stop_of stop))) (λ judged. EndsAs judged answer out out err err')
-        (λ judged stopped. stop_ends judged (stop_of stop) answer out err err' stopped other written)
-        (words_any asked stop (not_given given stop is) (is_told (Vec ℕ Global) (stop_of stop) answer other written.0))
+        for_some_bytes asked (λ judged. Stops judged (stop_of stop)) (λ judged. EndsAs judged answer out out err err')
+        (λ judged stopped. stop_ends judged (stop_of stop) answer out out err err' stopped (kept out) other written)
+        (words_any asked stop (not_given given stop is) (is_told (stop_of stop) answer other written.0))
 
     pub not_given_refused : (told : Option Contents) (reads : Bool) (opened : Option (List (List ℕ))) (a b : Bool) → answer ≡ 3
         → TellsStop (stop_of stop) answer b err err' ⊎ Writes b err err' memory_line

@@ -15,17 +15,15 @@ use Rattle.script_lines.specs.ScriptCause.{code_of as script_code}
 use Rattle.script_lines.specs.declared.script_cause.ScriptCause.{ScriptCause}
 use Rattle.script_lines.specs.declared.script_cause.ScriptCause.TheVariants as script
 use Rattle.subnet_core.specs.declared.fault.RunFault.TheVariants as run
-use Rattle.sweep.specs.Fault.{code_of as sweep_code}
 use Rattle.sweep.specs.declared.fault.SweepFault.{SweepFault}
 use Rattle.sweep.specs.declared.fault.SweepFault.TheVariants as sweep
-use Rattle.table_push.specs.Fault.{code_of as push_code}
 use Rattle.table_push.specs.declared.fault.PushFault.{PushFault}
 use Rattle.table_push.specs.declared.fault.PushFault.TheVariants as push
 use Rattle.data_packet.specs.Refusal.{code_of as refusal_code}
 use Rattle.data_packet.specs.declared.refusal.Refusal.{Refusal}
 use Rattle.data_packet.specs.declared.refusal.Refusal.TheVariants as refusal
 use Rattle.fabric_cli.specs.Explained.{IsExplained, NamesCode, TellsCode, told_word}
-use Rattle.fabric_cli.specs.Faults.{fabric_line, partitions_line, port_line, run_line, script_line, second_line, second_script_line, topology_line}
+use Rattle.fabric_cli.specs.Faults.{partitions_line, port_line, run_line, script_line, second_line, second_script_line, topology_line}
 use Rattle.fabric_cli.specs.declared.faults.Stop.{Stop}
 use Rattle.fabric_cli.specs.declared.faults.Stop.TheVariants.{Words, NoMemory, Unread, Unwritten, Run, Second}
 
@@ -122,6 +120,8 @@ stops_are_told (Run (run.Push fault)) = push_told fault
 stops_are_told (Run (run.Port cause)) = port_told cause
 stops_are_told (Run (run.Script line cause)) = script_told cause line
 stops_are_told (Run (run.SecondScript line cause)) = second_script_told cause line
+stops_are_told (Run run.Read) = told_as code.Read _ refl refl refl
+stops_are_told (Run run.Write) = told_as code.Write _ refl refl refl
 stops_are_told (Second line cause) = second_told cause line
 
 pub refusals_are_explained : (refusal : Refusal) → IsExplained (refusal_code refusal)

@@ -1,5 +1,5 @@
 -- Names opened one after the other.
-use Rattle.std.proofs.Common.{ℕ, ◌≡◌, inl, inr, Bool, true, is_some, IfSome, option_map, Ok, List, [], ◌∷◌, ◌++◌, ◌+◌, length, take, Option, Some, None}
+use Rattle.std.proofs.Common.{ℕ, ◌≡◌, inl, inr, Bool, true, is_some, IfSome, option_map, unwrap_or, subst, Result, Ok, List, [], ◌∷◌, ◌++◌, ◌+◌, length, take, Option, Some, None}
 use Rattle.std.proofs.Common.{append_assoc, append-nil, ap, refl, sym, ◌∙◌}
 use Rattle.std.proofs.Math.Seq.{take-append-add, take-append_seam}
 use Rattle.std.proofs.lemmas.List.Folds.{list_all-append}
@@ -8,9 +8,12 @@ use Rattle.std.specs.Option.{option_to_list}
 use Rattle.result_words.specs.Steps.{◌>>=◌}
 use Rattle.fabric_cli.specs.declared.faults.Stop.{Stop}
 use Rattle.fabric_cli.specs.declared.faults.Stop.TheVariants.{Words, NoMemory, Unread, Unwritten, Run, Second}
-use Rattle.fabric_cli.specs.Faults.{NamesUnread}
-use Rattle.fabric_cli.specs.Files.{Contents, OpensAll, IsEndless, OpensInOrder, StopsAt, all_open}
-use Rattle.fabric_cli.specs.Serving.{bytes_if_named, opened_bytes}
+use Rattle.fabric_cli.specs.Faults.{LeavesUnread, NamesUnread}
+use Rattle.fabric_cli.specs.Files.{Contents, OpensAll, OpensInOrder, StopsAt, all_open}
+use Rattle.fabric_cli.specs.Serving.{Ending, bytes_if_named, bytes_of, opened_bytes}
+use Rattle.call_words.specs.declared.call.Work.{Work}
+use Rattle.call_words.specs.declared.call.Work.TheVariants as work
+use Rattle.text_streams.specs.Reading.{IsEndless}
 
 then_more : (old : Option (List (List ℕ))) (names more : List (List ℕ))
     → option_map (λ opened. opened ++ more) (option_map (λ opened. opened ++ names) old) ≡ option_map (λ opened. opened ++ (names ++ more)) old
@@ -134,3 +137,63 @@ pub endless_file : (told : Option Contents) (reads : Bool) (name : List ℕ) (kn
     → (reads ≡ true → IsEndless known) → IfSome told (λ file. reads ≡ true → IsEndless (file name))
 endless_file None reads name known is endless = tt
 endless_file (Some file) reads name known is endless = λ sure. bytes_endless (file name) known is (endless sure)
+
+-- ---- a script that is open
+-- reading it stops at its name
+pub open_last : (told : Option Contents) (reads is_sure : Bool) (old new : Option (List (List ℕ))) (name word : List ℕ) (known : Option (List ℕ))
+    → OpensAll old new (name ∷ []) → IfSome told (λ file. Some known ≡ option_map Some (file name)) → (reads ≡ true → is_sure ≡ true)
+    → (word ≡ name) × (is_sure ≡ true → IsEndless known) → IfSome told (λ file. StopsAt file reads old new (name ∷ []) word)
+open_last None reads is_sure old new name word known opened is sure endless = tt
+open_last (Some file) reads is_sure old new name word known opened is sure endless =
+    let here : StopsAt file reads old new (name ∷ []) name = record {
+      before = [];
+      after = [];
+      cut = refl;
+      opened = opened;
+      open_before = refl;
+      unread = λ r. bytes_endless (file name) known is (endless.1 (sure r));
+    } in
+    subst (λ (w : List ℕ). StopsAt file reads old new (name ∷ []) w) (sym endless.0) here
+
+-- and of more names, too, behind those that opened to bytes
+pub last_after : (told now : Option Contents) (reads reading : Bool) (first before after : Option (List (List ℕ))) (names more : List (List ℕ)) (word : List ℕ)
+    → now ≡ told → reading ≡ reads
+    → OpensAll first before names → IfSome told (λ file. all_open file names ≡ true)
+    → IfSome now (λ file. StopsAt file reading before after more word) → IfSome told (λ file. StopsAt file reads first after (names ++ more) word)
+last_after None now reads reading first before after names more word same stays opened read last = tt
+last_after (Some file) now reads reading first before after names more word same stays opened read last =
+    stops_after file reads first before after names more word opened read (rw (same, stays) at last)
+
+-- what is left of it is known, and is its bytes
+pub open_known : (told : Option Contents) (name : List ℕ) (known : Option (List ℕ)) → IfSome told (λ file. Some known ≡ option_map Some (file name))
+    → IfSome told (λ _. is_some known ≡ true)
+open_known None name known is = tt
+open_known (Some file) name known is = by (file name) is
+  where
+    by : (found : Option (List ℕ)) → Some known ≡ option_map Some found → is_some known ≡ true
+    by None e = absurd cc
+    by (Some bytes) e = let at : known ≡ Some bytes = cc in rw at refl
+
+abbrev run_of : List ℕ → Result (Work (List ℕ) (List ℕ)) Ending
+run_of bytes = Ok (work.Run bytes)
+
+pub open_bytes : (told : Option Contents) (name : List ℕ) (known : Option (List ℕ)) → IfSome told (λ file. Some known ≡ option_map Some (file name))
+    → IfSome told (λ file. (bytes_of file name >>= run_of) ≡ run_of (unwrap_or known []))
+open_bytes None name known is = tt
+open_bytes (Some file) name known is = by (file name) is
+  where
+    by : (found : Option (List ℕ)) → Some known ≡ option_map Some found → (opened_bytes name found >>= run_of) ≡ run_of (unwrap_or known [])
+    by None e = absurd cc
+    by (Some bytes) e = let at : known ≡ Some bytes = cc in rw at refl
+
+-- a stop at a script that is open
+pub named_unread : (told : Option Contents) (reads : Bool) (old new : Option (List (List ℕ))) (names : List (List ℕ)) (Is : List ℕ → Type 0) (stop : Stop)
+    → LeavesUnread Is stop → ((word : List ℕ) → Is word → IfSome told (λ file. StopsAt file reads old new names word))
+    → NamesUnread told reads old new names stop
+named_unread None reads old new names Is stop leaves last = tt
+named_unread (Some file) reads old new names Is (Unread name) leaves last = last name.now leaves
+named_unread (Some file) reads old new names Is (Words text) leaves last = tt
+named_unread (Some file) reads old new names Is NoMemory leaves last = tt
+named_unread (Some file) reads old new names Is Unwritten leaves last = tt
+named_unread (Some file) reads old new names Is (Run fault) leaves last = tt
+named_unread (Some file) reads old new names Is (Second line cause) leaves last = tt

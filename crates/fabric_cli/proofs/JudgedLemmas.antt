@@ -4,7 +4,6 @@ use Rattle.std.specs.Prelude.{IfErr, IfOk, IsErr}
 use Rattle.std.specs.declared.alloc.AllocError.{AllocError}
 use Rattle.result_words.specs.AtLine.{AtLine}
 use Rattle.result_words.specs.Gives.{Fails}
-use Rattle.result_words.specs.Steps.{◌>>=◌}
 use Rattle.result_words.proofs.StepLemmas.{same_err}
 use Rattle.topo_file.specs.Topology.{TopologyState, topology_of}
 use Rattle.partition_file.specs.declared.partition.Partition.{Partition}
@@ -12,10 +11,8 @@ use Rattle.fabric_parts.specs.declared.cable.PortRef.{PortRef}
 use Rattle.subnet_core.proofs.BringUpLemmas.{same_roster}
 use Rattle.subnet_core.specs.BringUp.{Becomes, FailsWith, IsUp, Turns, WithFabric, stop_of, up_from}
 use Rattle.subnet_core.specs.Listing.{listing_text}
-use Rattle.subnet_core.specs.EventLines.{report_text}
 use Rattle.subnet_core.specs.Roster.{RosterState, fault_in, of_text, partitions_for, roster_of}
 use Rattle.subnet_core.specs.Comparison.{Compares, TwoRunsState, TwoScriptsState, of_port, two_runs_of, two_scripts_of}
-use Rattle.subnet_core.specs.Run.{ReportState, report_of}
 use Rattle.subnet_core.specs.declared.comparing.Comparison.{Comparison}
 use Rattle.script_lines.specs.NamedPort.{named_adapter_port}
 use Rattle.script_lines.specs.declared.script_cause.ScriptCause.{ScriptCause}
@@ -26,7 +23,7 @@ use Rattle.subnet_fabric.specs.BringUp.{BroughtUpState}
 use Rattle.subnet_model.specs.declared.command.Command.{Command}
 use Rattle.sweep.specs.declared.fault.SweepFault.TheVariants as sweep
 use Rattle.fabric_cli.specs.Faults.{run_line, run_status, IsOfRun}
-use Rattle.fabric_cli.specs.Serving.{Bytes, Comes, ComesTo, Ending, ForEnding, ForTexts, RunStops, Stops, comparison_text, complete, ending_by, ending_over, faulted, inspected, looked_at, second_stop, shares_in, changes_in, texts_with}
+use Rattle.fabric_cli.specs.Serving.{Bytes, Comes, ComesTo, Ending, ForEnding, RunStops, Stops, comparison_text, complete, ending_over, faulted, inspected, looked_at, run_in, second_stop, shares_in, changes_in, texts_with}
 use Rattle.call_words.specs.declared.call.Inspection.{Inspection}
 use Rattle.fabric_cli.specs.declared.faults.Stop.{Stop}
 use Rattle.fabric_cli.specs.declared.faults.Stop.TheVariants.{Words, NoMemory, Unread, Unwritten, Run, Second}
@@ -67,6 +64,8 @@ stop_at_one roster (run.Push fault) is = absurd is
 stop_at_one roster (run.Port cause) is = absurd is
 stop_at_one roster (run.Script line cause) is = absurd is
 stop_at_one roster (run.SecondScript line cause) is = absurd is
+stop_at_one roster run.Read is = absurd is
+stop_at_one roster run.Write is = absurd is
 
 up_at_one : (topology : List ℕ) (partitions : Option (List ℕ)) (stop : Option RunFault) (fault : RunFault) → Becomes (roster_of topology partitions) stop
     → up_from (roster_of topology partitions) stop ≡ Err fault → run_status fault ≡ 1
@@ -80,20 +79,6 @@ up_at_one topology partitions stop fault becomes is = by (roster_of topology par
         let same : other ≡ fault = same_err _ _ (rw (e, at) at is) in
         let here : Becomes (Ok roster) (Some other) = rw (e, at) at becomes in
         rw (sym same) (stop_at_one roster other here)
-
-report_at_one : (topology : List ℕ) (partitions : Option (List ℕ)) (script : List ℕ) (stop : Option RunFault) (fault : RunFault) → Becomes (roster_of topology partitions) stop
-    → report_of topology partitions script stop ≡ Err fault → run_status fault ≡ 1
-unfolding report_of
-report_at_one topology partitions script stop fault becomes is = by (up_from (roster_of topology partitions) stop) refl
-  where
-    script_by : (roster : RosterState) → up_from (roster_of topology partitions) stop ≡ Ok roster
-        → (read : Result (List Command) RunFault) → of_text run.Script (commands_in roster.plan script) ≡ read → run_status fault ≡ 1
-    script_by roster e (Err other) c = let same : other ≡ fault = same_err _ _ (rw (e, c) at is) in of_text_at_one run.Script (λ line cause. refl) _ fault (c ∙ ap Err same)
-    script_by roster e (Ok commands) c = let none : Ok _ ≡ Err fault = rw (e, c) at is in absurd cc
-
-    by : (up : Result RosterState RunFault) → up_from (roster_of topology partitions) stop ≡ up → run_status fault ≡ 1
-    by (Err other) e = let same : other ≡ fault = same_err _ _ (rw e at is) in up_at_one topology partitions stop fault becomes (e ∙ ap Err same)
-    by (Ok roster) e = script_by roster e (of_text run.Script (commands_in roster.plan script)) refl
 
 two_scripts_at_one : (plan : TopologyState) (first second port : List ℕ) (fault : RunFault) → two_scripts_of plan first second port ≡ Err fault → run_status fault ≡ 1
 unfolding two_scripts_of
@@ -160,6 +145,8 @@ stopped_by judged (run.Push fault) f = f refl
 stopped_by judged (run.Port cause) f = f refl
 stopped_by judged (run.Script line cause) f = f refl
 stopped_by judged (run.SecondScript line cause) f = f refl
+stopped_by judged run.Read f = f refl
+stopped_by judged run.Write f = f refl
 
 -- ---- what becomes of a fabric, and with it the fabric itself
 nothing_at : PortRef
@@ -208,6 +195,8 @@ module _ (topology : List ℕ) (partitions : Option (List ℕ)) (asked : Work (L
     run_over (run.Port cause) is = (is.0, for_over _ is.1)
     run_over (run.Script line cause) is = (is.0, for_over _ is.1)
     run_over (run.SecondScript line cause) is = (is.0, for_over _ is.1)
+    run_over run.Read is = (is.0, for_over _ is.1)
+    run_over run.Write is = (is.0, for_over _ is.1)
 
     stops_over : (stop : Stop) → Stops over stop → Stops texts stop
     stops_over (Words text) is = for_over _ is
@@ -249,22 +238,22 @@ module _ (topology : List ℕ) (partitions : Option (List ℕ)) where
       let turns = outcome_of given up.stop up.becomes in
       record { outcome = turns.0; comparison = none_compared; comes = turns.1; is = rw (turns.2, up.is, told) refl }
 
-  -- ---- a report
-  pub report_stops : (script : List ℕ) (fault : RunFault) → FailsWith given (fault_in fault) (report_of topology partitions script)
+  -- ---- a run
+  pub run_stops : (script : List ℕ) (fault : RunFault) → FailsWith given (fault_in fault) (up_from given)
       → RunStops (texts_with topology partitions (work.Run script)) fault
-  report_stops script fault fails =
+  run_stops script fault fails =
       stopped_by (texts_with topology partitions (work.Run script)) fault (λ told.
-      let up : WithFabric given (λ stop. report_of topology partitions script stop ≡ Err fault) = rw told at fails in
+      let up : WithFabric given (λ stop. up_from given stop ≡ Err fault) = rw told at fails in
       let turns = outcome_of given up.stop up.becomes in
-      let one : run_status fault ≡ 1 = report_at_one topology partitions script up.stop fault up.becomes up.is in
+      let one : run_status fault ≡ 1 = up_at_one topology partitions up.stop fault up.becomes up.is in
       (one, record { outcome = turns.0; comparison = none_compared; comes = turns.1; is = rw (turns.2, up.is, one) refl }))
 
-  pub is_reported : (script : List ℕ) (report : ReportState) (text : List ℕ)
-      → WithFabric given (λ stop. report_of topology partitions script stop ≡ Ok report) → text ≡ report_text report.ports report.events
-      → ForEnding (texts_with topology partitions (work.Run script)) (λ ending. ending ≡ complete text)
-  is_reported script report text up told =
+  pub run_ends_so : (script : List ℕ) (roster : RosterState) (Is : Ending → Type 0) → WithFabric given (λ stop. up_from given stop ≡ Ok roster)
+      → Is (run_in (Ok roster) script) → ForEnding (texts_with topology partitions (work.Run script)) Is
+  run_ends_so script roster Is up is =
       let turns = outcome_of given up.stop up.becomes in
-      record { outcome = turns.0; comparison = none_compared; comes = turns.1; is = rw (turns.2, up.is, told) refl }
+      let comes : run_in (up_from given (stop_of turns.0)) script ≡ run_in (Ok roster) script = rw (turns.2, up.is) refl in
+      record { outcome = turns.0; comparison = none_compared; comes = turns.1; is = subst Is (sym comes) is }
 
   -- ---- two scripts, compared
   pub comparison_stops : (first second port : List ℕ) (fault : RunFault) → FailsWith given (fault_in fault) (two_runs_of topology partitions first second port)
@@ -341,3 +330,5 @@ second_stops before topology second (run.Push fault) fails = roster_stops topolo
 second_stops before topology second (run.Port cause) fails = roster_stops topology second (run.Port cause) (changes_in (Ok before) (roster_of topology second)) fails (λ at. rw at refl)
 second_stops before topology second (run.Script line cause) fails = roster_stops topology second (run.Script line cause) (changes_in (Ok before) (roster_of topology second)) fails (λ at. rw at refl)
 second_stops before topology second (run.SecondScript line cause) fails = roster_stops topology second (run.SecondScript line cause) (changes_in (Ok before) (roster_of topology second)) fails (λ at. rw at refl)
+second_stops before topology second run.Read fails = roster_stops topology second run.Read (changes_in (Ok before) (roster_of topology second)) fails (λ at. rw at refl)
+second_stops before topology second run.Write fails = roster_stops topology second run.Write (changes_in (Ok before) (roster_of topology second)) fails (λ at. rw at refl)

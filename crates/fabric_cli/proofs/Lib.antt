@@ -1,7 +1,7 @@
 pub mod FilesLemmas
-pub mod KnownBytesLemmas
 pub mod ServingLemmas
 pub mod JudgedLemmas
 pub mod EndingLemmas
+pub mod RunLemmas
 pub mod ExplainedLemmas
 pub mod AgreementLemmas

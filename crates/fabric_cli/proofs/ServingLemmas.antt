@@ -1,14 +1,14 @@
 -- What stands on standard error at status 3.
-use Rattle.std.proofs.Common.{ℕ, ◌≡◌, ◌≢◌, ◌⊎◌, ◌∙◌, inl, inr, refl, sym, append-nil, arith, Bool, true, false, List, Option, Some, None, Result, IfSome, string_bytes}
+use Rattle.std.proofs.Common.{ℕ, ◌≡◌, ◌≢◌, ◌⊎◌, ◌∙◌, inl, inr, refl, sym, arith, Bool, true, false, List, Option, Some, None, Result, IfSome, string_bytes}
 use Rattle.std.specs.Io.KnownBytes.{Keeps}
 use Rattle.subnet_core.specs.declared.fault.RunFault.{RunFault}
 use Rattle.subnet_core.specs.declared.fault.RunFault.TheVariants as run
 use Rattle.fabric_cli.specs.declared.faults.Stop.{Stop}
 use Rattle.fabric_cli.specs.declared.faults.Stop.TheVariants.{Words, NoMemory, Unread, Unwritten, Run, Second}
-use Rattle.fabric_cli.specs.Faults.{NamesUnread, line_of, memory_line, port_line, run_line, run_status, second_line, unwritten_line}
+use Rattle.fabric_cli.specs.Faults.{NamesUnread, line_of, memory_line, status_of, unwritten_line}
 use Rattle.fabric_cli.specs.Files.{Contents}
-use Rattle.fabric_cli.specs.Serving.{AppendsSome, Bytes, Ending, complete, faulted, refused, ForEnding, IsLineOf, IsRefusal, IsRefused, RunStops, Stops, TellsStop}
-use Rattle.fabric_cli.specs.Writing.{AppendsPart, Writes}
+use Rattle.fabric_cli.specs.Serving.{Bytes, Ending, broken_off, complete, faulted, refused, BreaksOff, ForEnding, GoesPartly, IsLineOf, IsRefusal, IsRefused, RunStops, Stops, StopsBehind, TellsStop}
+use Rattle.text_streams.specs.Writing.{Writes}
 use Rattle.fabric_cli.proofs.JudgedLemmas.{for_ending}
 
 -- a status other than 3 was answered where the line can go out
@@ -18,40 +18,26 @@ other_status status answer b three told other sure = other (sym (told sure) ∙ 
 pub false_is_not_true : false ≡ true → ⊥
 false_is_not_true e = cc
 
-stays : (known : Option (List ℕ)) → Keeps known known
-stays None = tt
-stays (Some xs) = refl
-
--- where nothing is written, the contents stay
-pub nothing_written : (told : Option Contents) (known : Option (List ℕ)) (judged : Contents → Result Bytes Ending)
-    → IfSome told (λ file. AppendsSome (judged file) known known)
-nothing_written None known judged = tt
-nothing_written (Some file) known judged = inl (stays known)
-
 pub of_memory : (file : Contents) (reads : Bool) (old new : Option (List (List ℕ))) (names : List (List ℕ)) (judged : Result Bytes Ending) (a b : Bool) (err err' : Option (List ℕ))
     → Writes b err err' memory_line → IsRefused file reads old new names judged a b err err'
 of_memory file reads old new names judged a b err err' part = record { line = memory_line; is = inl refl; told = part }
 
-of_output : (file : Contents) (reads : Bool) (old new : Option (List (List ℕ))) (names : List (List ℕ)) (judged : Result Bytes Ending) (output : List ℕ) (answer : ℕ) (a b : Bool) (err err' : Option (List ℕ))
-    → ForEnding judged (λ ending. ending ≡ complete output) → a ≢ true → TellsStop Unwritten answer b err err' ⊎ Writes b err err' memory_line
+-- an output that does not go out
+partly_line : (a b : Bool) (out out' : Option (List ℕ)) → a ≢ true → (ending : Ending) → GoesPartly ending out out' → IsLineOf a b ending unwritten_line
+partly_line a b out out' may (refused shown) is = absurd is
+partly_line a b out out' may (faulted status line) is = absurd is
+partly_line a b out out' may (complete output) is = (refl, may)
+partly_line a b out out' may (broken_off line output) is = inr (refl, may)
+
+of_output : (file : Contents) (reads : Bool) (old new : Option (List (List ℕ))) (names : List (List ℕ)) (judged : Result Bytes Ending) (answer : ℕ) (a b : Bool) (out out' err err' : Option (List ℕ))
+    → (a ≢ true) × ForEnding judged (λ ending. GoesPartly ending out out') → TellsStop Unwritten answer b err err'
     → IsRefused file reads old new names judged a b err err'
-of_output file reads old new names judged output answer a b err err' is may (inl part) =
+of_output file reads old new names judged answer a b out out' err err' is part =
     record {
       line = unwritten_line;
-      is =
-          inr (inr (for_ending judged (λ ending. ending ≡ complete output) (λ ending. IsLineOf a b ending unwritten_line)
-          (λ ending same. rw same (refl, may)) is));
+      is = inr (inr (for_ending judged (λ ending. GoesPartly ending out out') (λ ending. IsLineOf a b ending unwritten_line) (partly_line a b out out' is.0) is.1));
       told = part.told;
     }
-of_output file reads old new names judged output answer a b err err' is may (inr part) = of_memory file reads old new names judged a b err err' part
-
--- an output that does not go out
-pub unwritten_is_refused : (told : Option Contents) (reads : Bool) (old new : Option (List (List ℕ))) (names : List (List ℕ)) (judged : Contents → Result Bytes Ending) (output : List ℕ) (answer : ℕ) (a b : Bool) (err err' : Option (List ℕ))
-    → IfSome told (λ file. ForEnding (judged file) (λ ending. ending ≡ complete output)) → a ≢ true → TellsStop Unwritten answer b err err' ⊎ Writes b err err' memory_line
-    → IfSome told (λ file. IsRefused file reads old new names (judged file) a b err err')
-unwritten_is_refused None reads old new names judged output answer a b err err' is may part = tt
-unwritten_is_refused (Some file) reads old new names judged output answer a b err err' is may part =
-    of_output file reads old new names (judged file) output answer a b err err' is may part
 
 module _ (file : Contents) (reads : Bool) (old new : Option (List (List ℕ))) (names : List (List ℕ)) (judged : Result Bytes Ending) (answer : ℕ) (a b : Bool)
     (err err' : Option (List ℕ)) (three : answer ≡ 3) where
@@ -72,6 +58,7 @@ module _ (file : Contents) (reads : Bool) (old new : Option (List (List ℕ))) (
   refusal_line text may (refused shown) is = (is, may)
   refusal_line text may (faulted status line) is = absurd is
   refusal_line text may (complete output) is = absurd is
+  refusal_line text may (broken_off line output) is = absurd is
 
   of_run : (fault : RunFault) → RunStops judged fault → TellsStop (Run fault) answer b err err' → IsRefused file reads old new names judged a b err err'
   of_run run.NoMemory is part = of_memory file reads old new names judged a b err err' part.told
@@ -83,6 +70,8 @@ module _ (file : Contents) (reads : Bool) (old new : Option (List (List ℕ))) (
   of_run (run.Port cause) is part = of_fault _ _ is.0 is.1 part.told part.status
   of_run (run.Script line cause) is part = of_fault _ _ is.0 is.1 part.told part.status
   of_run (run.SecondScript line cause) is part = of_fault _ _ is.0 is.1 part.told part.status
+  of_run run.Read is part = of_fault _ _ is.0 is.1 part.told part.status
+  of_run run.Write is part = of_fault _ _ is.0 is.1 part.told part.status
 
   of_stop : (stop : Stop) → Stops judged stop → NamesUnread (Some file) reads old new names stop → TellsStop stop answer b err err' ⊎ Writes b err err' memory_line
       → IsRefused file reads old new names judged a b err err'
@@ -101,6 +90,39 @@ module _ (file : Contents) (reads : Bool) (old new : Option (List (List ℕ))) (
   of_stop (Run fault) is unread (inl part) = of_run fault is part
   of_stop (Second line cause) is unread (inl part) = of_fault _ 1 refl is part.told part.status
 
+  -- a script's fault whose line does not go out
+  broken_line : (stop : Stop) (out out' : Option (List ℕ)) → (b ≡ true → answer ≡ status_of stop) → (ending : Ending) → BreaksOff stop ending out out'
+      → IsLineOf a b ending (line_of stop)
+  broken_line stop out out' sure (refused shown) is = absurd is
+  broken_line stop out out' sure (faulted status line) is = absurd is
+  broken_line stop out out' sure (complete output) is = absurd is
+  broken_line stop out out' sure (broken_off line output) is =
+      let one : status_of stop ≡ 1 = is.1 in
+      inl (is.0, other_status (status_of stop) answer b three sure (λ e. omega (arith, e, one)))
+
+  of_either : (stop : Stop) (out out' : Option (List ℕ)) → (Stops judged stop × Keeps out out') ⊎ ForEnding judged (λ ending. BreaksOff stop ending out out')
+      → NamesUnread (Some file) reads old new names stop → TellsStop stop answer b err err' → IsRefused file reads old new names judged a b err err'
+  of_either stop out out' (inl is) unread part = of_stop stop is.0 unread (inl part)
+  of_either stop out out' (inr is) unread part =
+      record {
+        line = line_of stop;
+        is =
+            inr (inr (for_ending judged (λ ending. BreaksOff stop ending out out') (λ ending. IsLineOf a b ending (line_of stop))
+            (broken_line stop out out' part.status) is));
+        told = part.told;
+      }
+
+  of_answer : (stop : Stop) (out out' : Option (List ℕ)) → StopsBehind judged stop a out out'
+      → NamesUnread (Some file) reads old new names stop → TellsStop stop answer b err err' ⊎ Writes b err err' memory_line
+      → IsRefused file reads old new names judged a b err err'
+  of_answer stop out out' is unread (inr part) = of_memory file reads old new names judged a b err err' part
+  of_answer (Words text) out out' is unread (inl part) = of_either (Words text) out out' is unread part
+  of_answer NoMemory out out' is unread (inl part) = of_memory file reads old new names judged a b err err' part.told
+  of_answer (Unread name) out out' is unread (inl part) = of_stop (Unread name) tt unread (inl part)
+  of_answer Unwritten out out' is unread (inl part) = of_output file reads old new names judged answer a b out out' err err' is part
+  of_answer (Run fault) out out' is unread (inl part) = of_either (Run fault) out out' is unread part
+  of_answer (Second line cause) out out' is unread (inl part) = of_either (Second line cause) out out' is unread part
+
 -- a call that stops
 pub stop_is_refused : (told : Option Contents) (reads : Bool) (old new : Option (List (List ℕ))) (names : List (List ℕ)) (judged : Contents → Result Bytes Ending) (stop : Stop) (answer : ℕ) (a b : Bool) (err err' : Option (List ℕ))
     → answer ≡ 3 → IfSome told (λ file. Stops (judged file) stop) → NamesUnread told reads old new names stop → TellsStop stop answer b err err' ⊎ Writes b err err' memory_line
@@ -108,3 +130,12 @@ pub stop_is_refused : (told : Option Contents) (reads : Bool) (old new : Option 
 stop_is_refused None reads old new names judged stop answer a b err err' three is unread part = tt
 stop_is_refused (Some file) reads old new names judged stop answer a b err err' three is unread part =
     of_stop file reads old new names (judged file) answer a b err err' three stop is unread part
+
+-- and one that stops with its output written as far as it went
+pub answer_is_refused : (told : Option Contents) (reads : Bool) (old new : Option (List (List ℕ))) (names : List (List ℕ)) (judged : Contents → Result Bytes Ending) (stop : Stop) (answer : ℕ) (a b : Bool) (out out' err err' : Option (List ℕ))
+    → answer ≡ 3 → IfSome told (λ file. StopsBehind (judged file) stop a out out') → NamesUnread told reads old new names stop
+    → TellsStop stop answer b err err' ⊎ Writes b err err' memory_line
+    → IfSome told (λ file. IsRefused file reads old new names (judged file) a b err err')
+answer_is_refused None reads old new names judged stop answer a b out out' err err' three is unread part = tt
+answer_is_refused (Some file) reads old new names judged stop answer a b out out' err err' three is unread part =
+    of_answer file reads old new names (judged file) answer a b err err' three stop out out' is unread part

@@ -1,6 +1,7 @@
 -- Why a call does not complete: the line that says so, and the exit status.
 use Rattle.std.specs.Prelude.{ℕ, Bool, List, ◌++◌, codes, decimal, Option, Some, None, String, string_bytes}
 use Rattle.std.specs.Option.{option_map_or}
+use Rattle.std.specs.Borrow.{Bor}
 use Rattle.std.specs.Global.{Global}
 use Rattle.call_words.specs.declared.call.Refused.{Refused}
 use Rattle.call_words.specs.declared.call.Refused.TheVariants as refused
@@ -67,6 +68,8 @@ run_line (run.Push fault) = fabric_line (push_code fault)
 run_line (run.Port cause) = port_line (script_code cause)
 run_line (run.Script line cause) = script_line (script_code cause) line
 run_line (run.SecondScript line cause) = second_script_line (script_code cause) line
+run_line run.Read = unread_line (codes "script")
+run_line run.Write = unwritten_line
 
 -- of a topology's own fabric a sweep finds all but what is too far, and nothing refuses a push
 abbrev pub sweep_status : SweepFault → ℕ
@@ -77,6 +80,8 @@ abbrev pub run_status : RunFault → ℕ
 run_status run.NoMemory = 3
 run_status (run.Sweep fault) = sweep_status fault
 run_status (run.Push fault) = 3
+run_status run.Read = 3
+run_status run.Write = 3
 run_status _ = 1
 
 -- what standard error gains: one line, or where the words are refused, the text that goes with that
@@ -101,6 +106,13 @@ abbrev pub stop_of : Refused (String Global) → Stop
 stop_of (refused.Words text) = Words text
 stop_of refused.NoMemory = NoMemory
 
+-- of a run that reads the script of this name and writes its report
+abbrev pub run_stop : Bor (List ℕ) → RunFault → Stop
+run_stop script run.NoMemory = NoMemory
+run_stop script run.Read = Unread script
+run_stop script run.Write = Unwritten
+run_stop script fault = Run fault
+
 -- reading files ends only in these
 abbrev pub IsOfFiles : Stop → Type 0
 IsOfFiles NoMemory = Unit {0}
@@ -119,3 +131,8 @@ abbrev pub NamesUnread : Option Contents → Bool → Opened → Opened → List
 NamesUnread None reads old new names stop = Unit {0}
 NamesUnread (Some file) reads old new names (Unread name) = StopsAt file reads old new names name.now
 NamesUnread (Some file) reads old new names _ = Unit {0}
+
+-- where a stop says that a file is not read, it is so of that file's name
+abbrev pub LeavesUnread : (List ℕ → Type 0) → Stop → Type 0
+LeavesUnread Is (Unread name) = Is name.now
+LeavesUnread Is _ = Unit {0}

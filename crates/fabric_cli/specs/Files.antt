@@ -1,8 +1,8 @@
 -- Files that say what they hold: the bytes behind each name, and the names opened so far.
-use Rattle.std.specs.Prelude.{ℕ, ◌≡◌, ◌≤◌, ◌⊎◌, Bool, true, List, [], ◌∷◌, ◌++◌, length, take, Option}
+use Rattle.std.specs.Prelude.{ℕ, ◌≡◌, ◌⊎◌, Bool, true, List, [], ◌∷◌, ◌++◌, take, Option}
 use Rattle.std.specs.Prelude.{Some, None, is_some, IfSome, option_map}
 use Rattle.std.specs.List.{list_all}
-use Rattle.fabric_cli.specs.declared.reading.TheConstants.{READS}
+use Rattle.text_streams.specs.Reading.{IsEndless}
 
 -- the bytes that each name opens to, or that it opens to nothing
 abbrev pub Contents : Type 0
@@ -27,10 +27,6 @@ Opens remaining told name input = IfSome told (λ file. option_map remaining inp
 -- each of these names opens to bytes
 abbrev pub all_open : Contents → List (List ℕ) → Bool
 all_open file names = list_all (λ name. is_some (file name)) names
-
--- no end came within the reads that a file is given
-abbrev pub IsEndless : Option (List ℕ) → Type 0
-IsEndless known = IfSome known (λ bytes. READS ≤ length bytes)
 
 -- of these names this one was opened last, and those before it open to bytes: reading stopped here,
 -- which where no read fails it does only at a name that opens to nothing, or to bytes without an end

@@ -1,6 +1,5 @@
 pub mod Files
 pub mod Explained
 pub mod Faults
-pub mod Writing
 pub mod Serving
 pub mod Laws

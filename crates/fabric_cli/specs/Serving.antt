@@ -1,8 +1,6 @@
 -- What a call answers, from its words, the bytes of its files, and what becomes of the fabric that they describe.
-use Rattle.std.specs.Prelude.{ℕ, ◌≡◌, ◌≢◌, ◌⊎◌, Bool, true, List, [], Option, Some, None, is_some, option_map}
-use Rattle.std.specs.Prelude.{codes, if◌then◌else◌, string_bytes, ◌++◌, IfOk, IfSome, Result, Ok, Err, Vec}
-use Rattle.std.specs.Borrow.{Bor}
-use Rattle.std.specs.Global.{Global}
+use Rattle.std.specs.Prelude.{ℕ, ◌≡◌, ◌≢◌, ◌⊎◌, Bool, true, List, [], Option, Some, None, is_some, option_map, unwrap_or}
+use Rattle.std.specs.Prelude.{codes, if◌then◌else◌, string_bytes, ◌++◌, IfOk, IfSome, Result, Ok, Err}
 use Rattle.std.specs.Io.KnownBytes.{Appends, Keeps}
 use Rattle.subnet_core.specs.declared.fault.RunFault.{RunFault}
 use Rattle.subnet_core.specs.declared.fault.RunFault.TheVariants as run
@@ -25,10 +23,18 @@ use Rattle.subnet_core.specs.Roster.{RosterState, roster_of}
 use Rattle.subnet_core.specs.Comparison.{Compares, TwoRunsState, two_runs_of}
 use Rattle.subnet_core.specs.Run.{report_of}
 use Rattle.subnet_core.specs.declared.comparing.Comparison.{Comparison}
+use Rattle.subnet_core.specs.Stream.{judged as judged_lines, told_of_lines}
+use Rattle.subnet_model.specs.declared.command.Command.{Command}
+use Rattle.text_streams.specs.Reading.{IsEndless}
+use Rattle.text_streams.specs.Writing.{AppendsPart, Writes}
+use Rattle.text_words.specs.Lines.{lines}
 use Rattle.topo_file.specs.Topology.{TopologyState}
+use Rattle.result_words.specs.AtLine.{AtLine}
 use Rattle.result_words.specs.Steps.{◌>>=◌}
 use Rattle.subnet_core.specs.EventLines.{report_text}
 use Rattle.fabric_cli.specs.declared.faults.Stop.{Stop}
+use Rattle.fabric_cli.specs.declared.texts.Task.{Task}
+use Rattle.fabric_cli.specs.declared.texts.Task.TheVariants as task
 use Rattle.fabric_cli.specs.declared.texts.Texts.{Texts}
 use Rattle.code_texts.specs.Texts.{explained}
 use Rattle.call_words.specs.declared.call.Call.TheVariants.{Explain, Subnet}
@@ -37,17 +43,18 @@ use Rattle.call_words.specs.declared.call.Inspection.TheVariants.{Graph, Keys, T
 use Rattle.call_words.specs.declared.call.Work.{Work}
 use Rattle.call_words.specs.declared.call.Work.TheVariants as work
 use Rattle.fabric_cli.specs.declared.faults.Stop.TheVariants.{Words, NoMemory, Unread, Unwritten, Run, Second}
-use Rattle.fabric_cli.specs.Faults.{line_of, status_of, memory_line, port_line, run_line, second_line, run_status, unread_line}
-use Rattle.fabric_cli.specs.Faults.{unwritten_line}
+use Rattle.fabric_cli.specs.Faults.{line_of, status_of, memory_line, port_line, run_line, script_line, second_line, run_status}
+use Rattle.fabric_cli.specs.Faults.{unread_line, unwritten_line}
 use Rattle.fabric_cli.specs.Files.{Contents, Opened, StopsAt}
 use Rattle.call_words.specs.Words.{Asking, Names, named_inspection, opened_for}
-use Rattle.fabric_cli.specs.Writing.{AppendsPart, Writes}
 
--- how a call ends: the words are refused, with this text where it is known; or a fault's status and line; or a whole output
+-- how a call ends: the words are refused, with this text where it is known; or a fault's status and line; or a whole output;
+-- or the line of a script's fault, behind what the lines before it tell
 pub data Ending : Type 0 where
   refused : Option (List ℕ) → Ending
   faulted : ℕ → List ℕ → Ending
   complete : List ℕ → Ending
+  broken_off : (line output : List ℕ) → Ending
 
 -- the bytes of the files, as lists
 pub record Bytes : Type 0 where
@@ -55,20 +62,35 @@ pub record Bytes : Type 0 where
   pub partitions : Option (List ℕ)
   pub work : Work (List ℕ) (List ℕ)
 
-abbrev pub work_bytes : Work (Bor (List ℕ)) (Vec ℕ Global) → Work (List ℕ) (List ℕ)
-work_bytes work.Check = work.Check
-work_bytes (work.Shares port) = work.Shares (option_map (λ word. word.now) port)
-work_bytes (work.Diff second) = work.Diff (option_map (λ bytes. bytes.items) second)
-work_bytes (work.Inspect what) = work.Inspect (named_inspection what)
-work_bytes (work.Run script) = work.Run script.items
-work_bytes (work.Compare first second port) = work.Compare first.items second.items port.now
+-- the work, with the bytes of its files; of a script that is to be run, which is open and not read, with these
+abbrev pub task_work : {I : Type 0} → List ℕ → Task I → Work (List ℕ) (List ℕ)
+task_work script task.Check = work.Check
+task_work script (task.Shares port) = work.Shares (option_map (λ word. word.now) port)
+task_work script (task.Diff second) = work.Diff (option_map (λ bytes. bytes.items) second)
+task_work script (task.Inspect what) = work.Inspect (named_inspection what)
+task_work script (task.Run name input) = work.Run script
+task_work script (task.Compare first second port) = work.Compare first.items second.items port.now
 
-abbrev pub texts_in : Texts → Bytes
-texts_in texts = record {
+abbrev pub texts_in : {I : Type 0} → List ℕ → Texts I → Bytes
+texts_in script texts = record {
   topology = texts.topology.items;
   partitions = option_map (λ bytes. bytes.items) texts.partitions;
-  work = work_bytes texts.work;
+  work = task_work script texts.task;
 }
+
+-- the bytes of the script that is open, where they are known, or none where none is
+abbrev pub left_in : {I : Type 0} → (I → Option (List ℕ)) → Task I → Option (List ℕ)
+left_in remaining (task.Run name input) = remaining input
+left_in remaining _ = Some []
+
+-- these bytes, where they are known
+abbrev pub script_in : {I : Type 0} → (I → Option (List ℕ)) → Task I → List ℕ
+script_in remaining open_task = unwrap_or (left_in remaining open_task) []
+
+-- the script of this name is open, and reading it stops only where a read of it may fail, or at bytes without an end
+abbrev pub IsOpenScript : {I : Type 0} → (I → Option (List ℕ)) → (I → Bool) → Task I → List ℕ → Type 0
+IsOpenScript remaining is_sure (task.Run name input) word = (word ≡ name.now) × (is_sure input ≡ true → IsEndless (remaining input))
+IsOpenScript remaining is_sure _ word = ⊥
 
 -- these texts, to be judged
 abbrev pub texts_with : List ℕ → Option (List ℕ) → Work (List ℕ) (List ℕ) → Result Bytes Ending
@@ -113,6 +135,15 @@ listed topology partitions stop =
 abbrev pub reported : List ℕ → Option (List ℕ) → List ℕ → Option RunFault → Result (List ℕ) RunFault
 reported topology partitions script stop =
     report_of topology partitions script stop >>= λ told. Ok (report_text told.ports told.events)
+
+-- ---- a script, whose lines are told one after the other: all of them, or those before the first that is at fault
+abbrev pub script_told : List ℕ → Result (List Command) (AtLine ScriptCause) → Ending
+script_told output (Ok commands) = complete output
+script_told output (Err at) = broken_off (script_line (script_code at.cause) at.line) output
+
+abbrev pub run_in : Result RosterState RunFault → List ℕ → Ending
+run_in (Ok roster) script = script_told (told_of_lines roster (lines script)) (judged_lines roster.plan (lines script))
+run_in (Err fault) script = faulted (run_status fault) (run_line fault)
 
 -- ---- two scripts, compared for a port
 abbrev pub yes_or_no : Bool → List ℕ
@@ -185,7 +216,7 @@ ending_over topology partitions (work.Diff second) outcome comparison =
     changes_in (roster_of topology partitions) (roster_of topology second)
 ending_over topology partitions (work.Inspect what) outcome comparison = inspected (roster_of topology partitions) what outcome
 ending_over topology partitions (work.Run script) outcome comparison =
-    ending_by (reported topology partitions script (stop_of outcome))
+    run_in (up_from (roster_of topology partitions) (stop_of outcome)) script
 ending_over topology partitions (work.Compare first second port) outcome comparison =
     ending_by (compared (two_runs_of topology partitions first second port (stop_of outcome)) comparison)
 
@@ -250,6 +281,7 @@ abbrev pub Ends : Ending → ℕ → Option (List ℕ) → Option (List ℕ) →
 Ends (refused shown) status out out' err err' = (status ≡ 2) × Keeps out out' × AppendsKnown shown err err'
 Ends (faulted fault line) status out out' err err' = (status ≡ fault) × Keeps out out' × Appends err err' line
 Ends (complete output) status out out' err err' = (status ≡ 0) × Appends out out' output × Keeps err err'
+Ends (broken_off fault output) status out out' err err' = (status ≡ 1) × Appends out out' output × Appends err err' fault
 
 -- so a call ends in which this is judged
 abbrev pub EndsAs : Result Bytes Ending → ℕ → (out out' err err' : Option (List ℕ)) → Type 0
@@ -260,18 +292,21 @@ abbrev pub output_in : Ending → List ℕ
 output_in (refused shown) = []
 output_in (faulted fault line) = []
 output_in (complete output) = output
+output_in (broken_off fault output) = output
 
 -- and this has gone out, whatever was refused: nothing, or a beginning of the output
 abbrev pub AppendsSome : Result Bytes Ending → Option (List ℕ) → Option (List ℕ) → Type 0
 AppendsSome judged out out' = Keeps out out' ⊎ ForEnding judged (λ ending. AppendsPart out out' (output_in ending))
 
 -- the line that is printed, whole or in part, where a call could not end so: that an output that may refuse
--- did not go out, or the line of the fault itself, at which standard error refused (after all of it was
--- written too: a flush that fails looks so); where the words are refused, their text
+-- did not go out, whole or as far as a script was told; or the line of the fault itself, at which standard error
+-- refused (after all of it was written too: a flush that fails looks so); where the words are refused, their text
 abbrev pub IsLineOf : (out_is_sure err_is_sure : Bool) → Ending → List ℕ → Type 0
 IsLineOf out_is_sure err_is_sure (refused shown) line = IsKnown shown line × (err_is_sure ≢ true)
 IsLineOf out_is_sure err_is_sure (faulted status fault) line = (line ≡ fault) × (err_is_sure ≢ true)
 IsLineOf out_is_sure err_is_sure (complete output) line = (line ≡ unwritten_line) × (out_is_sure ≢ true)
+IsLineOf out_is_sure err_is_sure (broken_off fault output) line =
+    ((line ≡ fault) × (err_is_sure ≢ true)) ⊎ ((line ≡ unwritten_line) × (out_is_sure ≢ true))
 
 -- the line of a file at which reading stopped
 abbrev pub IsUnreadLine : Contents → Bool → Opened → Opened → List (List ℕ) → List ℕ → Type 0
@@ -315,17 +350,54 @@ pub record TellsStop (stop : Stop) (answer : ℕ) (is_sure : Bool) (err err' : O
   pub status : is_sure ≡ true → answer ≡ status_of stop
 
 -- files are read to their end before anything is said of them
+abbrev pub IsToldStop : Stop → Type 0
+IsToldStop (Words text) = Unit {0}
+IsToldStop (Run fault) = Unit {0}
+IsToldStop (Second line cause) = Unit {0}
+IsToldStop _ = ⊥
+
 abbrev pub IsTold : {X : Type 0} → Result X Stop → Type 0
 IsTold (Ok output) = Unit {0}
-IsTold (Err (Words text)) = Unit {0}
-IsTold (Err (Run fault)) = Unit {0}
-IsTold (Err (Second line cause)) = Unit {0}
-IsTold _ = ⊥
+IsTold (Err stop) = IsToldStop stop
 
 -- an output comes as it is, and a stop by its line
 abbrev pub ComesTo : {X : Type 0} → (X → List ℕ) → Result Bytes Ending → Result X Stop → Type 0
 ComesTo view judged (Ok output) = ForEnding judged (λ ending. ending ≡ complete (view output))
 ComesTo view judged (Err stop) = Stops judged stop
+
+-- ---- and with the output written
+-- all of it has gone out
+abbrev pub GoesOut : Ending → (out out' : Option (List ℕ)) → Type 0
+GoesOut (complete output) out out' = Appends out out' output
+GoesOut _ out out' = ⊥
+
+-- a beginning of it has
+abbrev pub GoesPartly : Ending → (out out' : Option (List ℕ)) → Type 0
+GoesPartly (complete output) out out' = AppendsPart out out' output
+GoesPartly (broken_off fault output) out out' = AppendsPart out out' output
+GoesPartly _ out out' = ⊥
+
+-- it ends with this stop, behind what has gone out
+abbrev pub BreaksOff : Stop → Ending → (out out' : Option (List ℕ)) → Type 0
+BreaksOff stop (broken_off fault output) out out' = (line_of stop ≡ fault) × (status_of stop ≡ 1) × Appends out out' output
+BreaksOff stop _ out out' = ⊥
+
+-- it stops, with the output written as far as it went
+abbrev pub StopsBehind : Result Bytes Ending → Stop → (out_is_sure : Bool) → (out out' : Option (List ℕ)) → Type 0
+StopsBehind judged NoMemory out_is_sure out out' = AppendsSome judged out out'
+StopsBehind judged (Unread name) out_is_sure out out' = AppendsSome judged out out'
+StopsBehind judged Unwritten out_is_sure out out' = (out_is_sure ≢ true) × ForEnding judged (λ ending. GoesPartly ending out out')
+StopsBehind judged stop out_is_sure out out' =
+    (Stops judged stop × Keeps out out') ⊎ ForEnding judged (λ ending. BreaksOff stop ending out out')
+
+-- it is answered so, with the output written: all of it, or as far as it went
+abbrev pub Answers : {X : Type 0} → Result Bytes Ending → Result X Stop → (out_is_sure : Bool) → (out out' : Option (List ℕ)) → Type 0
+Answers judged (Ok done) out_is_sure out out' = ForEnding judged (λ ending. GoesOut ending out out')
+Answers judged (Err stop) out_is_sure out out' = StopsBehind judged stop out_is_sure out out'
+
+-- it is so of some script, and of this one where its bytes are known
+abbrev pub OfScript : Option (List ℕ) → (List ℕ → Type 0) → Type 0
+OfScript known Is = (script : List ℕ) × IfSome known (λ all. script ≡ all) × Is script
 
 -- ---- of a call that asks for this, where the files say what they hold
 abbrev pub EndsFor : Asking → Option Contents → ℕ → (out out' err err' : Option (List ℕ)) → Type 0

@@ -2,8 +2,8 @@
 
 ghost use Rattle.std.specs.Prelude.{◌≡◌, IfOk, option_map};
 ghost use Rattle.std.specs.Option.{option_map_or};
-ghost use Rattle.fabric_cli.specs.Faults.{fabric_line, line_of, memory_line, no_path_line, port_line, run_line, run_status};
-ghost use Rattle.fabric_cli.specs.Faults.{second_line, status_of, stop_of, sweep_status};
+ghost use Rattle.fabric_cli.specs.Faults.{fabric_line, line_of, memory_line, no_path_line, port_line, run_line, run_status, unwritten_line};
+ghost use Rattle.fabric_cli.specs.Faults.{run_stop, second_line, status_of, stop_of, sweep_status};
 ghost use Rattle.fabric_cli.specs.declared.faults.Stop.TheVariants.{NoMemory};
 ghost use Rattle.script_lines.specs.ScriptCause.{code_of as script_code};
 ghost use Rattle.partition_file.specs.Fault.{code_of as partitions_code};
@@ -59,6 +59,18 @@ impl<'a> Stop<'a> {
         }
     }
 
+    /// The stop for a fault of a run that reads the script of this name and writes its report.
+    pub fn of_run(script: &'a str, fault: RunFault) -> Self
+        ensures { result ≡ run_stop script.entry fault }
+    {
+        match fault {
+            RunFault::NoMemory => Stop::NoMemory,
+            RunFault::Read => Stop::Unread(script),
+            RunFault::Write => Stop::Unwritten,
+            other => Stop::Run(other),
+        }
+    }
+
     /// The exit status.
     pub fn status(&self) -> u8
         ensures { result ≡ status_of self.now }
@@ -79,7 +91,7 @@ impl<'a> Stop<'a> {
             Stop::Words(text) => Vec::from_slice(alloc, text.as_bytes()),
             Stop::NoMemory => memory_line(alloc),
             Stop::Unread(name) => Ok(format!(in alloc; "fault read {name}\n")?.into_bytes()),
-            Stop::Unwritten => Vec::from_slice(alloc, b"fault write\n"),
+            Stop::Unwritten => unwritten_line(alloc),
             Stop::Run(fault) => run_line(alloc, fault),
             Stop::Second { line, cause } => second_line(alloc, *line, *cause),
         }
@@ -90,7 +102,7 @@ fn run_status(fault: &RunFault) -> u8
     ensures { result ≡ run_status fault.now }
 {
     match fault {
-        RunFault::NoMemory | RunFault::Push(_) => REFUSED,
+        RunFault::NoMemory | RunFault::Push(_) | RunFault::Read | RunFault::Write => REFUSED,
         RunFault::Sweep(fault) => sweep_status(*fault),
         RunFault::Topology { .. }
         | RunFault::Partitions { .. }
@@ -114,6 +126,12 @@ fn memory_line(alloc: Global) -> Result<Vec<u8>, AllocError>
     ensures { IfOk result (λ text. text.items ≡ memory_line) }
 {
     Vec::from_slice(alloc, MEMORY_LINE.as_bytes())
+}
+
+fn unwritten_line(alloc: Global) -> Result<Vec<u8>, AllocError>
+    ensures { IfOk result (λ text. text.items ≡ unwritten_line) }
+{
+    Vec::from_slice(alloc, b"fault write\n")
 }
 
 fn run_line(alloc: Global, fault: &RunFault) -> Result<Vec<u8>, AllocError>
@@ -148,6 +166,8 @@ fn run_line(alloc: Global, fault: &RunFault) -> Result<Vec<u8>, AllocError>
             let code = cause.code();
             Ok(format!(in alloc; "fault {code} script2 line {line}\n")?.into_bytes())
         }
+        RunFault::Read => Vec::from_slice(alloc, b"fault read script\n"),
+        RunFault::Write => unwritten_line(alloc),
     }
 }
 

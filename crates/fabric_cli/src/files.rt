@@ -1,40 +1,10 @@
 //! Where the program's files come from.
 
 ghost use Rattle.fabric_cli.specs.Files.{Contents, Opens, OpensAll};
-ghost use Rattle.std.specs.Prelude.{◌≡◌, List, [], ◌∷◌, ℕ, Bool, true, false, Option, None, IfSome, IsOk};
-ghost use Rattle.std.specs.Io.{ReadsAtMost};
-ghost use Rattle.std.specs.Io.KnownBytes.{ReadConsumes};
+ghost use Rattle.std.specs.Prelude.{◌≡◌, List, [], ◌∷◌, ℕ, Bool, true, false, Option, None, IfSome};
 
-use std::io::Read;
-use std::{fs, io, rt};
-
-/// What an opened file is read by.
-///
-/// Its ghost members are what a contract may know of it: `remaining` is the bytes that are left, where
-/// they are known, and `is_sure` whether no read of it fails.
-pub trait Reader {
-    ghost remaining: { Self → Option (List ℕ) };
-
-    ghost is_sure: { Self → Bool };
-
-    /// Reads the next bytes, and answers how many; 0 at the end alone.
-    fn next_piece(&mut self, piece: &mut [u8]) -> io::Result<usize>
-        ensures bound { ReadsAtMost result piece.new }
-        ensures bytes { ReadConsumes (remaining self.old) (remaining self.new) result piece.new }
-        ensures sure { is_sure self.old ≡ true → IsOk result }
-        ensures stays { is_sure self.old ≡ true → is_sure self.new ≡ true };
-}
-
-/// Any read may fail.
-impl<R: Read> Reader for R {
-    ghost remaining = { λ reader. R.remaining reader };
-
-    ghost is_sure = { λ _. false };
-
-    fn next_piece(&mut self, piece: &mut [u8]) -> io::Result<usize> {
-        self.read(piece)
-    }
-}
+use std::{fs, rt};
+use text_streams::Reader;
 
 /// A place that opens names to readers.
 ///

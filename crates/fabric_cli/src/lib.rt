@@ -10,6 +10,7 @@
 //! and its contract says what it answers of the words and the bytes alone.
 #![tactic(auto)]
 
+mod answering;
 mod faults;
 mod files;
 mod laws;
@@ -17,11 +18,10 @@ mod outputs;
 mod reading;
 mod serving;
 mod texts;
-mod writing;
 
-pub use crate::files::{Files, MachineFiles, Reader};
+pub use crate::files::{Files, MachineFiles};
 pub use crate::laws::{
-    every_code_that_is_told_is_explained, files_that_agree_are_judged_alike, the_numbers,
+    every_code_that_is_told_is_explained, files_that_agree_are_judged_alike, runs_end_as_reports,
 };
 pub use crate::serving::{serve, serve_by, serve_given};
-pub use crate::writing::Output;
+pub use text_streams::{Output, Reader};

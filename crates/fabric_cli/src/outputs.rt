@@ -5,7 +5,7 @@ ghost use Rattle.call_words.specs.Words.{named_inspection};
 ghost use Rattle.call_words.specs.declared.call.Inspection.TheVariants.{Graph as IsGraph, Keys as IsKeys, Tables as IsTables};
 ghost use Rattle.call_words.specs.declared.call.Work.TheVariants as work;
 ghost use Rattle.fabric_cli.specs.Faults.{IsOfRun};
-ghost use Rattle.fabric_cli.specs.Serving.{asked_port, changes_in, looked_at, second_stop, shares_in, texts_in, texts_with, traced};
+ghost use Rattle.fabric_cli.specs.Serving.{asked_port, changes_in, looked_at, second_stop, shares_in, texts_with, traced};
 ghost use Rattle.fabric_cli.specs.Serving.{ComesTo, comparison_text, yes_or_no};
 ghost use Rattle.fabric_cli.specs.declared.faults.Stop.TheVariants.{NoMemory};
 ghost use Rattle.subnet_core.specs.BringUp.{up_in};
@@ -13,8 +13,7 @@ ghost use Rattle.script_lines.specs.NamedPort.{adapter_place};
 ghost use Rattle.subnet_core.specs.Roster.{roster_of};
 
 use crate::faults::Stop;
-use crate::texts::Texts;
-use call_words::{Inspection, Work};
+use call_words::Inspection;
 use fabric_graph::graph_text;
 use fabric_tables::{keys_text, tables_text};
 use packet_trace::trace_text;
@@ -22,39 +21,11 @@ use partition_changes::changes_text;
 use port_shares::shares_text;
 use std::alloc::{AllocError, Global};
 use subnet_core::{
-    Comparison, Roster, RunFault, ScriptCause, Subnet, bring_up, compare, read_roster, run,
+    Comparison, Roster, RunFault, ScriptCause, Subnet, bring_up, compare, read_roster,
 };
 
-/// The output over these texts.
-pub fn output_of_texts<'a>(alloc: Global, texts: &Texts<'_>) -> Result<Vec<u8>, Stop<'a>>
-    ensures exact { ComesTo (λ text. text.items) (Ok (texts_in texts.now)) result }
-    ensures fault { IfErr result IsOfRun }
-{
-    let topology = texts.topology.as_slice();
-    let partitions = slice_of(&texts.partitions);
-    match &texts.work {
-        Work::Check => listed(alloc, topology, partitions),
-        Work::Shares(port) => shared(alloc, topology, partitions, *port),
-        Work::Diff(second) => changed(alloc, topology, partitions, slice_of(second)),
-        Work::Inspect(what) => inspected(alloc, topology, partitions, what),
-        Work::Run(script) => reported(alloc, topology, partitions, script.as_slice()),
-        Work::Compare {
-            first,
-            second,
-            port,
-        } => compared(
-            alloc,
-            topology,
-            partitions,
-            first.as_slice(),
-            second.as_slice(),
-            port,
-        ),
-    }
-}
-
 /// The listing of a subnet that is brought up.
-fn listed<'a>(
+pub fn listed<'a>(
     alloc: Global,
     topology: &[u8],
     partitions: Option<&[u8]>,
@@ -70,7 +41,7 @@ fn listed<'a>(
 }
 
 /// The shares in a subnet, of one port alone where a word names it.
-fn shared<'a>(
+pub fn shared<'a>(
     alloc: Global,
     topology: &[u8],
     partitions: Option<&[u8]>,
@@ -107,7 +78,7 @@ fn asked_port(roster: &Roster, port: Option<&str>) -> Result<Option<u64>, Script
 }
 
 /// What the second partitions in place of the first change.
-fn changed<'a>(
+pub fn changed<'a>(
     alloc: Global,
     topology: &[u8],
     partitions: Option<&[u8]>,
@@ -155,7 +126,7 @@ fn second_stop<'a>(fault: RunFault) -> Stop<'a>
 }
 
 /// What the fabric of a subnet holds.
-fn inspected<'a>(
+pub fn inspected<'a>(
     alloc: Global,
     topology: &[u8],
     partitions: Option<&[u8]>,
@@ -249,25 +220,8 @@ fn traced<'a>(
     }
 }
 
-/// The report of a script in a subnet.
-fn reported<'a>(
-    alloc: Global,
-    topology: &[u8],
-    partitions: Option<&[u8]>,
-    script: &[u8],
-) -> Result<Vec<u8>, Stop<'a>>
-    ensures exact { ComesTo (λ text. text.items)
-        (texts_with topology.now (option_copied partitions.entry) (work.Run script.now)) result }
-    ensures fault { IfErr result IsOfRun }
-{
-    match run(alloc, topology, partitions, script) {
-        Ok(report) => text_or_stop(report.text()),
-        Err(fault) => Err(Stop::Run(fault)),
-    }
-}
-
 /// What two scripts in a subnet have in common for the port that a word names.
-fn compared<'a>(
+pub fn compared<'a>(
     alloc: Global,
     topology: &[u8],
     partitions: Option<&[u8]>,
@@ -308,15 +262,5 @@ pub fn text_or_stop<'a>(text: Result<Vec<u8>, AllocError>) -> Result<Vec<u8>, St
     match text {
         Ok(text) => Ok(text),
         Err(_) => Err(Stop::NoMemory),
-    }
-}
-
-/// The bytes, if there are any to read.
-fn slice_of(bytes: &Option<Vec<u8>>) -> Option<&[u8]>
-    ensures { option_copied result ≡ option_map (λ items. items.items) bytes.now }
-{
-    match bytes {
-        Some(bytes) => Some(bytes.as_slice()),
-        None => None,
     }
 }

@@ -1,38 +1,30 @@
-//! Files read to their end, in pieces.
+//! Files opened, and read to their end.
 
-ghost use Rattle.std.specs.Prelude.{ℕ, ◌≡◌, true, List, [], ◌∷◌, Option, Some, is_none, IfOk, IfErr, IfSome};
-ghost use Rattle.fabric_cli.specs.Files.{IsEndless, OpensAll};
+ghost use Rattle.std.specs.Prelude.{ℕ, ◌≡◌, true, List, [], ◌∷◌, Option, Some, IfOk, IfErr, IfSome, option_map};
+ghost use Rattle.fabric_cli.specs.Files.{OpensAll};
 ghost use Rattle.fabric_cli.specs.Faults.{IsOfFiles, NamesUnread};
 
 use crate::faults::Stop;
-use crate::files::{Files, Reader};
-use std::alloc::{AllocError, Global};
-use std::io::ErrorKind;
+use crate::files::Files;
+use std::alloc::Global;
+use text_streams::read_to_end;
 
-/// How often a file is read before it counts as endless.
-const READS: u32 = 1_048_576;
-
-/// How many bytes one read takes at most.
-const PIECE: usize = 256;
-
-/// All the bytes that a reader has left, or `None` where a read fails, or no end comes within
-/// `READS` reads. An interrupted read counts, and is tried again.
-fn read_to_end<R: Reader>(alloc: Global, reader: &mut R) -> Result<Option<Vec<u8>>, AllocError>
-    ensures whole { IfOk result (λ whole. IfSome whole (λ bytes. IfSome (R.remaining reader.old)
-        (λ left. left ≡ bytes.items))) }
-    ensures sure { R.is_sure reader.old ≡ true → IfOk result (λ whole. is_none whole ≡ true → IsEndless (R.remaining reader.old)) }
+/// What a named file is read by, which is opened once.
+pub fn open_file<'a, F: Files>(files: &mut F, name: &'a str) -> Result<F::Input, Stop<'a>>
+    ensures opened { OpensAll (F.opened files.old) (F.opened files.new) (name.entry.now ∷ []) }
+    ensures same { F.told files.new ≡ F.told files.old }
+    ensures stays { F.reads files.new ≡ F.reads files.old }
+    ensures bytes { IfOk result (λ input. IfSome (F.told files.old)
+        (λ file. Some (F.Input.remaining input) ≡ option_map Some (file name.entry.now))) }
+    ensures sure { F.reads files.old ≡ true → IfOk result (λ input. F.Input.is_sure input ≡ true) }
+    ensures fault { IfErr result IsOfFiles }
+    ensures unread { IfErr result (NamesUnread (F.told files.old) (F.reads files.old)
+        (F.opened files.old) (F.opened files.new) (name.entry.now ∷ [])) }
 {
-    let mut bytes = Vec::new(alloc);
-    for _turn in 0..READS {
-        let mut piece = [0u8; PIECE];
-        match reader.next_piece(&mut piece) {
-            Ok(0) => return Ok(Some(bytes)),
-            Ok(count) => bytes.extend_from_slice(&piece[..count])?,
-            Err(error) if error.kind() == ErrorKind::Interrupted => {}
-            Err(_) => return Ok(None),
-        }
+    match files.open(name) {
+        Some(input) => Ok(input),
+        None => Err(Stop::Unread(name)),
     }
-    Ok(None)
 }
 
 /// The bytes of a named file, which is opened once.

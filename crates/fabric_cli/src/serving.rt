@@ -7,21 +7,22 @@ ghost use Rattle.call_words.specs.Words.{all_names, asked_by_given, asking, aski
 ghost use Rattle.call_words.specs.declared.call.Call.TheVariants.{Subnet as InSubnet};
 ghost use Rattle.fabric_cli.specs.Faults.{line_of, memory_line, status_of, NamesUnread};
 ghost use Rattle.fabric_cli.specs.Files.{OpensAll, OpensInOrder};
-ghost use Rattle.fabric_cli.specs.Serving.{judged_for, texts_of, AppendsSomeFor, ComesTo, EndsAs, EndsFor, ForSomeBytes};
+ghost use Rattle.fabric_cli.specs.Serving.{judged_for, texts_of, Answers, AppendsSomeFor, EndsAs, EndsFor, ForSomeBytes};
 ghost use Rattle.fabric_cli.specs.Serving.{IsRefusedFor, IsTold, TellsStop};
-ghost use Rattle.fabric_cli.specs.Writing.{Writes};
+ghost use Rattle.text_streams.specs.Writing.{Writes};
 
+use crate::answering::{answered_of_texts, written};
 use crate::faults::{COMPLETE, MEMORY_LINE, REFUSED, Stop};
 use crate::files::Files;
-use crate::outputs::{output_of_texts, text_or_stop};
+use crate::outputs::text_or_stop;
 use crate::texts::read_texts;
-use crate::writing::{Output, write_whole};
 use call_words::{Asked, Call, Clap, Parser, given_words, read_words};
 use code_texts::explained;
 use std::alloc::Global;
 use std::env::Args;
 use std::io;
 use std::process::ExitCode;
+use text_streams::{Output, write_whole};
 
 /// Does what the words of the machine ask for, as [`serve`] does, and answers the exit status; words that are not text
 /// are refused.
@@ -53,7 +54,8 @@ pub fn serve_given<F: Files, O: Output, E: Output>(
 /// status: 0 where the whole output went to `out`; 1 where a file has a fault, 2 where the words are
 /// refused, and 3 where memory, a file or a writer refuses, as `err` is to say.
 ///
-/// The files are opened and read in the order of the words, each to its end, before any is judged.
+/// The files are opened in the order of the words, and each is read to its end, before any is judged, but for a script that
+/// is run: that is opened then, and carried out line by line while it is read.
 pub fn serve<F: Files, O: Output, E: Output>(
     alloc: Global,
     words: &[String],
@@ -94,14 +96,8 @@ pub fn serve_by<P: Parser, F: Files, O: Output, E: Output>(
         (F.opened files.old) (F.opened files.new) (O.is_sure out.old) (E.is_sure err.old) (E.contents err.old) (E.contents err.new) }
     ensures short { AppendsSomeFor (asking (P.shown parser.now) words.now) (F.told files.old) (O.contents out.old) (O.contents out.new) }
 {
-    match output(alloc, parser, words, files) {
-        Ok(text) => {
-            if write_whole(out, text.as_slice()) {
-                COMPLETE
-            } else {
-                told_stop(alloc, &Stop::Unwritten, err)
-            }
-        }
+    match answered(alloc, parser, words, files, out) {
+        Ok(()) => COMPLETE,
         Err(stop) => told_stop(alloc, &stop, err),
     }
 }
@@ -129,48 +125,50 @@ fn told_stop<E: Output>(alloc: Global, stop: &Stop<'_>, err: &mut E) -> u8
     }
 }
 
-/// The output that the words ask for.
-fn output<'a, P: Parser, F: Files>(
+/// Writes what the words ask for.
+fn answered<'a, P: Parser, F: Files, O: Output>(
     alloc: Global,
     parser: &P,
     words: &'a [String],
     files: &mut F,
-) -> Result<Vec<u8>, Stop<'a>>
+    out: &mut O,
+) -> Result<(), Stop<'a>>
     ensures order { OpensInOrder (F.opened files.old) (F.opened files.new)
         (opened_for (asking (P.shown parser.now) words.entry.now)) }
     ensures all { IsTold result → OpensAll (F.opened files.old) (F.opened files.new)
         (opened_for (asking (P.shown parser.now) words.entry.now)) }
-    ensures exact { IfSome (F.told files.old) (λ file. ComesTo (λ text. text.items)
-        (judged_for file (asking (P.shown parser.now) words.entry.now)) result) }
+    ensures exact { IfSome (F.told files.old) (λ file. Answers (judged_for file (asking (P.shown parser.now) words.entry.now))
+        result (O.is_sure out.old) (O.contents out.old) (O.contents out.new)) }
     ensures any_files { IsTold result → ForSomeBytes (asking (P.shown parser.now) words.entry.now)
-        (λ judged. ComesTo (λ text. text.items) judged result) }
+        (λ judged. Answers judged result (O.is_sure out.old) (O.contents out.old) (O.contents out.new)) }
     ensures unread { IfErr result (NamesUnread (F.told files.old) (F.reads files.old) (F.opened files.old) (F.opened files.new)
         (opened_for (asking (P.shown parser.now) words.entry.now))) }
 {
     match read_words(alloc, parser, words) {
-        Ok(Call::Subnet(asked)) => output_of_files(alloc, &asked, files),
-        Ok(Call::Explain(code)) => text_or_stop(explained(alloc, code)),
+        Ok(Call::Subnet(asked)) => answered_of_files(alloc, &asked, files, out),
+        Ok(Call::Explain(code)) => written(out, text_or_stop(explained(alloc, code))),
         Err(refused) => Err(Stop::of_words(refused)),
     }
 }
 
-/// The output over these files, each read before any is judged.
-fn output_of_files<'a, F: Files>(
+/// Writes what is asked for of these files, which are all opened, and but for a script that is run read, before any is judged.
+fn answered_of_files<'a, F: Files, O: Output>(
     alloc: Global,
     asked: &Asked<'a>,
     files: &mut F,
-) -> Result<Vec<u8>, Stop<'a>>
+    out: &mut O,
+) -> Result<(), Stop<'a>>
     ensures order { OpensInOrder (F.opened files.old) (F.opened files.new) (all_names (names asked.now)) }
     ensures all { IsTold result → OpensAll (F.opened files.old) (F.opened files.new) (all_names (names asked.now)) }
-    ensures exact { IfSome (F.told files.old) (λ file. ComesTo (λ text. text.items)
-        (texts_of file (names asked.now)) result) }
+    ensures exact { IfSome (F.told files.old) (λ file. Answers (texts_of file (names asked.now)) result
+        (O.is_sure out.old) (O.contents out.old) (O.contents out.new)) }
     ensures any_files { IsTold result → ForSomeBytes (Ok (InSubnet (names asked.now)))
-        (λ judged. ComesTo (λ text. text.items) judged result) }
+        (λ judged. Answers judged result (O.is_sure out.old) (O.contents out.old) (O.contents out.new)) }
     ensures unread { IfErr result (NamesUnread (F.told files.old) (F.reads files.old)
         (F.opened files.old) (F.opened files.new) (all_names (names asked.now))) }
 {
     match read_texts(alloc, asked, files) {
-        Ok(texts) => output_of_texts(alloc, &texts),
+        Ok(texts) => answered_of_texts(alloc, texts, out),
         Err(stop) => Err(stop),
     }
 }

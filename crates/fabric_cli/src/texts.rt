@@ -1,51 +1,85 @@
-//! The files of a call, each read in its turn.
+//! The files of a call, each read in its turn, but for a script that is run: that is opened.
 
-ghost use Rattle.std.specs.Prelude.{◌≡◌, Ok, is_some, option_copied, option_map, IfErr, IfOk, IfSome, OnOk};
+ghost use Rattle.std.specs.Prelude.{◌≡◌, ℕ, List, Ok, true, is_some, option_copied, option_map, IfErr, IfOk, IfSome, OnOk};
 ghost use Rattle.std.specs.Option.{option_to_list};
 ghost use Rattle.call_words.specs.Words.{all_names, named_inspection, named_work, names, work_names};
 ghost use Rattle.fabric_cli.specs.Faults.{IsOfFiles, NamesUnread};
-ghost use Rattle.fabric_cli.specs.Files.{OpensAll, OpensInOrder};
-ghost use Rattle.fabric_cli.specs.Serving.{bytes_if_named, texts_in, texts_of, without_files, work_bytes, work_of, AreFor};
+ghost use Rattle.fabric_cli.specs.Files.{OpensAll, OpensInOrder, StopsAt};
+ghost use Rattle.fabric_cli.specs.Serving.{bytes_if_named, left_in, script_in, task_work, texts_in, texts_of, without_files, work_of};
+ghost use Rattle.fabric_cli.specs.Serving.{AreFor, IsOpenScript};
 
 use crate::faults::Stop;
 use crate::files::Files;
-use crate::reading::read_file;
+use crate::reading::{open_file, read_file};
 use call_words::{Asked, Inspection, Work};
 use std::alloc::Global;
 
+/// What to do, with the bytes of the files that this takes.
+#[derive(Drop)]
+pub enum Task<'a, I> {
+    /// List the ports and the members of the partitions.
+    Check,
+    /// List which two ports may talk to one another; of one port alone, where a word names it.
+    Shares(Option<&'a str>),
+    /// List what these partitions change, or that there is no file of them.
+    Diff(Option<Vec<u8>>),
+    /// Look at what the fabric holds.
+    Inspect(Inspection<&'a str>),
+    /// Run a script.
+    Run {
+        /// Its name.
+        name: &'a str,
+        /// What it is read by; nothing of it is read yet.
+        input: I,
+    },
+    /// Compare two scripts for a port, that a word names.
+    Compare {
+        /// The first script.
+        first: Vec<u8>,
+        /// The second.
+        second: Vec<u8>,
+        /// The word for the port.
+        port: &'a str,
+    },
+}
+
 /// The bytes of the files, and what to do with them.
 #[derive(Drop)]
-pub struct Texts<'a> {
+pub struct Texts<'a, I> {
     /// Of the topology.
     pub topology: Vec<u8>,
     /// Of the partitions, if there is a file of them.
     pub partitions: Option<Vec<u8>>,
-    /// What to do, with the bytes of its own files.
-    pub work: Work<&'a str, Vec<u8>>,
+    /// What to do, with its own files.
+    pub task: Task<'a, I>,
 }
 
-/// The bytes of all files that are asked for, each read in its turn.
+/// The bytes of the files that are asked for, each read in its turn; a script that is to be run is opened last.
 pub fn read_texts<'a, F: Files>(
     alloc: Global,
     asked: &Asked<'a>,
     files: &mut F,
-) -> Result<Texts<'a>, Stop<'a>>
+) -> Result<Texts<'a, F::Input>, Stop<'a>>
     ensures order { OpensInOrder (F.opened files.old) (F.opened files.new) (all_names (names asked.now)) }
     ensures all { OnOk result (OpensAll (F.opened files.old) (F.opened files.new) (all_names (names asked.now))) }
+    ensures known { IfOk result (λ texts. IfSome (F.told files.old) (λ _. is_some (left_in F.Input.remaining texts.task) ≡ true)) }
     ensures texts { IfOk result (λ texts. IfSome (F.told files.old) (λ file.
-        texts_of file (names asked.now) ≡ Ok (texts_in texts))) }
-    ensures shape { IfOk result (λ texts. AreFor (names asked.now) (texts_in texts)) }
+        texts_of file (names asked.now) ≡ Ok (texts_in (script_in F.Input.remaining texts.task) texts))) }
+    ensures shape { IfOk result (λ texts. (script : List ℕ) → AreFor (names asked.now) (texts_in script texts)) }
+    ensures last { IfOk result (λ texts. (word : List ℕ) → IsOpenScript F.Input.remaining F.Input.is_sure texts.task word
+        → IfSome (F.told files.old) (λ file.
+        StopsAt file (F.reads files.old) (F.opened files.old) (F.opened files.new) (all_names (names asked.now)) word)) }
     ensures fault { IfErr result IsOfFiles }
     ensures unread { IfErr result (NamesUnread (F.told files.old) (F.reads files.old)
         (F.opened files.old) (F.opened files.new) (all_names (names asked.now))) }
 {
     let topology = read_file(alloc, files, asked.topology)?;
     let partitions = read_if_named(alloc, files, asked.partitions)?;
-    let work = read_work(alloc, files, &asked.work)?;
+    let task = task_of(alloc, files, &asked.work)?;
     Ok(Texts {
         topology,
         partitions,
-        work,
+        task,
     })
 }
 
@@ -83,34 +117,41 @@ fn copy_of<'a>(what: &Inspection<&'a str>) -> Inspection<&'a str>
     }
 }
 
-/// The work with the bytes of its files, if it has some.
-fn read_work<'a, F: Files>(
+/// The work with its files, if it has some.
+fn task_of<'a, F: Files>(
     alloc: Global,
     files: &mut F,
     work: &Work<&'a str, &'a str>,
-) -> Result<Work<&'a str, Vec<u8>>, Stop<'a>>
+) -> Result<Task<'a, F::Input>, Stop<'a>>
     ensures order { OpensInOrder (F.opened files.old) (F.opened files.new) (work_names (named_work work.now)) }
     ensures all { OnOk result (OpensAll (F.opened files.old) (F.opened files.new) (work_names (named_work work.now))) }
     ensures same { F.told files.new ≡ F.told files.old }
     ensures stays { F.reads files.new ≡ F.reads files.old }
-    ensures bytes { IfOk result (λ bytes. IfSome (F.told files.old) (λ file.
-        work_of file (named_work work.now) ≡ Ok (work_bytes bytes))) }
-    ensures shape { IfOk result (λ bytes. without_files (work_bytes bytes) ≡ without_files (named_work work.now)) }
+    ensures known { IfOk result (λ task. IfSome (F.told files.old) (λ _. is_some (left_in F.Input.remaining task) ≡ true)) }
+    ensures bytes { IfOk result (λ task. IfSome (F.told files.old) (λ file.
+        work_of file (named_work work.now) ≡ Ok (task_work (script_in F.Input.remaining task) task))) }
+    ensures shape { IfOk result (λ task. (script : List ℕ) → without_files (task_work script task) ≡ without_files (named_work work.now)) }
+    ensures last { IfOk result (λ task. (word : List ℕ) → IsOpenScript F.Input.remaining F.Input.is_sure task word
+        → IfSome (F.told files.old) (λ file.
+        StopsAt file (F.reads files.old) (F.opened files.old) (F.opened files.new) (work_names (named_work work.now)) word)) }
     ensures fault { IfErr result IsOfFiles }
     ensures unread { IfErr result (NamesUnread (F.told files.old) (F.reads files.old)
         (F.opened files.old) (F.opened files.new) (work_names (named_work work.now))) }
 {
     match work {
-        Work::Check => Ok(Work::Check),
-        Work::Shares(port) => Ok(Work::Shares(*port)),
-        Work::Diff(second) => Ok(Work::Diff(read_if_named(alloc, files, *second)?)),
-        Work::Inspect(what) => Ok(Work::Inspect(copy_of(what))),
-        Work::Run(script) => Ok(Work::Run(read_file(alloc, files, *script)?)),
+        Work::Check => Ok(Task::Check),
+        Work::Shares(port) => Ok(Task::Shares(*port)),
+        Work::Diff(second) => Ok(Task::Diff(read_if_named(alloc, files, *second)?)),
+        Work::Inspect(what) => Ok(Task::Inspect(copy_of(what))),
+        Work::Run(script) => Ok(Task::Run {
+            name: *script,
+            input: open_file(files, *script)?,
+        }),
         Work::Compare {
             first,
             second,
             port,
-        } => Ok(Work::Compare {
+        } => Ok(Task::Compare {
             first: read_file(alloc, files, *first)?,
             second: read_file(alloc, files, *second)?,
             port: *port,

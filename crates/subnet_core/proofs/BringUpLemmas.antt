@@ -9,7 +9,7 @@ use Rattle.result_words.specs.Gives.{Fails}
 use Rattle.subnet_core.specs.BringUp.{Becomes, ComesTo, FailsWith, IsUp, WithFabric, up_from}
 use Rattle.subnet_core.specs.Roster.{IsRostered, RosterState, fault_in}
 use Rattle.subnet_core.specs.declared.fault.RunFault.{RunFault}
-use Rattle.subnet_core.specs.declared.fault.RunFault.TheVariants.{NoMemory, Topology, Partitions, Sweep, NoLegalPath, Push, Port, Script, SecondScript}
+use Rattle.subnet_core.specs.declared.fault.RunFault.TheVariants.{NoMemory, Topology, Partitions, Sweep, NoLegalPath, Push, Port, Script, SecondScript, Read, Write}
 use Rattle.fabric_wire.specs.OfTopology.{fabric_of}
 use Rattle.subnet_fabric.specs.BringUp.{HasNoPath, BroughtUpState}
 use Rattle.subnet_fabric.specs.SetUp.{AreAssigned, IsLaidOut}
@@ -56,6 +56,8 @@ fabric_fails given roster (Push fault) is comes = absurd comes
 fabric_fails given roster (Port cause) is comes = absurd comes
 fabric_fails given roster (Script line cause) is comes = absurd comes
 fabric_fails given roster (SecondScript line cause) is comes = absurd comes
+fabric_fails given roster Read is comes = absurd comes
+fabric_fails given roster Write is comes = absurd comes
 
 -- it is brought up, and the roster is that of the texts
 pub same_roster : (given : Result RosterState RunFault) (stop : Option RunFault) (roster : RosterState) → up_from given stop ≡ Ok roster → given ≡ Ok roster

@@ -13,7 +13,7 @@ use Rattle.subnet_core.specs.Roster.{RosterState, fault_in, of_text, roster_of}
 use Rattle.subnet_core.specs.Senders.{NamesSender}
 use Rattle.subnet_core.specs.declared.comparing.Comparison.{Comparison}
 use Rattle.subnet_core.specs.declared.fault.RunFault.{RunFault}
-use Rattle.subnet_core.specs.declared.fault.RunFault.TheVariants.{NoMemory, Topology, Partitions, Sweep, NoLegalPath, Push, Port, Script, SecondScript}
+use Rattle.subnet_core.specs.declared.fault.RunFault.TheVariants.{NoMemory, Topology, Partitions, Sweep, NoLegalPath, Push, Port, Script, SecondScript, Read, Write}
 use Rattle.subnet_model.specs.Configuration.{ConfigurationState}
 use Rattle.subnet_model.specs.Report.{report_by}
 use Rattle.subnet_model.specs.Restriction.{events_at}
@@ -31,6 +31,8 @@ second_fails_as (Err at) (NoLegalPath switch node number) fails = absurd cc
 second_fails_as (Err at) (Push fault) fails = absurd cc
 second_fails_as (Err at) (Port cause) fails = absurd cc
 second_fails_as (Err at) (SecondScript line cause) fails = absurd cc
+second_fails_as (Err at) Read fails = absurd cc
+second_fails_as (Err at) Write fails = absurd cc
 second_fails_as (Ok x) (Script line cause) fails = absurd cc
 second_fails_as (Ok x) (Topology line cause) fails = absurd cc
 second_fails_as (Ok x) (Partitions line cause) fails = absurd cc
@@ -39,6 +41,8 @@ second_fails_as (Ok x) (NoLegalPath switch node number) fails = absurd cc
 second_fails_as (Ok x) (Push fault) fails = absurd cc
 second_fails_as (Ok x) (Port cause) fails = absurd cc
 second_fails_as (Ok x) (SecondScript line cause) fails = absurd cc
+second_fails_as (Ok x) Read fails = absurd cc
+second_fails_as (Ok x) Write fails = absurd cc
 
 pub second_is_good : {X : Type 0} (given : Result X (AtLine ScriptCause)) (x : X) → of_text Script given ≡ Ok x → of_text SecondScript given ≡ Ok x
 second_is_good (Ok y) x is = is

@@ -13,7 +13,7 @@ use Rattle.subnet_core.specs.Roster.{RosterState, of_text, partitions_for, roste
 use Rattle.subnet_core.specs.Run.{report_of, told_of}
 use Rattle.script_lines.specs.Script.{commands_in}
 use Rattle.subnet_core.specs.declared.fault.RunFault.{RunFault}
-use Rattle.subnet_core.specs.declared.fault.RunFault.TheVariants.{NoMemory, Topology, Partitions, Sweep, NoLegalPath, Push, Port, Script, SecondScript}
+use Rattle.subnet_core.specs.declared.fault.RunFault.TheVariants.{NoMemory, Topology, Partitions, Sweep, NoLegalPath, Push, Port, Script, SecondScript, Read, Write}
 use Rattle.subnet_core.proofs.BringUpLemmas.{lid_at}
 use Rattle.subnet_core.proofs.TopologyLemmas.{topology_is_sound}
 use Rattle.subnet_fabric.proofs.OneFateLemmas.{no_path_excludes_coming_up, one_pair_has_no_path, too_far_excludes_the_rest}
@@ -82,6 +82,8 @@ why roster (Push fault) is = absurd is
 why roster (Port cause) is = absurd is
 why roster (Script line cause) is = absurd is
 why roster (SecondScript line cause) is = absurd is
+why roster Read is = absurd is
+why roster Write is = absurd is
 
 one_fault : (roster : RosterState) (fault other : RunFault) → IsPlanned roster → IsFar roster fault ⊎ IsWithoutPath roster fault
     → IsFar roster other ⊎ IsWithoutPath roster other → fault ≡ other

@@ -18,7 +18,10 @@ use Rattle.sa_runs.specs.Sources.{NotedEvent, noted_in, noted_report}
 use Rattle.subnet_model.specs.declared.command.Command.{Command}
 use Rattle.subnet_core.specs.BringUp.{Answers, up_from}
 use Rattle.subnet_core.specs.declared.fault.RunFault.{RunFault}
+use Rattle.subnet_core.proofs.BringUpLemmas.{lids_in_order}
 use Rattle.subnet_core.specs.Headline.{KeepsPartitionsApart, RecordsComeFromNear}
+use Rattle.subnet_core.specs.Laws.{StreamsKeepPartitionsApart}
+use Rattle.subnet_core.specs.Stream.{commands_before_fault}
 use Rattle.subnet_core.specs.Roster.{partitions_for, roster_of, rostered}
 use Rattle.subnet_core.specs.Run.{ReportState, report_of, told_of}
 use Rattle.script_lines.specs.Script.{commands_in}
@@ -93,3 +96,11 @@ pub answered_apart : (topology script : List ℕ) (partitions : Option (List ℕ
     → IfOk result (λ r. KeepsPartitionsApart topology partitions script r.events)
 answered_apart topology script partitions (Ok r) h lids = told_apart topology script partitions h.stop r h.is lids
 answered_apart topology script partitions (Err fault) h lids = tt
+
+pub streams_keep_partitions_apart : StreamsKeepPartitionsApart
+streams_keep_partitions_apart roster is taken p =
+    let commands = commands_before_fault roster.plan taken in
+    let events = (told_of roster.configuration commands).events in
+    let apart = runs_are_isolated roster.configuration commands p in
+    let own = own_lids 1 roster.configuration.ports (lids_in_order roster is) in
+    (apart.0, slids_name_their_ports roster.configuration.ports p events own apart.1, records_are roster.configuration p commands events refl)

@@ -15,3 +15,12 @@ pub mod AskLemmas
 pub mod WrongLemmas
 pub mod ComparisonLemmas
 pub mod SameLemmas
+pub mod PutLemmas
+pub mod PartLemmas
+pub mod LineCommandLemmas
+pub mod TakeLemmas
+pub mod StreamLemmas
+pub mod ReadLemmas
+pub mod TellLemmas
+pub mod LineLemmas
+pub mod ToldLemmas

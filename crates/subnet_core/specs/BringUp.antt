@@ -4,7 +4,7 @@ use Rattle.std.specs.List.{Contains}
 use Rattle.result_words.specs.Steps.{◌>>=◌}
 use Rattle.smp_wire.specs.FabricState.{FabricState}
 use Rattle.subnet_core.specs.declared.fault.RunFault.{RunFault}
-use Rattle.subnet_core.specs.declared.fault.RunFault.TheVariants.{NoMemory, Topology, Partitions, Sweep, NoLegalPath, Push, Port, Script, SecondScript}
+use Rattle.subnet_core.specs.declared.fault.RunFault.TheVariants.{NoMemory, Topology, Partitions, Sweep, NoLegalPath, Push, Port, Script, SecondScript, Read, Write}
 use Rattle.subnet_core.specs.Roster.{IsRostered, RosterState, fault_in}
 use Rattle.subnet_fabric.specs.BringUp.{HasNoPath, IsBroughtUpBy, IsUnfound, BroughtUpState}
 use Rattle.subnet_fabric.specs.Laws.{all_keys}
@@ -85,6 +85,8 @@ IsStopped roster (Partitions line cause) = ⊥
 IsStopped roster (Port cause) = ⊥
 IsStopped roster (Script line cause) = ⊥
 IsStopped roster (SecondScript line cause) = ⊥
+IsStopped roster Read = ⊥
+IsStopped roster Write = ⊥
 
 abbrev pub ComesTo : RosterState → Result BroughtUpState RunFault → Type 0
 ComesTo roster (Ok up) = IsUp roster up

@@ -2,9 +2,14 @@
 use Rattle.std.specs.Prelude.{ℕ, ◌≡◌, List, Option, Ok}
 use Rattle.std.specs.List.{All}
 use Rattle.subnet_model.specs.declared.command.Command.{Command}
+use Rattle.sa_runs.specs.Administration.{subnet_administration}
 use Rattle.subnet_core.specs.BringUp.{Becomes}
+use Rattle.subnet_core.specs.Headline.{RecordsComeFromNear}
 use Rattle.subnet_core.specs.Roster.{IsRostered, RosterState, roster_of}
-use Rattle.subnet_core.specs.Run.{report_of}
+use Rattle.subnet_core.specs.Run.{report_of, told_of}
+use Rattle.subnet_core.specs.Stream.{commands_before_fault}
+use Rattle.subnet_model.specs.Isolation.{DependsOnNear}
+use Rattle.subnet_model.specs.Source.{ComesFromNear}
 use Rattle.script_lines.specs.Script.{commands_in}
 use Rattle.subnet_core.specs.Senders.{NamesSender}
 use Rattle.subnet_core.specs.declared.fault.RunFault.{RunFault}
@@ -27,3 +32,12 @@ TextsHaveOneAnswer =
     (topology : List ℕ) (partitions : Option (List ℕ)) (script : List ℕ) (stop other : Option RunFault)
     → Becomes (roster_of topology partitions) stop → Becomes (roster_of topology partitions) other
     → report_of topology partitions script stop ≡ report_of topology partitions script other
+
+-- what a stream tells, after whatever lines it ends, keeps partitions apart as a run does
+abbrev pub StreamsKeepPartitionsApart : Type 0
+StreamsKeepPartitionsApart =
+    (roster : RosterState) → IsRostered roster → (taken : List (List ℕ)) (p : ℕ)
+    → let commands = commands_before_fault roster.plan taken in
+    let events = (told_of roster.configuration commands).events in
+    DependsOnNear subnet_administration roster.configuration p commands events × ComesFromNear roster.configuration.ports p events
+    × RecordsComeFromNear roster.configuration p commands events

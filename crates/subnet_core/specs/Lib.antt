@@ -11,4 +11,6 @@ pub mod WholeLines
 pub mod Listing
 pub mod Headline
 pub mod Comparison
+pub mod Stream
+pub mod StreamSteps
 pub mod WrongRules

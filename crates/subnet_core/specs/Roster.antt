@@ -8,7 +8,7 @@ use Rattle.result_words.specs.AtLine.{AtLine}
 use Rattle.result_words.specs.Gives.{Gives}
 use Rattle.result_words.specs.Steps.{◌>>=◌}
 use Rattle.subnet_core.specs.declared.fault.RunFault.{RunFault}
-use Rattle.subnet_core.specs.declared.fault.RunFault.TheVariants.{NoMemory, Topology, Partitions, Sweep, NoLegalPath, Push, Port, Script, SecondScript}
+use Rattle.subnet_core.specs.declared.fault.RunFault.TheVariants.{NoMemory, Topology, Partitions, Sweep, NoLegalPath, Push, Port, Script, SecondScript, Read, Write}
 use Rattle.subnet_model.specs.Configuration.{ConfigurationState}
 use Rattle.subnet_ports.specs.Ports.{configuration_of}
 use Rattle.topo_file.specs.Sound.{IsSound}
@@ -57,6 +57,8 @@ fault_in (Push fault) = Some (Push fault)
 fault_in (Port cause) = Some (Port cause)
 fault_in (Script line cause) = Some (Script line cause)
 fault_in (SecondScript line cause) = Some (SecondScript line cause)
+fault_in Read = Some Read
+fault_in Write = Some Write
 
 abbrev pub RunGives : {X Y : Type 0} → (X → Y) → Result X RunFault → Result Y RunFault → Type 0
 RunGives view answer given = Gives fault_in view answer given

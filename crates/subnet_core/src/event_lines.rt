@@ -6,7 +6,7 @@ ghost use Rattle.data_packet.specs.declared.payload.TheConstants.{PAYLOAD_BYTES}
 ghost use Rattle.subnet_model.specs.Delivery.{port_with_guid};
 ghost use Rattle.subnet_core.specs.EventLines.{name_text, trimmed, payload_text, packet_text, outcome_text, line_text, report_text};
 
-use crate::lookup::PortIndex;
+use crate::lookup::{PortIndex, places_by_guid};
 use data_packet::{PAYLOAD_BYTES, Packet};
 use line_parts::{digits_of, push_decimal, push_hex, push_port};
 use std::alloc::{AllocError, Global};
@@ -21,7 +21,8 @@ pub(crate) fn report_text(
 ) -> Result<Vec<u8>, AllocError>
     ensures { IfOk result (λ text. text.items ≡ report_text ports.now (map event_of events.now)) }
 {
-    let ports = PortIndex::new(alloc, ports)?;
+    let places = places_by_guid(alloc, ports)?;
+    let ports = PortIndex::new(ports, &places);
     let mut text = Vec::new(alloc);
     for event in events {
         push_line(&mut text, &ports, event)?;
@@ -29,7 +30,15 @@ pub(crate) fn report_text(
     Ok(text)
 }
 
-fn push_line(text: &mut Vec<u8>, ports: &PortIndex<'_>, event: &Event) -> Result<(), AllocError>
+/// A line of a report has fewer bytes.
+pub(crate) const LINE_BYTES: usize = 640;
+
+/// Adds the line of an event.
+pub(crate) fn push_line(
+    text: &mut Vec<u8>,
+    ports: &PortIndex<'_>,
+    event: &Event,
+) -> Result<(), AllocError>
     ensures { OnOk result (text.new.items ≡ text.old.items ++ line_text ports.now (event_of event.now)) }
 {
     push_name(text, ports, event.port_guid())?;

@@ -68,6 +68,12 @@ pub enum RunFault {
         /// What is wrong.
         cause: ScriptCause,
     },
+    /// The script is not read to its end: a read of it fails, or no end comes within the reads that it is given.
+    #[error("the script is not read to its end")]
+    Read,
+    /// What is told does not go out: a write takes nothing, is interrupted or fails, or the flush at the end fails.
+    #[error("what is told does not go out")]
+    Write,
 }
 
 impl From<AllocError> for RunFault {

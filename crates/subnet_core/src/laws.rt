@@ -1,7 +1,7 @@
 //! The laws of scripts that are accepted, and of what becomes of a fabric. Each function's contract is its law; it
 //! does nothing.
 
-ghost use Rattle.subnet_core.specs.Laws.{EachCommandNamesASender, OneThingBecomesOfAFabric, TextsHaveOneAnswer};
+ghost use Rattle.subnet_core.specs.Laws.{EachCommandNamesASender, OneThingBecomesOfAFabric, StreamsKeepPartitionsApart, TextsHaveOneAnswer};
 ghost use Rattle.subnet_core.specs.WholeLines.{ReportLinesAreWhole};
 ghost use Rattle.subnet_core.specs.WrongRules.{CountedEventsTellOfFarPorts};
 
@@ -30,4 +30,10 @@ pub fn texts_have_one_answer()
 /// the ports near a port alone. So those of a report bear none.
 pub fn counted_events_tell_of_far_ports()
     ensures { CountedEventsTellOfFarPorts }
+{}
+
+/// What [`run_stream`](crate::run_stream) tells, wherever it ends, keeps partitions apart: at each port the events are those
+/// that the commands of the ports near it alone would bring it, and each packet, and each record, comes from a port near it.
+pub fn streams_keep_partitions_apart()
+    ensures { StreamsKeepPartitionsApart }
 {}

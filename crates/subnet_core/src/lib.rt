@@ -21,6 +21,8 @@ mod lookup;
 mod report;
 mod roster;
 mod running;
+mod stream;
+mod streaming;
 mod subnet;
 
 pub use crate::bringing_up::bring_up;
@@ -28,11 +30,12 @@ pub use crate::comparing::{Comparison, compare};
 pub use crate::fault::{RunFault, StepFault};
 pub use crate::laws::{
     counted_events_tell_of_far_ports, each_command_names_a_sender, one_thing_becomes_of_a_fabric,
-    report_lines_are_whole, texts_have_one_answer,
+    report_lines_are_whole, streams_keep_partitions_apart, texts_have_one_answer,
 };
 pub use crate::report::Report;
 pub use crate::roster::{Roster, read_roster};
 pub use crate::running::run;
+pub use crate::streaming::run_stream;
 pub use crate::subnet::Subnet;
 pub use script_lines::ScriptCause;
 pub use subnet_model::Command;

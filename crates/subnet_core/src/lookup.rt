@@ -15,7 +15,7 @@ use subnet_model::SubnetPort;
 #[derive(Drop)]
 pub(crate) struct PortIndex<'a> {
     ports: &'a [SubnetPort],
-    places: IndexMap<u64, usize>,
+    places: &'a IndexMap<u64, usize>,
 }
 
 impl<'a> Model for PortIndex<'a> {
@@ -28,18 +28,16 @@ impl<'a> Model for PortIndex<'a> {
 
     ghost view = { λ index. index.ports.now };
 
-    ghost invariant = { λ index. Finds index.ports.now (get nat_eq index.places) };
+    ghost invariant = { λ index. Finds index.ports.now (get nat_eq index.places.now) };
 }
 
 impl<'a> PortIndex<'a> {
-    /// These ports. Memory alone can be refused.
-    pub(crate) fn new(alloc: Global, ports: &'a [SubnetPort]) -> Result<PortIndex<'a>, AllocError>
-        ensures { IfOk result (λ index. index ≡ ports.entry.now) }
+    /// These ports, with the place of each by its GUID.
+    pub(crate) fn new(ports: &'a [SubnetPort], places: &'a IndexMap<u64, usize>) -> PortIndex<'a>
+        requires { Finds ports.now (get nat_eq places.now) }
+        ensures { result ≡ ports.entry.now }
     {
-        Ok(PortIndex {
-            ports,
-            places: places_by_guid(alloc, ports)?,
-        })
+        PortIndex { ports, places }
     }
 
     /// The port of that GUID, if one is listed: the first, where there are several.
@@ -51,8 +49,11 @@ impl<'a> PortIndex<'a> {
     }
 }
 
-/// The place of the port of each GUID. Later ports come first, so that the first of a GUID stays.
-fn places_by_guid(alloc: Global, ports: &[SubnetPort]) -> Result<IndexMap<u64, usize>, AllocError>
+/// The place of the port of each GUID. Later ports come first, so that the first of a GUID stays. Memory alone can be refused.
+pub(crate) fn places_by_guid(
+    alloc: Global,
+    ports: &[SubnetPort],
+) -> Result<IndexMap<u64, usize>, AllocError>
     ensures { IfOk result (λ places. Finds ports.now (get nat_eq places)) }
 {
     let mut places = IndexMap::new(alloc);

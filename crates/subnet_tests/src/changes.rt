@@ -7,6 +7,7 @@ use std::alloc::{AllocError, Global};
 use std::process::Abort;
 use std::test::Fail;
 use subnet_core::{Roster, RunFault, read_roster};
+use subnet_model::near;
 
 /// The file in which h2 is a full member too.
 const ANOTHER_FILE: &str = "P1=0x0001: 0x111=full, 0x121=full, 0x131;\n";
@@ -45,12 +46,22 @@ fn is_text(rt: &impl Abort, told: Result<Vec<u8>, AllocError>, text: &str) {
     }
 }
 
-/// tools/refused-memory refuses each allocation of this test, and of the next, in turn.
+/// tools/refused-memory refuses each allocation of this test, and of the two behind it, in turn.
 #[test]
 fn shares_are_told_or_memory_is_refused(rt: HostRuntime) -> Result<(), Fail> {
     if let Some(roster) = roster_under(&rt, rt.alloc(), ONE_PARTITION_FILE) {
         let told = shares_text(rt.alloc(), roster.configuration().ports(), None);
         is_text(&rt, told, SHARES);
+    }
+    Ok(())
+}
+
+#[test]
+fn neighbours_are_told_or_memory_is_refused(rt: HostRuntime) -> Result<(), Fail> {
+    if let Some(roster) = roster_under(&rt, rt.alloc(), ONE_PARTITION_FILE) {
+        if let Ok(guids) = near(rt.alloc(), roster.configuration().ports(), 0x131) {
+            assert_eq!(rt; guids.as_slice(), [0x101, 0x111, 0x131].as_slice());
+        }
     }
     Ok(())
 }

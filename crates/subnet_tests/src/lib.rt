@@ -17,6 +17,8 @@ mod partitions;
 #[cfg(test)]
 mod runs;
 #[cfg(test)]
+mod streams;
+#[cfg(test)]
 mod tables;
 #[cfg(test)]
 mod traces;

@@ -51,10 +51,10 @@ fn a_run_is_told_or_memory_is_refused(rt: HostRuntime) -> Result<(), Fail> {
 }
 
 /// A partition of which h1 is a full member, and h2 and h3 are limited ones.
-const PARTITIONS: &str = "P1=0x0001: 0x111=full, 0x121, 0x131;";
+pub const PARTITIONS: &str = "P1=0x0001: 0x111=full, 0x121, 0x131;";
 
 /// A group is made and joined, records come in segments, a service is set, and a packet goes to the group.
-const ASKS: &str = "ask h1/1 set member tid=1 mgid=0xff12000000000000000000000000000a \
+pub const ASKS: &str = "ask h1/1 set member tid=1 mgid=0xff12000000000000000000000000000a \
     portgid=0xfe800000000000000000000000000111 qkey=1 tclass=0 pkey=0x8001 sl=0 flow=0 join=1\n\
     ask h2/1 set member tid=1 mgid=0xff12000000000000000000000000000a \
     portgid=0xfe800000000000000000000000000121 pkey=0x8001 join=1\n\

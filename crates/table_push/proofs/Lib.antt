@@ -14,8 +14,10 @@ pub mod SeatBitLemmas
 pub mod AwayLemmas
 pub mod HopLemmas
 pub mod TreeMaskLemmas
+pub mod TreeLinkLemmas
 pub mod AboveLemmas
 pub mod TreeBitLemmas
+pub mod PlaceLemmas
 pub mod NumberedLemmas
 pub mod PartLemmas
 pub mod PortLemmas

@@ -99,7 +99,7 @@ no_seat routes partition one is = by (slot_in partition one.mlid) (adapter_home 
     by (Some slot) (Some home) at there never = absurd (cc)
 
 -- ---- one receiver more
-some_more : (receivers : List GroupReceiver) (k mlid : ℕ) (one : GroupReceiver) (test : ℕ → Bool) → slice_get receivers k ≡ Some one
+pub some_more : (receivers : List GroupReceiver) (k mlid : ℕ) (one : GroupReceiver) (test : ℕ → Bool) → slice_get receivers k ≡ Some one
     → some_receives (take (k + 1) receivers) mlid test ≡ (some_receives (take k receivers) mlid test || ((one.mlid == mlid) && test one.lid))
 some_more receivers k mlid one test there =
     let passes : GroupReceiver → Bool = λ other. (other.mlid == mlid) && test other.lid in
@@ -331,3 +331,68 @@ pub all_seated : (routes : RoutesState) (partition count : ℕ) (receivers : Lis
     → SoFar routes partition (take count receivers) ports switches → SoFar routes partition receivers ports switches
 all_seated routes partition count receivers ports switches all so_far =
     subst (λ (some : List GroupReceiver). SoFar routes partition some ports switches) (take_all count receivers all) so_far
+
+-- ---- one word for each multicast LID
+-- the numbers below a limit that the first receivers reach
+pub record Slots (limit partition : ℕ) (receivers : List GroupReceiver) (reaches : ℕ → ℕ → Bool) (bits : List ℕ) : Type 0 where
+  pub long : length bits ≡ 32
+  pub are : AreReceiversBits limit partition receivers reaches (λ i. get_or bits i 0)
+
+pub no_slots : (limit partition : ℕ) (reaches : ℕ → ℕ → Bool) → Slots limit partition [] reaches (replicate 32 0)
+no_slots limit partition reaches = record {
+  long = refl;
+  are = λ i number within below. ap (λ (n : ℕ). bit_at n number == 1) (get_or-replicate 32 i 0 0 within) ∙ no_bits number;
+}
+
+pub slot_more : (routes : RoutesState) (limit partition k x : ℕ) (receivers : List GroupReceiver) (one : GroupReceiver) (seat : Seat) (reaches : ℕ → ℕ → Bool)
+    (bits next : List ℕ) → slice_get receivers k ≡ Some one → seat_in routes partition one ≡ Some seat → seat.slot < 32
+    → (adapter_home routes.between.homes one.lid ≡ Some seat.home → (number : ℕ) → number < limit → (bit_at x number == 1) ≡ reaches one.lid number)
+    → next ≡ slice_set bits seat.slot (bit_or (get_or bits seat.slot 0) x)
+    → Slots limit partition (take k receivers) reaches bits → Slots limit partition (take (k + 1) receivers) reaches next
+slot_more routes limit partition k x receivers one seat reaches bits next there is low its next_is so_far =
+    let slot = seat.slot in
+    let value = bit_or (get_or bits slot 0) x in
+    let parts = seat_parts routes partition one seat is in
+    record {
+      long = ap length next_is ∙ length-set bits slot value ∙ so_far.long;
+      are = added limit partition k slot receivers one reaches (λ i. get_or bits i 0) (λ i. get_or next i 0) there parts.slot
+          (λ number below. ap (λ (some : List ℕ). bit_at (get_or some slot 0) number == 1) next_is
+          ∙ ap (λ (n : ℕ). bit_at n number == 1) (get_or-set_same bits slot value 0 (omega (arith, so_far.long, low)))
+          ∙ either_bit (get_or bits slot 0) x number
+          ∙ ap (λ (b : Bool). (bit_at (get_or bits slot 0) number == 1) || b) (its parts.home number below))
+          (λ i apart. ap (λ (some : List ℕ). get_or some i 0) next_is ∙ get_or-set_other bits slot i value 0 apart) so_far.are;
+    }
+
+pub slot_passed : (routes : RoutesState) (limit partition k : ℕ) (receivers : List GroupReceiver) (one : GroupReceiver) (reaches : ℕ → ℕ → Bool) (bits next : List ℕ)
+    → slice_get receivers k ≡ Some one → seat_in routes partition one ≡ None
+    → (adapter_home routes.between.homes one.lid ≡ None → (number : ℕ) → reaches one.lid number ≡ false)
+    → next ≡ bits → Slots limit partition (take k receivers) reaches bits → Slots limit partition (take (k + 1) receivers) reaches next
+slot_passed routes limit partition k receivers one reaches bits next there is never next_is so_far =
+    let why : (slot_in partition one.mlid ≡ None) ⊎ ((number : ℕ) → reaches one.lid number ≡ false) =
+    elim (no_seat routes partition one is) [ inl slot ↦ inl slot | inr home ↦ inr (never home) ] in
+    subst (Slots limit partition (take (k + 1) receivers) reaches) (sym next_is)
+    (record { long = so_far.long; are = passed limit partition k receivers one reaches (λ i. get_or bits i 0) there why so_far.are })
+
+pub all_slots : (limit partition count : ℕ) (receivers : List GroupReceiver) (reaches : ℕ → ℕ → Bool) (bits : List ℕ) → length receivers ≤ count
+    → Slots limit partition (take count receivers) reaches bits → Slots limit partition receivers reaches bits
+all_slots limit partition count receivers reaches bits all so_far =
+    subst (λ (some : List GroupReceiver). Slots limit partition some reaches bits) (take_all count receivers all) so_far
+
+-- the port of a switch, if the receiver hangs there
+pub port_there : (homes : List PortRef) (place lid number : ℕ) (home : PortRef) → adapter_home homes lid ≡ Some home
+    → is_that_port (if home.node == place then Some home.port else None) number ≡ hangs_at homes place lid number
+port_there homes place lid number home is =
+    by (home.node == place) ∙ sym (ap (λ (o : Option PortRef). option_map_or (λ home. (home.node == place) && (home.port == number)) o false) is)
+  where
+    by : (b : Bool) → is_that_port (if b then Some home.port else None) number ≡ (b && (home.port == number))
+    by true = refl
+    by false = refl
+
+pub switch_there : (homes : List PortRef) (lid s : ℕ) (home : PortRef) → adapter_home homes lid ≡ Some home → (home.node == s) ≡ hangs_on homes lid s
+switch_there homes lid s home is = sym (ap (λ (o : Option PortRef). option_map_or (λ home. home.node == s) o false) is)
+
+pub nobody_on : (homes : List PortRef) (lid s : ℕ) → adapter_home homes lid ≡ None → hangs_on homes lid s ≡ false
+nobody_on homes lid s is = ap (λ (o : Option PortRef). option_map_or (λ home. home.node == s) o false) is
+
+pub nobody_at : (homes : List PortRef) (place lid number : ℕ) → adapter_home homes lid ≡ None → hangs_at homes place lid number ≡ false
+nobody_at homes place lid number is = ap (λ (o : Option PortRef). option_map_or (λ home. (home.node == place) && (home.port == number)) o false) is

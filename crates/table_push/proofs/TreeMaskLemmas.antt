@@ -68,18 +68,16 @@ or_joined : (a b c : Bool) → ((a || b) || c) ≡ (a || (b || c))
 or_joined true b c = refl
 or_joined false b c = refl
 
-pub ups_are : (tree : Tree) (row masks : List ℕ) (switches s number : ℕ)
-    → get_or masks s 0 ≡ bit_or (get_or row s 0) (where_meets switches (get_or tree.outside s 0) (get_or tree.ups s 0))
-    → (bit_at (get_or masks s 0) number == 1)
-    ≡ (((bit_at (get_or row s 0) number == 1) || leads_up tree switches s number) || some_lead_down tree 0 switches s number)
+pub ups_are : (tree : Tree) (held next switches s number : ℕ) → next ≡ bit_or held (where_meets switches (get_or tree.outside s 0) (get_or tree.ups s 0))
+    → (bit_at next number == 1) ≡ (((bit_at held number == 1) || leads_up tree switches s number) || some_lead_down tree 0 switches s number)
 unfolding some_lead_down
-ups_are tree row masks switches s number is =
+ups_are tree held next switches s number is =
     ap (λ (n : ℕ). bit_at n number == 1) is
-    ∙ either_bit (get_or row s 0) (where_meets switches (get_or tree.outside s 0) (get_or tree.ups s 0)) number
-    ∙ ap (λ (b : Bool). (bit_at (get_or row s 0) number == 1) || b) (where_bit switches (get_or tree.outside s 0) (get_or tree.ups s 0) number)
-    ∙ or_none ((bit_at (get_or row s 0) number == 1) || leads_up tree switches s number)
+    ∙ either_bit held (where_meets switches (get_or tree.outside s 0) (get_or tree.ups s 0)) number
+    ∙ ap (λ (b : Bool). (bit_at held number == 1) || b) (where_bit switches (get_or tree.outside s 0) (get_or tree.ups s 0) number)
+    ∙ or_none ((bit_at held number == 1) || leads_up tree switches s number)
 
-down_any : (tree : Tree) (k switches s number : ℕ)
+pub down_any : (tree : Tree) (k switches s number : ℕ)
     → some_lead_down tree (k + 1) switches s number ≡ (some_lead_down tree k switches s number || leads_down tree switches s number k)
 unfolding some_lead_down
 down_any tree k switches s number = range_any (leads_down tree switches s number) k
@@ -131,6 +129,45 @@ no_down tree row masks next switches k s number of becomes so_far =
     ∙ ap (λ (o : Option ℕ). some_lead_down tree k switches s number
     || (is_that_port o s && (meets switches (get_or tree.below k 0) && (bit_at (get_or tree.ends k 0) number == 1)))) (sym of)
     ∙ sym (down_any tree k switches s number))
+
+-- ---- one switch
+and_true : (a b : Bool) → a ≡ true → b ≡ (a && b)
+and_true true b is = refl
+and_true false b is = absurd (false≢true is)
+
+and_false : (a b : Bool) → a ≡ false → (a && b) ≡ false
+and_false true b is = absurd (false≢true (sym is))
+and_false false b is = refl
+
+-- one port more that leads down from it
+pub way_down : (tree : Tree) (held so_far next switches k s number : ℕ) → is_that_port (get_or tree.parents k None) s ≡ true
+    → next ≡ bit_or so_far (where_meets switches (get_or tree.below k 0) (get_or tree.ends k 0))
+    → (bit_at so_far number == 1) ≡ (((bit_at held number == 1) || leads_up tree switches s number) || some_lead_down tree k switches s number)
+    → (bit_at next number == 1) ≡ (((bit_at held number == 1) || leads_up tree switches s number) || some_lead_down tree (k + 1) switches s number)
+way_down tree held so_far next switches k s number own is before =
+    let front = (bit_at held number == 1) || leads_up tree switches s number in
+    ap (λ (n : ℕ). bit_at n number == 1) is
+    ∙ either_bit so_far (where_meets switches (get_or tree.below k 0) (get_or tree.ends k 0)) number
+    ∙ ap (λ (b : Bool). b || (bit_at (where_meets switches (get_or tree.below k 0) (get_or tree.ends k 0)) number == 1)) before
+    ∙ or_joined front (some_lead_down tree k switches s number) (bit_at (where_meets switches (get_or tree.below k 0) (get_or tree.ends k 0)) number == 1)
+    ∙ ap (λ (b : Bool). front || (some_lead_down tree k switches s number || b))
+    (where_bit switches (get_or tree.below k 0) (get_or tree.ends k 0) number
+    ∙ and_true (is_that_port (get_or tree.parents k None) s) (meets switches (get_or tree.below k 0) && (bit_at (get_or tree.ends k 0) number == 1)) own)
+    ∙ ap (λ (b : Bool). front || b) (sym (down_any tree k switches s number))
+
+-- a switch that is not next below it
+pub down_none : (tree : Tree) (switches k s number : ℕ) → is_that_port (get_or tree.parents k None) s ≡ false
+    → some_lead_down tree (k + 1) switches s number ≡ some_lead_down tree k switches s number
+down_none tree switches k s number other =
+    down_any tree k switches s number
+    ∙ ap (λ (b : Bool). some_lead_down tree k switches s number || b)
+    (and_false (is_that_port (get_or tree.parents k None) s) (meets switches (get_or tree.below k 0) && (bit_at (get_or tree.ends k 0) number == 1)) other)
+    ∙ sym (or_none (some_lead_down tree k switches s number))
+
+-- no port leads down so far
+pub down_first : (tree : Tree) (switches s number : ℕ) → some_lead_down tree 0 switches s number ≡ false
+unfolding some_lead_down
+down_first tree switches s number = refl
 
 -- ---- where nothing hangs
 meets_none : (set : ℕ) → meets 0 set ≡ false

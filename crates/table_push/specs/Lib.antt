@@ -5,6 +5,7 @@ pub mod Masks
 pub mod Changes
 pub mod MaskSteps
 pub mod TreeSteps
+pub mod PlaceSteps
 pub mod Keys
 pub mod Pushes
 pub mod Ports

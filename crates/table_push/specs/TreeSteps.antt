@@ -1,8 +1,9 @@
 -- What each step of the computation of masks along the tree comes to: the clauses of `src/trees.rt`.
-use Rattle.std.specs.Prelude.{ℕ, zero, suc, ◌≡◌, ◌<◌, ◌^◌, ◌==◌, ◌&&◌, ◌||◌, not, bit_and, Bool, if◌then◌else◌}
-use Rattle.std.specs.Prelude.{List, [], get_or, length, map, Option, Some, None, option_map}
+use Rattle.std.specs.Prelude.{ℕ, zero, suc, ◌≡◌, ◌+◌, ◌<◌, ◌^◌, ◌==◌, ◌&&◌, ◌||◌, not, bit_and, Bool, if◌then◌else◌}
+use Rattle.std.specs.Prelude.{List, [], find, get_or, length, map, Option, Some, None, option_map}
 use Rattle.std.specs.Int.{bit_at}
 use Rattle.std.specs.List.{list_any, range_with_len}
+use Rattle.sweep.specs.declared.graph.GraphLink.{GraphLink}
 use Rattle.table_push.specs.Masks.{tree_end, wanted_slice}
 use Rattle.table_push.specs.MaskSteps.{AreBits, is_that_port, words_at}
 use Rattle.table_push.specs.declared.trees.Tree.{Tree}
@@ -13,6 +14,18 @@ use Rattle.updn_routes.specs.Tree.{tree_port}
 -- some bit is set in both
 abbrev pub meets : (a b : ℕ) → Bool
 meets a b = not (bit_and a b == 0)
+
+-- ---- the links of the graph that join switches to the tree
+abbrev pub graph_link : RoutesState → ℕ → Option GraphLink
+graph_link routes s =
+    find (λ link. get_or routes.between.depths link.to.node 0 + 1 == get_or routes.between.depths s 0) (get_or routes.graph.rows s [])
+
+-- by such links, by places, the switch next above one
+abbrev pub parent_in : List (Option GraphLink) → ℕ → Option ℕ
+parent_in links s = option_map (λ link. link.to.node) (get_or links s None)
+
+abbrev pub AreParents : RoutesState → List (Option GraphLink) → Type 0
+AreParents routes links = (s : ℕ) → parent_in links s ≡ parent routes.between.rows routes.between.depths s
 
 -- ---- what is kept of the tree, of each switch by its place
 abbrev pub IsBelowSet : RoutesState → (s set : ℕ) → Type 0

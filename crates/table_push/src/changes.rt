@@ -1,20 +1,23 @@
 //! What changes of multicast forwarding tables.
 
-ghost use Rattle.std.specs.Prelude.{ℕ, ◌≡◌, ◌≤◌, ◌<◌, ◌+◌, ◌*◌, true, length, nat_eq, IfOk};
+ghost use Rattle.std.specs.Prelude.{ℕ, ◌≡◌, ◌≤◌, ◌<◌, ◌+◌, ◌*◌, ◌==◌, false, length, nat_eq, IfOk};
+ghost use Rattle.std.specs.Int.{bit_at};
 ghost use Rattle.std.specs.Cmp.Lexicographic.{pointwise};
 ghost use Rattle.std.specs.Option.{ForSome};
 ghost use Rattle.agent_rules.specs.declared.power_up.TheConstants.{MULTICAST_TABLE};
 ghost use Rattle.smp_wire.specs.Good.{IsGood};
 ghost use Rattle.sweep.specs.OfFabric.{IsGraphOf};
 ghost use Rattle.table_push.specs.Changes.{HasBlocks, HasSlice, all_changed, blocks_changed};
-ghost use Rattle.table_push.specs.Masks.{masks_pushed, receives_of, set_slice};
+ghost use Rattle.table_push.specs.Masks.{masks_pushed, receives_of, set_slice, wanted_slice};
 ghost use Rattle.table_push.specs.Nodes.{on_switch, with_switches};
 ghost use Rattle.table_push.specs.Pushes.{LeadsToSwitch, Leaves};
-ghost use Rattle.table_push.specs.TreeSteps.{blocks_of};
+ghost use Rattle.table_push.specs.TreeSteps.{IsTree};
 
 use crate::fault::PushFault;
 use crate::multicast::{put_slice, set_block};
-use crate::trees::{blocks_of, tree_of};
+use crate::places::{blocks_at, is_marked, places_that_change};
+use crate::seats::switches_of;
+use crate::trees::{Tree, blocks_of, tree_of};
 use attr_tables::WORDS_PER_BLOCK;
 use fabric_parts::SWITCHES;
 use smp_wire::SmpWire;
@@ -41,20 +44,50 @@ pub fn push_changed<W: SmpWire>(
     ensures count { IfOk result (λ count. count
         ≡ all_changed routes.now partition (receives_of before.now) (receives_of after.now)) }
 {
+    let tree = tree_of(routes);
+    let places = places_that_change(routes, &tree, partition, before, after);
+    let looks = places.count_ones() as usize;
+    if (before.len() + after.len()).saturating_mul(looks) <= FEW_LOOKS {
+        push_places(wire, routes, partition, before, after, &tree, places)
+    } else {
+        push_compared(wire, routes, partition, before, after, &tree, places)
+    }
+}
+
+// How many receivers are looked at, place by place, before the masks of all switches at once are cheaper.
+const FEW_LOOKS: usize = 16_384;
+
+/// Sets the blocks that differ at the marked switches, which are all that may have some, switch by switch.
+fn push_places<W: SmpWire>(
+    wire: &mut W,
+    routes: &Routes,
+    partition: u16,
+    before: &[GroupReceiver],
+    after: &[GroupReceiver],
+    tree: &Tree,
+    places: u64,
+) -> Result<u32, PushFault>
+    requires partition { 32 * partition + 32 ≤ MULTICAST_TABLE }
+    requires tree { IsTree routes.now tree.now 64 }
+    requires same { (place : ℕ) → place < 64 → (bit_at places place == 1) ≡ false
+        → wanted_slice routes.now partition (receives_of before.now) place ≡ wanted_slice routes.now partition (receives_of after.now) place }
+    ensures pushed { ForSome (W.fabric wire.old) (λ fabric. IsGraphOf routes.now.graph fabric → IsGood fabric
+        → HasSlice routes.now partition (receives_of before.now) fabric
+        → Leaves result (W.fabric wire.new) fabric (masks_pushed routes.now partition (receives_of after.now) fabric)) }
+    ensures count { IfOk result (λ count. count
+        ≡ all_changed routes.now partition (receives_of before.now) (receives_of after.now)) }
+{
     let graph = routes.graph();
     graph.known_graph();
     let switches = graph.switches();
-    let tree = tree_of(routes);
-    let mut masks_before = [[0; SWITCHES]; WORDS_PER_BLOCK];
-    put_slice(routes, &tree, partition, before, &mut masks_before);
-    let mut masks_after = [[0; SWITCHES]; WORDS_PER_BLOCK];
-    put_slice(routes, &tree, partition, after, &mut masks_after);
+    let switches_before = switches_of(routes, partition, before);
+    let switches_after = switches_of(routes, partition, after);
     let mut transaction_id = 0;
     let mut count = 0;
     for place in 0..switches.len() {
-        if !is_same_at(&masks_before, &masks_after, place) {
-            let blocks_before = blocks_of(&masks_before, place);
-            let blocks_after = blocks_of(&masks_after, place);
+        if is_marked(places, place) {
+            let blocks_before = blocks_at(routes, tree, partition, before, &switches_before, place);
+            let blocks_after = blocks_at(routes, tree, partition, after, &switches_after, place);
             match set_changed(
                 wire,
                 &mut transaction_id,
@@ -71,21 +104,53 @@ pub fn push_changed<W: SmpWire>(
     Ok(count)
 }
 
-/// Whether the masks of the switch at a place are the same in both.
-fn is_same_at(
-    masks: &[[u64; SWITCHES]; WORDS_PER_BLOCK],
-    others: &[[u64; SWITCHES]; WORDS_PER_BLOCK],
-    place: usize,
-) -> bool
-    requires { place < 64 }
-    ensures { result ≡ true → blocks_of masks.now place ≡ blocks_of others.now place }
+/// The same, by the masks of all switches.
+fn push_compared<W: SmpWire>(
+    wire: &mut W,
+    routes: &Routes,
+    partition: u16,
+    before: &[GroupReceiver],
+    after: &[GroupReceiver],
+    tree: &Tree,
+    places: u64,
+) -> Result<u32, PushFault>
+    requires partition { 32 * partition + 32 ≤ MULTICAST_TABLE }
+    requires tree { IsTree routes.now tree.now 64 }
+    requires same { (place : ℕ) → place < 64 → (bit_at places place == 1) ≡ false
+        → wanted_slice routes.now partition (receives_of before.now) place ≡ wanted_slice routes.now partition (receives_of after.now) place }
+    ensures pushed { ForSome (W.fabric wire.old) (λ fabric. IsGraphOf routes.now.graph fabric → IsGood fabric
+        → HasSlice routes.now partition (receives_of before.now) fabric
+        → Leaves result (W.fabric wire.new) fabric (masks_pushed routes.now partition (receives_of after.now) fabric)) }
+    ensures count { IfOk result (λ count. count
+        ≡ all_changed routes.now partition (receives_of before.now) (receives_of after.now)) }
 {
-    for slot in 0..WORDS_PER_BLOCK {
-        if masks[slot][place] != others[slot][place] {
-            return false;
+    let graph = routes.graph();
+    graph.known_graph();
+    let switches = graph.switches();
+    let mut masks_before = [[0; SWITCHES]; WORDS_PER_BLOCK];
+    put_slice(routes, tree, partition, before, &mut masks_before);
+    let mut masks_after = [[0; SWITCHES]; WORDS_PER_BLOCK];
+    put_slice(routes, tree, partition, after, &mut masks_after);
+    let mut transaction_id = 0;
+    let mut count = 0;
+    for place in 0..switches.len() {
+        if is_marked(places, place) {
+            let blocks_before = blocks_of(&masks_before, place);
+            let blocks_after = blocks_of(&masks_after, place);
+            match set_changed(
+                wire,
+                &mut transaction_id,
+                switches[place].path.as_slice(),
+                partition,
+                &blocks_before,
+                &blocks_after,
+            ) {
+                Ok(more) => count += more,
+                Err(fault) => return Err(fault),
+            }
         }
     }
-    true
+    Ok(count)
 }
 
 /// Sets the blocks of a partition that differ at the switch at the end of a path, and answers how many.

@@ -18,6 +18,7 @@ mod laws;
 mod linear;
 mod masks;
 mod multicast;
+mod places;
 mod ports;
 mod pushing;
 mod seats;

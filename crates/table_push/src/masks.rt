@@ -1,13 +1,12 @@
 //! The masks of multicast LIDs, as receivers and the spanning tree make them.
 
-ghost use Rattle.std.specs.Prelude.{◌≡◌, ◌<◌, [], get_or, option_map};
+ghost use Rattle.std.specs.Prelude.{◌≡◌, ◌+◌, ◌<◌, ◌==◌, [], find, get_or};
 ghost use Rattle.table_push.specs.MaskSteps.{AreBits, is_that_port, words_at};
-ghost use Rattle.table_push.specs.Masks.{link_at, tree_end};
+ghost use Rattle.table_push.specs.TreeSteps.{graph_link};
 
 use attr_tables::WORDS_PER_BLOCK;
-use fabric_parts::PortRef;
 use sweep::{Graph, GraphLink};
-use updn_routes::Routes;
+use updn_routes::{Routes, SwitchRoutes};
 
 /// Of the bits of a slice those of the 16 ports of a position.
 pub(crate) fn words_at(bits: &[u64; WORDS_PER_BLOCK], position: usize) -> [u16; WORDS_PER_BLOCK]
@@ -41,20 +40,28 @@ fn links_of(graph: &Graph, switch: usize) -> &[GraphLink]
     }
 }
 
-/// The other end of the link of a switch at its port of that number.
-fn end_at(graph: &Graph, switch: usize, number: u8) -> Option<PortRef>
-    ensures { result ≡ option_map (λ link. link.to) (link_at graph.now.rows switch number) }
+/// The link by which a switch is joined to the tree.
+pub(crate) fn tree_link(routes: &Routes, switch: usize) -> Option<GraphLink>
+    ensures { result ≡ graph_link routes.now switch }
 {
-    links_of(graph, switch)
-        .iter()
-        .find(|link| link.port == number)
-        .map(|link| link.to)
+    let between = routes.between();
+    let depth = between.depth_of(switch);
+    first_nearer(between, links_of(routes.graph(), switch), depth)
 }
 
-/// The port at the other end of the cable by which a switch is joined to the tree.
-pub(crate) fn tree_end(routes: &Routes, switch: usize) -> Option<PortRef>
-    ensures { result ≡ tree_end routes.now switch }
+/// The first link to a switch that is one cable nearer to the first root than so many.
+fn first_nearer(between: &SwitchRoutes, links: &[GraphLink], depth: usize) -> Option<GraphLink>
+    ensures { result ≡ find (λ link. get_or between.now.depths link.to.node 0 + 1 == depth) links.now }
 {
-    let number = routes.between().tree_port(switch)?;
-    end_at(routes.graph(), switch, number)
+    links
+        .iter()
+        .copied()
+        .find(|link| is_nearer(between, link.to.node, depth))
+}
+
+/// Whether a switch is one cable nearer to the first root than so many.
+fn is_nearer(between: &SwitchRoutes, switch: usize, depth: usize) -> bool
+    ensures { result ≡ (get_or between.now.depths switch 0 + 1 == depth) }
+{
+    depth != 0 && between.depth_of(switch) == depth - 1
 }

@@ -1,7 +1,8 @@
 //! Where receivers of multicast LIDs hang.
 
-ghost use Rattle.std.specs.Prelude.{◌≡◌, ◌<◌, IfSome, replicate};
-ghost use Rattle.table_push.specs.MaskSteps.{AreHanging, adapter_home, seat_in, slot_in};
+ghost use Rattle.std.specs.Prelude.{ℕ, ◌≡◌, ◌<◌, ◌==◌, if◌then◌else◌, IfSome, Some, None, get_or, length, replicate};
+ghost use Rattle.std.specs.Int.{bit_at};
+ghost use Rattle.table_push.specs.MaskSteps.{AreHanging, AreReceiversBits, adapter_home, hangs_at, hangs_on, is_that_port, seat_in, slot_in};
 
 use crate::masks::port_bit;
 use attr_tables::WORDS_PER_BLOCK;
@@ -38,6 +39,77 @@ pub(crate) fn put_seats(
             }
             None => {}
         }
+    }
+}
+
+/// For each multicast LID of a slice the bits of the switches on which its receivers hang.
+pub(crate) fn switches_of(
+    routes: &Routes,
+    partition: u16,
+    receivers: &[GroupReceiver],
+) -> [u64; WORDS_PER_BLOCK]
+    requires { partition < 32 }
+    ensures { AreReceiversBits 64 partition receivers.now (hangs_on routes.now.between.homes) (λ i. get_or result i 0) }
+{
+    let mut switches = [0; WORDS_PER_BLOCK];
+    for index in 0..receivers.len() {
+        match seat_of(routes, partition, &receivers[index]) {
+            Some(seat) => switches[seat.slot] |= 1 << seat.home.node,
+            None => {}
+        }
+    }
+    switches
+}
+
+/// For each multicast LID of a slice the bits of the ports of one switch on which its receivers hang.
+pub(crate) fn ports_at(
+    routes: &Routes,
+    partition: u16,
+    receivers: &[GroupReceiver],
+    place: usize,
+) -> [u64; WORDS_PER_BLOCK]
+    requires { partition < 32 }
+    ensures long { length result ≡ 32 }
+    ensures ports { AreReceiversBits 48 partition receivers.now (hangs_at routes.now.between.homes place) (λ i. get_or result i 0) }
+{
+    let mut ports = [0; WORDS_PER_BLOCK];
+    for index in 0..receivers.len() {
+        match seat_of(routes, partition, &receivers[index]) {
+            Some(seat) => ports[seat.slot] |= port_bit(port_on(&seat.home, place)),
+            None => {}
+        }
+    }
+    ports
+}
+
+/// The number of a port, if it is one of the switch at that place.
+fn port_on(home: &PortRef, place: usize) -> Option<u8>
+    ensures { result ≡ (if home.now.node == place then Some home.now.port else None) }
+{
+    if home.node == place {
+        Some(home.port)
+    } else {
+        None
+    }
+}
+
+/// The bit of the switch on which an adapter's port with that LID hangs.
+pub(crate) fn home_bit(routes: &Routes, lid: u16) -> u64
+    ensures { (s : ℕ) → s < 64 → (bit_at result s == 1) ≡ hangs_on routes.now.between.homes lid s }
+{
+    match adapter_home(routes, lid) {
+        Some(home) => place_bit(Some(home.node)),
+        None => 0,
+    }
+}
+
+/// The bit of the switch at a place.
+pub(crate) fn place_bit(place: Option<usize>) -> u64
+    ensures { (s : ℕ) → s < 64 → (bit_at result s == 1) ≡ is_that_port place s }
+{
+    match place {
+        Some(number) => { if number < SWITCHES { 1 << number } else { 0 } }
+        None => 0,
     }
 }
 

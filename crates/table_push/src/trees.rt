@@ -3,13 +3,13 @@
 ghost use Rattle.std.specs.Prelude.{ℕ, ◌≡◌, ◌<◌, None, bit_or, get_or, length, map, option_map};
 ghost use Rattle.std.specs.Option.{option_and_then};
 ghost use Rattle.table_push.specs.MaskSteps.{AreBits, is_that_port};
-ghost use Rattle.table_push.specs.Masks.{tree_end};
-ghost use Rattle.table_push.specs.TreeSteps.{ArePut, AreSpread, IsBelowSet, IsLow, IsParent, IsSpread, IsTree, blocks_of, where_meets};
-ghost use Rattle.updn_routes.specs.Sides.{is_below, parent};
+ghost use Rattle.table_push.specs.TreeSteps.{AreParents, ArePut, AreSpread, IsBelowSet, IsLow, IsSpread, IsTree, blocks_of, graph_link, parent_in, where_meets};
+ghost use Rattle.updn_routes.specs.Sides.{is_below};
 
-use crate::masks::{port_bit, tree_end, words_at};
+use crate::masks::{port_bit, tree_link, words_at};
 use attr_tables::WORDS_PER_BLOCK;
 use fabric_parts::SWITCHES;
+use sweep::GraphLink;
 use switch_model::POSITIONS;
 use updn_routes::Routes;
 
@@ -32,6 +32,8 @@ pub(crate) struct Tree {
 pub(crate) fn tree_of(routes: &Routes) -> Tree
     ensures { IsTree routes.now result 64 }
 {
+    routes.known_of_graph();
+    routes.between().known_routes();
     let mut tree = Tree {
         below: [0; SWITCHES],
         outside: [0; SWITCHES],
@@ -39,49 +41,102 @@ pub(crate) fn tree_of(routes: &Routes) -> Tree
         ups: [0; SWITCHES],
         ends: [0; SWITCHES],
     };
-    let sets = below_sets(routes);
+    let links = tree_links(routes);
+    let sets = below_sets(routes, &links);
     for switch in 0..SWITCHES {
         let below = sets[switch];
         tree.below[switch] = below;
         tree.outside[switch] = !below;
-        tree.parents[switch] = parent_of(routes, switch);
-        tree.ups[switch] = port_bit(routes.between().tree_port(switch));
-        tree.ends[switch] = end_bit(routes, switch);
+        tree.parents[switch] = parent_of(links[switch]);
+        tree.ups[switch] = up_bit(links[switch]);
+        tree.ends[switch] = end_bit(links[switch]);
     }
     tree
 }
 
+/// The link by which each switch is joined to the tree.
+fn tree_links(routes: &Routes) -> [Option<GraphLink>; SWITCHES]
+    ensures long { length result ≡ 64 }
+    ensures links { (s : ℕ) → s < 64 → get_or result s None ≡ graph_link routes.now s }
+{
+    let mut links = [None; SWITCHES];
+    for switch in 0..SWITCHES {
+        links[switch] = tree_link(routes, switch);
+    }
+    links
+}
+
+/// The switch that the link of a switch leads to.
+fn parent_of(link: Option<GraphLink>) -> Option<usize>
+    ensures { result ≡ option_map (λ link. link.to.node) link }
+{
+    link.map(|link| link.to.node)
+}
+
+/// The bit of the port with that link.
+fn up_bit(link: Option<GraphLink>) -> u64
+    ensures { AreBits result (is_that_port (option_map (λ link. link.port) link)) }
+{
+    match link {
+        Some(link) => port_bit(Some(link.port)),
+        None => 0,
+    }
+}
+
+/// The bit of the port at the other end of that link.
+fn end_bit(link: Option<GraphLink>) -> u64
+    ensures { AreBits result (is_that_port (option_map (λ link. link.to.port) link)) }
+{
+    match link {
+        Some(link) => port_bit(Some(link.to.port)),
+        None => 0,
+    }
+}
+
 /// For each switch the bits of the switches that are below it, and of itself.
-fn below_sets(routes: &Routes) -> [u64; SWITCHES]
+fn below_sets(routes: &Routes, links: &[Option<GraphLink>; SWITCHES]) -> [u64; SWITCHES]
+    requires { AreParents routes.now links.now }
     ensures { (s : ℕ) → s < 64 → IsBelowSet routes.now s (get_or result s 0) }
 {
     let mut sets = [0; SWITCHES];
     for other in 0..SWITCHES {
-        put_above(routes, &mut sets, other);
+        put_above(routes, links, &mut sets, other);
     }
     sets
 }
 
 /// Puts the bit of a switch into its own set and those of the switches on its way up the tree.
-fn put_above(routes: &Routes, sets: &mut [u64; SWITCHES], switch: usize)
-    requires { switch < 64 }
+fn put_above(
+    routes: &Routes,
+    links: &[Option<GraphLink>; SWITCHES],
+    sets: &mut [u64; SWITCHES],
+    switch: usize,
+)
+    requires links { AreParents routes.now links.now }
+    requires switch { switch < 64 }
     ensures { ArePut (λ s. is_below routes.now.between.rows routes.now.between.depths s switch) switch sets.old sets.new }
 {
     let between = routes.between();
     let mut at = Some(switch);
     put_bit(sets, at, switch);
     for hop in 0..between.depth_of(switch) {
-        at = parent_of_some(routes, at);
+        at = parent_of_some(links, at);
         put_bit(sets, at, switch);
     }
 }
 
 /// The switch next above one, if there is one.
-fn parent_of_some(routes: &Routes, switch: Option<usize>) -> Option<usize>
-    ensures { result ≡ option_and_then (parent routes.now.between.rows routes.now.between.depths) switch }
+fn parent_of_some(links: &[Option<GraphLink>; SWITCHES], switch: Option<usize>) -> Option<usize>
+    ensures { result ≡ option_and_then (parent_in links.now) switch }
 {
     match switch {
-        Some(place) => routes.between().parent(place),
+        Some(place) => {
+            if place < SWITCHES {
+                parent_of(links[place])
+            } else {
+                None
+            }
+        }
         None => None,
     }
 }
@@ -98,33 +153,6 @@ fn put_bit(sets: &mut [u64; SWITCHES], at: Option<usize>, bit: usize)
             }
         }
         None => {}
-    }
-}
-
-/// The switch that the tree port of a switch leads to.
-fn parent_of(routes: &Routes, switch: usize) -> Option<usize>
-    ensures low { IsLow result }
-    ensures is { IsParent routes.now switch result }
-{
-    match routes.between().parent(switch) {
-        Some(parent) => {
-            if parent < SWITCHES {
-                Some(parent)
-            } else {
-                None
-            }
-        }
-        None => None,
-    }
-}
-
-/// The bit of the port at the other end of the cable at a switch's tree port.
-fn end_bit(routes: &Routes, switch: usize) -> u64
-    ensures { AreBits result (is_that_port (option_map (λ at. at.port) (tree_end routes.now switch))) }
-{
-    match tree_end(routes, switch) {
-        Some(at) => port_bit(Some(at.port)),
-        None => 0,
     }
 }
 
@@ -179,7 +207,7 @@ fn with_ups(tree: &Tree, row: &[u64; SWITCHES], switches: u64) -> [u64; SWITCHES
 }
 
 /// These bits, if some switch of the set is marked.
-fn where_meets(switches: u64, set: u64, bits: u64) -> u64
+pub(crate) fn where_meets(switches: u64, set: u64, bits: u64) -> u64
     ensures { result ≡ where_meets switches set bits }
 {
     if switches & set != 0 { bits } else { 0 }

@@ -154,34 +154,41 @@ fn by_chance_changes_come_to_what_a_whole_push_leaves(rt: HostRuntime) -> Result
     Ok(())
 }
 
-/// A group of all adapters of eight leaves ends: each of the 16 switches had a mask.
+/// Groups of all adapters of eight leaves end, so few that masks are made switch by switch, or so many that they are made
+/// for all switches at once: each of the 16 switches had a mask.
 #[test]
-fn a_group_on_eight_switches_ends(rt: HostRuntime) -> Result<(), Fail> {
+fn groups_on_eight_switches_end(rt: HostRuntime) -> Result<(), Fail> {
     let mut counting = CountingWire {
         wire: fat_tree_of(rt.alloc(), 8)?,
         count: 0,
     };
     let routes = routes_over(rt.alloc(), &mut counting, &[])?;
     let lids = adapter_lids(rt.alloc(), &routes)?;
-    let receivers = of_all(rt.alloc(), &lids)?;
-    let begun = change(&rt, rt.alloc(), &mut counting, &routes, &[], &receivers)?;
-    assert!(rt; begun >= 16);
-    assert_eq!(rt;
-        change(&rt, rt.alloc(), &mut counting, &routes, &receivers, &[])?,
-        begun
-    );
+    for groups in [1u8, 32] {
+        let receivers = of_all(rt.alloc(), &lids, groups)?;
+        let begun = change(&rt, rt.alloc(), &mut counting, &routes, &[], &receivers)?;
+        assert!(rt; begun >= 16);
+        assert_eq!(rt;
+            change(&rt, rt.alloc(), &mut counting, &routes, &receivers, &[])?,
+            begun
+        );
+    }
     Ok(())
 }
 
-/// All of them receive.
-fn of_all(alloc: Global, lids: &[u16]) -> Result<Vec<GroupReceiver>, Fail> {
+/// All of them receive of so many groups.
+fn of_all(alloc: Global, lids: &[u16], groups: u8) -> Result<Vec<GroupReceiver>, Fail> {
     let mut receivers = Vec::new(alloc);
-    for lid in lids {
-        let one = GroupReceiver {
-            mlid: MLID,
-            lid: *lid,
-        };
-        receivers.push(one).ok().ok_or("memory")?;
+    for mlid in MLID..MLID + u16::from(groups) {
+        put_all(&mut receivers, mlid, lids)?;
     }
     Ok(receivers)
+}
+
+fn put_all(receivers: &mut Vec<GroupReceiver>, mlid: u16, lids: &[u16]) -> Result<(), Fail> {
+    for lid in lids {
+        let one = GroupReceiver { mlid, lid: *lid };
+        receivers.push(one).ok().ok_or("memory")?;
+    }
+    Ok(())
 }

@@ -1,4 +1,4 @@
-use Rattle.std.proofs.Common.{◌∙◌, ap, length, arith}
+use Rattle.std.proofs.Common.{◌∙◌, ap, get_or, length, arith}
 use Rattle.std.proofs.lemmas.List.{length-set}
 use Rattle.table_push.proofs.TreeMaskLemmas.{down_more, no_down, none_spread, ups_are}
 use Rattle.table_push.proofs.trees.masks_of.Goals.{in-Some, in-None}
@@ -7,7 +7,7 @@ use Rattle.table_push.proofs.trees.masks_of.Goals as goal
 pub loop-switch-init : goal.loop-switch-init
 loop-switch-init c = record {
   long = c.with_ups-masks.ensures.long;
-  are = λ s number low. ups_are c.args.tree.now c.args.row.now c.with_ups-masks.result c.args.switches s number (c.with_ups-masks.ensures.ups s low);
+  are = λ s number low. ups_are c.args.tree.now (get_or c.args.row.now s 0) (get_or c.with_ups-masks.result s 0) c.args.switches s number (c.with_ups-masks.ensures.ups s low);
 }
 
 pub loop-switch-preserved : goal.loop-switch-preserved

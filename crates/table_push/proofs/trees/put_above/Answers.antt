@@ -4,6 +4,7 @@ use Rattle.table_push.specs.TreeSteps.{is_up_to}
 use Rattle.updn_routes.specs.Routes.{SwitchRoutesState}
 use Rattle.updn_routes.specs.Sides.{is_below}
 use Rattle.table_push.proofs.AboveLemmas.{both_put, put_as, up_is_below, up_more, up_none, way_more}
+use Rattle.table_push.proofs.TreeLinkLemmas.{above_by}
 use Rattle.table_push.proofs.trees.put_above.Goals as goal
 
 pub loop-hop-init : goal.loop-hop-init
@@ -14,9 +15,9 @@ loop-hop-init c = record {
 
 pub loop-hop-preserved : goal.loop-hop-preserved
 loop-hop-preserved c = record {
-  at_is = way_more c.args.routes.now c.loop-hop.hop c.args.switch c.loop-hop.at _ c.loop-hop.invariant.at_is c.parent_of_some-at.ensures;
+  at_is = way_more c.args.routes.now c.loop-hop.hop c.args.switch c.loop-hop.at _ c.loop-hop.invariant.at_is (c.parent_of_some-at.ensures ∙ above_by c.args.routes.now c.args.links.now c.requires.links c.loop-hop.at);
   put = both_put (is_up_to c.args.routes.now c.loop-hop.hop c.args.switch) (is_that_port c.parent_of_some-at.result) (is_up_to c.args.routes.now (c.loop-hop.hop + 1) c.args.switch) c.args.switch
-      _ _ _ (λ s. up_more c.args.routes.now c.loop-hop.hop c.args.switch s c.loop-hop.at _ c.loop-hop.invariant.at_is c.parent_of_some-at.ensures) c.loop-hop.invariant.put c.put_bit-in-loop-hop.ensures;
+      _ _ _ (λ s. up_more c.args.routes.now c.loop-hop.hop c.args.switch s c.loop-hop.at _ c.loop-hop.invariant.at_is (c.parent_of_some-at.ensures ∙ above_by c.args.routes.now c.args.links.now c.requires.links c.loop-hop.at)) c.loop-hop.invariant.put c.put_bit-in-loop-hop.ensures;
 }
 
 pub returns : goal.returns

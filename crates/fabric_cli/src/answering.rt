@@ -1,0 +1,106 @@
+//! What is answered of texts: an output that is made whole and then written, or the report of a script, which is written
+//! while the script is read.
+
+ghost use Rattle.std.specs.Prelude.{◌≡◌, true, Ok, Result, option_copied, option_map, IfErr};
+ghost use Rattle.call_words.specs.declared.call.Work.TheVariants as work;
+ghost use Rattle.fabric_cli.specs.Faults.{IsOfRun, LeavesUnread};
+ghost use Rattle.fabric_cli.specs.Serving.{left_in, texts_in, texts_with, Answers, Bytes, ComesTo, Ending, IsOpenScript, OfScript};
+ghost use Rattle.text_streams.specs.Reading.{IsEndless};
+
+use crate::faults::Stop;
+use crate::outputs::{changed, compared, inspected, listed, shared};
+use crate::texts::{Task, Texts};
+use std::alloc::Global;
+use subnet_core::run_stream;
+use text_streams::{Output, Reader, write_whole};
+
+/// Writes what is asked for of these texts.
+pub fn answered_of_texts<'a, I: Reader + Drop, O: Output>(
+    alloc: Global,
+    texts: Texts<'a, I>,
+    out: &mut O,
+) -> Result<(), Stop<'a>>
+    ensures exact { OfScript (left_in I.remaining texts.entry.task) (λ script.
+        Answers (Ok (texts_in script texts.entry)) result (O.is_sure out.old) (O.contents out.old) (O.contents out.new)) }
+    ensures unread { IfErr result (LeavesUnread (IsOpenScript I.remaining I.is_sure texts.entry.task)) }
+{
+    let Texts {
+        topology,
+        partitions,
+        task,
+    } = texts;
+    let topology = topology.as_slice();
+    let partitions = slice_of(&partitions);
+    match task {
+        Task::Check => written(out, listed(alloc, topology, partitions)),
+        Task::Shares(port) => written(out, shared(alloc, topology, partitions, port)),
+        Task::Diff(second) => {
+            let second = slice_of(&second);
+            written(out, changed(alloc, topology, partitions, second))
+        }
+        Task::Inspect(what) => written(out, inspected(alloc, topology, partitions, &what)),
+        Task::Run { name, mut input } => {
+            streamed(alloc, topology, partitions, name, &mut input, out)
+        }
+        Task::Compare {
+            first,
+            second,
+            port,
+        } => {
+            let (first, second) = (first.as_slice(), second.as_slice());
+            written(
+                out,
+                compared(alloc, topology, partitions, first, second, port),
+            )
+        }
+    }
+}
+
+/// Writes an output that is made.
+pub fn written<'a, O: Output>(out: &mut O, made: Result<Vec<u8>, Stop<'a>>) -> Result<(), Stop<'a>>
+    ensures exact { (judged : Result Bytes Ending) → ComesTo (λ text. text.items) judged made.entry
+        → Answers judged result (O.is_sure out.old) (O.contents out.old) (O.contents out.new) }
+    ensures unread { IfErr made.entry IsOfRun → IfErr result (LeavesUnread (λ _. ⊥)) }
+{
+    match made {
+        Ok(text) => {
+            if write_whole(out, text.as_slice()) {
+                Ok(())
+            } else {
+                Err(Stop::Unwritten)
+            }
+        }
+        Err(stop) => Err(stop),
+    }
+}
+
+/// Runs a script while it is read, and writes its report meanwhile.
+fn streamed<'a, R: Reader, O: Output>(
+    alloc: Global,
+    topology: &[u8],
+    partitions: Option<&[u8]>,
+    name: &'a str,
+    input: &mut R,
+    out: &mut O,
+) -> Result<(), Stop<'a>>
+    ensures exact { OfScript (R.remaining input.old) (λ script.
+        Answers (texts_with topology.now (option_copied partitions.entry) (work.Run script)) result
+        (O.is_sure out.old) (O.contents out.old) (O.contents out.new)) }
+    ensures unread { IfErr result (LeavesUnread (λ word.
+        (word ≡ name.entry.now) × (R.is_sure input.old ≡ true → IsEndless (R.remaining input.old)))) }
+{
+    match run_stream(alloc, topology, partitions, input, out) {
+        Ok(()) => Ok(()),
+        Err(fault) => Err(Stop::of_run(name, fault)),
+    }
+}
+
+/// The bytes, if there are any to read.
+fn slice_of(bytes: &Option<Vec<u8>>) -> Option<&[u8]>
+    ensures { option_copied result ≡ option_map (λ items. items.items) bytes.now }
+{
+    match bytes {
+        Some(bytes) => Some(bytes.as_slice()),
+        None => None,
+    }
+}

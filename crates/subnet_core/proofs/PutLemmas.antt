@@ -1,0 +1,116 @@
+-- Texts on their way to a writer, one behind the other.
+use Rattle.std.proofs.Common.{ℕ, ◌≡◌, ◌∙◌, ap, refl, sym, List, [], ◌++◌, length, take, drop, append_assoc, append-nil, Option, Some, None}
+use Rattle.std.proofs.Math.Seq.{take-append_seam}
+use Rattle.std.proofs.lemmas.List.{take-append-drop}
+use Rattle.std.specs.Io.KnownBytes.{Appends}
+use Rattle.text_streams.specs.Writing.{AppendsPart}
+use Rattle.text_streams.proofs.KnownBytesLemmas.{write_more}
+use Rattle.subnet_core.specs.StreamSteps.{Puts, PutsSome}
+
+pub appends_nothing : (known : Option (List ℕ)) → Appends known known []
+appends_nothing None = tt
+appends_nothing (Some xs) = sym (append-nil xs)
+
+-- ---- one text, and then another
+module _ (first second text between text' : List ℕ) (old middle new : Option (List ℕ)) where
+  on_both : (written more : List ℕ) → text ++ first ≡ written ++ between → between ++ second ≡ more
+      → text ++ (first ++ second) ≡ written ++ more
+  on_both written more one two =
+      sym (append_assoc text first second)
+      ∙ ap (λ (s : List ℕ). s ++ second) one
+      ∙ append_assoc written between second
+      ∙ ap (λ (s : List ℕ). written ++ s) two
+
+  pub puts_on : Puts first text between old middle → Puts second between text' middle new → Puts (first ++ second) text text' old new
+  puts_on one two = record {
+    written = one.written ++ two.written;
+    appended = write_more old middle new one.written two.written one.appended two.appended;
+    same = on_both one.written (two.written ++ text') one.same two.same ∙ sym (append_assoc one.written two.written text');
+  }
+
+  pub puts_some_on : Puts first text between old middle → PutsSome second between text' middle new → PutsSome (first ++ second) text text' old new
+  puts_some_on one two = record {
+    written = one.written ++ two.written;
+    lost = two.lost;
+    appended = write_more old middle new one.written two.written one.appended two.appended;
+    same =
+        on_both one.written ((two.written ++ text') ++ two.lost) one.same two.same
+        ∙ sym (append_assoc one.written (two.written ++ text') two.lost)
+        ∙ ap (λ (s : List ℕ). s ++ two.lost) (sym (append_assoc one.written two.written text'));
+  }
+
+-- of more texts some was put as well
+pub puts_some_of : (first second text text' : List ℕ) (old new : Option (List ℕ)) → PutsSome first text text' old new
+    → PutsSome (first ++ second) text text' old new
+puts_some_of first second text text' old new one = record {
+  written = one.written;
+  lost = one.lost ++ second;
+  appended = one.appended;
+  same =
+      sym (append_assoc text first second)
+      ∙ ap (λ (s : List ℕ). s ++ second) one.same
+      ∙ append_assoc (one.written ++ text') one.lost second;
+}
+
+-- ---- without a write
+pub puts_behind : (told text : List ℕ) (known : Option (List ℕ)) → Puts told text (text ++ told) known known
+puts_behind told text known = record { written = []; appended = appends_nothing known; same = refl }
+
+pub puts_nothing : (text : List ℕ) (known : Option (List ℕ)) → Puts [] text text known known
+puts_nothing text known = record { written = []; appended = appends_nothing known; same = append-nil text }
+
+pub loses_all : (told text : List ℕ) (known : Option (List ℕ)) → PutsSome told text [] known known
+loses_all told text known = record { written = []; lost = text ++ told; appended = appends_nothing known; same = refl }
+
+pub loses_told : (told text : List ℕ) (known : Option (List ℕ)) → PutsSome told text text known known
+loses_told told text known = record { written = []; lost = told; appended = appends_nothing known; same = refl }
+
+pub loses_none : (text : List ℕ) (known : Option (List ℕ)) → PutsSome [] text text known known
+loses_none text known = record { written = []; lost = []; appended = appends_nothing known; same = refl }
+
+pub puts_some : (told text text' : List ℕ) (old new : Option (List ℕ)) → Puts told text text' old new → PutsSome told text text' old new
+puts_some told text text' old new one =
+    record { written = one.written; lost = []; appended = one.appended; same = one.same ∙ sym (append-nil (one.written ++ text')) }
+
+-- ---- by one
+pub all_written : (text : List ℕ) (old new : Option (List ℕ)) → Appends old new text → Puts [] text [] old new
+all_written text old new appended = record { written = text; appended = appended; same = refl }
+
+pub part_written : (text : List ℕ) (old new : Option (List ℕ)) → AppendsPart old new text → PutsSome [] text [] old new
+part_written text old new part = record {
+  written = take part.0 text;
+  lost = drop part.0 text;
+  appended = part.1;
+  same =
+      append-nil text ∙ sym (take-append-drop part.0 text)
+      ∙ ap (λ (s : List ℕ). s ++ drop part.0 text) (sym (append-nil (take part.0 text)));
+}
+
+-- ---- at the end, where nothing waited before the first
+begins_with : (told front rest : List ℕ) (old new : Option (List ℕ)) → told ≡ front ++ rest → Appends old new front → AppendsPart old new told
+begins_with told front rest old new same appended =
+    (length front, rw (ap (take (length front)) same ∙ take-append_seam front rest) appended)
+
+module _ (told text : List ℕ) (old middle new : Option (List ℕ)) where
+  pub ends_whole : Puts told [] text old middle → Appends middle new text → Appends old new told
+  ends_whole puts appended = rw puts.same (write_more old middle new puts.written text puts.appended appended)
+
+  pub ends_in_part : Puts told [] text old middle → AppendsPart middle new text → AppendsPart old new told
+  ends_in_part puts part =
+      begins_with told (puts.written ++ take part.0 text) (drop part.0 text) old new
+      (puts.same ∙ ap (λ (s : List ℕ). puts.written ++ s) (sym (take-append-drop part.0 text)) ∙ sym (append_assoc puts.written (take part.0 text) (drop part.0 text)))
+      (write_more old middle new puts.written (take part.0 text) puts.appended part.1)
+
+  pub some_ends_whole : PutsSome told [] text old middle → Appends middle new text → AppendsPart old new told
+  some_ends_whole puts appended =
+      begins_with told (puts.written ++ text) puts.lost old new puts.same (write_more old middle new puts.written text puts.appended appended)
+
+  pub some_ends_in_part : PutsSome told [] text old middle → AppendsPart middle new text → AppendsPart old new told
+  some_ends_in_part puts part =
+      begins_with told (puts.written ++ take part.0 text) (drop part.0 text ++ puts.lost) old new
+      (puts.same
+      ∙ append_assoc puts.written text puts.lost
+      ∙ ap (λ (s : List ℕ). puts.written ++ (s ++ puts.lost)) (sym (take-append-drop part.0 text))
+      ∙ ap (λ (s : List ℕ). puts.written ++ s) (append_assoc (take part.0 text) (drop part.0 text) puts.lost)
+      ∙ sym (append_assoc puts.written (take part.0 text) (drop part.0 text ++ puts.lost)))
+      (write_more old middle new puts.written (take part.0 text) puts.appended part.1)

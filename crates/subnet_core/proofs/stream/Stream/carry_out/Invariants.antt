@@ -1,0 +1,18 @@
+-- What was read so far is carried out, but for the line that is begun.
+use Rattle.std.proofs.Common.{◌≡◌, ◌≤◌, ◌*◌, true, length, List, ℕ, []}
+use Rattle.std.specs.Io.KnownBytes.{Consumes}
+use Rattle.subnet_core.specs.StreamSteps.{begun_behind, lines_behind}
+use Rattle.subnet_core.specs.StreamSteps.{Carries}
+use Rattle.subnet_core.proofs.stream.Stream.carry_out.Given as goal
+
+abbrev pub invariant-loop-turn : goal.invariant-loop-turn
+invariant-loop-turn g l = record {
+  read : List ℕ;
+  consumed : Consumes (g.R.Reader.remaining l.fn.reader) (g.R.Reader.remaining l.reader) read;
+  carries : Carries (lines_behind [] read) l.fn.self l.self (g.W.Output.contents l.fn.writer) (g.W.Output.contents l.writer);
+  begun : l.begun.items ≡ begun_behind [] read;
+  few : l.self.taken ≤ 256 * l._turn;
+  reads : g.R.Reader.is_sure l.fn.reader ≡ true → g.R.Reader.is_sure l.reader ≡ true;
+  grows : g.R.Reader.is_sure l.fn.reader ≡ true → l._turn ≤ length read;
+  stays : g.W.Output.is_sure l.fn.writer ≡ true → g.W.Output.is_sure l.writer ≡ true;
+}
