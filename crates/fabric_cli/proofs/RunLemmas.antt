@@ -144,7 +144,7 @@ module _ (X : Type 0) (topology : List ℕ) (partitions : Option (List ℕ)) (na
 
   pub run_done : (done : X) → Streams (let result : Result X RunFault = Ok done in result) (roster_of topology partitions) known left old new → of_a_script (Ok done)
   run_done done (inl none) = absurd none.0
-  run_done done (inr (roster, up, carried)) =
+  run_done done (inr (roster, lids, up, carried)) =
       let script = has_taken known left carried.read carried.taken carried.consumed carried.are_lines in
       (script.0, script.1.is, done_answers topology partitions roster up known left old new carried.read carried.taken script.0 script.1 X name sure done carried.ends)
 
@@ -154,7 +154,7 @@ module _ (X : Type 0) (topology : List ℕ) (partitions : Option (List ℕ)) (na
       let stops = run_stops topology partitions (unwrap_or known []) fault fails in
       let answers = stopped_answers name (texts_with topology partitions (work.Run (unwrap_or known []))) fault sure old stops in
       (unwrap_or known [], what_is_known known, rw kept_new answers)
-  run_fails fault (inr (roster, up, carried)) out =
+  run_fails fault (inr (roster, lids, up, carried)) out =
       let script = has_taken known left carried.read carried.taken carried.consumed carried.are_lines in (
         script.0,
         script.1.is,

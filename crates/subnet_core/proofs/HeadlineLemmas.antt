@@ -18,7 +18,6 @@ use Rattle.sa_runs.specs.Sources.{NotedEvent, noted_in, noted_report}
 use Rattle.subnet_model.specs.declared.command.Command.{Command}
 use Rattle.subnet_core.specs.BringUp.{Answers, up_from}
 use Rattle.subnet_core.specs.declared.fault.RunFault.{RunFault}
-use Rattle.subnet_core.proofs.BringUpLemmas.{lids_in_order}
 use Rattle.subnet_core.specs.Headline.{KeepsPartitionsApart, RecordsComeFromNear}
 use Rattle.subnet_core.specs.Laws.{StreamsKeepPartitionsApart}
 use Rattle.subnet_core.specs.Stream.{commands_before_fault}
@@ -98,9 +97,9 @@ answered_apart topology script partitions (Ok r) h lids = told_apart topology sc
 answered_apart topology script partitions (Err fault) h lids = tt
 
 pub streams_keep_partitions_apart : StreamsKeepPartitionsApart
-streams_keep_partitions_apart roster is taken p =
+streams_keep_partitions_apart roster lids taken p =
     let commands = commands_before_fault roster.plan taken in
     let events = (told_of roster.configuration commands).events in
     let apart = runs_are_isolated roster.configuration commands p in
-    let own = own_lids 1 roster.configuration.ports (lids_in_order roster is) in
+    let own = own_lids 1 roster.configuration.ports lids in
     (apart.0, slids_name_their_ports roster.configuration.ports p events own apart.1, records_are roster.configuration p commands events refl)
