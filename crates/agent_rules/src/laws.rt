@@ -46,7 +46,7 @@ pub fn settings_keep_good()
 /// SMPs (IBA volume 1, 13.4.4 and 14.2.1.2).
 pub fn the_numbers()
     ensures linear_table { LINEAR_TABLE ≡ 512 }
-    ensures multicast_table { MULTICAST_TABLE ≡ 1024 }
+    ensures multicast_table { MULTICAST_TABLE ≡ 4096 }
     ensures directed_route_class { DIRECTED_ROUTE_CLASS ≡ 0x81 }
     ensures smp_version { SMP_VERSION ≡ 1 }
 {}

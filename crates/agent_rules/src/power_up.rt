@@ -15,7 +15,7 @@ use pkey_rules::{DEFAULT_BASE, PARTITIONS, key_of};
 pub const LINEAR_TABLE: usize = 512;
 
 /// How many entries the multicast forwarding table of a simulated switch has.
-pub const MULTICAST_TABLE: usize = 1024;
+pub const MULTICAST_TABLE: usize = 4096;
 
 /// What a port of a simulated node has at power-up.
 pub fn port_info_at_power_up(node_type: NodeType, local_port_num: u8, link: PortLink) -> PortInfo

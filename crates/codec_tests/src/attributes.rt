@@ -48,14 +48,14 @@ fn a_cabled_adapter_port_at_power_up(rt: HostRuntime) {
 const SWITCH: [u8; 17] = [
     0x02, 0x00, // LinearFDBCap
     0x00, 0x00, // RandomFDBCap
-    0x04, 0x00, // MulticastFDBCap
+    0x10, 0x00, // MulticastFDBCap
     0x00, 0x00, // LinearFDBTop
     0x00, // DefaultPort
     0x00, // DefaultMulticastPrimaryPort
     0x00, // DefaultMulticastNotPrimaryPort
     0x90, // LifeTimeValue, PortStateChange
     0x00, 0x00, // LIDsPerPort
-    0x00, 0x20, // PartitionEnforcementCap
+    0x00, 0x80, // PartitionEnforcementCap
     0xc0, // InboundEnforcementCap, OutboundEnforcementCap
 ];
 
@@ -81,7 +81,7 @@ const NODES: [([u8; 40], (NodeType, u8, u64, u64, u8), [u8; 2]); 2] = [
             0, 0, 0, 0, 0, 0, 0x01, 0x00, // SystemImageGUID
             0, 0, 0, 0, 0, 0, 0x01, 0x00, // NodeGUID
             0, 0, 0, 0, 0, 0, 0x01, 0x01, // PortGUID
-            0x00, 0x20, // PartitionCap
+            0x00, 0x80, // PartitionCap
             0x00, 0x00, // DeviceID
             0x00, 0x00, 0x00, 0x00, // Revision
             0x01, // LocalPortNum
@@ -100,7 +100,7 @@ const NODES: [([u8; 40], (NodeType, u8, u64, u64, u8), [u8; 2]); 2] = [
             0, 0, 0, 0, 0, 0, 0x00, 0x10, // SystemImageGUID
             0, 0, 0, 0, 0, 0, 0x00, 0x10, // NodeGUID
             0, 0, 0, 0, 0, 0, 0x00, 0x10, // PortGUID
-            0x00, 0x20, // PartitionCap
+            0x00, 0x80, // PartitionCap
             0x00, 0x00, // DeviceID
             0x00, 0x00, 0x00, 0x00, // Revision
             0x00, // LocalPortNum
@@ -181,7 +181,7 @@ fn a_block_of_ports_reads_and_writes(rt: HostRuntime) {
 #[test]
 fn tables_are_cut_into_blocks(rt: HostRuntime) {
     assert_eq!(rt; block_count::<64>(512), 8);
-    assert_eq!(rt; block_count::<32>(1024), 32);
+    assert_eq!(rt; block_count::<32>(4096), 128);
     assert_eq!(rt; block_count::<32>(33), 2);
     assert_eq!(rt;
         block_place::<64>(511),

@@ -18,7 +18,7 @@ const ADAPTER_PORT: [u8; 46] = [
     0, 0, 0, 0, 0, 0, 0x01, 0x00, // SystemImageGUID
     0, 0, 0, 0, 0, 0, 0x01, 0x00, // NodeGUID
     0, 0, 0, 0, 0, 0, 0x01, 0x01, // PortGUID
-    0x00, 0x20, 0x00, 0x00, // PartitionCap, DeviceID
+    0x00, 0x80, 0x00, 0x00, // PartitionCap, DeviceID
     0x00, 0x00, 0x00, 0x00, // Revision
     0x01, 0x00, 0x00, 0x00, // LocalPortNum, VendorID
     b'h', b'0', // NodeDescription
@@ -32,7 +32,7 @@ const SWITCH_PORT: [u8; 45] = [
     0, 0, 0, 0, 0, 0, 0x00, 0x10, // SystemImageGUID
     0, 0, 0, 0, 0, 0, 0x00, 0x10, // NodeGUID
     0, 0, 0, 0, 0, 0, 0x00, 0x10, // PortGUID
-    0x00, 0x20, 0x00, 0x00, // PartitionCap, DeviceID
+    0x00, 0x80, 0x00, 0x00, // PartitionCap, DeviceID
     0x00, 0x00, 0x00, 0x00, // Revision
     0x00, 0x00, 0x00, 0x00, // LocalPortNum, VendorID
     b'A', // NodeDescription
@@ -48,7 +48,7 @@ fn adapter_port() -> NodeRecord {
         system_image_guid: 0x100,
         node_guid: 0x100,
         port_guid: 0x101,
-        partition_cap: 32,
+        partition_cap: 128,
         device_id: 0,
         revision: 0,
         local_port_num: 1,

@@ -1,9 +1,11 @@
 -- The lines of multicast LIDs that pass a test.
-use Rattle.std.proofs.Common.{ℕ, ◌≡◌, ◌∙◌, ap, refl, Bool, if◌then◌else◌, List, [], ◌∷◌, ◌++◌, arith}
-use Rattle.std.specs.List.{filter, flat_map, range_with_len}
+use Rattle.std.proofs.Common.{ℕ, ◌≡◌, ◌∙◌, ap, refl, Bool, false, if◌then◌else◌, List, [], ◌∷◌, ◌++◌, arith}
+use Rattle.std.specs.List.{filter, flat_map, list_any, range_with_len}
 use Rattle.agent_rules.specs.declared.power_up.TheConstants.{MULTICAST_TABLE}
 use Rattle.fabric_parts.specs.declared.lid.TheConstants.{FIRST_MULTICAST_LID}
-use Rattle.fabric_tables.specs.Multicast.{is_used, mlid_line, used}
+use Rattle.fabric_tables.specs.Multicast.{columns, is_used, mlid_line, used}
+use Rattle.switch_model.proofs.MulticastLemmas.{none_in_masks}
+use Rattle.switch_model.specs.Multicast.{has_bits, is_in_masks}
 use Rattle.switch_model.specs.SwitchState.{SwitchState}
 
 -- those that pass alone, or all with nothing for the others
@@ -22,3 +24,11 @@ pub all_used : (held : SwitchState) (old text : List ℕ) (count : ℕ) → coun
 all_used held old text count all lines =
     lines ∙ ap (λ (more : List ℕ). old ++ more)
     (passing (is_used held) (mlid_line held) (range_with_len FIRST_MULTICAST_LID count) ∙ ap (flat_map (mlid_line held)) (among held count all))
+
+-- ---- a multicast LID whose masks have no bit
+none_of : (test : ℕ → Bool) → ((number : ℕ) → test number ≡ false) → (numbers : List ℕ) → list_any test numbers ≡ false
+none_of test none [] = refl
+none_of test none (number ∷ numbers) = rw (none number) (none_of test none numbers)
+
+pub unused : (held : SwitchState) (mlid : ℕ) → has_bits held.masks mlid ≡ false → is_used held mlid ≡ false
+unused held mlid none = none_of (is_in_masks held.masks mlid) (λ number. none_in_masks held.masks mlid number none) (columns held)

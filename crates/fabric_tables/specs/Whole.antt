@@ -40,7 +40,7 @@ ended text = text ++ 10 ∷ []
 
 pub record TablesAreWhole : Type 0 where
   pub four_ports : table_text (1 ∷ 3 ∷ []) (end_port (codes "B") 0x20 3 4) (switch_with 0x20 4 (0b01100 ∷ 0 ∷ 0b01010 ∷ []))
-      ≡ ended (codes "Multicast mlids [0xc000-0xc3ff] of switch DR path slid 0; dlid 0; 0,1,3 guid 0x0000000000000020 (B):")
+      ≡ ended (codes "Multicast mlids [0xc000-0xcfff] of switch DR path slid 0; dlid 0; 0,1,3 guid 0x0000000000000020 (B):")
       ++ ended (codes "     Ports: 0 1 2 3 4 ")
       ++ ended (codes " MLid")
       ++ ended (codes "0xc000          x x   ")
@@ -48,7 +48,7 @@ pub record TablesAreWhole : Type 0 where
       ++ ended (codes "2 valid mlids dumped ")
   -- a bit of a port that the switch does not have counts for nothing
   pub twelve_ports : table_text (1 ∷ []) (end_port (codes "A") 0x10 2 12) (switch_with 0x10 12 (0b10000000000000 ∷ 0b11010000000101 ∷ []))
-      ≡ ended (codes "Multicast mlids [0xc000-0xc3ff] of switch DR path slid 0; dlid 0; 0,1 guid 0x0000000000000010 (A):")
+      ≡ ended (codes "Multicast mlids [0xc000-0xcfff] of switch DR path slid 0; dlid 0; 0,1 guid 0x0000000000000010 (A):")
       ++ ended (codes "            0                   1     ")
       ++ ended (codes "     Ports: 0 1 2 3 4 5 6 7 8 9 0 1 2 ")
       ++ ended (codes " MLid")

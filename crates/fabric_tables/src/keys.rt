@@ -66,7 +66,7 @@ fn push_lines_of(
     let name = port.node_name.as_slice();
     push_keys_line(text, name, port.number, words_in(node, port.number))?;
     match node {
-        Node::Switch(switch) => push_facing_lines(text, fabric, name, place, switch),
+        Node::Switch(switch) => push_facing_lines(text, fabric, name, place, switch.as_switch()),
         Node::Adapter(_) => Ok(()),
     }
 }
@@ -128,7 +128,7 @@ fn words_in(node: &Node, number: u8) -> &[u16]
     ensures { result.now ≡ words_in node.now number }
 {
     match node {
-        Node::Switch(switch) => words_of(switch, number),
+        Node::Switch(switch) => words_of(switch.as_switch(), number),
         Node::Adapter(ports) => match ports.port(number) {
             Some(port) => port.keys(),
             None => &[],

@@ -82,7 +82,7 @@ fn push_table_of(
     ensures { OnOk result (text.new.items ≡ text.old.items ++ table_of graph.now.switches port.now node.now) }
 {
     match node {
-        Node::Switch(held) => push_table(text, path_to(graph, port.guid), port, held),
+        Node::Switch(held) => push_table(text, path_to(graph, port.guid), port, held.as_switch()),
         Node::Adapter(_) => Ok(()),
     }
 }
@@ -117,9 +117,16 @@ fn count_used(held: &Switch<LINEAR_TABLE, MULTICAST_TABLE>) -> usize
         .count()
 }
 
-/// Whether the bit of a port is set for a multicast LID.
-#[tactic(auto, unfolding(crate::specs::Multicast::columns))]
+/// Whether the bit of a port is set for a multicast LID. Most have no bit at all.
+#[tactic(auto, using(crate::proofs::UsedLemmas::unused))]
 fn is_used(held: &Switch<LINEAR_TABLE, MULTICAST_TABLE>, mlid: u16) -> bool
+    ensures { result ≡ is_used held.now mlid }
+{
+    held.has_bits(mlid) && is_some_set(held, mlid)
+}
+
+#[tactic(auto, unfolding(crate::specs::Multicast::columns))]
+fn is_some_set(held: &Switch<LINEAR_TABLE, MULTICAST_TABLE>, mlid: u16) -> bool
     ensures { result ≡ is_used held.now mlid }
 {
     (0..column_count(held)).any(|number| held.is_in_masks(mlid, number))

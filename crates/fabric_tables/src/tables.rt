@@ -62,7 +62,7 @@ fn push_table_of(
     ensures { OnOk result (text.new.items ≡ text.old.items ++ table_of graph.now.switches ports.now port.now node.now) }
 {
     match node {
-        Node::Switch(held) => push_table(text, graph, ports, port, held),
+        Node::Switch(held) => push_table(text, graph, ports, port, held.as_switch()),
         Node::Adapter(_) => Ok(()),
     }
 }

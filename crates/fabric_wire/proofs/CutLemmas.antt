@@ -42,9 +42,9 @@ free_of (x ∷ p) q cable at free =
     record { first = rest.first; second = rest.second; others = or_from (is_same_port at x.first) _ one.0 (or_from (is_same_port at x.second) _ two.0 rest.others) }
 
 -- where no port has two cables, the ends of one are no ends of the others
-record Apart (cable : Cable) (cables : List Cable) : Type 0 where
-  first : Free cable.first cables
-  second : Free cable.second cables
+pub record Apart (cable : Cable) (cables : List Cable) : Type 0 where
+  pub first : Free cable.first cables
+  pub second : Free cable.second cables
 
 head_apart : (cable : Cable) (cables : List Cable) → IsDistinct is_same_port (flat_map ends_of (cable ∷ cables)) → Apart cable cables
 head_apart cable cables own =
@@ -61,7 +61,7 @@ more_free : (at : PortRef) (x : Cable) (cables : List Cable) → is_same_port x.
 more_free at x cables first second free =
     or_from (is_same_port at x.first) _ (ports_turn at x.first ∙ first) (or_from (is_same_port at x.second) _ (ports_turn at x.second ∙ second) free)
 
-apart : (p q : List Cable) (cable : Cable) → IsDistinct is_same_port (flat_map ends_of (p ++ cable ∷ q)) → Apart cable (p ++ q)
+pub apart : (p q : List Cable) (cable : Cable) → IsDistinct is_same_port (flat_map ends_of (p ++ cable ∷ q)) → Apart cable (p ++ q)
 apart [] q cable own = head_apart cable q own
 apart (x ∷ p) q cable own =
     let head = head_apart x (p ++ cable ∷ q) own in
@@ -180,7 +180,7 @@ between_one a b (x ∷ p) q cable between own =
     (rw other rest.0, rw other (ap (λ (ys : List Cable). x ∷ ys) rest.1))
 
 -- ---- by places
-free_first : (at : PortRef) (p q : List Cable) → Free at (p ++ q) → Free at p
+pub free_first : (at : PortRef) (p q : List Cable) → Free at (p ++ q) → Free at p
 free_first at p q free =
     (or_parts (list_any (is_same_port at) (flat_map ends_of p)) _
     (sym (list_any-append (is_same_port at) (flat_map ends_of p) (flat_map ends_of q))

@@ -1,4 +1,4 @@
--- No exchange changes the GUIDs of ports, so what finds a port by its GUID finds it afterwards.
+-- Neither an exchange nor a link changes the GUIDs of ports, so what finds a port by its GUID finds it afterwards.
 use Rattle.std.proofs.Common.{ℕ, ◌-◌, ◌≡◌, ◌==◌, ◌∙◌, refl, subst, sym, Bool, true, false, List, [], ◌∷◌, map, slice_get, Option, Some, None, option_map, if◌then◌else◌}
 use Rattle.std.specs.Option.{option_and_then}
 use Rattle.std.proofs.lemmas.Option.{same_Some}
@@ -10,7 +10,6 @@ use Rattle.smp_wire.proofs.KeptLemmas.{shape}
 use Rattle.result_words.proofs.ElementLemmas.{get_same}
 use Rattle.smp_wire.specs.FabricState.{FabricState, adapter_port, is_switch}
 use Rattle.smp_wire.specs.Good.{end_port_guids}
-use Rattle.smp_wire.specs.Shape.{IsSameShape}
 use Rattle.smp_wire.specs.Walk.{exchange_after}
 use Rattle.smp_wire.specs.declared.node.Node.{Node}
 use Rattle.smp_wire.specs.declared.node.Node.TheVariants.{Switch, Adapter}
@@ -39,17 +38,23 @@ by_nodes (Some (Adapter old)) (Some (Switch new)) number kinds guids = absurd (c
 by_nodes (Some (Adapter old)) (Some (Adapter new)) number kinds guids =
     by_number (number == 0) old new (number - 1) (same_Some _ _ guids)
 
-same_guids : (old new : FabricState) (at : PortRef) → IsSameShape old new → guid_at new.nodes at ≡ guid_at old.nodes at
-same_guids old new at is =
-    by_nodes (slice_get old.nodes at.node) (slice_get new.nodes at.node) at.port
-    (get_same is_switch old.nodes new.nodes at.node is.switches)
-    (get_same end_port_guids old.nodes new.nodes at.node is.end_port_guids)
+same_guids : (old new : List Node) (at : PortRef) → map is_switch new ≡ map is_switch old → map end_port_guids new ≡ map end_port_guids old
+    → guid_at new at ≡ guid_at old at
+same_guids old new at kinds guids =
+    by_nodes (slice_get old at.node) (slice_get new at.node) at.port
+    (get_same is_switch old new at.node kinds) (get_same end_port_guids old new at.node guids)
+
+pub alike_finds : (old new : List Node) (place_of : ℕ → Option PortRef) → map is_switch new ≡ map is_switch old
+    → map end_port_guids new ≡ map end_port_guids old → Finds old place_of → Finds new place_of
+alike_finds old new place_of kinds guids finds guid at =
+    let same = same_guids old new at kinds guids in
+    (λ found. same ∙ (finds guid at).0 found, λ is. (finds guid at).1 (sym same ∙ is))
 
 pub still_finds : (fabric : FabricState) (smp : List ℕ) (place_of : ℕ → Option PortRef) → Finds fabric.nodes place_of
     → Finds (exchange_after fabric smp).nodes place_of
-still_finds fabric smp place_of finds guid at =
-    let same = same_guids fabric (exchange_after fabric smp) at (shape fabric smp) in
-    (λ found. same ∙ (finds guid at).0 found, λ is. (finds guid at).1 (sym same ∙ is))
+still_finds fabric smp place_of finds =
+    let same = shape fabric smp in
+    alike_finds fabric.nodes (exchange_after fabric smp).nodes place_of same.switches same.end_port_guids finds
 
 -- no two ports have one GUID
 pub own : (nodes : List Node) (place_of : ℕ → Option PortRef) (guid : ℕ) → Finds nodes place_of → IsOwn nodes guid

@@ -21,3 +21,5 @@ pub mod EndPortLemmas
 pub mod KeptPortLemmas
 pub mod SpreadLemmas
 pub mod ReceiverLemmas
+pub mod RecablingLemmas
+pub mod RecablingLinkLemmas

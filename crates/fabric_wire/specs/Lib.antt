@@ -1,5 +1,6 @@
 pub mod Rows
 pub mod Cabling
+pub mod Recabling
 pub mod AdapterPorts
 pub mod Hopping
 pub mod HopByHop

@@ -1,7 +1,7 @@
 //! The cables of a fabric, some of which may be cut, with the other end of the cable at a port looked up in a row.
 
-ghost use Rattle.std.specs.Prelude.{◌≡◌, ◌+◌, ◌*◌, ◌<◌, true, [], ◌∷◌, ◌++◌, length, drop, take, get_or, flat_map, IfOk};
-ghost use Rattle.std.specs.List.{list_all, position, remove};
+ghost use Rattle.std.specs.Prelude.{◌≡◌, ◌+◌, ◌*◌, ◌<◌, if◌then◌else◌, true, [], ◌∷◌, ◌++◌, length, drop, take, get_or, flat_map, IfOk};
+ghost use Rattle.std.specs.List.{list_all, list_any, position, remove};
 ghost use Rattle.fabric_parts.specs.declared.cable.Cable.{Cable};
 ghost use Rattle.fabric_parts.specs.Cable.{far_end};
 ghost use Rattle.fabric_parts.specs.declared.cable.PortRef.{PortRef};
@@ -59,6 +59,17 @@ impl Cabling {
         2 * self.count
     }
 
+    /// Whether there is a cable between these ports that can be mended, or cut.
+    pub(crate) fn has(&self, a: PortRef, b: PortRef, up: bool) -> bool
+        ensures { result ≡ list_any (is_between a b) (if up then self.now.cut else self.now.cables) }
+    {
+        if up {
+            has_between(&self.all[self.count..], a, b)
+        } else {
+            has_between(&self.all[..self.count], a, b)
+        }
+    }
+
     /// Cuts the cable between these ports. Where there is none that is not cut, nothing changes.
     pub(crate) fn cut(&mut self, a: PortRef, b: PortRef)
         requires { IsOnce self.old }
@@ -110,6 +121,13 @@ fn place_between(cables: &[Cable], a: PortRef, b: PortRef) -> Option<usize>
     ensures { result ≡ position (is_between a b) cables.now }
 {
     cables.iter().position(|cable| is_between(cable, a, b))
+}
+
+/// Whether one of these cables is between these ports.
+fn has_between(cables: &[Cable], a: PortRef, b: PortRef) -> bool
+    ensures { result ≡ list_any (is_between a b) cables.now }
+{
+    cables.iter().any(|cable| is_between(cable, a, b))
 }
 
 fn is_between(cable: &Cable, a: PortRef, b: PortRef) -> bool

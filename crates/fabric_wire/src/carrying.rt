@@ -19,7 +19,7 @@ fn next_port(nodes: &[Node], cabling: &Cabling, packet: &Packet, here: PortRef) 
     ensures { result ≡ next_port nodes.now cabling.now.cables packet.now here }
 {
     let out = match nodes.get(here.node) {
-        Some(Node::Switch(switch)) => switch.unicast_out(here.port, packet),
+        Some(Node::Switch(switch)) => switch.as_switch().unicast_out(here.port, packet),
         Some(Node::Adapter(_)) | None => None,
     };
     cabling.far_end(PortRef {

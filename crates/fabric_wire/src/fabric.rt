@@ -13,6 +13,8 @@ ghost use Rattle.smp_wire.specs.Good.{IsGood, ShowsLinks, SwitchesJoined};
 ghost use Rattle.smp_wire.specs.Walk.{exchange_after, exchange_reply};
 ghost use Rattle.fabric_wire.specs.Cabling.{fabric_over};
 ghost use Rattle.fabric_wire.specs.OfTopology.{fabric_of};
+ghost use Rattle.fabric_wire.specs.Recabling.{can_change, node_linked, nodes_linked, recabled};
+ghost use Rattle.smp_wire.specs.FabricState.{is_port, port_count};
 
 use crate::adapter_ports::{adapter_at, places_by_guid};
 use crate::cabling::Cabling;
@@ -27,7 +29,7 @@ use indexmap::IndexMap;
 use mad_layout::{Mad, known_bytes};
 use port_model::AdapterPort;
 use smp_route::turn_round;
-use smp_wire::{Node, SmpWire, agent_at, is_sent};
+use smp_wire::{Node, SmpWire, agent_at, is_sent, is_switch_at};
 use std::alloc::{AllocError, Global};
 use std::marker::Model;
 use topo_file::Topology;
@@ -104,6 +106,33 @@ impl Fabric {
         ensures { result ≡ far_end self.now.cables port }
     {
         self.cabling.far_end(port)
+    }
+
+    /// Cuts the cable between these ports of two switches, or mends it: both ports are Down and Polling then, or Initialize and
+    /// LinkUp, and all else stays. Where no such cable can be cut, or mended, nothing changes: cables to adapters stay.
+    ///
+    /// Source: IBA volume 1, 14.2.5.6 (PortInfo).
+    pub fn set_cable(&mut self, a: PortRef, b: PortRef, up: bool)
+        ensures { self.new ≡ recabled a b up self.old }
+    {
+        if !self.can_change(a, b, up) {
+            return;
+        }
+        set_links(&mut self.nodes, a, b, up);
+        if up {
+            self.cabling.mend(a, b);
+        } else {
+            self.cabling.cut(a, b);
+        }
+    }
+
+    /// Whether the ports are of switches, with a cable between them that can be mended, or cut.
+    fn can_change(&self, a: PortRef, b: PortRef, up: bool) -> bool
+        ensures { result ≡ can_change a b up self.now }
+    {
+        is_switch_at(&self.nodes, a.node)
+            && is_switch_at(&self.nodes, b.node)
+            && self.cabling.has(a, b, up)
     }
 
     /// Where the port of a channel adapter is that has that GUID.
@@ -215,6 +244,38 @@ impl Fabric {
             Some(from) => self.carry_from(alloc, from, packet),
             None => Ok(Vec::new(alloc)),
         }
+    }
+}
+
+/// The same of two ports.
+fn set_links(nodes: &mut [Node], a: PortRef, b: PortRef, up: bool)
+    requires first { is_port nodes.old a ≡ true }
+    requires second { is_port nodes.old b ≡ true }
+    ensures { nodes.new ≡ nodes_linked up a (nodes_linked up b nodes.old) }
+{
+    set_link(nodes, b, up);
+    set_link(nodes, a, up);
+}
+
+/// The port there, if it is one of a switch, is up or down from then on.
+fn set_link(nodes: &mut [Node], at: PortRef, up: bool)
+    requires { is_port nodes.old at ≡ true }
+    ensures { nodes.new ≡ nodes_linked up at nodes.old }
+{
+    if at.node >= nodes.len() {
+        return;
+    }
+    set_link_of(&mut nodes[at.node], at.port, up);
+}
+
+fn set_link_of(node: &mut Node, number: u8, up: bool)
+    requires some { 1 ≤ number }
+    requires there { number ≤ port_count node.old }
+    ensures { node.new ≡ node_linked number up node.old }
+{
+    match node {
+        Node::Switch(switch) => switch.set_link(number, up),
+        Node::Adapter(_) => {}
     }
 }
 

@@ -3,7 +3,7 @@
 
 ghost use Rattle.topo_file.specs.Sound.{IsSound};
 ghost use Rattle.smp_wire.specs.Good.{IsGood, ShowsLinks, SwitchesJoined};
-ghost use Rattle.fabric_wire.specs.Laws.{ExchangesGoByHops, TopologiesAreJoined, TopologiesGiveGood, TopologiesShowLinks};
+ghost use Rattle.fabric_wire.specs.Laws.{CablesKeepGood, CablesKeepLinks, ExchangesGoByHops, TopologiesAreJoined, TopologiesGiveGood, TopologiesShowLinks};
 ghost use Rattle.fabric_wire.specs.OfTopology.{fabric_of};
 ghost use Rattle.fabric_wire.specs.TwoSwitches.{two_switches};
 
@@ -30,4 +30,10 @@ pub fn topologies_give_good_fabrics()
     ensures good { TopologiesGiveGood }
     ensures links { TopologiesShowLinks }
     ensures joined { TopologiesAreJoined }
+{}
+
+/// Whatever cable is cut or mended, a good fabric stays good, and a port is Down exactly where it has no cable.
+pub fn cables_keep_fabrics()
+    ensures good { CablesKeepGood }
+    ensures links { CablesKeepLinks }
 {}

@@ -20,10 +20,11 @@ pub use crate::adapter_ports::adapter_at;
 pub use crate::delivery::Delivery;
 pub use crate::fabric::Fabric;
 pub use crate::laws::{
-    exchanges_go_by_hops, the_two_switch_fabric_is_good, topologies_give_good_fabrics,
+    cables_keep_fabrics, exchanges_go_by_hops, the_two_switch_fabric_is_good,
+    topologies_give_good_fabrics,
 };
 pub use smp_wire::{
-    AdapterPorts, CountingWire, Node, PlainWire, ReplyFault, SilencedWire, SmpWire,
+    AdapterPorts, BoxedSwitch, CountingWire, Node, PlainWire, ReplyFault, SilencedWire, SmpWire,
     exchanges_change_what_they_name, exchanges_keep_the_fabric, get_attribute, get_request,
     gets_tell, paths_go_on, ports_are_good, read_reply, replies_answer, set_attribute, set_request,
     sets_tell,

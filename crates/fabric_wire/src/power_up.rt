@@ -11,7 +11,7 @@ ghost use Rattle.fabric_wire.specs.OfTopology.{adapter_port_of, fabric_of, link_
 use agent_rules::{LINEAR_TABLE, MULTICAST_TABLE, PortLink};
 use fabric_parts::{NodeType, PortRef};
 use port_model::AdapterPort;
-use smp_wire::{AdapterPorts, Node};
+use smp_wire::{AdapterPorts, BoxedSwitch, Node};
 use std::alloc::{AllocError, Global};
 use switch_model::Switch;
 use topo_file::{Node as PlannedNode, Topology};
@@ -62,7 +62,7 @@ fn switch_of(
         node.name.as_bytes(),
         &links,
     );
-    Ok(Node::Switch(switch))
+    Ok(Node::Switch(BoxedSwitch::new(alloc, switch)?))
 }
 
 fn adapter_of(

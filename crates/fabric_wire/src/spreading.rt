@@ -24,7 +24,7 @@ fn copies(nodes: &[Node], packet: &Packet, here: PortRef) -> u64
     ensures { (number : ℕ) → (bit_at result number == 1) ≡ sends_at nodes.now here packet.now number }
 {
     match nodes.get(here.node) {
-        Some(Node::Switch(switch)) => switch.multicast_out(here.port, packet),
+        Some(Node::Switch(switch)) => switch.as_switch().multicast_out(here.port, packet),
         Some(Node::Adapter(_)) | None => 0,
     }
 }

@@ -79,7 +79,12 @@ impl Spread {
         ensures { OnOk result (self.new ≡ at_port fabric.now packet.now here self.old) }
     {
         match fabric.nodes().get(here.node) {
-            Some(Node::Switch(switch)) => self.come_to_switch(fabric, switch, packet, here),
+            Some(Node::Switch(switch)) => self.come_to_switch(
+                fabric,
+                switch.as_switch(),
+                packet,
+                here,
+            ),
             Some(Node::Adapter(ports)) => self.end(turn_at_adapter(ports, packet, here), here),
             None => self.end(Turn::DropsKey, here),
         }

@@ -68,7 +68,11 @@ fn turn_in(fabric: &Fabric, packet: &Packet, here: PortRef, node: &Node) -> Turn
     ensures { result ≡ turn_in fabric.now.cables packet.now here node.now }
 {
     match node {
-        Node::Switch(switch) => turn_of_fate(fabric, here, switch.fate(here.port, packet)),
+        Node::Switch(switch) => turn_of_fate(
+            fabric,
+            here,
+            switch.as_switch().fate(here.port, packet),
+        ),
         Node::Adapter(ports) => match ports.port(here.port) {
             Some(port) => turn_by(port, packet),
             None => Turn::DropsKey,

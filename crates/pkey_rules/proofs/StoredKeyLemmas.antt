@@ -1,12 +1,12 @@
 -- What a stored key table accepts and holds is told by the first word of the base.
-use Rattle.std.proofs.Common.{◌≡◌, ◌≢◌, ℕ, zero, suc, ◌==◌, ◌&&◌, ◌||◌, ◌∙◌, ap, refl, sym, Bool, true, false, not, if◌then◌else◌, List, [], ◌∷◌}
+use Rattle.std.proofs.Common.{◌≡◌, ◌≢◌, ℕ, zero, suc, ◌==◌, ◌&&◌, ◌||◌, ◌∙◌, ap, refl, sym, Bool, true, false, not, if◌then◌else◌, List, [], ◌∷◌, ◌++◌}
 use Rattle.std.proofs.Common.{replicate, find, Option, Some, arith}
 use Rattle.std.specs.List.{AllByRecursion, filter, list_any}
 use Rattle.std.specs.Option.{option_map_or}
 use Rattle.std.proofs.lemmas.Bool.{and_parts, eq-eqb, eqb-true}
 use Rattle.std.proofs.lemmas.Bool.Decides.{nat_tests}
 use Rattle.std.proofs.lemmas.Map.Keys.{IsDistinct-head, IsDistinct-tail}
-use Rattle.pkey_rules.specs.KeyTable.{accepts, holds, same_base}
+use Rattle.pkey_rules.specs.KeyTable.{accepts, has_base, holds, same_base}
 use Rattle.pkey_rules.specs.Laws.{KeysAreStored}
 use Rattle.pkey_rules.specs.PKey.{base_of, matches}
 use Rattle.pkey_rules.specs.StoredKeys.{stored_keys}
@@ -103,6 +103,35 @@ no_match word key true none never = rw (eqb-true (base_of word) 0 none) (none_of
     none_of true = refl
     none_of false = refl
 no_match word key false none never = absurd (never (λ same. let is = eq-eqb (base_of word) 0 same in cc))
+
+-- ---- words that are looked at block by block
+abbrev is_of : ℕ → ℕ → Bool
+is_of base word = base_of word == base
+
+past_word : (base word : ℕ) (block rest : List ℕ) (here : Bool) → is_of base word ≡ here → (here || has_base base block) ≡ false
+    → (has_base base block ≡ false → find (is_of base) (block ++ rest) ≡ find (is_of base) rest)
+    → (if here then Some word else find (is_of base) (block ++ rest)) ≡ find (is_of base) rest
+past_word base word block rest true is none later = cc
+past_word base word block rest false is none later = later none
+
+-- past words of other bases
+pub past_block : (base : ℕ) (block rest : List ℕ) → has_base base block ≡ false
+    → find (is_of base) (block ++ rest) ≡ find (is_of base) rest
+past_block base [] rest none = refl
+past_block base (word ∷ block) rest none =
+    past_word base word block rest (is_of base word) refl none (past_block base block rest)
+
+at_word : (base word : ℕ) (block rest : List ℕ) (here : Bool) → (here || has_base base block) ≡ true
+    → (has_base base block ≡ true → find (is_of base) block ≡ find (is_of base) (block ++ rest))
+    → (if here then Some word else find (is_of base) block) ≡ (if here then Some word else find (is_of base) (block ++ rest))
+at_word base word block rest true some later = refl
+at_word base word block rest false some later = later some
+
+-- words of which some is of that base
+pub at_block : (base : ℕ) (block rest : List ℕ) → has_base base block ≡ true
+    → find (is_of base) block ≡ find (is_of base) (block ++ rest)
+at_block base [] rest some = cc
+at_block base (word ∷ block) rest some = at_word base word block rest (is_of base word) some (at_block base block rest)
 
 -- ---- keys of different bases
 all_kept : (word : ℕ) (keys : List ℕ) → AllByRecursion (λ key. same_base word key ≡ false) keys

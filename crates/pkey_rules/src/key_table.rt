@@ -12,7 +12,7 @@ use thiserror::Error;
 
 /// How many partitions a subnet has at most, the default partition counted, and so how many keys a
 /// port holds at most.
-pub const PARTITIONS: usize = 32;
+pub const PARTITIONS: usize = 128;
 
 /// The keys that a port holds, at most `CAP` and no two of one base.
 ///

@@ -14,7 +14,7 @@ pub fn keys_are_stored()
 /// The numbers of partitions, written out. How many there may be is ours; the bases are the standard's (IBA
 /// volume 1, 14.2.5.7).
 pub fn the_numbers()
-    ensures partitions { PARTITIONS ≡ 32 }
+    ensures partitions { PARTITIONS ≡ 128 }
     ensures bases { BASES ≡ 0x8000 }
     ensures default_base { DEFAULT_BASE ≡ 0x7fff }
 {}

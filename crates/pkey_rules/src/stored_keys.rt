@@ -1,7 +1,7 @@
 //! Key tables as SMPs write them: words, whatever they hold.
 
 ghost use Rattle.std.specs.Prelude.{◌≡◌, ◌==◌, find};
-ghost use Rattle.pkey_rules.specs.KeyTable.{accepts, holds};
+ghost use Rattle.pkey_rules.specs.KeyTable.{accepts, has_base, holds};
 ghost use Rattle.pkey_rules.specs.PKey.{base_of};
 ghost use Rattle.pkey_rules.specs.StoredKeys.{stored_keys};
 
@@ -35,9 +35,35 @@ pub fn stored_holds(words: &[u16], key: PKey) -> bool
     }
 }
 
-/// The first word of that base, if there is one.
+/// The first word of that base, if there is one. Most words are of another: so many at once are looked at for
+/// whether some is of that base, and one after another only where it is.
 fn first_of_base(words: &[u16], base: u16) -> Option<u16>
     ensures { result ≡ find (λ word. base_of word == base) words.now }
 {
+    for some in words.chunks(AT_ONCE) {
+        if has_base(some, base) {
+            return first_in(some, base);
+        }
+    }
+    None
+}
+
+// How many words are looked at without a branch.
+const AT_ONCE: usize = 16;
+
+fn first_in(words: &[u16], base: u16) -> Option<u16>
+    ensures { result ≡ find (λ word. base_of word == base) words.now }
+{
     words.iter().copied().find(|word| base_of(*word) == base)
+}
+
+/// Whether some word is of that base; all are looked at, which a processor does several at a time.
+fn has_base(words: &[u16], base: u16) -> bool
+    ensures { result ≡ has_base base words.now }
+{
+    let mut found = false;
+    for word in words {
+        found |= base_of(*word) == base;
+    }
+    found
 }

@@ -14,7 +14,8 @@ use test_fabrics::fat_tree_of;
 use updn_routes::Routes;
 
 /// How many SMPs a push takes over a fat tree. Ports: two for port 0 of each switch and two for its LinearFDBTop, three for
-/// each end of a cable. Keys: one for each switch, and for each end of a cable to an adapter. Linear tables: one a block. A slice
+/// each end of a cable. Keys: four for each switch, and for each end of a cable to an adapter, of which three ask whether an empty
+/// block is there. Linear tables: one a block. A slice
 /// of multicast tables: one for each position of each switch.
 fn smps_of(push: Push, leaves: u16) -> u64
     requires { leaves ≤ 32 }
@@ -23,7 +24,7 @@ fn smps_of(push: Push, leaves: u16) -> u64
     let adapters = 8 * u64::from(leaves);
     let links = 2 * u64::from(leaves * leaves.min(28));
     let ports = 4 * switches + 3 * (links + 2 * adapters);
-    let keys = switches + 2 * adapters;
+    let keys = 4 * (switches + 2 * adapters);
     let linear = 8 * switches;
     match push {
         Push::Nothing => 0,
@@ -145,10 +146,10 @@ fn all_is_pushed<W: SmpWire>(
     Ok(push_all(wire, routes, &keys).or(Err("a push"))?)
 }
 
-/// The greatest takes 12,930 SMPs, of which the sweep has 4,674; 14,000 are allowed.
+/// The greatest takes 14,658 SMPs, of which the sweep has 4,674, and 1,728 ask whether blocks of keys are empty.
 #[test]
 fn fat_trees_of_8_16_and_64_switches_are_brought_up(rt: HostRuntime) -> Result<(), Fail> {
-    is_brought_up(&rt, rt.alloc(), 4, 850)?;
-    is_brought_up(&rt, rt.alloc(), 8, 1954)?;
-    is_brought_up(&rt, rt.alloc(), 32, 12930)
+    is_brought_up(&rt, rt.alloc(), 4, 1066)?;
+    is_brought_up(&rt, rt.alloc(), 8, 2386)?;
+    is_brought_up(&rt, rt.alloc(), 32, 14658)
 }

@@ -15,12 +15,12 @@ use updn_routes::Routes;
 
 /// How many exchanges each push takes over the two-switch fabric, and how many of them are Sets. Ports: Get and Set of two
 /// ports 0 and of SwitchInfo twice; of the ten ports that a cable ends in a Get, and a Set each to Armed and to Active. Key
-/// tables: a block each of two ports 0, and of both ends of four cables. Linear tables: eight blocks each of two switches. A slice of
+/// tables: of two ports 0, and of both ends of four cables, a Set of the first block and a Get of each of the three empty ones. Linear tables: eight blocks each of two switches. A slice of
 /// multicast tables: a block at each of three positions of two switches.
 const PUSHES: [(Push, u64, u64); 4] = [
     (Push::Multicast, 6, 6),
     (Push::Ports, 38, 24),
-    (Push::Keys, 10, 10),
+    (Push::Keys, 40, 10),
     (Push::Linear, 16, 16),
 ];
 
@@ -175,7 +175,7 @@ const ALL_STOP: [(Spoils, PushFault); 5] = [
 #[test]
 fn all_pushes_stop_where_one_of_them_does(rt: HostRuntime) -> Result<(), Fail> {
     for (spoils, fault) in ALL_STOP {
-        stops(&rt, rt.alloc(), Push::All, 38 + 10 + 16, spoils, fault)?;
+        stops(&rt, rt.alloc(), Push::All, 38 + 40 + 16, spoils, fault)?;
     }
     Ok(())
 }

@@ -1,5 +1,7 @@
 //! Key tables over the two-switch fabric: those of a file with one partition.
 
+ghost use Rattle.std.specs.Prelude.{◌≤◌, length};
+
 use crate::fixtures::{give, told};
 use attr_tables::SmpAttribute;
 use fabric_wire::SmpWire;
@@ -54,22 +56,25 @@ pub fn keys_of_one_partition(alloc: Global) -> Result<Vec<KeyTable<PARTITIONS>>,
     Ok(tables)
 }
 
-/// Fills all tables, so that what stood before is seen.
+/// Fills all blocks of all tables, so that what stood before is seen.
 pub fn fill_key_tables<W: SmpWire>(wire: &mut W) -> Result<(), Fail> {
     for (path, port, _) in TABLES {
-        give(
-            wire,
-            SmpAttribute::PKeyTable,
-            first_block(port),
-            path,
-            &[7; 64],
-        )?;
+        fill(wire, path, port)?;
     }
     for (path, port) in OTHERS {
+        fill(wire, path, port)?;
+    }
+    Ok(())
+}
+
+fn fill<W: SmpWire>(wire: &mut W, path: &[u8], port: u32) -> Result<(), Fail>
+    requires short { length path.now ≤ 63 }
+{
+    for block in 0..BLOCKS {
         give(
             wire,
             SmpAttribute::PKeyTable,
-            first_block(port),
+            modifier_of(port, block),
             path,
             &[7; 64],
         )?;
@@ -77,17 +82,43 @@ pub fn fill_key_tables<W: SmpWire>(wire: &mut W) -> Result<(), Fail> {
     Ok(())
 }
 
-/// The attribute modifier of the first block of a port's key table.
-fn first_block(port: u32) -> u32 {
-    port.wrapping_mul(65536)
+/// How many blocks a key table has.
+const BLOCKS: u32 = 4;
+
+/// The attribute modifier of a block of a port's key table.
+fn modifier_of(port: u32, block: u32) -> u32 {
+    port.wrapping_mul(65536).wrapping_add(block)
+}
+
+/// The blocks of a port's key table behind the first hold nothing but this byte.
+fn rest_is<W: SmpWire>(
+    rt: &impl Abort,
+    wire: &mut W,
+    path: &[u8],
+    port: u32,
+    byte: u8,
+) -> Result<(), Fail>
+    requires short { length path.now ≤ 63 }
+{
+    for block in 1..BLOCKS {
+        let bytes = told(
+            wire,
+            SmpAttribute::PKeyTable,
+            modifier_of(port, block),
+            path,
+        )?;
+        assert_eq!(rt; bytes, [byte; 64]);
+    }
+    Ok(())
 }
 
 /// Each table has its keys, and nothing behind them.
 pub fn keys_stand<W: SmpWire>(rt: &impl Abort, wire: &mut W) -> Result<(), Fail> {
     for (path, port, begins) in TABLES {
-        let bytes = told(wire, SmpAttribute::PKeyTable, first_block(port), path)?;
+        let bytes = told(wire, SmpAttribute::PKeyTable, modifier_of(port, 0), path)?;
         assert!(rt; bytes.starts_with(&begins));
         assert!(rt; bytes.iter().skip(4).all(|byte| *byte == 0));
+        rest_is(rt, wire, path, port, 0)?;
     }
     Ok(())
 }
@@ -95,8 +126,9 @@ pub fn keys_stand<W: SmpWire>(rt: &impl Abort, wire: &mut W) -> Result<(), Fail>
 /// Between switches, and where no cable is, the tables are as they were.
 pub fn other_tables_stay<W: SmpWire>(rt: &impl Abort, wire: &mut W) -> Result<(), Fail> {
     for (path, port) in OTHERS {
-        let bytes = told(wire, SmpAttribute::PKeyTable, first_block(port), path)?;
+        let bytes = told(wire, SmpAttribute::PKeyTable, modifier_of(port, 0), path)?;
         assert_eq!(rt; bytes, [7; 64]);
+        rest_is(rt, wire, path, port, 7)?;
     }
     Ok(())
 }

@@ -10,6 +10,7 @@ use Rattle.partition_file.specs.declared.heading.Heading.{Heading}
 use Rattle.partition_file.specs.Members.{AreSoundHeadings, Membership}
 use Rattle.pkey_rules.specs.KeyTable.{same_base}
 use Rattle.pkey_rules.specs.PKey.{base_of}
+use Rattle.pkey_rules.specs.declared.key_table.TheConstants.{PARTITIONS}
 use Rattle.subnet_model.specs.Configured.{HoldsKnownKeys, IsConfigured, is_known_key, same_guid}
 use Rattle.sa_groups.specs.Sound.{pairwise}
 use Rattle.sa_answer.specs.declared.node_port.NodePort.{NodePort}
@@ -77,8 +78,8 @@ keys_known headings (port ∷ ports) [] h = tt
 keys_known headings (port ∷ ports) (held ∷ keys) h =
     let parts = and_parts (are_known_keys headings held) (list_all (are_known_keys headings) keys) h in
     let first = and_parts (pairwise other_base held) _ parts.0 in
-    let second = and_parts (list_all (is_known_key headings) held) (nat_le (length held) 32) first.1 in
-    (record { once = bases_apart held first.0; known = second.0; few = leb-true (length held) 32 second.1 }, keys_known headings ports keys parts.1)
+    let second = and_parts (list_all (is_known_key headings) held) (nat_le (length held) PARTITIONS) first.1 in
+    (record { once = bases_apart held first.0; known = second.0; few = leb-true (length held) PARTITIONS second.1 }, keys_known headings ports keys parts.1)
 
 pub sound_is_configured : (ports : List NodePort) (members : Membership) → AreSoundHeadings members.headings
     → are_sound ports members.headings members.keys ≡ true → IsConfigured (configured ports members)

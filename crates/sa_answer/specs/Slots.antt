@@ -58,7 +58,7 @@ free_slots [] = 0
 free_slots (None ∷ slots) = 1 + 2 * free_slots slots
 free_slots (Some group ∷ slots) = 2 * free_slots slots
 
--- a partition has a number below 32, a base, and a slot for each of its MLIDs, and the set tells which are free
+-- a partition has one of the numbers that there are, a base, and a slot for each of its MLIDs, and the set tells which are free
 pub record AreSlots (number base : ℕ) (slots : List (Option SlotGroup)) (free : ℕ) : Type 0 where
   pub numbered : number < PARTITIONS
   pub based : is_base base ≡ true

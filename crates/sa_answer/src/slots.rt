@@ -106,7 +106,7 @@ impl PartitionSlots {
 
     fn first_mlid(&self) -> u16
         ensures value { result ≡ first_mlid self.now.number }
-        ensures within { result < 0xc400 }
+        ensures within { result + 32 < 65536 }
     {
         FIRST_MULTICAST_LID + SLOTS as u16 * self.number
     }

@@ -36,7 +36,7 @@ abbrev pub has_mlid : ℕ → PartitionGroups → Bool
 has_mlid mlid partition = list_any (λ group. group.mlid == mlid) partition.groups
 
 abbrev pub mlid_of_pool : List PartitionGroups → Option ℕ
-mlid_of_pool partitions = find (λ mlid. not (list_any (has_mlid mlid) partitions)) (range_with_len 0xc000 1024)
+mlid_of_pool partitions = find (λ mlid. not (list_any (has_mlid mlid) partitions)) (range_with_len 0xc000 4096)
 
 abbrev pub makes_group : List SubnetPort → Join → PartitionGroups → Bool
 makes_group ports join partition =

@@ -78,7 +78,7 @@ pub record WhichServices : Type 0 where
 -- the bytes of a record of each kind, as one number; the zero bytes at the end are a power of two
 pub record WhichBytes : Type 0 where
   pub node : number (node_record_bytes (node_record_of named))
-      ≡ 0x00010000010101020000000000000100000000000000010000000000000001010020000000000000010000006830 * 2 ^ 528
+      ≡ 0x00010000010101020000000000000100000000000000010000000000000001010080000000000000010000006830 * 2 ^ 528
   pub path : number (path_record_bytes (path_record_of (under limited full 0x0001)))
       ≡ 0xfe800000000000000000000000000111fe8000000000000000000000000001210004000500000000008000010000848392 * 2 ^ 56
   pub group : number (mc_member_record_bytes (group_record_of group_of_file))

@@ -30,6 +30,7 @@ use Rattle.mad_layout.specs.declared.status.MadStatus.{MadStatus}
 use Rattle.mad_layout.specs.declared.status.MadStatus.TheVariants.{MethodNotSupported}
 use Rattle.partition_file.specs.declared.heading.Heading.{Heading}
 use Rattle.rmpp_core.specs.Acks.{after_ack}
+use Rattle.pkey_rules.specs.declared.key_table.TheConstants.{PARTITIONS}
 use Rattle.rmpp_core.specs.declared.abort.AbortCause.{AbortCause}
 use Rattle.rmpp_core.specs.declared.sender.Acknowledged.{Acknowledged}
 use Rattle.rmpp_core.specs.Laws.{IsTransfer}
@@ -94,23 +95,23 @@ by_base_few (key ∷ keys) = let one = key_placed key (by_base keys) in let rest
 
 -- ---- what is selected of each kind
 keys_few : (configuration : ConfigurationState) (own : SubnetPort) → IsConfigured configuration
-    → port_with_guid configuration.ports own.guid ≡ Some own → length own.keys ≤ 32
+    → port_with_guid configuration.ports own.guid ≡ Some own → length own.keys ≤ PARTITIONS
 keys_few configuration own configured found =
     found_few configuration.ports (recursion_from_All (HoldsKnownKeys configuration.partitions) configuration.ports configured.keys) found
   where
     found_few : (ports : List SubnetPort) → AllByRecursion (HoldsKnownKeys configuration.partitions) ports → port_with_guid ports own.guid ≡ Some own
-        → length own.keys ≤ 32
+        → length own.keys ≤ PARTITIONS
     found_few [] each found_here = absurd (cc)
     found_few (port ∷ ports) each found_here = elim (cases_Bool (port.guid == own.guid)) [
       | inl this ↦
           let head : Some port ≡ Some own = rw this at found_here in
           let same : port ≡ own = cc in
-          subst (λ (one : SubnetPort). length one.keys ≤ 32) same each.0.few
+          subst (λ (one : SubnetPort). length one.keys ≤ PARTITIONS) same each.0.few
       | inr other ↦ found_few ports each.1 (rw other at found_here)
     ]
 
-paths_few : (most : Option ℕ) (mask : ℕ) (asked : PathRecord) (own other : SubnetPort) → length own.keys ≤ 32
-    → length (few_paths most mask asked own other) ≤ 32
+paths_few : (most : Option ℕ) (mask : ℕ) (asked : PathRecord) (own other : SubnetPort) → length own.keys ≤ PARTITIONS
+    → length (few_paths most mask asked own other) ≤ PARTITIONS
 paths_few most mask asked own other few =
     let keys = by_base_few own.keys in
     let accepted = filter_few (λ key. accepts key other.keys) (by_base own.keys) in
@@ -185,19 +186,19 @@ unfolding empty_place
 none_few port = length-map {A = ℕ} {B = PortServices} (by_base port.keys) (empty_place port) ∙ by_base_few port.keys
 
 each_port_few : (headings : List Heading) (ports : List SubnetPort) → AllByRecursion (HoldsKnownKeys headings) ports
-    → AllByRecursion (λ port. length (none_of_port port) ≤ 32) ports
+    → AllByRecursion (λ port. length (none_of_port port) ≤ PARTITIONS) ports
 each_port_few headings [] held = tt
 each_port_few headings (port ∷ ports) held =
     let keys = none_few port in
     let few = held.0.few in
     (omega arith, each_port_few headings ports held.1)
 
-places_few : (headings : List Heading) (ports : List SubnetPort) → AllByRecursion (HoldsKnownKeys headings) ports → length (no_services ports) ≤ 32 * length ports
-places_few headings ports each = flat_few none_of_port 32 ports (each_port_few headings ports each)
+places_few : (headings : List Heading) (ports : List SubnetPort) → AllByRecursion (HoldsKnownKeys headings) ports → length (no_services ports) ≤ PARTITIONS * length ports
+places_few headings ports each = flat_few none_of_port PARTITIONS ports (each_port_few headings ports each)
 
--- ---- how many records a table has
+-- ---- how many records a table has: 16 services of each of 320 end ports in each of its partitions are the most
 pub most_entries : ℕ
-most_entries = 163840
+most_entries = 16 * (PARTITIONS * 320)
 
 each_partition_few : (ports : List SubnetPort) (partitions : List PartitionGroups) → is_sound ports partitions ≡ true
     → AllByRecursion (λ partition. length (groups_of partition) ≤ 32) partitions
@@ -230,16 +231,16 @@ nodes_most ports own mask asked few =
     let c = length-map (nodes_selected mask asked (visible_nodes ports own)) node_entry in
     omega arith
 
-paths_most : (most : Option ℕ) (ports : List SubnetPort) (own : SubnetPort) (mask : ℕ) (asked : PathRecord) → length ports ≤ 320 → length own.keys ≤ 32
+paths_most : (most : Option ℕ) (ports : List SubnetPort) (own : SubnetPort) (mask : ℕ) (asked : PathRecord) → length ports ≤ 320 → length own.keys ≤ PARTITIONS
     → length (map path_entry (flat_map (few_paths most mask asked own) ports)) ≤ most_entries
 unfolding most_entries
 paths_most most ports own mask asked few keys =
-    let a = flat_few (few_paths most mask asked own) 32 ports (each_few (few_paths most mask asked own) 32 (λ other. paths_few most mask asked own other keys) ports) in
+    let a = flat_few (few_paths most mask asked own) PARTITIONS ports (each_few (few_paths most mask asked own) PARTITIONS (λ other. paths_few most mask asked own other keys) ports) in
     let b = length-map (flat_map (few_paths most mask asked own) ports) path_entry in
     omega arith
 
 groups_most : (ports : List SubnetPort) (own : SubnetPort) (partitions : List PartitionGroups) (mask : ℕ) (asked : McMemberRecord) → is_sound ports partitions ≡ true
-    → length partitions ≤ 32 → length (map group_entry (groups_selected mask asked (visible_groups own partitions))) ≤ most_entries
+    → length partitions ≤ PARTITIONS → length (map group_entry (groups_selected mask asked (visible_groups own partitions))) ≤ most_entries
 unfolding most_entries
 groups_most ports own partitions mask asked sound few =
     let mine = filter (λ partition. is_in own partition.base) partitions in
@@ -250,7 +251,7 @@ groups_most ports own partitions mask asked sound few =
     omega arith
 
 services_most : (ports : List SubnetPort) (own : SubnetPort) (places : List PortServices) (mask : ℕ) (asked : ServiceRecord) → are_sound_services ports places ≡ true
-    → length places ≤ 10240 → length (map service_entry (services_selected mask asked (visible_services ports own places))) ≤ most_entries
+    → length places ≤ PARTITIONS * 320 → length (map service_entry (services_selected mask asked (visible_services ports own places))) ≤ most_entries
 unfolding most_entries
 services_most ports own places mask asked sound few =
     let shown = services_seen ports own.guid places in

@@ -25,7 +25,7 @@ pub use crate::laws::{
     exchanges_change_what_they_name, exchanges_keep_the_fabric, gets_tell, paths_go_on,
     ports_are_good, replies_answer, sets_tell,
 };
-pub use crate::node::{AdapterPorts, Node};
+pub use crate::node::{AdapterPorts, BoxedSwitch, Node};
 pub use crate::plain_wire::PlainWire;
 pub use crate::reply::{ReplyFault, read_reply};
 pub use crate::request::{get_request, set_request};

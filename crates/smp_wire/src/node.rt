@@ -1,16 +1,62 @@
 //! The nodes of a fabric: switches, and channel adapters with their ports.
 
-ghost use Rattle.std.specs.Prelude.{◌≡◌, is_some, unwrap_or, slice_get};
+ghost use Rattle.std.specs.Prelude.{◌≡◌, ◌≤◌, IfOk, is_some, unwrap_or, slice_get};
 ghost use Rattle.smp_wire.specs.FabricState.{adapter_port, adapter_ports_after, node_after, node_reply, port_count};
 ghost use Rattle.agent_rules.specs.Request.{KeepsRest};
 ghost use Rattle.port_model.specs.Agent.{agent_reply};
 ghost use Rattle.std.specs.Option.{option_and_then, option_copied};
+ghost use Rattle.switch_model.specs.Links.{with_link};
+ghost use Rattle.switch_model.specs.SwitchState.{num_ports};
 
 use agent_rules::{LINEAR_TABLE, MULTICAST_TABLE};
 use mad_layout::Mad;
 use port_model::AdapterPort;
+use std::alloc::{AllocError, Global};
 use std::marker::Model;
 use switch_model::Switch;
+
+/// A switch of a fabric, whose tables are on the heap.
+#[derive(Debug, Drop)]
+pub struct BoxedSwitch {
+    switch: Box<Switch<LINEAR_TABLE, MULTICAST_TABLE>>,
+}
+
+impl Model for BoxedSwitch {
+    ghost use Rattle.switch_model.specs.SwitchState.{SwitchState};
+
+    ghost Value = { SwitchState };
+
+    ghost view = { λ boxed. boxed.switch.value };
+}
+
+impl BoxedSwitch {
+    /// Puts a switch on the heap.
+    pub fn new(
+        alloc: Global,
+        switch: Switch<LINEAR_TABLE, MULTICAST_TABLE>,
+    ) -> Result<BoxedSwitch, AllocError>
+        ensures { IfOk result (λ boxed. boxed ≡ switch) }
+    {
+        let switch = Box::new(alloc, switch)?;
+        Ok(BoxedSwitch { switch })
+    }
+
+    /// The switch.
+    pub fn as_switch(&self) -> &Switch<LINEAR_TABLE, MULTICAST_TABLE>
+        ensures { result.now ≡ self.now }
+    {
+        &self.switch
+    }
+
+    /// Takes the cable at the port of that number away, or puts it back: [`Switch::set_link`].
+    pub fn set_link(&mut self, number: u8, up: bool)
+        requires some { 1 ≤ number }
+        requires there { number ≤ num_ports self.old }
+        ensures { self.new ≡ with_link number up self.old }
+    {
+        self.switch.set_link(number, up);
+    }
+}
 
 /// The ports of a channel adapter, in order of their numbers, each with its own agent.
 #[derive(Debug, Drop)]
@@ -66,7 +112,7 @@ impl AdapterPorts {
 #[derive(Debug, Drop)]
 pub enum Node {
     /// A switch.
-    Switch(Switch<LINEAR_TABLE, MULTICAST_TABLE>),
+    Switch(BoxedSwitch),
     /// A channel adapter.
     Adapter(AdapterPorts),
 }
@@ -77,7 +123,7 @@ impl Node {
         ensures { result ≡ port_count self.now }
     {
         match self {
-            Node::Switch(switch) => switch.port_count(),
+            Node::Switch(switch) => switch.as_switch().port_count(),
             Node::Adapter(ports) => ports.ports.len(),
         }
     }
@@ -91,7 +137,7 @@ impl Node {
         ensures kept { KeepsRest smp.old smp.new }
     {
         match self {
-            Node::Switch(switch) => switch.agent(number, smp),
+            Node::Switch(boxed) => boxed.switch.agent(number, smp),
             Node::Adapter(ports) => ports.agent(number, smp),
         }
     }

@@ -11,6 +11,8 @@ mod fabrics;
 #[cfg(test)]
 mod fixtures;
 #[cfg(test)]
+mod many_partitions;
+#[cfg(test)]
 mod neighbours;
 #[cfg(test)]
 mod partitions;

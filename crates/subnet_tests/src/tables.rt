@@ -12,12 +12,12 @@ use subnet_core::{Subnet, bring_up};
 
 /// Of 0xC020 the ports 2 and 3 of A, and 1 and 3 of B, as `dump_mfts` prints them.
 const TABLES: [&str; 10] = [
-    "Multicast mlids [0xc000-0xc3ff] of switch DR path slid 0; dlid 0; 0,1 guid 0x0000000000000010 (A):",
+    "Multicast mlids [0xc000-0xcfff] of switch DR path slid 0; dlid 0; 0,1 guid 0x0000000000000010 (A):",
     "     Ports: 0 1 2 3 4 ",
     " MLid",
     "0xc020          x x   ",
     "1 valid mlids dumped ",
-    "Multicast mlids [0xc000-0xc3ff] of switch DR path slid 0; dlid 0; 0,1,3 guid 0x0000000000000020 (B):",
+    "Multicast mlids [0xc000-0xcfff] of switch DR path slid 0; dlid 0; 0,1,3 guid 0x0000000000000020 (B):",
     "     Ports: 0 1 2 3 4 ",
     " MLid",
     "0xc020        x   x   ",

@@ -1,4 +1,5 @@
 pub mod PortLemmas
+pub mod LinkLemmas
 pub mod AgentLemmas
 pub mod ChangeLemmas
 pub mod GoodLemmas

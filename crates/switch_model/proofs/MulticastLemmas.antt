@@ -1,16 +1,17 @@
 -- The bits of masks, and of the ports by which a packet to a group leaves.
-use Rattle.std.proofs.Common.{◌≡◌, ℕ, ◌+◌, ◌*◌, ◌/◌, ◌%◌, ◌^◌, ◌<◌, ◌==◌, ◌&&◌, Bool, true, false, nat_lt, bit_and, bit_or, w64, not, length, ◌≤◌, None, slice_get, ◌⊎◌, refl, sym, ◌∙◌, ap, inl, inr, arith}
+use Rattle.std.proofs.Common.{◌≡◌, ℕ, zero, suc, ◌+◌, ◌*◌, ◌/◌, ◌%◌, ◌^◌, ◌<◌, ◌==◌, ◌&&◌, Bool, true, false, nat_lt, bit_and, bit_or, w64, not, length, ◌≤◌, List, [], ◌∷◌, Option, Some, None, slice_get, ◌⊎◌, refl, sym, ◌∙◌, ap, inl, inr, arith}
 use Rattle.std.specs.Int.{bit_at}
-use Rattle.std.proofs.lemmas.Bool.{and_parts, cases_Bool, eq-eqb, eqb-true, false_from_ne_true, lt-ltb, ltb-false, not-true}
+use Rattle.std.proofs.lemmas.Bool.{and_parts, cases_Bool, eq-eqb, eqb-true, false_from_ne_true, lt-ltb, ltb-false, not-true, or_parts}
 use Rattle.std.proofs.lemmas.Bool.Decides.{nat_tests}
 use Rattle.std.proofs.lemmas.Nat.{and_mask}
 use Rattle.std.proofs.lemmas.Option.{slice_get_past}
 use Rattle.data_packet.specs.declared.packet.Packet.{Packet}
 use Rattle.switch_model.specs.Forwarding.{passes_inbound, passes_outbound}
 use Rattle.switch_model.specs.Laws.{MulticastGoesByMasks}
-use Rattle.switch_model.specs.Multicast.{IsCopiedOut, copies_out, is_in_masks}
+use Rattle.switch_model.specs.Multicast.{IsCopiedOut, copies_out, has_bit, has_bits, is_in_masks, mask_of}
 use Rattle.switch_model.specs.SwitchState.{SwitchState}
-use Rattle.std.proofs.lemmas.Nat.Bits.{bit_at_set_other, bit_at_set_same}
+use Rattle.std.proofs.lemmas.Nat.Bits.{bit_at-zero, bit_at_set_other, bit_at_set_same}
+use Rattle.std.specs.Option.{option_and_then, option_map_or}
 
 pub bit_shown : (mask k : ℕ) → (bit_and (mask / 2 ^ k) 1 == 1) ≡ (bit_at mask k == 1)
 bit_shown mask k = ap (λ (b : ℕ). b == 1) (and_mask (mask / 2 ^ k) 1)
@@ -87,3 +88,25 @@ goes_by_masks held in_port packet out multicast = (
   λ h. is_copied held in_port packet out (rw multicast at h),
   λ is. rw multicast (copied held in_port packet out is),
 )
+
+-- ---- masks without a bit
+no_bit : (lid k : ℕ) (mask : Option ℕ) → option_map_or (λ one. not (one == 0)) mask false ≡ false
+    → option_map_or (λ one. bit_at one k == 1) mask false ≡ false
+no_bit lid k None none = refl
+no_bit lid k (Some mask) none =
+    let zero_is : mask ≡ 0 = eqb-true mask 0 (not_false (mask == 0) none) in
+    rw (zero_is, bit_at-zero k) refl
+  where
+    not_false : (b : Bool) → not b ≡ false → b ≡ true
+    not_false true h = refl
+    not_false false h = cc
+
+no_bit_of : (lid k : ℕ) (masks : List (List ℕ)) (place : ℕ) → has_bits masks lid ≡ false
+    → option_map_or (λ one. bit_at one k == 1) (option_and_then (mask_of lid) (slice_get masks place)) false ≡ false
+no_bit_of lid k [] place none = refl
+no_bit_of lid k (words ∷ masks) zero none = no_bit lid k (mask_of lid words) (or_parts (has_bit lid words) _ none).0
+no_bit_of lid k (words ∷ masks) (suc place) none = no_bit_of lid k masks place (or_parts (has_bit lid words) _ none).1
+
+-- where none is set, that of no port is
+pub none_in_masks : (masks : List (List ℕ)) (lid number : ℕ) → has_bits masks lid ≡ false → is_in_masks masks lid number ≡ false
+none_in_masks masks lid number none = no_bit_of lid (number % 16) masks (number / 16) none

@@ -1,11 +1,12 @@
 -- What holds of the agent of a switch, and of its ports at power-up.
-use Rattle.std.specs.Prelude.{ℕ, ◌≡◌, ◌↔◌, ◌<◌, true, false, List, ◌∷◌, length, slice_get, option_map, Ok, IfOk}
+use Rattle.std.specs.Prelude.{ℕ, ◌≡◌, ◌≢◌, ◌↔◌, ◌<◌, Bool, true, false, not, List, ◌∷◌, length, slice_get, option_map, Some, Ok, IfOk}
 use Rattle.mad_layout.specs.Bits.{put_field}
 use Rattle.attr_tables.specs.Attribute.{IsAttribute}
 use Rattle.attr_tables.specs.declared.smp_attribute.SmpAttribute.{SmpAttribute}
 use Rattle.agent_rules.specs.declared.link.PortLink.{PortLink}
 use Rattle.agent_rules.specs.declared.link.PortLink.TheVariants.{Internal}
 use Rattle.agent_rules.specs.Agent.{answer}
+use Rattle.agent_rules.specs.PortSetting.{is_down}
 use Rattle.agent_rules.specs.Laws.{IsSettled, IsUnseenPut, ReadsAlike}
 use Rattle.data_packet.specs.declared.packet.Packet.{Packet}
 use Rattle.fabric_parts.specs.Lid.{is_multicast}
@@ -14,9 +15,11 @@ use Rattle.switch_model.specs.Changes.{ChangesAtMost}
 use Rattle.switch_model.specs.Fate.{fate, way_out}
 use Rattle.switch_model.specs.Forwarding.{IsSentOut, out_port}
 use Rattle.switch_model.specs.Good.{IsGoodSwitch}
+use Rattle.switch_model.specs.Links.{linked, port_linked, with_link}
 use Rattle.switch_model.specs.Multicast.{IsCopiedOut}
 use Rattle.switch_model.specs.Sending.{sends_out}
 use Rattle.switch_model.specs.SwitchState.{SwitchState, at_power_up, port_at_power_up, ports_from}
+use Rattle.switch_model.specs.declared.switch_port.SwitchPort.{SwitchPort}
 
 -- an SMP changes at most what it names
 abbrev pub SmpsChangeWhatTheyName : Type 0
@@ -34,6 +37,23 @@ abbrev pub SmpsKeepGood : Type 0
 SmpsKeepGood =
     (lids multicast_lids : ℕ) (held : SwitchState) (smp : List ℕ) → IsGoodSwitch lids multicast_lids held
     → IsGoodSwitch lids multicast_lids (agent_after held smp)
+
+-- and whatever cables go and come
+abbrev pub LinksKeepGood : Type 0
+LinksKeepGood =
+    (lids multicast_lids number : ℕ) (up : Bool) (held : SwitchState) → IsGoodSwitch lids multicast_lids held
+    → IsGoodSwitch lids multicast_lids (with_link number up held)
+
+-- the port there shows its link then, Down where no cable is, and the other ports are what they were
+pub record ShowsLink (number : ℕ) (up : Bool) (held : SwitchState) (port : SwitchPort) : Type 0 where
+  pub there : slice_get (with_link number up held).ports number ≡ Some (port_linked up port)
+  pub down : is_down (linked up port.info) ≡ not up
+  pub others : (other : ℕ) → other ≢ number → slice_get (with_link number up held).ports other ≡ slice_get held.ports other
+
+abbrev pub LinksShow : Type 0
+LinksShow =
+    (number : ℕ) (up : Bool) (held : SwitchState) (port : SwitchPort) → slice_get held.ports number ≡ Some port
+    → ShowsLink number up held port
 
 -- what a good switch gives fills an attribute
 abbrev pub GoodSwitchesGiveAttributes : Type 0

@@ -1,4 +1,5 @@
 pub mod SwitchState
+pub mod Links
 pub mod Agent
 pub mod Forwarding
 pub mod Multicast

@@ -2,6 +2,7 @@
 -- forwarding table, and each port's enforcement bits and key table. No port's state is looked at.
 use Rattle.std.specs.Prelude.{ℕ, ◌≡◌, ◌≢◌, ◌-◌, ◌/◌, ◌%◌, Bool, true, false, not, ◌==◌, ◌&&◌, if◌then◌else◌, List, slice_get, Option, None}
 use Rattle.std.specs.Int.{bit_at}
+use Rattle.std.specs.List.{list_any}
 use Rattle.std.specs.Option.{option_and_then, option_map_or}
 use Rattle.data_packet.specs.declared.packet.Packet.{Packet}
 use Rattle.fabric_parts.specs.Lid.{is_multicast}
@@ -18,6 +19,13 @@ mask_of lid masks = if is_multicast lid then slice_get masks (lid - FIRST_MULTIC
 abbrev pub is_in_masks : List (List ℕ) → ℕ → ℕ → Bool
 is_in_masks masks lid number =
     option_map_or (λ mask. bit_at mask (number % 16) == 1) (option_and_then (mask_of lid) (slice_get masks (number / 16))) false
+
+-- some bit of one of them is set, or of one of all
+abbrev pub has_bit : ℕ → List ℕ → Bool
+has_bit lid masks = option_map_or (λ mask. not (mask == 0)) (mask_of lid masks) false
+
+abbrev pub has_bits : List (List ℕ) → ℕ → Bool
+has_bits masks lid = list_any (has_bit lid) masks
 
 -- ---- a packet to a group that came in at this port leaves by that one too: by each whose bit is set, but for the one where
 -- it came in, unless the enforcement of one of the two ports is against it

@@ -2,7 +2,7 @@
 
 ghost use Rattle.std.specs.Prelude.{◌≡◌};
 ghost use Rattle.switch_model.specs.declared.multicast_table.TheConstants.{POSITIONS};
-ghost use Rattle.switch_model.specs.Laws.{FatesTellWaysOut, GoodSwitchesGiveAttributes, MulticastGoesByMasks, NewSwitchesAreGood, PortsHaveTheirLinks, SmpsAreReadAlike, SmpsChangeWhatTheyName, SmpsKeepGood, SmpsSettle, UnicastGoesByEntries, UnseenComesBack};
+ghost use Rattle.switch_model.specs.Laws.{FatesTellWaysOut, GoodSwitchesGiveAttributes, LinksKeepGood, LinksShow, MulticastGoesByMasks, NewSwitchesAreGood, PortsHaveTheirLinks, SmpsAreReadAlike, SmpsChangeWhatTheyName, SmpsKeepGood, SmpsSettle, UnicastGoesByEntries, UnseenComesBack};
 
 /// An SMP changes at most what it names, and each port is Down afterwards exactly where it was Down. Like
 /// the laws below it does nothing: its contract is the law.
@@ -15,6 +15,12 @@ pub fn smps_change_what_they_name()
 pub fn switches_stay_good()
     ensures new { NewSwitchesAreGood }
     ensures kept { SmpsKeepGood }
+{}
+
+/// A port shows the link that it has from then on, and a good switch stays good, whatever cables go and come.
+pub fn links_show()
+    ensures shown { LinksShow }
+    ensures kept { LinksKeepGood }
 {}
 
 /// What a good switch gives fills an attribute.

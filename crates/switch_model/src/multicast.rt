@@ -1,8 +1,9 @@
 //! Where a switch sends packets to multicast groups.
 
-ghost use Rattle.std.specs.Prelude.{ℕ, ◌≡◌, ◌==◌, ◌≤◌, length};
+ghost use Rattle.std.specs.Prelude.{ℕ, ◌≡◌, ◌==◌, ◌≤◌, true, length};
 ghost use Rattle.std.specs.Int.{bit_at};
-ghost use Rattle.switch_model.specs.Multicast.{copies_out, is_in_masks, mask_of};
+ghost use Rattle.switch_model.specs.Forwarding.{passes_inbound};
+ghost use Rattle.switch_model.specs.Multicast.{copies_out, has_bit, has_bits, is_in_masks, mask_of};
 
 use crate::enforcement::{passes_inbound, passes_outbound};
 use crate::multicast_table::POSITIONS;
@@ -19,6 +20,9 @@ impl<const LFT: usize, const MFT: usize> Switch<LFT, MFT> {
     pub fn multicast_out(&self, in_port: u8, packet: &Packet) -> u64
         ensures { (number : ℕ) → (bit_at result number == 1) ≡ copies_out self.now in_port packet.now number }
     {
+        if !passes_inbound(in_port, packet.p_key, self.ports()) {
+            return 0;
+        }
         let mut out = 0;
         for number in 0..self.port_count() + 1 {
             let number = number as u8;
@@ -36,12 +40,23 @@ impl<const LFT: usize, const MFT: usize> Switch<LFT, MFT> {
         is_in_masks(self.masks(), lid, number)
     }
 
-    /// Whether such a packet leaves by the port of a number.
+    /// Whether some bit is set in its masks of a LID; where none is, that of no port is.
+    pub fn has_bits(&self, lid: u16) -> bool
+        ensures { result ≡ has_bits self.now.masks lid }
+    {
+        self.masks().iter().any(
+            |words| -> bool
+                ensures { result ≡ has_bit lid words.now }
+            { has_bit(words, lid) },
+        )
+    }
+
+    /// Whether such a packet, which was let in, leaves by the port of a number.
     fn copies_out(&self, in_port: u8, packet: &Packet, number: u8) -> bool
+        requires { passes_inbound self.now.ports in_port packet.now.p_key ≡ true }
         ensures { result ≡ copies_out self.now in_port packet.now number }
     {
-        passes_inbound(in_port, packet.p_key, self.ports())
-            && number != in_port
+        number != in_port
             && is_in_masks(self.masks(), packet.dlid, number)
             && passes_outbound(number, packet.p_key, self.ports())
     }
@@ -57,6 +72,16 @@ fn is_in_masks<const MFT: usize>(masks: &[[u16; MFT]; POSITIONS], lid: u16, numb
     }
     match mask_of(&masks[position], lid) {
         Some(mask) => mask >> (number % PORTS_OF_POSITION) & 1 == 1,
+        None => false,
+    }
+}
+
+/// Whether some bit is set in the mask of a LID at a position.
+fn has_bit(words: &[u16], lid: u16) -> bool
+    ensures { result ≡ has_bit lid words.now }
+{
+    match mask_of(words, lid) {
+        Some(mask) => mask != 0,
         None => false,
     }
 }

@@ -1,8 +1,11 @@
 //! The ports of a switch: at power-up, and what SMPs read and set of them.
 
-ghost use Rattle.std.specs.Prelude.{◌≡◌, ◌≤◌, ◌/◌, ◌%◌, ◌^◌, ◌∷◌, length};
+ghost use Rattle.std.specs.Prelude.{◌≡◌, ◌≤◌, ◌<◌, ◌/◌, ◌%◌, ◌^◌, ◌∷◌, length};
 ghost use Rattle.agent_rules.specs.Agent.{Leaves};
+ghost use Rattle.attr_tables.specs.PortInfo.{port_info};
+ghost use Rattle.mad_layout.specs.Layout.{Fits};
 ghost use Rattle.switch_model.specs.Agent.{key_block, key_port, get_keys, set_keys, get_port_info, set_port_info};
+ghost use Rattle.switch_model.specs.Links.{linked, ports_linked};
 ghost use Rattle.switch_model.specs.SwitchState.{AllFit, ports_from};
 ghost use Rattle.fabric_parts.specs.declared.limits.TheConstants.{SWITCH_PORTS};
 
@@ -12,6 +15,7 @@ use agent_rules::{
     PortLink, PortSetting, port_info_after, set_word_block, shown_at, word_block_at,
 };
 use arrayvec::ArrayVec;
+use attr_tables::{PortInfo, PortPhysicalState, PortState};
 use mad_layout::MadStatus;
 
 /// PortInfo of the port of that number, as it is shown to who comes in at that other port.
@@ -74,6 +78,36 @@ pub fn set_keys(modifier: u32, wanted: &[u8; 64], ports: &mut [SwitchPort]) -> R
     set_word_block(&mut port.keys, key_block(modifier), wanted)?;
     ports[number] = port;
     Ok(())
+}
+
+/// What the port of that number shows of its link from then on: up, where a cable leads there, or down.
+#[tactic(auto, using(crate::proofs::PortLemmas::set_fits))]
+pub fn set_link(number: usize, up: bool, ports: &mut [SwitchPort])
+    requires there { number < length ports.old }
+    requires fit { AllFit ports.old }
+    ensures set { ports.new ≡ ports_linked number up ports.old }
+    ensures fits { AllFit ports.new }
+{
+    let mut port = ports[number];
+    port.info = linked(up, &port.info);
+    ports[number] = port;
+}
+
+fn linked(up: bool, info: &PortInfo) -> PortInfo
+    requires { Fits (port_info info.now) }
+    ensures value { result ≡ linked up info.now }
+    ensures fits { Fits (port_info result) }
+{
+    let (port_state, physical_state) = if up {
+        (PortState::Initialize, PortPhysicalState::LinkUp)
+    } else {
+        (PortState::Down, PortPhysicalState::Polling)
+    };
+    PortInfo {
+        port_state: port_state.code(),
+        port_physical_state: physical_state.code(),
+        ..*info
+    }
 }
 
 fn key_port(modifier: u32) -> usize

@@ -8,6 +8,7 @@ ghost use Rattle.agent_rules.specs.Request.{KeepsRest};
 ghost use Rattle.switch_model.specs.Agent.{agent_after, agent_reply, get, set};
 ghost use Rattle.switch_model.specs.Fate.{fate, fate_by};
 ghost use Rattle.switch_model.specs.Forwarding.{linear_entry_of, out_port};
+ghost use Rattle.switch_model.specs.Links.{with_link};
 ghost use Rattle.switch_model.specs.SwitchState.{at_power_up, num_ports};
 ghost use Rattle.fabric_parts.specs.declared.limits.TheConstants.{SWITCH_PORTS};
 
@@ -15,7 +16,7 @@ use crate::enforcement::{leaves_by, passes_inbound, passes_outbound};
 use crate::fate::Fate;
 use crate::linear_table::{get_linear, set_linear, set_linear_top};
 use crate::multicast_table::{POSITIONS, get_masks, set_masks};
-use crate::ports::{get_keys, get_port_info, ports_at_power_up, set_keys, set_port_info};
+use crate::ports::{get_keys, get_port_info, ports_at_power_up, set_keys, set_link, set_port_info};
 use crate::switch_port::SwitchPort;
 use agent_rules::{
     PortLink, attribute_asked, data_of, is_request, is_set, modifier_of, node_info_of, put_reply,
@@ -110,6 +111,18 @@ impl<const LFT: usize, const MFT: usize> Switch<LFT, MFT> {
         let answer = self.answer(in_port, smp);
         put_reply(smp, &answer);
         true
+    }
+
+    /// Takes the cable at the port of that number away, or puts it back: the port is Down and Polling then, or Initialize and
+    /// LinkUp, and all else stays.
+    ///
+    /// Source: IBA volume 1, 14.2.5.6 (PortInfo).
+    pub fn set_link(&mut self, number: u8, up: bool)
+        requires some { 1 ≤ number }
+        requires there { number ≤ num_ports self.old }
+        ensures { self.new ≡ with_link number up self.old }
+    {
+        set_link(usize::from(number), up, &mut self.ports);
     }
 
     /// The port by which a data packet that came in at that port leaves, if it leaves: none where the switch

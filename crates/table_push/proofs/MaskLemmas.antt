@@ -76,7 +76,13 @@ mask_there : (routes : RoutesState) (receives : ℕ → ℕ → Bool) (place pos
     → mlid - FIRST_MULTICAST_LID < MULTICAST_TABLE
     → mask_of mlid (mask_of_position routes receives place position) ≡ Some (mask_word routes receives place position (FIRST_MULTICAST_LID + (mlid - FIRST_MULTICAST_LID)))
 mask_there routes receives place position mlid multi within =
-    rw multi (at_range (λ i. mask_word routes receives place position (FIRST_MULTICAST_LID + i)) MULTICAST_TABLE (mlid - FIRST_MULTICAST_LID) within)
+    opened (nat_le 0xc000 mlid && nat_lt mlid 0xffff) (mask_of_position routes receives place position) (mlid - FIRST_MULTICAST_LID) _ multi
+    (at_range (λ i. mask_word routes receives place position (FIRST_MULTICAST_LID + i)) MULTICAST_TABLE (mlid - FIRST_MULTICAST_LID) within)
+  where
+    opened : (multicast : Bool) (words : List ℕ) (k mask : ℕ) → multicast ≡ true → slice_get words k ≡ Some mask
+        → (if multicast then slice_get words k else None) ≡ Some mask
+    opened true words k mask is there = there
+    opened false words k mask is there = cc
 
 from_first : (mlid : ℕ) → (nat_le 0xc000 mlid && nat_lt mlid 0xffff) ≡ true → 49152 ≤ mlid
 from_first mlid multi = grind (arith, nat_tests)

@@ -11,7 +11,7 @@ use Rattle.agent_rules.specs.declared.power_up.TheConstants.{MULTICAST_TABLE}
 use Rattle.agent_rules.proofs.GivenLemmas.{block_long}
 use Rattle.attr_tables.specs.Blocks.{block_of}
 use Rattle.fabric_parts.specs.declared.lid.TheConstants.{FIRST_MULTICAST_LID}
-use Rattle.table_push.specs.Masks.{bits_where, is_in_mask, mask_of_position, mask_word}
+use Rattle.table_push.specs.Masks.{LiesInTable, bits_where, is_in_mask, mask_of_position, mask_word}
 use Rattle.table_push.specs.MaskSteps.{AreBits, AreSliceBits, word_at, words_at}
 use Rattle.table_push.proofs.MaskLemmas.{bit_where, bits_below}
 use Rattle.table_push.proofs.SliceLemmas.{has_it}
@@ -41,14 +41,14 @@ word_is position bits is_set few are =
     (ap (λ (bit : ℕ). bit == 1) (low_bits (bits / 2 ^ (16 * position)) k low ∙ high_bits bits (16 * position) k)
     ∙ are (16 * position + k) (omega (arith, few, low)) ∙ sym (bit_where 16 (λ k. is_set (16 * position + k)) k low)))
 
-pub block_is : (routes : RoutesState) (partition place position : ℕ) (receives : ℕ → ℕ → Bool) (bits : List ℕ) → partition < 32 → position < 3 → length bits ≡ 32
+pub block_is : (routes : RoutesState) (partition place position : ℕ) (receives : ℕ → ℕ → Bool) (bits : List ℕ) → LiesInTable partition → position < 3 → length bits ≡ 32
     → AreSliceBits routes partition receives place bits
     → words_at position bits ≡ block_of 32 partition (mask_of_position routes receives place position)
 unfolding block_of
 block_is routes partition place position receives bits below few long are =
     let mask : ℕ → ℕ = λ i. mask_word routes receives place position (FIRST_MULTICAST_LID + i) in
     let table = mask_of_position routes receives place position in
-    let whole : length table ≡ 1024 = length-map-range_with_len mask 0 MULTICAST_TABLE in
+    let whole : length table ≡ MULTICAST_TABLE = length-map-range_with_len mask 0 MULTICAST_TABLE in
     let count : length (words_at position bits) ≡ 32 = length-map bits (word_at position) ∙ long in
     same_number_lists (words_at position bits) (take 32 (drop (32 * partition) table))
     (count ∙ sym (block_long 32 partition table (omega arith) (has_it partition table below whole)))

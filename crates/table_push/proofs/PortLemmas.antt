@@ -6,8 +6,10 @@ use Rattle.std.proofs.lemmas.Bool.Decides.{nat_tests}
 use Rattle.std.proofs.lemmas.Nat.{div-mul-add, mod-mul-add}
 use Rattle.std.proofs.lemmas.Option.{slice_get_cases}
 use Rattle.agent_rules.specs.Agent.{set_word_block, word_block}
+use Rattle.agent_rules.specs.Good.{IsTable}
 use Rattle.attr_tables.specs.declared.smp_attribute.SmpAttribute.TheVariants.{PKeyTable}
 use Rattle.fabric_parts.specs.declared.cable.PortRef.{PortRef}
+use Rattle.pkey_rules.specs.declared.key_table.TheConstants.{PARTITIONS}
 use Rattle.port_model.specs.AdapterState.{AdapterState}
 use Rattle.port_model.specs.Agent.{get as adapter_gives, set as adapter_set}
 use Rattle.port_model.specs.Good.{IsGoodPort as IsGoodAdapterPort}
@@ -122,7 +124,7 @@ pub record PortThere (fabric : FabricState) (path : List ℕ) (asked guid number
   pub ends : end_of fabric path ≡ Some at
   pub there : slice_get fabric.nodes at.node ≡ Some node
   pub guid_is : node_guid node ≡ guid
-  pub long : length keys ≡ 32
+  pub table : IsTable PARTITIONS 65536 keys
   pub sets : KeysSet guid number asked at.port node keys
 
 pub element : {X : Type 0} (xs : List X) (k : ℕ) → k < length xs → (x : X) × (slice_get xs k ≡ Some x)
@@ -168,7 +170,7 @@ at_switch fabric path asked guid number at held good ends there is own within =
       ends = ends;
       there = there;
       guid_is = is;
-      long = keys.count;
+      table = keys;
       sets = subst (λ (n : ℕ). KeysSet guid number n at.port (Switch held) port.0.keys) (sym own) (switch_sets held port.0 guid at.port number is port.1);
     }
 
@@ -186,7 +188,7 @@ at_adapter fabric path asked guid number at ports good ends there is none own so
       ends = ends;
       there = there;
       guid_is = is;
-      long = keys.count;
+      table = keys;
       sets = subst (λ (n : ℕ). KeysSet guid number n at.port (Adapter ports) port.0.keys) (sym none)
           (subst (λ (n : ℕ). KeysSet guid number 0 n (Adapter ports) port.0.keys) (sym own) (adapter_sets ports port.0 guid number is some port.1));
     }

@@ -7,6 +7,7 @@ use Rattle.std.proofs.lemmas.List.{take_all}
 use Rattle.std.proofs.lemmas.List.Folds.{list_any_more}
 use Rattle.std.proofs.lemmas.Option.{get_or_from_slice_get, same_Some, slice_get-get_or}
 use Rattle.agent_rules.specs.Good.{IsTable}
+use Rattle.agent_rules.specs.declared.power_up.TheConstants.{MULTICAST_TABLE}
 use Rattle.agent_rules.proofs.CarriedLemmas.{spelled_is_read}
 use Rattle.agent_rules.proofs.TableLemmas.{block_differs}
 use Rattle.attr_tables.specs.Blocks.{block_of, has_block, with_block, word_bytes}
@@ -19,7 +20,7 @@ use Rattle.sweep.specs.declared.graph.GraphSwitch.{GraphSwitch}
 use Rattle.switch_model.specs.Agent.{get as switch_gives, set as switch_set, is_mask_modifier, mask_block, mask_position}
 use Rattle.switch_model.specs.SwitchState.{SwitchState}
 use Rattle.table_push.specs.Fault.{compared}
-use Rattle.table_push.specs.Masks.{masks_before, masks_pushed, set_slice, slice_to, wanted_slice, with_masks, with_slice}
+use Rattle.table_push.specs.Masks.{LiesInTable, masks_before, masks_pushed, set_slice, slice_to, wanted_slice, with_masks, with_slice}
 use Rattle.table_push.specs.Nodes.{on_switch, with_switches}
 use Rattle.table_push.specs.Pushes.{LeadsToSwitch, Leaves, Stands}
 use Rattle.table_push.specs.declared.fault.PushFault.{PushFault}
@@ -41,7 +42,7 @@ record Names (modifier position partition : ℕ) : Type 0 where
   position_is : mask_position modifier ≡ position
   block_is : mask_block modifier ≡ partition
 
-names : (position partition : ℕ) → position < 3 → partition < 32 → Names (position * 268435456 + partition) position partition
+names : (position partition : ℕ) → position < 3 → LiesInTable partition → Names (position * 268435456 + partition) position partition
 names position partition few below =
     let middle : (position * 268435456 + partition) / 512 % 524288 ≡ 0 = omega (arith, few, below) in
     record {
@@ -68,12 +69,12 @@ compares : (bytes : List ℕ) → compared MulticastForwardingTable bytes bytes 
 unfolding compared
 compares bytes = refl
 
--- the blocks of a position of 1,024 masks
-pub has_it : (block : ℕ) (table : List ℕ) → block < 32 → length table ≡ 1024 → has_block 32 block table ≡ true
-has_it block table below long = rw long (lt-ltb block 32 below)
+-- the blocks of a position
+pub has_it : (block : ℕ) (table : List ℕ) → LiesInTable block → length table ≡ MULTICAST_TABLE → has_block 32 block table ≡ true
+has_it block table below long = rw long (lt-ltb block (MULTICAST_TABLE / 32) (omega (arith, below)))
 
 block_leaves : (fabric : FabricState) (stood left : Option FabricState) (result : Result (Unit {0}) PushFault) (path : List ℕ) (guid position partition : ℕ) (words : List ℕ)
-    → position < 3 → partition < 32 → IsTable 32 65536 words → stood ≡ Some fabric → IsGood fabric → LeadsToSwitch fabric path guid
+    → position < 3 → LiesInTable partition → IsTable 32 65536 words → stood ≡ Some fabric → IsGood fabric → LeadsToSwitch fabric path guid
     → SetsAt stood left result path MulticastForwardingTable (position * 268435456 + partition) (word_bytes words)
     → Leaves result left fabric (with_switches (on_switch guid (block_written position partition words)) fabric)
 block_leaves fabric stood left result path guid position partition words few below is stands good leads sets =
@@ -82,7 +83,7 @@ block_leaves fabric stood left result path guid position partition words few bel
     let within : position < length here.held.masks = omega (arith, switch.positions, few) in
     let mine = get_or here.held.masks position [] in
     let there : slice_get here.held.masks position ≡ Some mine = slice_get-get_or here.held.masks position [] within in
-    let long : length mine ≡ 1024 = (all_have (IsTable 1024 65536) here.held.masks position mine switch.masks there).count in
+    let long : length mine ≡ MULTICAST_TABLE = (all_have (IsTable MULTICAST_TABLE 65536) here.held.masks position mine switch.masks there).count in
     let has = has_it partition mine below long in
     let differs = block_differs 32 partition words mine (omega arith) is.count has in
     let next = with_block 32 partition words mine in
@@ -122,7 +123,7 @@ position_more partition (suc k) (one ∷ blocks) (words ∷ masks) block there =
     ap (λ (rest : List (List ℕ)). with_block 32 partition one words ∷ rest) (position_more partition k blocks masks block there)
 
 pub slice_more : (stood left : Option FabricState) (result : Result (Unit {0}) PushFault) (fabric : FabricState) (path : List ℕ) (guid position partition : ℕ)
-    (blocks : List (List ℕ)) (words bytes : List ℕ) → position < 3 → partition < 32 → slice_get blocks position ≡ Some words → IsTable 32 65536 words
+    (blocks : List (List ℕ)) (words bytes : List ℕ) → position < 3 → LiesInTable partition → slice_get blocks position ≡ Some words → IsTable 32 65536 words
     → bytes ≡ word_bytes words → LeadsToSwitch fabric path guid
     → Stands stood fabric (with_switches (on_switch guid (slice_to position partition blocks)) fabric)
     → SetsAt stood left result path MulticastForwardingTable (position * 268435456 + partition) bytes

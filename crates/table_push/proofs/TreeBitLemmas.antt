@@ -18,7 +18,7 @@ use Rattle.subnet_model.specs.declared.group_receiver.GroupReceiver.{GroupReceiv
 use Rattle.attr_tables.specs.Blocks.{block_of}
 use Rattle.table_push.proofs.MaskLemmas.{bit_where}
 use Rattle.table_push.proofs.MaskWordLemmas.{block_is}
-use Rattle.table_push.specs.Masks.{bits_where, child_towards, is_in_mask, mask_of_position, receives_of, tree_end, tree_hop, wanted_slice}
+use Rattle.table_push.specs.Masks.{LiesInTable, bits_where, child_towards, is_in_mask, mask_of_position, receives_of, tree_end, tree_hop, wanted_slice}
 use Rattle.table_push.specs.MaskSteps.{AreHanging, AreReceiversBits, AreSliceBits, hangs_at, hangs_on, is_that_port, leads_away, some_receives, words_at}
 use Rattle.table_push.specs.PlaceSteps.{IsUnturned}
 use Rattle.table_push.specs.TreeSteps.{AreSpread, IsTree, blocks_of, leads_down, leads_up, meets, some_lead_down}
@@ -342,7 +342,7 @@ spread_masks_are routes tree place partition receivers ports masks switches of a
     ∙ ap (λ (b : Bool). (b || leads_up tree marks place number) || some_lead_down tree 64 marks place number) (hanging.of_ports place low i number within below)
     ∙ mask_is routes tree place partition receivers (λ i. get_or switches i 0) of are low is_tree hanging.of_switches i number within below
 
-blocks_are : (routes : RoutesState) (place partition : ℕ) (receives : ℕ → ℕ → Bool) (bits : List ℕ) → partition < 32 → length bits ≡ 32
+blocks_are : (routes : RoutesState) (place partition : ℕ) (receives : ℕ → ℕ → Bool) (bits : List ℕ) → LiesInTable partition → length bits ≡ 32
     → AreSliceBits routes partition receives place bits
     → words_at 0 bits ∷ words_at 1 bits ∷ words_at 2 bits ∷ [] ≡ wanted_slice routes partition receives place
 blocks_are routes place partition receives bits below long right =
@@ -354,7 +354,7 @@ blocks_are routes place partition receives bits below long right =
     λ i. first i ∷ second i ∷ third i ∷ []
 
 pub wanted_is : (routes : RoutesState) (tree : Tree) (place partition : ℕ) (receivers : List GroupReceiver) (ports masks blocks : List (List ℕ)) (switches : List ℕ)
-    → partition < 32 → AreOfGraph routes → AreRoutes routes.between → place < 64 → IsTree routes tree 64 → AreHanging routes partition receivers ports switches
+    → LiesInTable partition → AreOfGraph routes → AreRoutes routes.between → place < 64 → IsTree routes tree 64 → AreHanging routes partition receivers ports switches
     → length masks ≡ 32 → AreSpread tree ports switches 32 masks → blocks ≡ blocks_of masks place → blocks ≡ wanted_slice routes partition (receives_of receivers) place
 wanted_is routes tree place partition receivers ports masks blocks switches below of are low is_tree hanging count spread is =
     is ∙ blocks_are routes place partition (receives_of receivers) (map (λ (row : List ℕ). get_or row place 0) masks) below
@@ -363,7 +363,7 @@ wanted_is routes tree place partition receivers ports masks blocks switches belo
 
 -- the blocks of one switch
 pub place_wanted : (routes : RoutesState) (tree : Tree) (place partition : ℕ) (receivers : List GroupReceiver) (ports bits switches : List ℕ)
-    → partition < 32 → AreOfGraph routes → AreRoutes routes.between → place < 64 → IsTree routes tree 64
+    → LiesInTable partition → AreOfGraph routes → AreRoutes routes.between → place < 64 → IsTree routes tree 64
     → AreReceiversBits 48 partition receivers (hangs_at routes.between.homes place) (λ i. get_or ports i 0)
     → AreReceiversBits 64 partition receivers (hangs_on routes.between.homes) (λ i. get_or switches i 0)
     → length bits ≡ 32
@@ -380,7 +380,7 @@ place_wanted routes tree place partition receivers ports bits switches below of 
 
 -- a switch whose masks are the same after as before
 pub wanted_stays : (routes : RoutesState) (tree : Tree) (place partition : ℕ) (before after : List GroupReceiver) (switches_before switches_after : List ℕ)
-    → partition < 32 → AreOfGraph routes → AreRoutes routes.between → place < 64 → IsTree routes tree 64
+    → LiesInTable partition → AreOfGraph routes → AreRoutes routes.between → place < 64 → IsTree routes tree 64
     → AreReceiversBits 64 partition before (hangs_on routes.between.homes) (λ i. get_or switches_before i 0)
     → AreReceiversBits 64 partition after (hangs_on routes.between.homes) (λ i. get_or switches_after i 0)
     → ((mlid number : ℕ) → some_receives before mlid (λ lid. hangs_at routes.between.homes place lid number)

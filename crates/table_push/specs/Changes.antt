@@ -1,10 +1,16 @@
 -- What a push of changed blocks is over, and how many blocks those are.
-use Rattle.std.specs.Prelude.{ℕ, ◌≡◌, Bool, not, nat_eq, List, [], filter, get_or, length}
+use Rattle.std.specs.Prelude.{ℕ, ◌≡◌, ◌<◌, ◌==◌, Bool, false, not, nat_eq, List, [], filter, get_or, length, Option, Result, IfOk}
 use Rattle.std.specs.Cmp.Lexicographic.{pointwise}
+use Rattle.std.specs.Int.{bit_at}
 use Rattle.std.specs.List.{range_with_len, sum_by}
+use Rattle.std.specs.Option.{ForSome}
 use Rattle.smp_wire.specs.FabricState.{FabricState}
+use Rattle.smp_wire.specs.Good.{IsGood}
+use Rattle.sweep.specs.OfFabric.{IsGraphOf}
 use Rattle.table_push.specs.Masks.{masks_pushed, set_slice, wanted_slice}
 use Rattle.table_push.specs.Nodes.{on_switch, with_switches}
+use Rattle.table_push.specs.Pushes.{Leaves}
+use Rattle.table_push.specs.declared.fault.PushFault.{PushFault}
 use Rattle.updn_routes.specs.Subnet.{RoutesState}
 
 -- the masks of the slice are those of this test already: to push them changes nothing
@@ -31,3 +37,21 @@ changed_at routes partition before after place =
 abbrev pub all_changed : RoutesState → (partition : ℕ) → (before after : ℕ → ℕ → Bool) → ℕ
 all_changed routes partition before after =
     sum_by (changed_at routes partition before after) (range_with_len 0 (length routes.graph.switches))
+
+-- ---- the push
+-- over a fabric of the routes' graph that has the slice of the test before, it leaves that of the test after, and all else
+abbrev pub ChangesSlice : RoutesState → (partition : ℕ) → (before after : ℕ → ℕ → Bool) → (stood left : Option FabricState)
+    → Result ℕ PushFault → Type 0
+ChangesSlice routes partition before after stood left result =
+    ForSome stood (λ fabric. IsGraphOf routes.graph fabric → IsGood fabric → HasSlice routes partition before fabric
+    → Leaves result left fabric (masks_pushed routes partition after fabric))
+
+-- and answers how many blocks are others after
+abbrev pub CountsChanged : RoutesState → (partition : ℕ) → (before after : ℕ → ℕ → Bool) → Result ℕ PushFault → Type 0
+CountsChanged routes partition before after result = IfOk result (λ count. count ≡ all_changed routes partition before after)
+
+-- the switches whose bit is not set have the same blocks after as before
+abbrev pub AllChangesMarked : RoutesState → (partition : ℕ) → (before after : ℕ → ℕ → Bool) → (places : ℕ) → Type 0
+AllChangesMarked routes partition before after places =
+    (place : ℕ) → place < 64 → (bit_at places place == 1) ≡ false
+    → wanted_slice routes partition before place ≡ wanted_slice routes partition after place

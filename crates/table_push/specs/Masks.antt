@@ -1,6 +1,6 @@
 -- What is pushed into multicast forwarding tables (IBA volume 1, chapter 14): for each multicast LID the ports by which a
 -- switch sends what is for it, which are those that lead, along the spanning tree, to the ports that are to receive it.
-use Rattle.std.specs.Prelude.{ℕ, zero, suc, ◌+◌, ◌-◌, ◌*◌, ◌==◌, ◌&&◌, not, nat_le, nat_lt, Bool, false, if◌then◌else◌}
+use Rattle.std.specs.Prelude.{ℕ, zero, suc, ◌≤◌, ◌+◌, ◌-◌, ◌*◌, ◌==◌, ◌&&◌, not, nat_le, nat_lt, Bool, false, if◌then◌else◌}
 use Rattle.std.specs.Prelude.{List, [], ◌∷◌, find, get_or, length, map, take, Option, Some, option_map}
 use Rattle.std.specs.List.{list_any, range_with_len}
 use Rattle.std.specs.Option.{option_and_then, option_map_or}
@@ -83,6 +83,10 @@ masks_of routes receives place = map (mask_of_position routes receives place) (r
 abbrev pub is_in_slice : (partition mlid : ℕ) → Bool
 is_in_slice partition mlid =
     nat_le (FIRST_MULTICAST_LID + 32 * partition) mlid && nat_lt mlid (FIRST_MULTICAST_LID + 32 * partition + 32)
+
+-- they lie in the table
+abbrev pub LiesInTable : (partition : ℕ) → Type 0
+LiesInTable partition = 32 * partition + 32 ≤ MULTICAST_TABLE
 
 abbrev pub slice_of : (partition : ℕ) → List (List ℕ) → List (List ℕ)
 slice_of partition masks = map (block_of 32 partition) masks

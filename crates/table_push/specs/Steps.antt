@@ -1,7 +1,8 @@
 -- What each step of a push comes to: the clauses of `src/ports.rt`, `keys.rt`, `multicast.rt` and `setting.rt`. A wire stood
 -- for a fabric before the step, and is left standing for one.
-use Rattle.std.specs.Prelude.{ℕ, ◌≡◌, ◌+◌, ◌*◌, ◌==◌, ◌&&◌, ◌||◌, Bool, List, length, slice_get, Option, Some, Result, Ok}
-use Rattle.attr_tables.specs.Blocks.{word_bytes}
+use Rattle.std.specs.Prelude.{ℕ, ◌≡◌, ◌+◌, ◌*◌, ◌==◌, ◌&&◌, ◌||◌, Bool, true, List, length, slice_get, Option, Some, Result, Ok, Err}
+use Rattle.std.specs.Option.{ForSome}
+use Rattle.attr_tables.specs.Blocks.{with_block, word_bytes}
 use Rattle.attr_tables.specs.declared.smp_attribute.SmpAttribute.{SmpAttribute}
 use Rattle.attr_tables.specs.declared.smp_attribute.SmpAttribute.TheVariants.{MulticastForwardingTable}
 use Rattle.smp_wire.specs.FabricState.{FabricState}
@@ -11,9 +12,9 @@ use Rattle.smp_wire.specs.Shape.{IsSameShape}
 use Rattle.sweep.specs.OfFabric.{IsGraphOf}
 use Rattle.sweep.specs.declared.graph.GraphPort.{GraphPort}
 use Rattle.table_push.specs.Keys.{at_cable, at_switches, guid_of, keys_pushed, keys_where}
-use Rattle.table_push.specs.Nodes.{with_infos, with_keys}
+use Rattle.table_push.specs.Nodes.{on_port, with_infos, with_keys}
 use Rattle.table_push.specs.Ports.{at_switches_before, change_wanted, changed, changed_where, has_link}
-use Rattle.table_push.specs.Pushes.{Gives, Leaves, Stands}
+use Rattle.table_push.specs.Pushes.{Gives, LeadsToPort, Leaves, Stands}
 use Rattle.table_push.specs.declared.fault.PushFault.{PushFault}
 use Rattle.updn_routes.specs.Subnet.{RoutesState}
 
@@ -57,6 +58,18 @@ SetsUpRest routes stood left result =
     → Leaves result left fabric (with_infos (λ guid number. changed (change_wanted routes guid number)) fabric)
 
 -- ---- key tables
+-- that block of the table of a port is one of these words, and all else is as it was
+abbrev pub PutsBlock : (stood left : Option FabricState) → (path : List ℕ) → (asked block : ℕ) → (words : List ℕ)
+    → Result (Unit {0}) PushFault → Type 0
+PutsBlock stood left path asked block words result =
+    ForSome stood (λ fabric. (guid number : ℕ) → IsGood fabric → LeadsToPort fabric path asked guid number
+    → Leaves result left fabric (with_keys (on_port guid number (with_block 32 block words)) fabric))
+
+-- where it is told that the bytes wanted are there, they are
+abbrev pub TellsWhetherThere : Result Bool PushFault → (given wanted : List ℕ) → Type 0
+TellsWhetherThere (Ok there) given wanted = there ≡ true → given ≡ wanted
+TellsWhetherThere (Err fault) given wanted = ⊥
+
 -- where the ports that pass a test have their tables, those at both ends of the cable of the port of a channel adapter at
 -- that place get theirs too
 abbrev pub PutsKeysAtCable : RoutesState → (keys : List (List ℕ)) → (stood left : Option FabricState) → (place : ℕ)

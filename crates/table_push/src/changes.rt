@@ -1,14 +1,11 @@
 //! What changes of multicast forwarding tables.
 
-ghost use Rattle.std.specs.Prelude.{ℕ, ◌≡◌, ◌≤◌, ◌<◌, ◌+◌, ◌*◌, ◌==◌, false, length, nat_eq, IfOk};
-ghost use Rattle.std.specs.Int.{bit_at};
+ghost use Rattle.std.specs.Prelude.{ℕ, ◌≡◌, ◌≤◌, length, nat_eq, IfOk};
 ghost use Rattle.std.specs.Cmp.Lexicographic.{pointwise};
 ghost use Rattle.std.specs.Option.{ForSome};
-ghost use Rattle.agent_rules.specs.declared.power_up.TheConstants.{MULTICAST_TABLE};
 ghost use Rattle.smp_wire.specs.Good.{IsGood};
-ghost use Rattle.sweep.specs.OfFabric.{IsGraphOf};
-ghost use Rattle.table_push.specs.Changes.{HasBlocks, HasSlice, all_changed, blocks_changed};
-ghost use Rattle.table_push.specs.Masks.{masks_pushed, receives_of, set_slice, wanted_slice};
+ghost use Rattle.table_push.specs.Changes.{AllChangesMarked, ChangesSlice, CountsChanged, HasBlocks, blocks_changed};
+ghost use Rattle.table_push.specs.Masks.{LiesInTable, receives_of, set_slice};
 ghost use Rattle.table_push.specs.Nodes.{on_switch, with_switches};
 ghost use Rattle.table_push.specs.Pushes.{LeadsToSwitch, Leaves};
 ghost use Rattle.table_push.specs.TreeSteps.{IsTree};
@@ -37,12 +34,10 @@ pub fn push_changed<W: SmpWire>(
     before: &[GroupReceiver],
     after: &[GroupReceiver],
 ) -> Result<u32, PushFault>
-    requires { 32 * partition + 32 ≤ MULTICAST_TABLE }
-    ensures pushed { ForSome (W.fabric wire.old) (λ fabric. IsGraphOf routes.now.graph fabric → IsGood fabric
-        → HasSlice routes.now partition (receives_of before.now) fabric
-        → Leaves result (W.fabric wire.new) fabric (masks_pushed routes.now partition (receives_of after.now) fabric)) }
-    ensures count { IfOk result (λ count. count
-        ≡ all_changed routes.now partition (receives_of before.now) (receives_of after.now)) }
+    requires { LiesInTable partition }
+    ensures pushed { ChangesSlice routes.now partition (receives_of before.now) (receives_of after.now)
+        (W.fabric wire.old) (W.fabric wire.new) result }
+    ensures count { CountsChanged routes.now partition (receives_of before.now) (receives_of after.now) result }
 {
     let tree = tree_of(routes);
     let places = places_that_change(routes, &tree, partition, before, after);
@@ -67,15 +62,12 @@ fn push_places<W: SmpWire>(
     tree: &Tree,
     places: u64,
 ) -> Result<u32, PushFault>
-    requires partition { 32 * partition + 32 ≤ MULTICAST_TABLE }
+    requires partition { LiesInTable partition }
     requires tree { IsTree routes.now tree.now 64 }
-    requires same { (place : ℕ) → place < 64 → (bit_at places place == 1) ≡ false
-        → wanted_slice routes.now partition (receives_of before.now) place ≡ wanted_slice routes.now partition (receives_of after.now) place }
-    ensures pushed { ForSome (W.fabric wire.old) (λ fabric. IsGraphOf routes.now.graph fabric → IsGood fabric
-        → HasSlice routes.now partition (receives_of before.now) fabric
-        → Leaves result (W.fabric wire.new) fabric (masks_pushed routes.now partition (receives_of after.now) fabric)) }
-    ensures count { IfOk result (λ count. count
-        ≡ all_changed routes.now partition (receives_of before.now) (receives_of after.now)) }
+    requires same { AllChangesMarked routes.now partition (receives_of before.now) (receives_of after.now) places }
+    ensures pushed { ChangesSlice routes.now partition (receives_of before.now) (receives_of after.now)
+        (W.fabric wire.old) (W.fabric wire.new) result }
+    ensures count { CountsChanged routes.now partition (receives_of before.now) (receives_of after.now) result }
 {
     let graph = routes.graph();
     graph.known_graph();
@@ -114,15 +106,12 @@ fn push_compared<W: SmpWire>(
     tree: &Tree,
     places: u64,
 ) -> Result<u32, PushFault>
-    requires partition { 32 * partition + 32 ≤ MULTICAST_TABLE }
+    requires partition { LiesInTable partition }
     requires tree { IsTree routes.now tree.now 64 }
-    requires same { (place : ℕ) → place < 64 → (bit_at places place == 1) ≡ false
-        → wanted_slice routes.now partition (receives_of before.now) place ≡ wanted_slice routes.now partition (receives_of after.now) place }
-    ensures pushed { ForSome (W.fabric wire.old) (λ fabric. IsGraphOf routes.now.graph fabric → IsGood fabric
-        → HasSlice routes.now partition (receives_of before.now) fabric
-        → Leaves result (W.fabric wire.new) fabric (masks_pushed routes.now partition (receives_of after.now) fabric)) }
-    ensures count { IfOk result (λ count. count
-        ≡ all_changed routes.now partition (receives_of before.now) (receives_of after.now)) }
+    requires same { AllChangesMarked routes.now partition (receives_of before.now) (receives_of after.now) places }
+    ensures pushed { ChangesSlice routes.now partition (receives_of before.now) (receives_of after.now)
+        (W.fabric wire.old) (W.fabric wire.new) result }
+    ensures count { CountsChanged routes.now partition (receives_of before.now) (receives_of after.now) result }
 {
     let graph = routes.graph();
     graph.known_graph();
@@ -163,7 +152,7 @@ fn set_changed<W: SmpWire>(
     after: &[[u16; WORDS_PER_BLOCK]; POSITIONS],
 ) -> Result<u32, PushFault>
     requires path { length path.now ≤ 63 }
-    requires partition { partition < 32 }
+    requires partition { LiesInTable partition }
     ensures pushed { ForSome (W.fabric wire.old) (λ fabric. (guid : ℕ) → IsGood fabric → LeadsToSwitch fabric path.now guid
         → HasBlocks guid partition before.now fabric
         → Leaves result (W.fabric wire.new) fabric (with_switches (on_switch guid (set_slice partition after.now)) fabric)) }

@@ -1,25 +1,28 @@
 //! Key tables.
 
-ghost use Rattle.std.specs.Prelude.{ℕ, ◌≡◌, ◌≤◌, ◌<◌, length, option_map, Some, true, unwrap_or};
+ghost use Rattle.std.specs.Prelude.{ℕ, ◌≡◌, ◌≤◌, ◌<◌, List, length, option_map, Some, Ok, true, unwrap_or};
 ghost use Rattle.std.specs.Option.{ForSome};
 ghost use Rattle.attr_tables.specs.Blocks.{block_of, has_block, word_bytes};
+ghost use Rattle.attr_tables.specs.declared.smp_attribute.SmpAttribute.TheVariants as attribute;
+ghost use Rattle.smp_wire.specs.Get.{gives_along};
 ghost use Rattle.smp_wire.specs.Good.{IsGood};
 ghost use Rattle.sweep.specs.OfFabric.{IsGraphOf};
 ghost use Rattle.table_push.specs.Keys.{at_switches, held_as, key_table, keys_of, keys_pushed, keys_where};
 ghost use Rattle.table_push.specs.Nodes.{on_port, with_keys};
 ghost use Rattle.table_push.specs.Pushes.{LeadsToPort, Leaves};
-ghost use Rattle.table_push.specs.Steps.{PutsKeysAtCable, PutsKeysAtCables};
+ghost use Rattle.table_push.specs.Steps.{PutsBlock, PutsKeysAtCable, PutsKeysAtCables, TellsWhetherThere};
 
-use crate::fault::PushFault;
+use crate::fault::{PushFault, fault_of};
 use crate::setting::set;
 use attr_tables::{SmpAttribute, WORDS_PER_BLOCK, WordBlock};
 use pkey_rules::{KeyTable, PARTITIONS, PKey, base_of, key_of};
-use smp_wire::SmpWire;
+use smp_wire::{SmpWire, get_attribute};
 use updn_routes::Routes;
 
 /// Writes the key tables: of each end port its own keys, which stand in `keys` in order of LID, and of each port of a
 /// switch that a port of a channel adapter hangs on the full form of each of that port's keys, so that the switch lets
-/// in and out what that port may send and take. Behind them the table is empty.
+/// in and out what that port may send and take. Behind them the table is empty; of the blocks that are to be empty only those
+/// are written that hold something.
 ///
 /// Over a wire that stands for the graph's fabric these tables stand there then, and all else is as it was.
 pub fn push_keys<W: SmpWire>(
@@ -164,21 +167,71 @@ fn set_table<W: SmpWire>(
         → Leaves result (W.fabric wire.new) fabric (with_keys (on_port guid number (λ held. table.now)) fabric)) }
 {
     for block in 0..PARTITIONS / WORDS_PER_BLOCK {
-        let bytes = block_at(table, block);
-        let modifier = asked as u32 * 65536 + block as u32;
-        match set(
-            wire,
-            transaction_id,
-            SmpAttribute::PKeyTable,
-            modifier,
-            path,
-            &bytes,
-        ) {
+        match put_block(wire, transaction_id, path, asked, block, table) {
             Ok(()) => {}
             Err(fault) => return Err(fault),
         }
     }
     Ok(())
+}
+
+/// Puts a block of a key table where it belongs. An empty block, of which most tables have some, is set only where the port
+/// holds something there.
+fn put_block<W: SmpWire>(
+    wire: &mut W,
+    transaction_id: &mut u64,
+    path: &[u8],
+    asked: u8,
+    block: usize,
+    table: &[u16; PARTITIONS],
+) -> Result<(), PushFault>
+    requires path { length path.now ≤ 63 }
+    requires block { has_block 32 block table.now ≡ true }
+    ensures { PutsBlock (W.fabric wire.old) (W.fabric wire.new) path.now asked block (block_of 32 block table.now) result }
+{
+    let wanted = block_at(table, block);
+    let modifier = asked as u32 * 65536 + block as u32;
+    match is_there(wire, transaction_id, modifier, path, &wanted) {
+        Ok(true) => Ok(()),
+        Ok(false) => set(
+            wire,
+            transaction_id,
+            SmpAttribute::PKeyTable,
+            modifier,
+            path,
+            &wanted,
+        ),
+        Err(fault) => Err(fault),
+    }
+}
+
+/// Whether a block of keys that is to be empty is so already. Other blocks aren't asked for: they are set in any case.
+fn is_there<W: SmpWire>(
+    wire: &mut W,
+    transaction_id: &mut u64,
+    modifier: u32,
+    path: &[u8],
+    wanted: &[u8; 64],
+) -> Result<bool, PushFault>
+    requires { length path.now ≤ 63 }
+    ensures told { ForSome (W.fabric wire.old) (λ fabric. (given : List ℕ) → IsGood fabric
+        → gives_along fabric path.now attribute.PKeyTable modifier ≡ Some (Ok given) → TellsWhetherThere result given wanted.now) }
+    ensures left { ForSome (W.fabric wire.old) (λ fabric. IsGood fabric → W.fabric wire.new ≡ Some fabric) }
+{
+    if *wanted != [0; 64] {
+        return Ok(false);
+    }
+    *transaction_id = transaction_id.wrapping_add(1);
+    match get_attribute(
+        wire,
+        *transaction_id,
+        SmpAttribute::PKeyTable,
+        modifier,
+        path,
+    ) {
+        Ok(given) => Ok(given == *wanted),
+        Err(fault) => Err(fault_of(fault)),
+    }
 }
 
 /// The keys of that block, as an attribute.

@@ -1,13 +1,12 @@
 //! Multicast forwarding tables.
 
-ghost use Rattle.std.specs.Prelude.{ℕ, ◌≡◌, ◌≤◌, ◌<◌, ◌+◌, ◌*◌, length};
+ghost use Rattle.std.specs.Prelude.{ℕ, ◌≡◌, ◌≤◌, ◌<◌, length};
 ghost use Rattle.std.specs.Option.{ForSome};
 ghost use Rattle.agent_rules.specs.Good.{IsTable};
-ghost use Rattle.agent_rules.specs.declared.power_up.TheConstants.{MULTICAST_TABLE};
 ghost use Rattle.attr_tables.specs.Blocks.{word_bytes};
 ghost use Rattle.smp_wire.specs.Good.{IsGood};
 ghost use Rattle.sweep.specs.OfFabric.{IsGraphOf};
-ghost use Rattle.table_push.specs.Masks.{masks_pushed, receives_of, set_slice};
+ghost use Rattle.table_push.specs.Masks.{LiesInTable, masks_pushed, receives_of, set_slice};
 ghost use Rattle.table_push.specs.Nodes.{on_switch, with_switches};
 ghost use Rattle.table_push.specs.Pushes.{LeadsToSwitch, Leaves};
 ghost use Rattle.table_push.specs.Steps.{SetsBlock};
@@ -34,7 +33,7 @@ pub fn push_multicast<W: SmpWire>(
     partition: u16,
     receivers: &[GroupReceiver],
 ) -> Result<(), PushFault>
-    requires { 32 * partition + 32 ≤ MULTICAST_TABLE }
+    requires { LiesInTable partition }
     ensures { ForSome (W.fabric wire.old) (λ fabric. IsGraphOf routes.now.graph fabric → IsGood fabric
         → Leaves result (W.fabric wire.new) fabric (masks_pushed routes.now partition (receives_of receivers.now) fabric)) }
 {
@@ -70,7 +69,7 @@ pub(crate) fn put_slice(
     masks: &mut [[u64; SWITCHES]; WORDS_PER_BLOCK],
 )
     requires tree { IsTree routes.now tree.now 64 }
-    requires partition { partition < 32 }
+    requires partition { LiesInTable partition }
     ensures { AreMasksOf routes.now partition (receives_of receivers.now) masks.new }
 {
     routes.graph().known_graph();
@@ -91,7 +90,7 @@ fn set_slice<W: SmpWire>(
     blocks: &[[u16; WORDS_PER_BLOCK]; POSITIONS],
 ) -> Result<(), PushFault>
     requires path { length path.now ≤ 63 }
-    requires partition { partition < 32 }
+    requires partition { LiesInTable partition }
     ensures { ForSome (W.fabric wire.old) (λ fabric. (guid : ℕ) → IsGood fabric → LeadsToSwitch fabric path.now guid
         → Leaves result (W.fabric wire.new) fabric (with_switches (on_switch guid (set_slice partition blocks.now)) fabric)) }
 {
@@ -121,7 +120,7 @@ pub(crate) fn set_block<W: SmpWire>(
     block: &[u16; WORDS_PER_BLOCK],
 ) -> Result<(), PushFault>
     requires path { length path.now ≤ 63 }
-    requires partition { partition < 32 }
+    requires partition { LiesInTable partition }
     requires position { position < 3 }
     ensures words { IsTable 32 65536 block.now }
     ensures set { ForSome (W.fabric wire.old) (λ fabric. SetsBlock fabric (W.fabric wire.new) path.now position partition block.now result) }

@@ -2,7 +2,8 @@
 
 ghost use Rattle.std.specs.Prelude.{ℕ, ◌≡◌, ◌<◌, ◌==◌, ◌||◌, true, false, bit_or, get_or, length, slice_get};
 ghost use Rattle.std.specs.Int.{bit_at};
-ghost use Rattle.table_push.specs.Masks.{receives_of, wanted_slice};
+ghost use Rattle.table_push.specs.Changes.{AllChangesMarked};
+ghost use Rattle.table_push.specs.Masks.{LiesInTable, receives_of, wanted_slice};
 ghost use Rattle.table_push.specs.MaskSteps.{AreReceiversBits, hangs_at, hangs_on, is_that_port, some_receives};
 ghost use Rattle.table_push.specs.PlaceSteps.{IsNext, IsUnturned};
 ghost use Rattle.table_push.specs.TreeSteps.{IsTree, leads_up, meets, some_lead_down, where_meets};
@@ -26,7 +27,7 @@ pub(crate) fn blocks_at(
     place: usize,
 ) -> [[u16; WORDS_PER_BLOCK]; POSITIONS]
     requires tree { IsTree routes.now tree.now 64 }
-    requires partition { partition < 32 }
+    requires partition { LiesInTable partition }
     requires switches { AreReceiversBits 64 partition receivers.now (hangs_on routes.now.between.homes) (λ i. get_or switches.now i 0) }
     requires place { place < 64 }
     ensures { result ≡ wanted_slice routes.now partition (receives_of receivers.now) place }
@@ -91,9 +92,8 @@ pub(crate) fn places_that_change(
     after: &[GroupReceiver],
 ) -> u64
     requires tree { IsTree routes.now tree.now 64 }
-    requires partition { partition < 32 }
-    ensures { (place : ℕ) → place < 64 → (bit_at result place == 1) ≡ false
-        → wanted_slice routes.now partition (receives_of before.now) place ≡ wanted_slice routes.now partition (receives_of after.now) place }
+    requires partition { LiesInTable partition }
+    ensures { AllChangesMarked routes.now partition (receives_of before.now) (receives_of after.now) result }
 {
     routes.known_of_graph();
     routes.between().known_routes();

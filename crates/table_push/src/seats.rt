@@ -2,6 +2,7 @@
 
 ghost use Rattle.std.specs.Prelude.{ℕ, ◌≡◌, ◌<◌, ◌==◌, if◌then◌else◌, IfSome, Some, None, get_or, length, replicate};
 ghost use Rattle.std.specs.Int.{bit_at};
+ghost use Rattle.table_push.specs.Masks.{LiesInTable};
 ghost use Rattle.table_push.specs.MaskSteps.{AreHanging, AreReceiversBits, adapter_home, hangs_at, hangs_on, is_that_port, seat_in, slot_in};
 
 use crate::masks::port_bit;
@@ -26,7 +27,7 @@ pub(crate) fn put_seats(
     ports: &mut [[u64; SWITCHES]; WORDS_PER_BLOCK],
     switches: &mut [u64; WORDS_PER_BLOCK],
 )
-    requires partition { partition < 32 }
+    requires partition { LiesInTable partition }
     requires ports { ports.old ≡ replicate 32 (replicate 64 0) }
     requires switches { switches.old ≡ replicate 32 0 }
     ensures { AreHanging routes.now partition receivers.now ports.new switches.new }
@@ -48,7 +49,7 @@ pub(crate) fn switches_of(
     partition: u16,
     receivers: &[GroupReceiver],
 ) -> [u64; WORDS_PER_BLOCK]
-    requires { partition < 32 }
+    requires { LiesInTable partition }
     ensures { AreReceiversBits 64 partition receivers.now (hangs_on routes.now.between.homes) (λ i. get_or result i 0) }
 {
     let mut switches = [0; WORDS_PER_BLOCK];
@@ -68,7 +69,7 @@ pub(crate) fn ports_at(
     receivers: &[GroupReceiver],
     place: usize,
 ) -> [u64; WORDS_PER_BLOCK]
-    requires { partition < 32 }
+    requires { LiesInTable partition }
     ensures long { length result ≡ 32 }
     ensures ports { AreReceiversBits 48 partition receivers.now (hangs_at routes.now.between.homes place) (λ i. get_or result i 0) }
 {
@@ -116,7 +117,7 @@ pub(crate) fn place_bit(place: Option<usize>) -> u64
 /// The seat of a receiver, if its multicast LID is of the slice and an adapter's port has its LID.
 #[tactic(auto, using(crate::proofs::SeatBitLemmas::seat_low))]
 fn seat_of(routes: &Routes, partition: u16, one: &GroupReceiver) -> Option<Seat>
-    requires { partition < 32 }
+    requires { LiesInTable partition }
     ensures seat { result ≡ seat_in routes.now partition one.now }
     ensures low { IfSome result (λ seat. (seat.slot < 32) × (seat.home.node < 64)) }
 {
@@ -128,7 +129,7 @@ fn seat_of(routes: &Routes, partition: u16, one: &GroupReceiver) -> Option<Seat>
 
 /// The place of a multicast LID in the slice of a partition.
 fn slot_of(partition: u16, mlid: u16) -> Option<usize>
-    requires { partition < 32 }
+    requires { LiesInTable partition }
     ensures { result ≡ slot_in partition mlid }
 {
     let first = FIRST_MULTICAST_LID + 32 * partition;

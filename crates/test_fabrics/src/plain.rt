@@ -3,7 +3,7 @@
 use agent_rules::{LINEAR_TABLE, MULTICAST_TABLE, PortLink};
 use example_texts::TWO_SWITCHES;
 use fabric_parts::{PortRef, SWITCH_PORTS};
-use fabric_wire::{AdapterPorts, Node, PlainWire};
+use fabric_wire::{AdapterPorts, BoxedSwitch, Node, PlainWire};
 use port_model::AdapterPort;
 use std::alloc::Global;
 use std::test::Fail;
@@ -24,7 +24,12 @@ fn link_of(topology: &Topology, node: usize, port: u8) -> PortLink {
     }
 }
 
-fn switch_of(topology: &Topology, place: usize, node: &PlannedNode) -> Node {
+fn switch_of(
+    alloc: Global,
+    topology: &Topology,
+    place: usize,
+    node: &PlannedNode,
+) -> Result<Node, Fail> {
     let mut links = [PortLink::Uncabled; SWITCH_PORTS];
     for port in 1..SWITCH_PORTS as u8 + 1 {
         links[port as usize - 1] = link_of(topology, place, port);
@@ -35,7 +40,8 @@ fn switch_of(topology: &Topology, place: usize, node: &PlannedNode) -> Node {
         node.name.as_bytes(),
         &links[..count],
     );
-    Node::Switch(switch)
+    let boxed = BoxedSwitch::new(alloc, switch).ok().ok_or("memory")?;
+    Ok(Node::Switch(boxed))
 }
 
 fn adapter_of(
@@ -60,7 +66,7 @@ pub fn plain_wire_of(alloc: Global, topology: &Topology) -> Result<PlainWire, Fa
     let mut nodes = Vec::new(alloc);
     for (place, node) in topology.nodes().iter().enumerate() {
         let made = if node.is_switch() {
-            switch_of(topology, place, node)
+            switch_of(alloc, topology, place, node)?
         } else {
             adapter_of(alloc, topology, place, node)?
         };

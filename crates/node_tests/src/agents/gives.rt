@@ -13,7 +13,7 @@ use std::test::Fail;
 /// An attribute, by the modifier, and its bytes.
 type Row = (SmpAttribute, u32, [u8; 64]);
 
-fn rows_of_an_adapter_port() -> [Row; 5] {
+fn rows_of_an_adapter_port() -> [Row; 6] {
     let node_info = node_info_of(NodeType::ChannelAdapter, 1, 0x100, 0x101, 1);
     [
         (SmpAttribute::NodeDescription, 0, attribute_with(0, b"h0")),
@@ -21,6 +21,7 @@ fn rows_of_an_adapter_port() -> [Row; 5] {
         (SmpAttribute::PortInfo, 0, adapter_port_info(2)),
         (SmpAttribute::PortInfo, 1, adapter_port_info(2)),
         (SmpAttribute::PKeyTable, 0, attribute_with(0, &[0xff, 0xff])),
+        (SmpAttribute::PKeyTable, 3, [0; 64]),
     ]
 }
 
@@ -52,7 +53,7 @@ fn the_second_port_of_two_gives_its_own_port_info(rt: HostRuntime) {
 }
 
 /// Asked at port 3.
-fn rows_of_a_switch() -> [Row; 6] {
+fn rows_of_a_switch() -> [Row; 7] {
     let node_info = node_info_of(NodeType::Switch, 4, 0x10, 0x10, 3);
     let switch_info = switch_info_at_power_up();
     let first_key = attribute_with(0, &[0xff, 0xff]);
@@ -61,8 +62,9 @@ fn rows_of_a_switch() -> [Row; 6] {
         (SmpAttribute::NodeInfo, 0, node_info.to_bytes()),
         (SmpAttribute::SwitchInfo, 0, switch_info.to_bytes()),
         (SmpAttribute::PKeyTable, 0x0004_0000, first_key),
+        (SmpAttribute::PKeyTable, 0x0004_0003, [0; 64]),
         (SmpAttribute::LinearForwardingTable, 7, [0xff; 64]),
-        (SmpAttribute::MulticastForwardingTable, 0x2000_001f, [0; 64]),
+        (SmpAttribute::MulticastForwardingTable, 0x2000_007f, [0; 64]),
     ]
 }
 

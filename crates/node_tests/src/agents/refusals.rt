@@ -28,7 +28,7 @@ fn refused_by_an_adapter_port() -> [(Mad, u8, u8); 16] {
         (set(SmpAttribute::NodeDescription, 0, [0; 64]), 0x81, 0x0c),
         (get(SmpAttribute::NodeInfo, 1), 0x81, 0x1c),
         (get(SmpAttribute::PortInfo, 2), 0x81, 0x1c),
-        (get(SmpAttribute::PKeyTable, 1), 0x81, 0x1c),
+        (get(SmpAttribute::PKeyTable, 4), 0x81, 0x1c),
         (get(SmpAttribute::PKeyTable, 0x0001_0000), 0x81, 0x1c),
         (set(SmpAttribute::PortInfo, 0, lmc_1), 0x81, 0x1c),
     ]
@@ -46,9 +46,9 @@ fn an_adapter_port_refuses_in_order(rt: HostRuntime) {
 const REFUSED_GETS: [(SmpAttribute, u32); 8] = [
     (SmpAttribute::PortInfo, 5),
     (SmpAttribute::PKeyTable, 0x0005_0000),
-    (SmpAttribute::PKeyTable, 0x0004_0001),
+    (SmpAttribute::PKeyTable, 0x0004_0004),
     (SmpAttribute::LinearForwardingTable, 8),
-    (SmpAttribute::MulticastForwardingTable, 32),
+    (SmpAttribute::MulticastForwardingTable, 128),
     (SmpAttribute::MulticastForwardingTable, 0x3000_0000),
     (SmpAttribute::MulticastForwardingTable, 0x0000_0200),
     (SmpAttribute::MulticastForwardingTable, 0x0800_0000),

@@ -104,10 +104,12 @@ fn a_port_takes_no_lid_from_0xc000_on(rt: HostRuntime) {
 }
 
 /// A table, the block of it that is set, another, and what that holds.
-fn blocks() -> [(SmpAttribute, u32, u32, [u8; 64]); 3] {
+fn blocks() -> [(SmpAttribute, u32, u32, [u8; 64]); 5] {
     let keys = attribute_with(0, &[0xff, 0xff]);
     [
+        (SmpAttribute::PKeyTable, 0x0003_0003, 0x0003_0000, keys),
         (SmpAttribute::PKeyTable, 0x0002_0000, 0x0001_0000, keys),
+        (SmpAttribute::PKeyTable, 0x0002_0003, 0x0002_0002, [0; 64]),
         (SmpAttribute::LinearForwardingTable, 1, 0, [0xff; 64]),
         (
             SmpAttribute::MulticastForwardingTable,

@@ -91,8 +91,8 @@ const SENDS: [(u64, u16, &[u64]); 9] = [
     (H3, 0xc020, &[H1, H2]),
     (H1, 0xc021, &[]),
     (H1, 0xc000, &[]),
-    (H1, 0xc3ff, &[]),
-    (H1, 0xc400, &[]),
+    (H1, 0xcfff, &[]),
+    (H1, 0xd000, &[]),
     (H1, 0xfffe, &[]),
 ];
 
@@ -106,9 +106,9 @@ fn a_packet_to_a_group_goes_by_the_masks(rt: HostRuntime) -> Result<(), Fail> {
 #[test]
 fn deliveries_are_in_the_order_of_lids(rt: HostRuntime) -> Result<(), Fail> {
     let mut fabric = brought_up(rt.alloc())?;
-    put_mask(&mut fabric, &TO_A, 0x3ff, 0, 0x000e)?;
-    put_mask(&mut fabric, &TO_B, 0x3ff, 0, 0x000e)?;
-    let sends: [(u64, u16, &[u64]); 2] = [(H3, 0xc3ff, &[H0, H1, H2]), (H0, 0xc3ff, &[H1, H2, H3])];
+    put_mask(&mut fabric, &TO_A, 0xfff, 0, 0x000e)?;
+    put_mask(&mut fabric, &TO_B, 0xfff, 0, 0x000e)?;
+    let sends: [(u64, u16, &[u64]); 2] = [(H3, 0xcfff, &[H0, H1, H2]), (H0, 0xcfff, &[H1, H2, H3])];
     reach(&rt, rt.alloc(), &fabric, 0xffff, &sends)
 }
 

@@ -7,4 +7,4 @@ pub returns : goal.returns
 returns c =
     let made = c.new-switch.ensures in
     let links = c.deref.ensures.value ∙ c.in_ok-links.ensures in
-    ap (λ (held : SwitchState). Switch held) (rw (c.as_bytes.ensures.value, links) at made)
+    ap (λ (held : SwitchState). Switch held) (c.in_ok-new.ensures ∙ rw (c.as_bytes.ensures.value, links) at made)

@@ -1,6 +1,6 @@
 use Rattle.std.proofs.Common.{arith, ◌*◌}
 use Rattle.table_push.proofs.LeadLemmas.{no_fault}
-use Rattle.table_push.proofs.KeyLemmas.{table_begins, table_ends, table_more, table_of}
+use Rattle.table_push.proofs.KeyLemmas.{table_begins, table_ends, table_more}
 use Rattle.table_push.proofs.keys.set_table.Goals as goal
 
 pub loop-block-init : goal.loop-block-init
@@ -8,15 +8,13 @@ loop-block-init g c fabric guid number stands good leads = table_begins _ fabric
 
 pub returns-in-Err : goal.returns-in-Err
 returns-in-Err g c x stands guid number good leads =
-    absurd (no_fault c.in-Err.fault _ _ _ (table_more _ _ _ x c.args.path.now c.args.asked guid number c.loop-block.block c.args.table.now _
-    c.loop-block-test.true (table_of c.args.table.now c.told-table c.fits-table) c.block_at-bytes.ensures leads
-    (c.loop-block.invariant x guid number stands good leads) c.in-Err.ensures.left))
+    absurd (no_fault c.in-Err.fault _ _ _ (table_more _ _ _ x c.args.path.now c.args.asked guid number c.loop-block.block c.args.table.now
+    c.loop-block-test.true c.told-table leads (c.loop-block.invariant x guid number stands good leads) c.in-Err.ensures))
 
 pub loop-block-preserved : goal.loop-block-preserved
 loop-block-preserved g c fabric guid number stands good leads =
-    (table_more _ _ _ fabric c.args.path.now c.args.asked guid number c.loop-block.block c.args.table.now _
-    c.loop-block-test.true (table_of c.args.table.now c.told-table c.fits-table) c.block_at-bytes.ensures leads
-    (c.loop-block.invariant fabric guid number stands good leads) c.set.ensures.left).stands
+    (table_more _ _ _ fabric c.args.path.now c.args.asked guid number c.loop-block.block c.args.table.now
+    c.loop-block-test.true c.told-table leads (c.loop-block.invariant fabric guid number stands good leads) c.put_block.ensures).stands
 
 pub returns : goal.returns
 returns g c x stands guid number good leads =
