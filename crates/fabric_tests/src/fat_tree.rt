@@ -5,8 +5,10 @@ ghost use Rattle.std.specs.Prelude.{◌≤◌, ◌<◌, length};
 ghost use Rattle.sweep.specs.Joined.{AllJoined};
 
 use crate::fixtures::graph_of;
+use crate::sweeps::recabled::{planned, whole};
 use crate::up_down::routes_of;
 use attr_tables::SmpAttribute;
+use fabric_parts::PortRef;
 use fabric_wire::{CountingWire, Fabric, get_attribute};
 use lid_assign::assign;
 use std::alloc::Global;
@@ -136,18 +138,58 @@ fn leaves_know_the_way(rt: &impl Abort, routes: &Routes) {
     }
 }
 
-fn is_swept_and_routed(rt: &impl Abort, alloc: Global, leaves: u16) -> Result<(), Fail>
-    requires some { 0 < leaves }
-    requires few { leaves ≤ 32 }
-{
-    is_made(alloc, leaves)?;
-    is_swept(rt, alloc, leaves)?;
-    is_routed(rt, alloc, leaves)
+/// The sizes of one function stand together: `bench/measure` counts from the end of one call to that of the next.
+#[test]
+fn fat_trees_of_8_16_and_64_switches_are_swept_and_routed(rt: HostRuntime) -> Result<(), Fail> {
+    is_made(rt.alloc(), 4)?;
+    is_made(rt.alloc(), 8)?;
+    is_made(rt.alloc(), 32)?;
+    is_swept(&rt, rt.alloc(), 4)?;
+    is_swept(&rt, rt.alloc(), 8)?;
+    is_swept(&rt, rt.alloc(), 32)?;
+    is_routed(&rt, rt.alloc(), 4)?;
+    is_routed(&rt, rt.alloc(), 8)?;
+    is_routed(&rt, rt.alloc(), 32)
+}
+
+/// The ends of the cable between leaf 0 and spine 0, as the fabric's nodes stand, and the spine's GUID.
+const ON_LEAF: PortRef = PortRef { node: 0, port: 9 };
+
+const ON_SPINE: PortRef = PortRef { node: 1, port: 1 };
+
+const SPINE: u64 = 2000;
+
+/// Routes without that cable, planned: the graph without it, whether that is whole, and its routes.
+#[inline(never)]
+fn is_planned(alloc: Global, graph: &Graph) -> Result<Routes, Fail> {
+    let there = PortRef {
+        node: graph.place_of(SPINE).ok_or("a spine")?,
+        port: ON_SPINE.port,
+    };
+    let plan = planned(alloc, graph, ON_LEAF, there)?;
+    match whole(alloc, plan)? {
+        Some(plan) => routes_below_spines(alloc, plan),
+        None => Err("a whole graph")?,
+    }
+}
+
+/// All switches send what is for each end port by the same port.
+fn send_alike(rt: &impl Abort, planned: &Routes, found: &Routes) -> Result<(), Fail> {
+    for (place, switch) in planned.graph().switches().iter().enumerate() {
+        let there = found.graph().place_of(switch.guid).ok_or("a switch")?;
+        for lid in 1..321u16 {
+            assert_eq!(rt; planned.next_hop(place, lid), found.next_hop(there, lid));
+        }
+    }
+    Ok(())
 }
 
 #[test]
-fn fat_trees_of_8_16_and_64_switches_are_swept_and_routed(rt: HostRuntime) -> Result<(), Fail> {
-    is_swept_and_routed(&rt, rt.alloc(), 4)?;
-    is_swept_and_routed(&rt, rt.alloc(), 8)?;
-    is_swept_and_routed(&rt, rt.alloc(), 32)
+fn what_is_planned_for_a_cable_less_is_found_without_it(rt: HostRuntime) -> Result<(), Fail> {
+    let mut fabric = fat_tree_of(rt.alloc(), 32)?;
+    let graph = graph_of(rt.alloc(), &mut fabric)?;
+    let planned = is_planned(rt.alloc(), &graph)?;
+    fabric.set_cable(ON_LEAF, ON_SPINE, false);
+    let found = routes_below_spines(rt.alloc(), graph_of(rt.alloc(), &mut fabric)?)?;
+    send_alike(&rt, &planned, &found)
 }

@@ -3,6 +3,7 @@
 mod contradictions;
 mod fault_texts;
 pub mod graphs;
+pub mod recabled;
 
 use crate::fixtures::{graph_of_text, two_switch_graph};
 use example_texts::TWO_SWITCHES;

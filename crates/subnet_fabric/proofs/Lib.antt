@@ -7,3 +7,15 @@ pub mod GroupLemmas
 pub mod FoundLemmas
 pub mod OneFateLemmas
 pub mod OneTableLemmas
+pub mod RecabledCableLemmas
+pub mod RecabledNodeLemmas
+pub mod RecabledLidLemmas
+pub mod RecabledSightLemmas
+pub mod RecabledWantedLemmas
+pub mod RecabledPortLemmas
+pub mod RecabledLookLemmas
+pub mod RecabledPowerUpLemmas
+pub mod RecabledMaskLemmas
+pub mod RecabledLemmas
+pub mod RecabledGroupLemmas
+pub mod RecabledSoundLemmas

@@ -2,3 +2,4 @@ pub mod Fault
 pub mod SetUp
 pub mod BringUp
 pub mod Laws
+pub mod Recabled

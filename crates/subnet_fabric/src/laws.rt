@@ -2,6 +2,7 @@
 //! does nothing.
 
 ghost use Rattle.subnet_fabric.specs.Laws.{AFabricIsBroughtUpAsListed, AFabricWithGroupsIsAsListed, NoPathExcludesComingUp, OnePairHasNoPath, OneTableIsLeft, TooFarExcludesTheRest};
+ghost use Rattle.subnet_fabric.specs.Recabled.{BroughtUpIsUpWithAll, MasksKeepItUp, RecabledIsAsBroughtUp, WhatIsUpIsSound};
 
 /// The fabric of a topology, brought up with the keys of its end ports, is the fabric of their list: each listed port of a
 /// channel adapter is there, set up as listed, and no other; and packets go by their LIDs. So what its ports stamp and
@@ -37,4 +38,28 @@ pub fn one_pair_has_no_path()
 /// whatever keys are given.
 pub fn one_table_is_left()
     ensures { OneTableIsLeft }
+{}
+
+/// A sound topology is sound with the cables with which its fabric is up. So the laws of sound topologies apply to it, while
+/// others of its cables are cut.
+pub fn what_is_up_is_sound()
+    ensures { WhatIsUpIsSound }
+{}
+
+/// A topology's fabric that is brought up is up with all its cables, of which none is cut.
+pub fn brought_up_is_up_with_all()
+    ensures { BroughtUpIsUpWithAll }
+{}
+
+/// A fabric that is up with some of its cables stays so when the masks of groups are pushed into all its switches, and then
+/// nothing is left of the masks before.
+pub fn masks_keep_it_up()
+    ensures { MasksKeepItUp }
+{}
+
+/// After a cable between two switches is cut or mended, and the fabric is set up again, it is up with the cables that are in
+/// place then: it is the fabric of the topology with these alone, set up from power-up by the same routes with the same
+/// keys. So nothing of the time before is left but the masks, which stay.
+pub fn recabled_is_as_brought_up()
+    ensures { RecabledIsAsBroughtUp }
 {}

@@ -5,7 +5,9 @@
 //! up. [`bring_up_fabric`] powers the fabric of a topology up and sets it up (`specs/BringUp.antt`). That it is
 //! the fabric of the list of end ports, so that packets go as the list tells, is the law
 //! [`a_fabric_is_brought_up_as_listed`]; that one thing becomes of a topology's fabric say
-//! [`too_far_excludes_the_rest`], [`no_path_excludes_coming_up`], [`one_pair_has_no_path`] and [`one_table_is_left`].
+//! [`too_far_excludes_the_rest`], [`no_path_excludes_coming_up`], [`one_pair_has_no_path`] and [`one_table_is_left`]. While
+//! cables are cut and mended, a fabric that is set up again is that of the topology with the cables that are in place:
+//! [`recabled_is_as_brought_up`] (`specs/Recabled.antt`).
 #![tactic(auto)]
 
 mod bring_up;
@@ -16,7 +18,8 @@ mod setting_up;
 pub use crate::bring_up::{BroughtUp, bring_up_fabric};
 pub use crate::fault::FabricFault;
 pub use crate::laws::{
-    a_fabric_is_brought_up_as_listed, a_fabric_with_groups_is_as_listed,
-    no_path_excludes_coming_up, one_pair_has_no_path, one_table_is_left, too_far_excludes_the_rest,
+    a_fabric_is_brought_up_as_listed, a_fabric_with_groups_is_as_listed, brought_up_is_up_with_all,
+    masks_keep_it_up, no_path_excludes_coming_up, one_pair_has_no_path, one_table_is_left,
+    recabled_is_as_brought_up, too_far_excludes_the_rest, what_is_up_is_sound,
 };
 pub use crate::setting_up::set_up;

@@ -48,7 +48,7 @@ cabled_of cables at there far = by (is_cabled cables at) refl
     by false is = absurd (none_some (far_end cables at) there (far_none cables at is) far)
 
 -- ---- a path goes on over the cable of a switch's port
-hops_over : (fabric : FabricState) (at there : PortRef) (number : ℕ) (b : Bool) → is_switch_at fabric.nodes at.node ≡ true
+pub hops_over : (fabric : FabricState) (at there : PortRef) (number : ℕ) (b : Bool) → is_switch_at fabric.nodes at.node ≡ true
     → is_port fabric.nodes (port at.node number) ≡ true → far_end fabric.cables (port at.node number) ≡ Some there
     → hop fabric.nodes fabric.cables b at number ≡ Some there
 unfolding hop

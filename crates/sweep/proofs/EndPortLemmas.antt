@@ -115,7 +115,7 @@ pub record AdapterAt (fabric : FabricState) (there : PortRef) : Type 0 where
   pub node : slice_get fabric.nodes there.node ≡ Some (Adapter ports)
   pub held : adapter_port ports there.port ≡ Some one
 
-seen_is : (fabric : FabricState) (there : PortRef) (is : AdapterAt fabric there) → seen_at fabric there ≡ Some (seen_of is.ports there.port is.one)
+pub seen_is : (fabric : FabricState) (there : PortRef) (is : AdapterAt fabric there) → seen_at fabric there ≡ Some (seen_of is.ports there.port is.one)
 seen_is fabric there is = rw (is.node, is.held) refl
 
 -- it is of its node, and tells how many ports that has

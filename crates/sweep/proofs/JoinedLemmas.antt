@@ -24,7 +24,7 @@ at_each p first (suc count) s all low high =
     by false e later = let other = eqb-false first s e in later (omega (arith, low, other))
 
 -- an element that passes a test, and is one of them
-some_in : {X : Type 0} (f : X → ℕ) (p q : X → Bool) (xs : List X) → list_all q xs ≡ true → list_any p xs ≡ true
+pub some_in : {X : Type 0} (f : X → ℕ) (p q : X → Bool) (xs : List X) → list_all q xs ≡ true → list_any p xs ≡ true
     → (x : X) × (p x ≡ true) × (q x ≡ true) × (list_any (λ y. f y == f x) xs ≡ true)
 some_in f p q [] all h = absurd (false≢true h)
 some_in f p q (x ∷ xs) all h =
@@ -36,7 +36,7 @@ some_in f p q (x ∷ xs) all h =
 
 -- ---- walks
 -- one walk after another
-walk_on : (next : ℕ → ℕ → Bool) (s m d : ℕ) (steps more : List ℕ) → is_walk_by next s steps m ≡ true
+pub walk_on : (next : ℕ → ℕ → Bool) (s m d : ℕ) (steps more : List ℕ) → is_walk_by next s steps m ≡ true
     → is_walk_by next m more d ≡ true → is_walk_by next s (steps ++ more) d ≡ true
 walk_on next s m d [] more walk on = subst (λ (k : ℕ). is_walk_by next k more d ≡ true) (sym (eqb-true s m walk)) on
 walk_on next s m d (t ∷ steps) more walk on =

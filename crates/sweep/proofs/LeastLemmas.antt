@@ -22,7 +22,7 @@ pub record Hops (fabric : FabricState) (here : PortRef) (number : ℕ) (there : 
   pub is_there : is_port fabric.nodes (port here.node number) ≡ true
   pub cable : far_end fabric.cables (port here.node number) ≡ Some there
 
-hops : (fabric : FabricState) (here there : PortRef) (number : ℕ) → hop fabric.nodes fabric.cables false here number ≡ Some there → Hops fabric here number there
+pub hops : (fabric : FabricState) (here there : PortRef) (number : ℕ) → hop fabric.nodes fabric.cables false here number ≡ Some there → Hops fabric here number there
 unfolding hop
 hops fabric here there number is = by (hands_on fabric.nodes false here && is_port fabric.nodes (port here.node number)) refl is
   where
@@ -68,7 +68,7 @@ goes_by fabric there number numbers some None hopped walked = absurd cc
 goes_by fabric there number numbers some (Some far) hopped walked = (hops fabric there far number hopped).switch
 
 -- a walk that ends at a switch goes on from one
-goes : (fabric : FabricState) (there : PortRef) (numbers : List ℕ) (some : List PortRef) → walk fabric.nodes fabric.cables false there numbers ≡ Some some
+pub goes : (fabric : FabricState) (there : PortRef) (numbers : List ℕ) (some : List PortRef) → walk fabric.nodes fabric.cables false there numbers ≡ Some some
     → is_switch_at fabric.nodes (last_of there some).node ≡ true → is_switch_at fabric.nodes there.node ≡ true
 goes fabric there [] some walked switch = subst (λ (ends : List PortRef). is_switch_at fabric.nodes (last_of there ends).node ≡ true) (sym (same_Some [] some walked)) switch
 goes fabric there (number ∷ numbers) some walked switch = goes_by fabric there number numbers some (hop fabric.nodes fabric.cables false there number) refl walked
@@ -117,7 +117,7 @@ asked_to fabric found i count one so_far asked here k some there near = by (nat_
     by false before = asked.before k some (grind (arith, nat_tests, before)) there
     by true after = absurd (omega (arith, near, so_far.sorted i k one some (grind (arith, nat_tests, after)) here there))
 
-begins : (fabric : FabricState) (rest : List ℕ) (at : PortRef) (first : PortRef) (far : Option PortRef) → far ≡ Some first
+pub begins : (fabric : FabricState) (rest : List ℕ) (at : PortRef) (first : PortRef) (far : Option PortRef) → far ≡ Some first
     → option_map (last_of fabric.manager) (option_and_then (λ there. option_map (λ ends. there ∷ ends) (walk fabric.nodes fabric.cables false there rest)) far) ≡ Some at
     → (ends : List PortRef) × (walk fabric.nodes fabric.cables false first rest ≡ Some ends) × (last_of first ends ≡ at)
 begins fabric rest at first None is ends = absurd cc

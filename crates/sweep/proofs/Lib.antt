@@ -23,3 +23,11 @@ pub mod AdapterLemmas
 pub mod EndPortLemmas
 pub mod SmallLemmas
 pub mod JoinedLemmas
+pub mod RoundLemmas
+pub mod RowLemmas
+pub mod RecabledLemmas
+pub mod ServedLemmas
+pub mod LayoutLemmas
+pub mod SweptLemmas
+pub mod UndoneLemmas
+pub mod CutLemmas

@@ -43,7 +43,7 @@ few_switches fabric found some all once are =
 
 -- ---- ports of adapters
 -- a port of an adapter is held there
-held_at : (fabric : FabricState) (at : PortRef) → is_switch_at fabric.nodes at.node ≡ false → is_port fabric.nodes at ≡ true → AdapterAt fabric at
+pub held_at : (fabric : FabricState) (at : PortRef) → is_switch_at fabric.nodes at.node ≡ false → is_port fabric.nodes at ≡ true → AdapterAt fabric at
 held_at fabric at adapter is = by (slice_get fabric.nodes at.node) refl adapter is
   where
     by_number : (ports : List AdapterState) (zero_port : Bool) → slice_get fabric.nodes at.node ≡ Some (Adapter ports) → (at.port == 0) ≡ zero_port

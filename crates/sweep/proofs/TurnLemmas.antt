@@ -68,7 +68,7 @@ pub record AnyAt {X : Type 0} (p : X → Bool) (f : ℕ → List X) (a n : ℕ) 
   pub to : number < a + n
   pub passes : list_any p (f number) ≡ true
 
-any_of : {X : Type 0} (p : X → Bool) (f : ℕ → List X) (a n : ℕ) → list_any p (flat_map f (range_with_len a n)) ≡ true → AnyAt p f a n
+pub any_of : {X : Type 0} (p : X → Bool) (f : ℕ → List X) (a n : ℕ) → list_any p (flat_map f (range_with_len a n)) ≡ true → AnyAt p f a n
 any_of p f a zero any = absurd (false≢true any)
 any_of p f a (suc n) any = by (list_any p (f a)) refl (λ later. any_of p f (a + 1) n later)
   where
@@ -266,7 +266,7 @@ found_cable {X = X} p xs x is = let at = place p xs x is in ((at.0, slice_get_wi
         by false passes is later = let rest = later is in (suc rest.0, rest.1, rest.2)
 
 -- the ends of the cable at a port
-cable_ends : (fabric : FabricState) (here there : PortRef) (hops : ℕ) → far_end fabric.cables here ≡ Some there
+pub cable_ends : (fabric : FabricState) (here there : PortRef) (hops : ℕ) → far_end fabric.cables here ≡ Some there
     → (IsWithin fabric hops here.node → ⊥) → (IsWithin fabric hops there.node → ⊥)
     → (cable : Cable) × Contains fabric.cables cable × (IsWithin fabric hops cable.first.node → ⊥) × (IsWithin fabric hops cable.second.node → ⊥)
 cable_ends fabric here there hops far near_here near_there = by (find (λ cable. ends_at here cable) fabric.cables) refl far

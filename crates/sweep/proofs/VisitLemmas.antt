@@ -281,7 +281,7 @@ pub port_is : (fabric : FabricState) (at there : PortRef) (seen : Seen) → is_s
     → port_to fabric at there ≡ port_seen at (unwrap_or (name_at fabric there) []) seen ∷ []
 port_is fabric at there seen adapter is = rw (adapter, is) refl
 
-no_link : (fabric : FabricState) (nodes : List ℕ) (number : ℕ) (there : PortRef) → is_switch_at fabric.nodes there.node ≡ false
+pub no_link : (fabric : FabricState) (nodes : List ℕ) (number : ℕ) (there : PortRef) → is_switch_at fabric.nodes there.node ≡ false
     → link_to fabric nodes number there ≡ []
 no_link fabric nodes number there adapter = rw adapter refl
 

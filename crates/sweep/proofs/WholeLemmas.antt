@@ -92,7 +92,7 @@ one_link fabric nodes number (Some there) = by (is_switch_at fabric.nodes there.
     by true switch = inr (placed nodes there, rw switch refl)
     by false adapter = inl (rw adapter refl)
 
-row_rises : (fabric : FabricState) (nodes : List ℕ) (node : ℕ) → rise_above 0 (row_of fabric nodes node) ≡ true
+pub row_rises : (fabric : FabricState) (nodes : List ℕ) (node : ℕ) → rise_above 0 (row_of fabric nodes node) ≡ true
 row_rises fabric nodes node =
     rises (λ number. option_map_or (link_to fabric nodes number) (far_end fabric.cables (port node number)) []) 1 (ports_at fabric node) 0 (omega arith)
     (λ number. one_link fabric nodes number (far_end fabric.cables (port node number)))
@@ -106,7 +106,7 @@ all_made p f a (suc n) each =
     list_all-append p (f a) (flat_map f (range_with_len (a + 1) n))
     ∙ and_from (list_all p (f a)) _ (each a (omega arith) (omega arith)) (all_made p f (a + 1) n (λ k from to. each k (omega (arith, from)) (omega (arith, to))))
 
-other_node : (fabric : FabricState) (a b : PortRef) → IsGood fabric → far_end fabric.cables a ≡ Some b → (b.node == a.node) ≡ false
+pub other_node : (fabric : FabricState) (a b : PortRef) → IsGood fabric → far_end fabric.cables a ≡ Some b → (b.node == a.node) ≡ false
 other_node fabric a b good is =
     far_ends_meet (λ one other. (other.node == one.node) ≡ false) (is_right fabric.nodes) apart fabric.cables a b (present_right good) is
   where
@@ -126,7 +126,7 @@ other_node fabric a b good is =
 abbrev pub rows_of : FabricState → List Found → List (List GraphLink)
 rows_of fabric found = map (λ one. row_of fabric (nodes_of found) one.node) found
 
-row_there : (fabric : FabricState) (found : List Found) (k : ℕ) (one : Found) → StandsAt found k one → get_or (rows_of fabric found) k [] ≡ row_of fabric (nodes_of found) one.node
+pub row_there : (fabric : FabricState) (found : List Found) (k : ℕ) (one : Found) → StandsAt found k one → get_or (rows_of fabric found) k [] ≡ row_of fabric (nodes_of found) one.node
 row_there fabric found k one there =
     ap (λ (some : List Found). get_or (map (λ one. row_of fabric (nodes_of found) one.node) some) k []) (sym (take_all (length found) found (omega arith)))
     ∙ row_at fabric (nodes_of found) found (length found) k one (slice_get_within found k one there) there
@@ -194,7 +194,7 @@ row_right fabric found survey k one good progress there =
             and_from _ true (right_link fabric found k number one end good progress.discovery there from within cable
             (found_among found end.node (length one.path + 1) (known.found_behind number end from within cable switch))) refl
 
-places_all : (p : ℕ → Bool) (a n : ℕ) → ((k : ℕ) → a ≤ k → k < a + n → p k ≡ true) → list_all p (range_with_len a n) ≡ true
+pub places_all : (p : ℕ → Bool) (a n : ℕ) → ((k : ℕ) → a ≤ k → k < a + n → p k ≡ true) → list_all p (range_with_len a n) ≡ true
 places_all p a zero each = refl
 places_all p a (suc n) each = and_from (p a) _ (each a (omega arith) (omega arith)) (places_all p (a + 1) n (λ k from to. each k (omega (arith, from)) (omega (arith, to))))
 

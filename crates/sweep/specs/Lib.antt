@@ -2,6 +2,8 @@ pub mod Fault
 pub mod Seen
 pub mod Graph
 pub mod Joined
+pub mod Recabled
+pub mod Rounds
 pub mod Adapters
 pub mod OfFabric
 pub mod EndPorts

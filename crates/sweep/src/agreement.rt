@@ -104,7 +104,7 @@ pub(crate) fn links_at(rows: &[GraphRow], place: usize) -> &[GraphLink]
 }
 
 /// Whether a link out of that port leads there.
-fn is_linked(rows: &[GraphRow], here: PortRef, there: PortRef) -> bool
+pub(crate) fn is_linked(rows: &[GraphRow], here: PortRef, there: PortRef) -> bool
     ensures { result ≡ is_linked rows.now here there }
 {
     links_at(rows, here.node)
@@ -183,7 +183,7 @@ pub(crate) fn has_a_nearer_switch(rows: &[GraphRow]) -> bool
 }
 
 /// Whether that is a port of a switch.
-fn is_switch_port(switches: &[GraphSwitch], at: PortRef) -> bool
+pub(crate) fn is_switch_port(switches: &[GraphSwitch], at: PortRef) -> bool
     ensures { result ≡ is_switch_port switches.now at }
 {
     1 <= at.port && at.port <= count_at(switches, at.node)

@@ -25,6 +25,20 @@ pub struct GraphSwitch {
     pub path: Path,
 }
 
+impl GraphSwitch {
+    /// The same switch again.
+    pub(crate) fn copied(&self) -> GraphSwitch
+        ensures { result ≡ self.now }
+    {
+        GraphSwitch {
+            guid: self.guid,
+            num_ports: self.num_ports,
+            name: self.name,
+            path: self.path.copied(),
+        }
+    }
+}
+
 /// A port of a channel adapter, with a cable.
 #[derive(Debug, Drop)]
 pub struct GraphPort {
@@ -40,6 +54,22 @@ pub struct GraphPort {
     pub name: [u8; 64],
     /// The port of a switch at the other end of its cable, the switch by its place in the graph.
     pub at: PortRef,
+}
+
+impl GraphPort {
+    /// The same port again.
+    pub(crate) fn copied(&self) -> GraphPort
+        ensures { result ≡ self.now }
+    {
+        GraphPort {
+            node_guid: self.node_guid,
+            port_guid: self.port_guid,
+            number: self.number,
+            num_ports: self.num_ports,
+            name: self.name,
+            at: self.at,
+        }
+    }
 }
 
 /// A port of a switch with a cable to another switch.
@@ -74,6 +104,13 @@ impl GraphRow {
         GraphRow {
             links: Vec::new(alloc),
         }
+    }
+
+    /// These links.
+    pub(crate) fn of(links: Vec<GraphLink>) -> GraphRow
+        ensures { result ≡ links.items }
+    {
+        GraphRow { links }
     }
 
     /// The links.

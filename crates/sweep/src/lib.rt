@@ -15,13 +15,18 @@ mod fault;
 mod graph;
 mod laws;
 mod path;
+mod recabled;
 mod seen;
 mod survey;
 mod switch_list;
+mod whole;
 
 pub use crate::discovery::sweep;
 pub use crate::fault::SweepFault;
 pub use crate::graph::{Graph, GraphLink, GraphPort, GraphRow, GraphSwitch};
-pub use crate::laws::{graphs_have_the_end_ports, the_numbers};
+pub use crate::laws::{
+    cables_come_back, graphs_are_recabled, graphs_have_the_end_ports, the_numbers,
+    whole_graphs_are_swept,
+};
 pub use crate::path::{PATH_HOPS, Path};
 pub use crate::seen::{Seen, seen_of};

@@ -1,6 +1,6 @@
 //! The switches that a sweep has found.
 
-ghost use Rattle.std.specs.Prelude.{◌≡◌, ◌==◌, [], ◌∷◌, ◌++◌, None, position, OnOk};
+ghost use Rattle.std.specs.Prelude.{◌≡◌, ◌==◌, [], ◌∷◌, ◌++◌, None, position, IfOk, OnOk};
 ghost use Rattle.std.specs.List.{list_any};
 
 use crate::graph::GraphSwitch;
@@ -50,6 +50,19 @@ impl SwitchList {
         ensures { result ≡ position (λ switch. switch.guid == guid) self.now }
     {
         self.guids.get_index_of(&guid)
+    }
+
+    /// The same switches again. Memory alone can be refused.
+    pub(crate) fn copied(&self, alloc: Global) -> Result<SwitchList, AllocError>
+        ensures { IfOk result (λ list. list ≡ self.now) }
+    {
+        let guids = self.guids.clone()?;
+        let switches = self
+            .switches
+            .iter()
+            .map(|switch| switch.copied())
+            .collect(alloc)?;
+        Ok(SwitchList { guids, switches })
     }
 
     /// Whether some switch has this GUID.

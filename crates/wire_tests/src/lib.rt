@@ -5,6 +5,8 @@
 #![tactic(auto)]
 
 #[cfg(test)]
+mod cables;
+#[cfg(test)]
 mod carrying;
 #[cfg(test)]
 mod random_fabrics;

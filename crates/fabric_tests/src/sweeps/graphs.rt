@@ -12,7 +12,7 @@ use test_fabrics::{Chance, fabric_over, put, put_cable, put_line};
 use topo_file::{Node, Topology, read};
 
 /// A port of a switch of the topology, as the graph names it: the switch by its place there.
-fn placed(graph: &Graph, topology: &Topology, port: PortRef) -> Option<PortRef> {
+pub fn placed(graph: &Graph, topology: &Topology, port: PortRef) -> Option<PortRef> {
     let guid = topology.nodes().get(port.node)?.guid;
     let node = graph
         .switches()
