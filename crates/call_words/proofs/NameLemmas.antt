@@ -1,5 +1,5 @@
 -- The names of files are words as they stand.
-use Rattle.std.proofs.Common.{ℕ, ◌≡◌, ◌∙◌, Ok, ap, Bool, true, false, List, [], ◌∷◌, Option, Some, None, option_map, codes, refl, subst, if◌then◌else◌}
+use Rattle.std.proofs.Common.{◌≡◌, ◌∙◌, Ok, ap, Bool, true, false, List, [], ◌∷◌, Option, Some, None, option_map, codes, refl, subst, if◌then◌else◌}
 use Rattle.std.specs.List.{All}
 use Rattle.std.specs.Option.{option_to_list}
 use Rattle.std.specs.Str.{bytes_eq}
@@ -8,13 +8,14 @@ use Rattle.clap.specs.Words.{Row, Text, first_of}
 use Rattle.clap.proofs.OnLiterals.{clap_on_literals}
 use Rattle.code_texts.specs.declared.code.Code.{Code}
 use Rattle.call_words.specs.Laws.{FilesAreNamedAsGiven, IsWordOf, NamesKeepTheirBlanks}
-use Rattle.call_words.specs.Words.{Names, all_names, asked_by, asked_by_command, asked_of, asked_or, call_in, compare_by, diff_by, explain_by, file_in, in_subnet, packet_by, run_by, scripts_by}
-use Rattle.call_words.specs.Words.{subcommand_in, text_for, work_names}
+use Rattle.call_words.specs.Words.{Names, all_names, asked_by, asked_by_command, asked_of, asked_or, call_in, compare_by, diff_by, explain_by, file_in, in_subnet, inspect_by, run_by, scripts_by}
+use Rattle.call_words.specs.Words.{subcommand_in, text_for, trace_by, work_names}
 use Rattle.call_words.specs.declared.call.Call.{Call}
 use Rattle.call_words.specs.declared.call.Call.TheVariants.{Explain, Subnet}
 use Rattle.call_words.specs.declared.call.Work.{Work}
 use Rattle.call_words.specs.declared.call.Work.TheVariants.{Check, Compare, Diff, Inspect, Run, Shares}
-use Rattle.call_words.specs.declared.call.Inspection.TheVariants.{Graph, Keys, Tables, Trace}
+use Rattle.call_words.specs.declared.call.Inspection.{Inspection}
+use Rattle.call_words.specs.declared.call.Inspection.TheVariants.{Graph, Keys, Tables}
 use Rattle.call_words.specs.declared.call.Subcommand.{Subcommand}
 use Rattle.call_words.specs.declared.call.Subcommand.TheVariants as command
 
@@ -74,11 +75,15 @@ run_given rows asked e = by (first_of (codes "SCRIPT") rows) refl e
         let same : Run word ≡ asked = cc in
         subst (λ (w : Work Text Text). All (IsWordOf rows) (work_names w)) same (All-cons (IsWordOf rows) word [] (codes "SCRIPT", at) (All-nil (IsWordOf rows)))
 
-packet_given : (rows : List Row) (port : Option Text) (dlid p_key : Option ℕ) → WorkIsGiven rows (packet_by port dlid p_key)
-packet_given rows (Some port) (Some dlid) (Some p_key) asked e = without_file rows (Inspect (Trace port dlid p_key)) refl asked e
-packet_given rows (Some port) (Some dlid) None asked e = absurd cc
-packet_given rows (Some port) None p_key asked e = absurd cc
-packet_given rows None dlid p_key asked e = absurd cc
+inspect_given : (rows : List Row) (seen : Option (Inspection Text)) → WorkIsGiven rows (inspect_by rows seen)
+inspect_given rows None asked e = absurd cc
+inspect_given rows (Some what) asked e =
+    let same : Inspect what (first_of (codes "SCRIPT") rows) ≡ asked = cc in
+    subst (λ (w : Work Text Text). All (IsWordOf rows) (work_names w)) same (by (first_of (codes "SCRIPT") rows) refl)
+  where
+    by : (script : Option Text) → first_of (codes "SCRIPT") rows ≡ script → All (IsWordOf rows) (option_to_list script)
+    by None at = All-nil (IsWordOf rows)
+    by (Some word) at = All-cons (IsWordOf rows) word [] (codes "SCRIPT", at) (All-nil (IsWordOf rows))
 
 compare_given : (rows : List Row) → WorkIsGiven rows (compare_by rows)
 compare_given rows asked e = by (first_of (codes "S1") rows) refl (first_of (codes "S2") rows) refl (first_of (codes "PORT") rows) e
@@ -106,10 +111,10 @@ command_given : (given : Subcommand) (rows : List Row) (names : Names) → call_
 command_given command.Check rows names is = subnet_given rows _ names (without_file rows Check refl) is
 command_given command.Shares rows names is = subnet_given rows _ names (without_file rows (Shares (first_of (codes "PORT") rows)) refl) is
 command_given command.Diff rows names is = subnet_given rows _ names (diff_given rows) is
-command_given command.Tables rows names is = subnet_given rows _ names (without_file rows (Inspect Tables) refl) is
-command_given command.Keys rows names is = subnet_given rows _ names (without_file rows (Inspect Keys) refl) is
-command_given command.Trace rows names is = subnet_given rows _ names (packet_given rows _ _ _) is
-command_given command.Graph rows names is = subnet_given rows _ names (without_file rows (Inspect Graph) refl) is
+command_given command.Tables rows names is = subnet_given rows _ names (inspect_given rows (Some Tables)) is
+command_given command.Keys rows names is = subnet_given rows _ names (inspect_given rows (Some Keys)) is
+command_given command.Trace rows names is = subnet_given rows _ names (inspect_given rows (trace_by rows)) is
+command_given command.Graph rows names is = subnet_given rows _ names (inspect_given rows (Some Graph)) is
 command_given command.Run rows names is = subnet_given rows _ names (run_given rows) is
 command_given command.Compare rows names is = subnet_given rows _ names (compare_given rows) is
 command_given command.Explain rows names is = explain_given rows (first_of (codes "CODE") rows) names is
@@ -130,4 +135,4 @@ files_are_given word rows names is = by (subcommand_in word) is
 
 pub blanks_are_kept : NamesKeepTheirBlanks
 unfolding clap_on_literals asked_of
-blanks_are_kept = record { plain = refl; before = refl; behind = refl; script = refl; dash = refl }
+blanks_are_kept = record { plain = refl; before = refl; behind = refl; script = refl; looked = refl; dashes = refl; dash = refl }

@@ -25,18 +25,19 @@ abbrev pub diff_command : App
 diff_command = with_rule (subnet_command (codes "diff")) (wanted (codes "PARTS2"))
 
 abbrev pub tables_command : App
-tables_command = subnet_command (codes "tables")
+tables_command = with_rule (subnet_command (codes "tables")) (optional (codes "SCRIPT"))
 
 abbrev pub keys_command : App
-keys_command = subnet_command (codes "keys")
+keys_command = with_rule (subnet_command (codes "keys")) (optional (codes "SCRIPT"))
 
 abbrev pub trace_command : App
 trace_command =
     let from = with_rule (subnet_command (codes "trace")) (wanted (codes "PORT")) in
-    with_rule (with_rule from (wanted (codes "DLID"))) (wanted (codes "PKEY"))
+    let packet = with_rule (with_rule from (wanted (codes "DLID"))) (wanted (codes "PKEY")) in
+    with_rule packet (optional (codes "SCRIPT"))
 
 abbrev pub graph_command : App
-graph_command = subnet_command (codes "graph")
+graph_command = with_rule (subnet_command (codes "graph")) (optional (codes "SCRIPT"))
 
 abbrev pub run_command : App
 run_command = with_rule (subnet_command (codes "run")) (wanted (codes "SCRIPT"))

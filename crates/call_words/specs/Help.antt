@@ -71,7 +71,10 @@ abbrev pub help_of_code : List ℕ
 help_of_code = codes "A code as it is told: `PF2`, or `memory`"
 
 abbrev pub help_of_script : List ℕ
-help_of_script = codes "The script: what ports send and ask"
+help_of_script = codes "The script: what ports send and ask, and which cables are cut"
+
+abbrev pub help_of_script_before : List ℕ
+help_of_script_before = codes "A script: what has been done before"
 
 abbrev pub help_of_first_script : List ℕ
 help_of_first_script = codes "The first script"

@@ -25,4 +25,6 @@ pub record NamesKeepTheirBlanks : Type 0 where
   pub before : opened_by (codes "check" ∷ codes " net" ∷ codes "-" ∷ []) ≡ codes " net" ∷ []
   pub behind : opened_by (codes "check" ∷ codes "net" ∷ codes "parts " ∷ []) ≡ codes "net" ∷ codes "parts " ∷ []
   pub script : opened_by (codes "run" ∷ codes "Net" ∷ codes "-" ∷ codes " sends " ∷ []) ≡ codes "Net" ∷ codes " sends " ∷ []
+  pub looked : opened_by (codes "keys" ∷ codes "net" ∷ codes "-" ∷ codes "sends " ∷ []) ≡ codes "net" ∷ codes "sends " ∷ []
+  pub dashes : opened_by (codes "graph" ∷ codes "net" ∷ codes "-" ∷ codes "-" ∷ []) ≡ codes "net" ∷ codes "-" ∷ []
   pub dash : opened_by (codes "diff" ∷ codes "net" ∷ codes "-" ∷ codes " -" ∷ []) ≡ codes "net" ∷ codes " -" ∷ []

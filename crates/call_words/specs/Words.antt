@@ -40,7 +40,7 @@ abbrev pub named_work : Work (Bor Text) (Bor Text) → Work Text Text
 named_work Check = Check
 named_work (Shares port) = Shares (option_map (λ word. word.now) port)
 named_work (Diff second) = Diff (option_map (λ word. word.now) second)
-named_work (Inspect what) = Inspect (named_inspection what)
+named_work (Inspect what script) = Inspect (named_inspection what) (option_map (λ name. name.now) script)
 named_work (Run script) = Run script.now
 named_work (Compare first second port) = Compare first.now second.now port.now
 
@@ -85,11 +85,15 @@ compare_by rows = scripts_by (first_of (codes "S1") rows) (first_of (codes "S2")
 abbrev pub u16_by : Option Text → Option ℕ
 u16_by word = option_and_then u16_in word
 
-abbrev pub packet_by : Option Text → Option ℕ → Option ℕ → Option (Work Text Text)
-packet_by (Some port) (Some dlid) (Some p_key) = Some (Inspect (Trace port dlid p_key))
+-- a look at this, after the commands of a script where a word names one: a script may be named `-`, and no word is no script
+abbrev pub inspect_by : List Row → Option (Inspection Text) → Option (Work Text Text)
+inspect_by rows seen = option_map (λ what. Inspect what (first_of (codes "SCRIPT") rows)) seen
+
+abbrev pub packet_by : Option Text → Option ℕ → Option ℕ → Option (Inspection Text)
+packet_by (Some port) (Some dlid) (Some p_key) = Some (Trace port dlid p_key)
 packet_by _ _ _ = None
 
-abbrev pub trace_by : List Row → Option (Work Text Text)
+abbrev pub trace_by : List Row → Option (Inspection Text)
 trace_by rows =
     packet_by (first_of (codes "PORT") rows) (u16_by (first_of (codes "DLID") rows)) (u16_by (first_of (codes "PKEY") rows))
 
@@ -107,16 +111,16 @@ abbrev pub explain_by : Option Text → Option (Call Names)
 explain_by None = Some (Explain None)
 explain_by (Some word) = option_map (λ code. Explain (Some code)) (code_of word)
 
--- `check`, `tables`, `keys` and `graph` need no more words than their subnet's, `shares` takes a port, `diff` needs other
--- partitions, `trace` a packet, `run` a script, and `compare` two scripts and a port; `explain` takes a code
+-- `check` takes no more words than its subnet's, `shares` takes a port, and `tables`, `keys`, `trace` and `graph` take a script;
+-- `diff` needs other partitions, `trace` a packet, `run` a script, and `compare` two scripts and a port; `explain` takes a code
 abbrev pub call_in : Subcommand → List Row → Option (Call Names)
 call_in command.Check rows = in_subnet rows (Some Check)
 call_in command.Shares rows = in_subnet rows (Some (Shares (first_of (codes "PORT") rows)))
 call_in command.Diff rows = in_subnet rows (diff_by (first_of (codes "PARTS2") rows))
-call_in command.Tables rows = in_subnet rows (Some (Inspect Tables))
-call_in command.Keys rows = in_subnet rows (Some (Inspect Keys))
-call_in command.Trace rows = in_subnet rows (trace_by rows)
-call_in command.Graph rows = in_subnet rows (Some (Inspect Graph))
+call_in command.Tables rows = in_subnet rows (inspect_by rows (Some Tables))
+call_in command.Keys rows = in_subnet rows (inspect_by rows (Some Keys))
+call_in command.Trace rows = in_subnet rows (inspect_by rows (trace_by rows))
+call_in command.Graph rows = in_subnet rows (inspect_by rows (Some Graph))
 call_in command.Run rows = in_subnet rows (run_by (first_of (codes "SCRIPT") rows))
 call_in command.Compare rows = in_subnet rows (compare_by rows)
 call_in command.Explain rows = explain_by (first_of (codes "CODE") rows)
@@ -193,7 +197,7 @@ abbrev pub work_names : Work Text Text → List Text
 work_names Check = []
 work_names (Shares port) = []
 work_names (Diff second) = option_to_list second
-work_names (Inspect what) = []
+work_names (Inspect what script) = option_to_list script
 work_names (Run script) = script ∷ []
 work_names (Compare first second port) = first ∷ second ∷ []
 

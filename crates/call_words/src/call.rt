@@ -41,7 +41,12 @@ pub enum Work<W, S> {
     /// List what another partition file changes, or none where the word is `-`.
     Diff(Option<S>),
     /// Look at what its fabric holds.
-    Inspect(Inspection<W>),
+    Inspect {
+        /// What to look at.
+        what: Inspection<W>,
+        /// The script after whose commands that is; where there is none, it is as the subnet comes up.
+        script: Option<S>,
+    },
     /// Run a script.
     Run(S),
     /// Compare two scripts for a port, that a word names.

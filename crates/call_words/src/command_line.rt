@@ -9,7 +9,7 @@ ghost use Rattle.call_words.specs.CommandLine.{wanted};
 ghost use Rattle.call_words.specs.Help.{about_check, about_compare, about_diff, about_explain, about_graph, about_keys, about_program, about_run};
 ghost use Rattle.call_words.specs.Help.{about_shares, about_tables, about_trace, help_of_code, help_of_dlid, help_of_key};
 ghost use Rattle.call_words.specs.Help.{help_of_compared, help_of_first_script, help_of_partitions, help_of_second_script};
-ghost use Rattle.call_words.specs.Help.{help_of_port, help_of_script, help_of_second_partitions, help_of_sender, help_of_topology};
+ghost use Rattle.call_words.specs.Help.{help_of_port, help_of_script, help_of_script_before, help_of_second_partitions, help_of_sender, help_of_topology};
 ghost use Rattle.call_words.specs.Help.{program_name, program_version, text_in};
 ghost use Rattle.call_words.specs.Refusals.{IsShown};
 ghost use Rattle.call_words.specs.Words.{asked_in, asked_of};
@@ -104,7 +104,11 @@ fn wanted_script<'a>(alloc: Global) -> Arg<'a>
     ensures rule { rule_of result ≡ wanted (codes "SCRIPT") }
     ensures help { text_in result.help ≡ Some help_of_script }
 {
-    wanted(alloc, "SCRIPT", "The script: what ports send and ask")
+    wanted(
+        alloc,
+        "SCRIPT",
+        "The script: what ports send and ask, and which cables are cut",
+    )
 }
 
 fn wanted_first_script<'a>(alloc: Global) -> Arg<'a>
@@ -143,6 +147,16 @@ fn optional_port<'a>(alloc: Global) -> Arg<'a>
     Arg::new(alloc, "PORT").action(ArgAction::Set).help(
         "An end port as `check` lists it: `h1/1`, or `A/0` for port 0 of switch A",
     )
+}
+
+fn optional_script<'a>(alloc: Global) -> Arg<'a>
+    ensures global { result.global ≡ false }
+    ensures rule { rule_of result ≡ optional (codes "SCRIPT") }
+    ensures help { text_in result.help ≡ Some help_of_script_before }
+{
+    Arg::new(alloc, "SCRIPT")
+        .action(ArgAction::Set)
+        .help("A script: what has been done before")
 }
 
 fn optional_code<'a>(alloc: Global) -> Arg<'a>
@@ -213,7 +227,7 @@ fn tables_command<'a>(alloc: Global) -> Result<Command<'a>, AllocError>
     ensures about { IfOk result (λ command. text_in (fields_of command).about ≡ Some about_tables) }
     ensures help { IfOk result (λ command. text_in (fields_of command).after_help ≡ Some TABLES.now) }
 {
-    let command = subnet_command(alloc, "tables")?;
+    let command = subnet_command(alloc, "tables")?.arg(optional_script(alloc))?;
     Ok(command.about(ABOUT_TABLES).after_help(TABLES))
 }
 
@@ -223,7 +237,7 @@ fn keys_command<'a>(alloc: Global) -> Result<Command<'a>, AllocError>
     ensures about { IfOk result (λ command. text_in (fields_of command).about ≡ Some about_keys) }
     ensures help { IfOk result (λ command. text_in (fields_of command).after_help ≡ Some KEYS.now) }
 {
-    let command = subnet_command(alloc, "keys")?;
+    let command = subnet_command(alloc, "keys")?.arg(optional_script(alloc))?;
     Ok(command.about(ABOUT_KEYS).after_help(KEYS))
 }
 
@@ -236,7 +250,8 @@ fn trace_command<'a>(alloc: Global) -> Result<Command<'a>, AllocError>
     let command = subnet_command(alloc, "trace")?
         .arg(wanted_port(alloc))?
         .arg(wanted_dlid(alloc))?
-        .arg(wanted_key(alloc))?;
+        .arg(wanted_key(alloc))?
+        .arg(optional_script(alloc))?;
     Ok(command.about(ABOUT_TRACE).after_help(TRACE))
 }
 
@@ -246,7 +261,7 @@ fn graph_command<'a>(alloc: Global) -> Result<Command<'a>, AllocError>
     ensures about { IfOk result (λ command. text_in (fields_of command).about ≡ Some about_graph) }
     ensures help { IfOk result (λ command. text_in (fields_of command).after_help ≡ Some GRAPH.now) }
 {
-    let command = subnet_command(alloc, "graph")?;
+    let command = subnet_command(alloc, "graph")?.arg(optional_script(alloc))?;
     Ok(command.about(ABOUT_GRAPH).after_help(GRAPH))
 }
 

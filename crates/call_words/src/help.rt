@@ -31,9 +31,9 @@ pub(crate) const ABOUT_EXPLAIN: &str =
 /// The help `$before`, then the exit statuses, of which 2 is also that of a call that asks for `$asked`,
 /// then `$after`, and at last where codes are explained.
 macro_rules! with_statuses {
-    ($before:literal, $asked:literal, $after:literal) => {
+    ($($before:literal)+, $asked:literal, $after:literal) => {
         concat!(
-            $before,
+            $($before,)+
             "Exit statuses:
   0  complete
   1  a fault in what is given, told on standard error by one line
@@ -45,6 +45,19 @@ macro_rules! with_statuses {
             "
 
 `fabric explain CODE` tells what the CODE of a fault means, and `fabric explain` lists all codes."
+        )
+    };
+}
+
+/// The help `$before` of a command that looks at a fabric, then what SCRIPT is for, with `$further` behind it.
+macro_rules! with_script {
+    ($before:literal, $further:literal) => {
+        with_statuses!(
+            $before "With SCRIPT the fabric is as the commands of that script leave it" $further ".
+
+",
+            "help",
+            ""
         )
     };
 }
@@ -122,7 +135,7 @@ For example, where `P1=0x0001: 0x111=full, 0x121, 0x131;` gets `0x121=full`:
     ""
 );
 
-pub(crate) const TABLES: &str = with_statuses!(
+pub(crate) const TABLES: &str = with_script!(
     "For each switch, by LID, its table stands as `dump_fts` of infiniband-diags prints one: a line with
 LinearFDBTop, the path by which the sweep found it, its GUID and name; a line for each LID of an
 end port to which the table leads, with the port by which; and their count.
@@ -134,11 +147,10 @@ For example, of switch B, which is two hops away:
   0x0001 003 : (Channel Adapter portguid 0x0000000000000101: 'h0')
 
 ",
-    "help",
     ""
 );
 
-pub(crate) const KEYS: &str = with_statuses!(
+pub(crate) const KEYS: &str = with_script!(
     "There is a line for each end port, by LID, and behind a switch's own one for each of its ports that
 is cabled to a channel adapter, by number:
   keys PORT KEY ..    the keys of its table, in their order; empty places are left out
@@ -148,11 +160,10 @@ For example, for `P1=0x0001: 0x111=full, 0x121;` in PARTS:
   keys h1/1 0x7fff 0x8001
 
 ",
-    "help",
     ""
 );
 
-pub(crate) const TRACE: &str = with_statuses!(
+pub(crate) const TRACE: &str = with_script!(
     "The first line tells what the port makes of the packet, and each other one what becomes of it where
 it comes in, to a multicast LID once for each port by which it would leave; the first of these
 reasons that holds ends its way there:
@@ -178,11 +189,10 @@ For example, for `h1/1 5 0xffff`:
   h2/1 accepts
 
 ",
-    "help",
-    ""
+    "; the packet is followed then"
 );
 
-pub(crate) const GRAPH: &str = with_statuses!(
+pub(crate) const GRAPH: &str = with_script!(
     "The text is in DOT, and `dot` of Graphviz makes a picture of it:
   fabric graph TOPO PARTS | dot -Tsvg >fabric.svg
 
@@ -194,8 +204,7 @@ Four or more adapters of one port that hang on one switch and are in the same pa
 a list, which is one box: a line has the switch's port, the adapter and its LID.
 
 ",
-    "help",
-    ""
+    "; cables that are cut are dashed"
 );
 
 pub(crate) const REPORT: &str = with_statuses!(
@@ -220,8 +229,8 @@ pub(crate) const COMPARISON: &str = with_statuses!(
 
 The ports near PORT are PORT itself and each end port that shares a partition with it, as `shares`
 lists them. Commands are the same by what they ask for, however they are spelt; what all other
-ports do may differ. Where the scripts agree the events are equal: `no` behind `yes` is proved
-never to come.
+ports do may differ, and which cables are cut. Where the scripts agree the events are equal: `no`
+behind `yes` is proved never to come.
 
 ",
     "help",
@@ -232,7 +241,7 @@ pub(crate) const CODES: &str = with_statuses!(
     "A code stands behind `fault` where a call does not complete, and behind `refused` in a report:
   TF1 to TF12            a fault of the topology
   PF1 to PF9             a fault of a partition file
-  SF1 to SF6             a fault of a script, or of the PORT of `shares`, `trace` or `compare`
+  SF1 to SF7             a fault of a script, or of the PORT of `shares`, `trace` or `compare`
   AR1 to AR4             why a port refuses to send a packet
   SW1 to SW4, UR1, TP1 to TP3
                          why the fabric of a topology is not brought up

@@ -4,7 +4,7 @@ ghost use Rattle.std.specs.Prelude.{◌≡◌, Ok, Some, map, string_bytes, opti
 ghost use Rattle.clap.specs.Words.{first_of, found_of, rows_of, subcommand_rows_of};
 ghost use Rattle.call_words.specs.Refusals.{IsOfGiven, IsOfWords, TellsAll};
 ghost use Rattle.call_words.specs.Words.{asked_in, asked_of, call_in, compare_by, diff_by, explain_by, file_in, given_items, in_subnet};
-ghost use Rattle.call_words.specs.Words.{named_call, named_found};
+ghost use Rattle.call_words.specs.Words.{inspect_by, named_call, named_found, named_inspection};
 ghost use Rattle.call_words.specs.Words.{named_work, run_by, subcommand_in, text_for, trace_by, u16_by};
 
 use crate::call::{Asked, Call, Inspection, Refused, Subcommand, Work};
@@ -113,10 +113,10 @@ fn call_of<'a>(command: Subcommand, found: &ArgMatches<'a>) -> Option<Call<Asked
         Subcommand::Check => in_subnet(found, Some(Work::Check)),
         Subcommand::Shares => in_subnet(found, Some(Work::Shares(word_of(found, "PORT")))),
         Subcommand::Diff => in_subnet(found, diff_by(word_of(found, "PARTS2"))),
-        Subcommand::Tables => in_subnet(found, Some(Work::Inspect(Inspection::Tables))),
-        Subcommand::Keys => in_subnet(found, Some(Work::Inspect(Inspection::Keys))),
-        Subcommand::Trace => in_subnet(found, traced(found)),
-        Subcommand::Graph => in_subnet(found, Some(Work::Inspect(Inspection::Graph))),
+        Subcommand::Tables => in_subnet(found, inspect_by(found, Some(Inspection::Tables))),
+        Subcommand::Keys => in_subnet(found, inspect_by(found, Some(Inspection::Keys))),
+        Subcommand::Trace => in_subnet(found, inspect_by(found, traced(found))),
+        Subcommand::Graph => in_subnet(found, inspect_by(found, Some(Inspection::Graph))),
         Subcommand::Run => in_subnet(found, run_by(word_of(found, "SCRIPT"))),
         Subcommand::Compare => in_subnet(found, compared(found)),
         Subcommand::Explain => explain_by(word_of(found, "CODE")),
@@ -163,6 +163,19 @@ fn run_by(script: Option<&str>) -> Option<Work<&str, &str>>
     Some(Work::Run(script?))
 }
 
+/// A look at this, after the commands of a script where a word names one.
+fn inspect_by<'a>(
+    found: &ArgMatches<'a>,
+    what: Option<Inspection<&'a str>>,
+) -> Option<Work<&'a str, &'a str>>
+    ensures { option_map named_work result ≡ inspect_by (rows_of (found_of found.now)) (option_map named_inspection what.entry) }
+{
+    Some(Work::Inspect {
+        what: what?,
+        script: word_of(found, "SCRIPT"),
+    })
+}
+
 /// Two scripts and a port.
 fn compared<'a>(found: &ArgMatches<'a>) -> Option<Work<&'a str, &'a str>>
     ensures { option_map named_work result ≡ compare_by (rows_of (found_of found.now)) }
@@ -175,13 +188,13 @@ fn compared<'a>(found: &ArgMatches<'a>) -> Option<Work<&'a str, &'a str>>
 }
 
 /// A packet from a port, if the numbers have 16 bits.
-fn traced<'a>(found: &ArgMatches<'a>) -> Option<Work<&'a str, &'a str>>
-    ensures { option_map named_work result ≡ trace_by (rows_of (found_of found.now)) }
+fn traced<'a>(found: &ArgMatches<'a>) -> Option<Inspection<&'a str>>
+    ensures { option_map named_inspection result ≡ trace_by (rows_of (found_of found.now)) }
 {
     let port = word_of(found, "PORT")?;
     let dlid = u16_by(word_of(found, "DLID"))?;
     let p_key = u16_by(word_of(found, "PKEY"))?;
-    Some(Work::Inspect(Inspection::Trace(port, dlid, p_key)))
+    Some(Inspection::Trace(port, dlid, p_key))
 }
 
 fn u16_by(word: Option<&str>) -> Option<u16>

@@ -5,7 +5,7 @@ use Rattle.code_texts.specs.Texts.{begins_with, text_of}
 use Rattle.code_texts.specs.declared.code.Code.{Code}
 use Rattle.code_texts.specs.declared.code.Code.TheVariants.{Tf1, Tf2, Tf3, Tf4, Tf5, Tf6, Tf7, Tf8, Tf9, Tf10, Tf11, Tf12}
 use Rattle.code_texts.specs.declared.code.Code.TheVariants.{Pf1, Pf2, Pf3, Pf4, Pf5, Pf6, Pf7, Pf8, Pf9}
-use Rattle.code_texts.specs.declared.code.Code.TheVariants.{Sf1, Sf2, Sf3, Sf4, Sf5, Sf6, Ar1, Ar2, Ar3, Ar4}
+use Rattle.code_texts.specs.declared.code.Code.TheVariants.{Sf1, Sf2, Sf3, Sf4, Sf5, Sf6, Sf7, Ar1, Ar2, Ar3, Ar4}
 use Rattle.code_texts.specs.declared.code.Code.TheVariants.{Sw1, Sw2, Sw3, Sw4, Ur1, Tp1, Tp2, Tp3}
 use Rattle.code_texts.specs.declared.code.Code.TheVariants.{Memory, Read, Write}
 
@@ -37,6 +37,7 @@ begins_with_code Sf3 = refl
 begins_with_code Sf4 = refl
 begins_with_code Sf5 = refl
 begins_with_code Sf6 = refl
+begins_with_code Sf7 = refl
 begins_with_code Ar1 = refl
 begins_with_code Ar2 = refl
 begins_with_code Ar3 = refl

@@ -5,14 +5,14 @@ use Rattle.std.specs.List.{before_first, flat_map}
 use Rattle.code_texts.specs.declared.code.Code.{Code}
 use Rattle.code_texts.specs.declared.code.Code.TheVariants.{Tf1, Tf2, Tf3, Tf4, Tf5, Tf6, Tf7, Tf8, Tf9, Tf10, Tf11, Tf12}
 use Rattle.code_texts.specs.declared.code.Code.TheVariants.{Pf1, Pf2, Pf3, Pf4, Pf5, Pf6, Pf7, Pf8, Pf9}
-use Rattle.code_texts.specs.declared.code.Code.TheVariants.{Sf1, Sf2, Sf3, Sf4, Sf5, Sf6, Ar1, Ar2, Ar3, Ar4}
+use Rattle.code_texts.specs.declared.code.Code.TheVariants.{Sf1, Sf2, Sf3, Sf4, Sf5, Sf6, Sf7, Ar1, Ar2, Ar3, Ar4}
 use Rattle.code_texts.specs.declared.code.Code.TheVariants.{Sw1, Sw2, Sw3, Sw4, Ur1, Tp1, Tp2, Tp3}
 use Rattle.code_texts.specs.declared.code.Code.TheVariants.{Memory, Read, Write}
 use Rattle.code_texts.specs.declared.code.TheConstants.{ALL}
 use Rattle.code_texts.specs.declared.fabric_texts.TheConstants.{SW1, SW2, SW3, SW4, TP1, TP2, TP3, UR1}
 use Rattle.code_texts.specs.declared.machine_texts.TheConstants.{MEMORY, READ, WRITE}
 use Rattle.code_texts.specs.declared.partition_texts.TheConstants.{PF1, PF2, PF3, PF4, PF5, PF6, PF7, PF8, PF9}
-use Rattle.code_texts.specs.declared.script_texts.TheConstants.{AR1, AR2, AR3, AR4, SF1, SF2, SF3, SF4, SF5, SF6}
+use Rattle.code_texts.specs.declared.script_texts.TheConstants.{AR1, AR2, AR3, AR4, SF1, SF2, SF3, SF4, SF5, SF6, SF7}
 use Rattle.code_texts.specs.declared.topology_texts.TheConstants.{TF1, TF2, TF3, TF4, TF5, TF6, TF7, TF8, TF9, TF10, TF11, TF12}
 
 -- a text that has this beginning
@@ -47,6 +47,7 @@ text_of Sf3 = SF3.now
 text_of Sf4 = SF4.now
 text_of Sf5 = SF5.now
 text_of Sf6 = SF6.now
+text_of Sf7 = SF7.now
 text_of Ar1 = AR1.now
 text_of Ar2 = AR2.now
 text_of Ar3 = AR3.now

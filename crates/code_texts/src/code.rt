@@ -7,7 +7,7 @@ ghost use Rattle.code_texts.specs.Texts.{begins_with, text_of};
 use crate::fabric_texts::{SW1, SW2, SW3, SW4, TP1, TP2, TP3, UR1};
 use crate::machine_texts::{MEMORY, READ, WRITE};
 use crate::partition_texts::{PF1, PF2, PF3, PF4, PF5, PF6, PF7, PF8, PF9};
-use crate::script_texts::{AR1, AR2, AR3, AR4, SF1, SF2, SF3, SF4, SF5, SF6};
+use crate::script_texts::{AR1, AR2, AR3, AR4, SF1, SF2, SF3, SF4, SF5, SF6, SF7};
 use crate::topology_texts::{TF1, TF2, TF3, TF4, TF5, TF6, TF7, TF8, TF9, TF10, TF11, TF12};
 
 /// A code that stands for the cause of a fault, or of a refusal: a letter or two of the text that it is a fault of and
@@ -68,6 +68,8 @@ pub enum Code {
     Sf5,
     /// A misspelt field, or one out of its range.
     Sf6,
+    /// A cable between two switches that there is not.
+    Sf7,
     /// A partition key that the port does not hold.
     Ar1,
     /// Queue pair 0.
@@ -101,7 +103,7 @@ pub enum Code {
 }
 
 /// All codes, in the order in which they are listed.
-pub const ALL: [Code; 42] = [
+pub const ALL: [Code; 43] = [
     Code::Tf1,
     Code::Tf2,
     Code::Tf3,
@@ -129,6 +131,7 @@ pub const ALL: [Code; 42] = [
     Code::Sf4,
     Code::Sf5,
     Code::Sf6,
+    Code::Sf7,
     Code::Ar1,
     Code::Ar2,
     Code::Ar3,
@@ -179,6 +182,7 @@ impl Code {
             Code::Sf4 => "SF4",
             Code::Sf5 => "SF5",
             Code::Sf6 => "SF6",
+            Code::Sf7 => "SF7",
             Code::Ar1 => "AR1",
             Code::Ar2 => "AR2",
             Code::Ar3 => "AR3",
@@ -239,6 +243,7 @@ impl Code {
             Code::Sf4 => SF4,
             Code::Sf5 => SF5,
             Code::Sf6 => SF6,
+            Code::Sf7 => SF7,
             Code::Ar1 => AR1,
             Code::Ar2 => AR2,
             Code::Ar3 => AR3,

@@ -1,21 +1,16 @@
 //! What is said of the faults of a script, and of the refusals that a report names.
 
-/// The text `$before`, then a script over a topology of a switch and two adapters: the fault that it has, itself,
-/// and the script mended.
-macro_rules! with_script {
-    ($before:literal, $told:literal, $script:literal, $mended:literal) => {
+/// The text `$before`, then a script over this topology: the fault that it has, itself, and the script mended.
+macro_rules! with_script_over {
+    ($topology:literal, $before:literal, $told:literal, $script:literal, $mended:literal) => {
         concat!(
             $before,
             "
 Over this topology, and with `-` for PARTS,
 
-    switch A 0x10 4
-    adapter h 0x20 1
-    adapter i 0x30 2
-    cable A/1 h/1
-    cable A/2 i/1
-    sm h/1
-
+",
+            $topology,
+            "
 this script is told as `",
             $told,
             "`:
@@ -33,14 +28,34 @@ Mended:
     };
 }
 
+/// The same over a topology of a switch and two adapters.
+macro_rules! with_script {
+    ($before:literal, $told:literal, $script:literal, $mended:literal) => {
+        with_script_over!(
+            "    switch A 0x10 4
+    adapter h 0x20 1
+    adapter i 0x30 2
+    cable A/1 h/1
+    cable A/2 i/1
+    sm h/1
+",
+            $before,
+            $told,
+            $script,
+            $mended
+        )
+    };
+}
+
 pub const SF1: &str = with_script!(
     "\
 SF1: the line is malformed
 
-But for its comment a line is empty, `send PORT DLID PKEY QP PAYLOAD` with exactly these words, or
-`ask PORT METHOD ATTR TID` with any words behind these: METHOD is `get`, `table`, `set` or `delete`,
-and ATTR is `node`, `path`, `member` or `service`. Outside comments there is printable ASCII, blanks
-and tabs alone; a CR stands only before LF or a comment.
+But for its comment a line is empty, `send PORT DLID PKEY QP PAYLOAD`, `cut PORT PORT` or
+`mend PORT PORT` with exactly these words, or `ask PORT METHOD ATTR TID` with any words behind
+these: METHOD is `get`, `table`, `set` or `delete`, and ATTR is `node`, `path`, `member` or
+`service`. Outside comments there is printable ASCII, blanks and tabs alone; a CR stands only before
+LF or a comment.
 ",
     "fault SF1 script line 1",
     "sent i/1 1 0xffff 7 1:01",
@@ -107,6 +122,27 @@ service `N:HEX`, with N at most 64. Numbers are decimal, or `0x` and hexadecimal
     "fault SF6 script line 1",
     "send i/1 1 0xffff 7 1:0102",
     "send i/1 1 0xffff 7 2:0102"
+);
+
+pub const SF7: &str = with_script_over!(
+    "    switch A 0x10 4
+    switch B 0x20 4
+    adapter h 0x30 1
+    cable A/1 h/1
+    cable A/2 B/2
+    cable A/3 B/3
+    sm h/1
+",
+    "\
+SF7: there is no such cable between two switches
+
+By `cut PORT PORT` a cable is cut, and by `mend PORT PORT` it is mended. Each PORT is `NAME/NUMBER`,
+and the topology has a switch NAME with a port NUMBER; a cable of the topology joins these two
+ports, whichever of them stands first. A cable to an adapter cannot be cut.
+",
+    "fault SF7 script line 1",
+    "cut A/1 h/1",
+    "cut B/2 A/2"
 );
 
 pub const AR1: &str = with_script!(

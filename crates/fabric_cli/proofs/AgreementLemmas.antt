@@ -33,7 +33,8 @@ module _ (file other : Contents) where
   work_alike (work.Shares port) same = refl
   work_alike (work.Diff None) same = refl
   work_alike (work.Diff (Some name)) same = rw (bytes_alike name (All-head (λ one. file one ≡ other one) name [] same)) refl
-  work_alike (work.Inspect what) same = refl
+  work_alike (work.Inspect what None) same = refl
+  work_alike (work.Inspect what (Some name)) same = rw (bytes_alike name (All-head (λ one. file one ≡ other one) name [] same)) refl
   work_alike (work.Run name) same = rw (bytes_alike name (All-head (λ one. file one ≡ other one) name [] same)) refl
   work_alike (work.Compare first second port) same =
       let more = All-tail (λ one. file one ≡ other one) first (second ∷ []) same in

@@ -77,6 +77,7 @@ script_told script.ManagerPort number = told_as code.Sf3 _ refl refl refl
 script_told script.UncabledPort number = told_as code.Sf4 _ refl refl refl
 script_told script.PayloadTooLong number = told_as code.Sf5 _ refl refl refl
 script_told script.BadField number = told_as code.Sf6 _ refl refl refl
+script_told script.UnknownCable number = told_as code.Sf7 _ refl refl refl
 
 second_script_told : (cause : ScriptCause) (number : ℕ) → TellsCode (second_script_line (script_code cause) number)
 second_script_told script.Malformed number = told_as code.Sf1 _ refl refl refl
@@ -85,6 +86,7 @@ second_script_told script.ManagerPort number = told_as code.Sf3 _ refl refl refl
 second_script_told script.UncabledPort number = told_as code.Sf4 _ refl refl refl
 second_script_told script.PayloadTooLong number = told_as code.Sf5 _ refl refl refl
 second_script_told script.BadField number = told_as code.Sf6 _ refl refl refl
+second_script_told script.UnknownCable number = told_as code.Sf7 _ refl refl refl
 
 port_told : (cause : ScriptCause) → TellsCode (port_line (script_code cause))
 port_told script.Malformed = told_as code.Sf1 _ refl refl refl
@@ -93,6 +95,7 @@ port_told script.ManagerPort = told_as code.Sf3 _ refl refl refl
 port_told script.UncabledPort = told_as code.Sf4 _ refl refl refl
 port_told script.PayloadTooLong = told_as code.Sf5 _ refl refl refl
 port_told script.BadField = told_as code.Sf6 _ refl refl refl
+port_told script.UnknownCable = told_as code.Sf7 _ refl refl refl
 
 sweep_told : (fault : SweepFault) → TellsCode (run_line (run.Sweep fault))
 sweep_told sweep.NoMemory = told_as code.Memory _ refl refl refl

@@ -10,7 +10,9 @@ use Rattle.fabric_cli.specs.declared.faults.Stop.{Stop}
 use Rattle.fabric_cli.specs.declared.faults.Stop.TheVariants.{Words, NoMemory, Unread, Unwritten, Run, Second}
 use Rattle.fabric_cli.specs.Faults.{LeavesUnread, NamesUnread}
 use Rattle.fabric_cli.specs.Files.{Contents, OpensAll, OpensInOrder, StopsAt, all_open}
-use Rattle.fabric_cli.specs.Serving.{Ending, bytes_if_named, bytes_of, opened_bytes}
+use Rattle.fabric_cli.specs.Serving.{Bytes, Ending, OfScript, bytes_if_named, bytes_of, left_in, opened_bytes, script_in, texts_in, texts_of}
+use Rattle.fabric_cli.specs.declared.texts.Texts.{Texts}
+use Rattle.call_words.specs.Words.{Names}
 use Rattle.call_words.specs.declared.call.Work.{Work}
 use Rattle.call_words.specs.declared.call.Work.TheVariants as work
 use Rattle.text_streams.specs.Reading.{IsEndless}
@@ -197,3 +199,16 @@ named_unread (Some file) reads old new names Is NoMemory leaves last = tt
 named_unread (Some file) reads old new names Is Unwritten leaves last = tt
 named_unread (Some file) reads old new names Is (Run fault) leaves last = tt
 named_unread (Some file) reads old new names Is (Second line cause) leaves last = tt
+
+-- ---- what is judged of the texts of files
+script_known : (known : Option (List ℕ)) (Is : List ℕ → Type 0) → is_some known ≡ true → OfScript known Is → Is (unwrap_or known [])
+script_known None Is some of = absurd cc
+script_known (Some all) Is some of = subst Is of.1 of.2
+
+pub told_texts : {I : Type 0} (told : Option Contents) (names : Names) (texts : Texts I) (remaining : I → Option (List ℕ)) (Is : Result Bytes Ending → Type 0)
+    → IfSome told (λ _. is_some (left_in remaining texts.task) ≡ true)
+    → IfSome told (λ file. texts_of file names ≡ Ok (texts_in (script_in remaining texts.task) texts))
+    → OfScript (left_in remaining texts.task) (λ script. Is (Ok (texts_in script texts))) → IfSome told (λ file. Is (texts_of file names))
+told_texts None names texts remaining Is known are of = tt
+told_texts (Some file) names texts remaining Is known are of =
+    subst Is (sym are) (script_known (left_in remaining texts.task) (λ script. Is (Ok (texts_in script texts))) known of)

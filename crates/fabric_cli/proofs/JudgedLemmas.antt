@@ -8,8 +8,8 @@ use Rattle.result_words.proofs.StepLemmas.{same_err}
 use Rattle.topo_file.specs.Topology.{TopologyState, topology_of}
 use Rattle.partition_file.specs.declared.partition.Partition.{Partition}
 use Rattle.fabric_parts.specs.declared.cable.PortRef.{PortRef}
-use Rattle.subnet_core.proofs.BringUpLemmas.{same_roster}
-use Rattle.subnet_core.specs.BringUp.{Becomes, FailsWith, IsUp, Turns, WithFabric, stop_of, up_from}
+use Rattle.subnet_core.specs.After.{IsUpBy, TurnsAfter, left_from, script_read}
+use Rattle.subnet_core.specs.BringUp.{Becomes, FailsWith, Turns, WithFabric, stop_of, up_from}
 use Rattle.subnet_core.specs.Listing.{listing_text}
 use Rattle.subnet_core.specs.Roster.{RosterState, fault_in, of_text, partitions_for, roster_of}
 use Rattle.subnet_core.specs.Comparison.{Compares, TwoRunsState, TwoScriptsState, of_port, two_runs_of, two_scripts_of}
@@ -210,13 +210,24 @@ module _ (topology : List ℕ) (partitions : Option (List ℕ)) (asked : Work (L
     comes_over (Ok text) is = for_over _ is
     comes_over (Err stop) is = stops_over stop is
 
--- ---- a fabric that is not brought up
-stop_turns : (found : Result RosterState RunFault) (stop : Option RunFault) (fault : RunFault) → Becomes found stop → up_from found stop ≡ Err fault
-    → Turns found (Err fault) × ((what : Inspection (List ℕ)) → inspected found what (Err fault) ≡ faulted (run_status fault) (run_line fault))
-unfolding up_from
-stop_turns (Ok roster) None fault becomes is = absurd cc
-stop_turns (Ok roster) (Some other) fault becomes is = (rw (same_err other fault is) at becomes, λ what. refl)
-stop_turns (Err other) stop fault becomes is = (tt, λ what. rw (same_err other fault is) refl)
+-- ---- a fabric that is not brought up, or a script that has a fault
+stop_turns : (found : Result RosterState RunFault) (script : Option (List ℕ)) (stop : Option RunFault) (fault : RunFault) → Becomes found stop
+    → left_from found script stop ≡ Err fault
+    → (outcome : Result BroughtUpState RunFault) × TurnsAfter found script outcome
+    × ((what : Inspection (List ℕ)) → inspected found what script outcome ≡ faulted (run_status fault) (run_line fault))
+unfolding left_from up_from
+stop_turns (Ok roster) None None fault becomes is = absurd cc
+stop_turns (Ok roster) (Some script) None fault becomes is = by (commands_in roster.plan script) refl
+  where
+    by : (read : Result (List Command) (AtLine ScriptCause)) → commands_in roster.plan script ≡ read
+        → (outcome : Result BroughtUpState RunFault) × TurnsAfter (Ok roster) (Some script) outcome
+        × ((what : Inspection (List ℕ)) → inspected (Ok roster) what (Some script) outcome ≡ faulted (run_status fault) (run_line fault))
+    by (Ok commands) e = let none : Ok commands ≡ Err fault = rw e at is in absurd cc
+    by (Err at) e =
+        let same : run.Script at.line at.cause ≡ fault = same_err _ _ (rw e at is) in
+        (Ok becomes.0, rw e becomes.1, λ what. rw (e, sym same) refl)
+stop_turns (Ok roster) script (Some other) fault becomes is = (Err fault, rw (same_err other fault is) at becomes, λ what. refl)
+stop_turns (Err other) script stop fault becomes is = (Err fault, tt, λ what. rw (same_err other fault is) refl)
 
 module _ (topology : List ℕ) (partitions : Option (List ℕ)) where
   abbrev given : Result RosterState RunFault
@@ -272,23 +283,40 @@ module _ (topology : List ℕ) (partitions : Option (List ℕ)) where
       let turns = outcome_of given up.stop up.becomes in
       record { outcome = turns.0; comparison = comparison; comes = (turns.1, rw (turns.2, up.is) compares); is = rw (turns.2, up.is, told) refl }
 
-  -- ---- what a fabric holds
-  pub is_inspected : (what : Inspection (List ℕ)) (roster : RosterState) (up : BroughtUpState) (result : Result (Vec ℕ Global) Stop)
-      → WithFabric given (λ stop. up_from given stop ≡ Ok roster) → IsUp roster up
-      → ComesTo (λ text. text.items) (Err (looked_at roster up what)) result
-      → ComesTo (λ text. text.items) (texts_with topology partitions (work.Inspect what)) result
-  is_inspected what roster up result told is_up comes =
-      let found = same_roster given told.stop roster told.is in
-      comes_over topology partitions (work.Inspect what) (Ok up) (rw found is_up) result (rw found comes)
+  -- ---- what a fabric holds, after a script, if there is one
+  left_turns : (found : Result RosterState RunFault) (script : Option (List ℕ)) (roster : RosterState) (up : BroughtUpState) → found ≡ Ok roster → IsUpBy roster up script
+      → TurnsAfter found script (Ok up) × ((what : Inspection (List ℕ)) → inspected found what script (Ok up) ≡ looked_at roster up what)
+  left_turns found None roster up is by = (rw is by, λ what. rw is refl)
+  left_turns found (Some script) roster up is by = (rw (is, by.1) by.2, λ what. rw (is, by.1) refl)
 
-  pub inspection_stops : (what : Inspection (List ℕ)) (fault : RunFault) → FailsWith given (fault_in fault) (up_from given)
-      → RunStops (texts_with topology partitions (work.Inspect what)) fault
-  inspection_stops what fault fails =
-      stopped_by (texts_with topology partitions (work.Inspect what)) fault (λ told.
-      let up : WithFabric given (λ stop. up_from given stop ≡ Err fault) = rw told at fails in
-      let one : run_status fault ≡ 1 = up_at_one topology partitions up.stop fault up.becomes up.is in
-      let turns = stop_turns given up.stop fault up.becomes up.is in
-      (one, record { outcome = Err fault; comparison = none_compared; comes = turns.0; is = turns.1 what ∙ ap (λ (status : ℕ). faulted status (run_line fault)) one }))
+  pub is_inspected : (what : Inspection (List ℕ)) (script : Option (List ℕ)) (roster : RosterState) (up : BroughtUpState) (result : Result (Vec ℕ Global) Stop)
+      → given ≡ Ok roster → IsUpBy roster up script → ComesTo (λ text. text.items) (Err (looked_at roster up what)) result
+      → ComesTo (λ text. text.items) (texts_with topology partitions (work.Inspect what script)) result
+  is_inspected what script roster up result is by comes =
+      let turns = left_turns given script roster up is by in
+      comes_over topology partitions (work.Inspect what script) (Ok up) turns.0 result (rw (turns.1 what) comes)
+
+  script_at_one : (plan : TopologyState) (script : Option (List ℕ)) (fault : RunFault) → script_read plan script ≡ Err fault → run_status fault ≡ 1
+  script_at_one plan None fault is = absurd cc
+  script_at_one plan (Some script) fault is = of_text_at_one run.Script (λ line cause. refl) (commands_in plan script) fault is
+
+  left_at_one : (script : Option (List ℕ)) (stop : Option RunFault) (fault : RunFault) → Becomes given stop → left_from given script stop ≡ Err fault
+      → run_status fault ≡ 1
+  unfolding left_from
+  left_at_one script stop fault becomes is = by (up_from given stop) refl
+    where
+      by : (up : Result RosterState RunFault) → up_from given stop ≡ up → run_status fault ≡ 1
+      by (Err other) e = let same : other ≡ fault = same_err _ _ (rw e at is) in up_at_one topology partitions stop fault becomes (e ∙ ap Err same)
+      by (Ok roster) e = script_at_one roster.plan script fault (rw e at is)
+
+  pub inspection_stops : (what : Inspection (List ℕ)) (script : Option (List ℕ)) (fault : RunFault) → FailsWith given (fault_in fault) (left_from given script)
+      → RunStops (texts_with topology partitions (work.Inspect what script)) fault
+  inspection_stops what script fault fails =
+      stopped_by (texts_with topology partitions (work.Inspect what script)) fault (λ told.
+      let up : WithFabric given (λ stop. left_from given script stop ≡ Err fault) = rw told at fails in
+      let one : run_status fault ≡ 1 = left_at_one script up.stop fault up.becomes up.is in
+      let turns = stop_turns given script up.stop fault up.becomes up.is in
+      (one, record { outcome = turns.0; comparison = none_compared; comes = turns.1; is = turns.2 what ∙ ap (λ (status : ℕ). faulted status (run_line fault)) one }))
 
   -- ---- shares and changes, which take no fabric
   pub roster_stops : (fault : RunFault) (ending : Ending) → Fails (fault_in fault) given → (given ≡ Err fault → ending ≡ faulted (run_status fault) (run_line fault))

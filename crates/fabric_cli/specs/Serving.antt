@@ -17,7 +17,9 @@ use Rattle.partition_file.specs.Fault.{code_of as partitions_code}
 use Rattle.partition_changes.specs.Changes.{text_of_changes}
 use Rattle.subnet_core.specs.Listing.{listing_text}
 use Rattle.script_lines.specs.NamedPort.{adapter_place, named_port}
+use Rattle.script_lines.specs.Script.{commands_in}
 use Rattle.subnet_fabric.specs.BringUp.{BroughtUpState}
+use Rattle.subnet_core.specs.After.{TurnsAfter}
 use Rattle.subnet_core.specs.BringUp.{Turns, stop_of, up_from}
 use Rattle.subnet_core.specs.Roster.{RosterState, roster_of}
 use Rattle.subnet_core.specs.Comparison.{Compares, TwoRunsState, two_runs_of}
@@ -67,7 +69,7 @@ abbrev pub task_work : {I : Type 0} → List ℕ → Task I → Work (List ℕ) 
 task_work script task.Check = work.Check
 task_work script (task.Shares port) = work.Shares (option_map (λ word. word.now) port)
 task_work script (task.Diff second) = work.Diff (option_map (λ bytes. bytes.items) second)
-task_work script (task.Inspect what) = work.Inspect (named_inspection what)
+task_work script (task.Inspect what before) = work.Inspect (named_inspection what) (option_map (λ bytes. bytes.items) before)
 task_work script (task.Run name input) = work.Run script
 task_work script (task.Compare first second port) = work.Compare first.items second.items port.now
 
@@ -112,7 +114,7 @@ abbrev pub work_of : Contents → Work (List ℕ) (List ℕ) → Result (Work (L
 work_of file work.Check = Ok work.Check
 work_of file (work.Shares port) = Ok (work.Shares port)
 work_of file (work.Diff name) = bytes_if_named file name >>= λ bytes. Ok (work.Diff bytes)
-work_of file (work.Inspect what) = Ok (work.Inspect what)
+work_of file (work.Inspect what script) = bytes_if_named file script >>= λ bytes. Ok (work.Inspect what bytes)
 work_of file (work.Run name) = bytes_of file name >>= λ bytes. Ok (work.Run bytes)
 work_of file (work.Compare first second port) = do
   bytes ← bytes_of file first
@@ -188,7 +190,7 @@ changes_in (Ok before) (Err fault) = second_told fault
 changes_in (Err fault) after = faulted (run_status fault) (run_line fault)
 
 -- ---- what the fabric of a subnet holds, by its routes
--- the way of a packet: the fabric is brought up before the word for its port is judged
+-- the way of a packet: the fabric is brought up, and a script read, before the word for its port is judged
 abbrev pub traced : RosterState → BroughtUpState → (dlid p_key : ℕ) → Result PortRef ScriptCause → Ending
 traced roster up dlid p_key (Ok from) = complete (trace_text roster.plan.nodes up.fabric from dlid p_key)
 traced roster up dlid p_key (Err cause) = faulted 1 (port_line (script_code cause))
@@ -197,15 +199,24 @@ abbrev pub looked_at : RosterState → BroughtUpState → Inspection (List ℕ) 
 looked_at roster up Tables = complete (tables_text roster.plan.nodes roster.configuration.ports up.routes.graph.switches up.fabric)
 looked_at roster up Keys = complete (keys_text roster.plan.nodes roster.configuration.ports up.fabric)
 looked_at roster up (Trace port dlid p_key) = traced roster up dlid p_key (adapter_place roster.plan port)
-looked_at roster up Graph = complete (graph_text roster.plan roster.configuration up.routes)
+looked_at roster up Graph = complete (graph_text roster.plan roster.configuration up.routes up.fabric)
 
-abbrev pub looked_in : RosterState → Inspection (List ℕ) → Result BroughtUpState RunFault → Ending
-looked_in roster what (Ok up) = looked_at roster up what
-looked_in roster what (Err fault) = faulted (run_status fault) (run_line fault)
+-- what a script left of it, or the fault of that
+abbrev pub looked_after : RosterState → BroughtUpState → Inspection (List ℕ) → Result (List Command) (AtLine ScriptCause) → Ending
+looked_after roster up what (Ok commands) = looked_at roster up what
+looked_after roster up what (Err at) = faulted 1 (script_line (script_code at.cause) at.line)
 
-abbrev pub inspected : Result RosterState RunFault → Inspection (List ℕ) → Result BroughtUpState RunFault → Ending
-inspected (Ok roster) what outcome = looked_in roster what outcome
-inspected (Err fault) what outcome = faulted (run_status fault) (run_line fault)
+abbrev pub looked_by : RosterState → BroughtUpState → Inspection (List ℕ) → Option (List ℕ) → Ending
+looked_by roster up what None = looked_at roster up what
+looked_by roster up what (Some script) = looked_after roster up what (commands_in roster.plan script)
+
+abbrev pub looked_in : RosterState → Inspection (List ℕ) → Option (List ℕ) → Result BroughtUpState RunFault → Ending
+looked_in roster what script (Ok up) = looked_by roster up what script
+looked_in roster what script (Err fault) = faulted (run_status fault) (run_line fault)
+
+abbrev pub inspected : Result RosterState RunFault → Inspection (List ℕ) → Option (List ℕ) → Result BroughtUpState RunFault → Ending
+inspected (Ok roster) what script outcome = looked_in roster what script outcome
+inspected (Err fault) what script outcome = faulted (run_status fault) (run_line fault)
 
 -- ---- all of it
 -- by what becomes of the fabric: it is up, or this fault stops it; and by what two runs are compared as
@@ -214,7 +225,8 @@ ending_over topology partitions work.Check outcome comparison = ending_by (liste
 ending_over topology partitions (work.Shares port) outcome comparison = shares_in (roster_of topology partitions) port
 ending_over topology partitions (work.Diff second) outcome comparison =
     changes_in (roster_of topology partitions) (roster_of topology second)
-ending_over topology partitions (work.Inspect what) outcome comparison = inspected (roster_of topology partitions) what outcome
+ending_over topology partitions (work.Inspect what script) outcome comparison =
+    inspected (roster_of topology partitions) what script outcome
 ending_over topology partitions (work.Run script) outcome comparison =
     run_in (up_from (roster_of topology partitions) (stop_of outcome)) script
 ending_over topology partitions (work.Compare first second port) outcome comparison =
@@ -225,7 +237,7 @@ abbrev pub Comes : List ℕ → Option (List ℕ) → Work (List ℕ) (List ℕ)
 Comes topology partitions work.Check outcome comparison = Turns (roster_of topology partitions) outcome
 Comes topology partitions (work.Shares port) outcome comparison = Unit {0}
 Comes topology partitions (work.Diff second) outcome comparison = Unit {0}
-Comes topology partitions (work.Inspect what) outcome comparison = Turns (roster_of topology partitions) outcome
+Comes topology partitions (work.Inspect what script) outcome comparison = TurnsAfter (roster_of topology partitions) script outcome
 Comes topology partitions (work.Run script) outcome comparison = Turns (roster_of topology partitions) outcome
 Comes topology partitions (work.Compare first second port) outcome comparison =
     Turns (roster_of topology partitions) outcome
@@ -254,7 +266,7 @@ abbrev pub without_files : {W S : Type 0} → Work W S → Work W (Unit {0})
 without_files work.Check = work.Check
 without_files (work.Shares port) = work.Shares port
 without_files (work.Diff second) = work.Diff (option_map (λ file. tt) second)
-without_files (work.Inspect what) = work.Inspect what
+without_files (work.Inspect what script) = work.Inspect what (option_map (λ file. tt) script)
 without_files (work.Run script) = work.Run tt
 without_files (work.Compare first second port) = work.Compare tt tt port
 

@@ -38,7 +38,10 @@ pub fn answered_of_texts<'a, I: Reader + Drop, O: Output>(
             let second = slice_of(&second);
             written(out, changed(alloc, topology, partitions, second))
         }
-        Task::Inspect(what) => written(out, inspected(alloc, topology, partitions, &what)),
+        Task::Inspect { what, script } => {
+            let script = slice_of(&script);
+            written(out, inspected(alloc, topology, partitions, &what, script))
+        }
         Task::Run { name, mut input } => {
             streamed(alloc, topology, partitions, name, &mut input, out)
         }

@@ -21,7 +21,7 @@ use partition_changes::changes_text;
 use port_shares::shares_text;
 use std::alloc::{AllocError, Global};
 use subnet_core::{
-    Comparison, Roster, RunFault, ScriptCause, Subnet, bring_up, compare, read_roster,
+    Comparison, Roster, RunFault, ScriptCause, Subnet, bring_up, compare, left_by, read_roster,
 };
 
 /// The listing of a subnet that is brought up.
@@ -125,18 +125,19 @@ fn second_stop<'a>(fault: RunFault) -> Stop<'a>
     }
 }
 
-/// What the fabric of a subnet holds.
+/// What the fabric of a subnet holds, after a script, if there is one.
 pub fn inspected<'a>(
     alloc: Global,
     topology: &[u8],
     partitions: Option<&[u8]>,
     what: &Inspection<&str>,
+    script: Option<&[u8]>,
 ) -> Result<Vec<u8>, Stop<'a>>
-    ensures exact { ComesTo (λ text. text.items)
-        (texts_with topology.now (option_copied partitions.entry) (work.Inspect (named_inspection what.now))) result }
+    ensures exact { ComesTo (λ text. text.items) (texts_with topology.now (option_copied partitions.entry)
+        (work.Inspect (named_inspection what.now) (option_copied script.entry))) result }
     ensures fault { IfErr result IsOfRun }
 {
-    match bring_up(alloc, topology, partitions) {
+    match left_by(alloc, topology, partitions, script) {
         Ok(subnet) => looked_at(alloc, &subnet, what),
         Err(fault) => Err(Stop::Run(fault)),
     }
@@ -191,6 +192,7 @@ fn drawn<'a>(alloc: Global, subnet: &Subnet) -> Result<Vec<u8>, Stop<'a>>
         roster.topology(),
         roster.configuration(),
         subnet.routes(),
+        subnet.fabric(),
     ))
 }
 

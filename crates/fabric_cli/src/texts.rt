@@ -24,7 +24,12 @@ pub enum Task<'a, I> {
     /// List what these partitions change, or that there is no file of them.
     Diff(Option<Vec<u8>>),
     /// Look at what the fabric holds.
-    Inspect(Inspection<&'a str>),
+    Inspect {
+        /// At which part of it.
+        what: Inspection<&'a str>,
+        /// The script that is carried out before, if there is one.
+        script: Option<Vec<u8>>,
+    },
     /// Run a script.
     Run {
         /// Its name.
@@ -142,7 +147,10 @@ fn task_of<'a, F: Files>(
         Work::Check => Ok(Task::Check),
         Work::Shares(port) => Ok(Task::Shares(*port)),
         Work::Diff(second) => Ok(Task::Diff(read_if_named(alloc, files, *second)?)),
-        Work::Inspect(what) => Ok(Task::Inspect(copy_of(what))),
+        Work::Inspect { what, script } => Ok(Task::Inspect {
+            what: copy_of(what),
+            script: read_if_named(alloc, files, *script)?,
+        }),
         Work::Run(script) => Ok(Task::Run {
             name: *script,
             input: open_file(files, *script)?,

@@ -1,19 +1,18 @@
 -- Each cable is drawn once: as an edge, or as the line of the adapter in a list at which it ends.
-use Rattle.std.proofs.Common.{ℕ, zero, suc, ◌+◌, ◌<◌, ◌≤◌, ◌≡◌, ◌≢◌, ◌⊎◌, ◌==◌, ◌∙◌, ap, ap₂, refl, sym, arith, ◌&&◌, ◌||◌, not, inl, inr, if◌then◌else◌}
-use Rattle.std.proofs.Common.{Bool, true, false, List, [], ◌∷◌, length, map, nat_le, Option, Some, None, option_map, slice_get}
+use Rattle.std.proofs.Common.{ℕ, zero, suc, ◌+◌, ◌<◌, ◌≡◌, ◌⊎◌, ◌==◌, ◌∙◌, ap, ap₂, refl, sym, arith, ◌&&◌, ◌||◌, not, inl, inr, if◌then◌else◌}
+use Rattle.std.proofs.Common.{Bool, true, false, List, [], ◌∷◌, length, nat_le, Option, Some, None, option_map, slice_get}
 use Rattle.std.specs.Prelude.{filter, find}
-use Rattle.std.specs.List.{IsDistinct, list_all, list_any, range_with_len}
-use Rattle.std.specs.Option.{option_and_then, option_map_or}
+use Rattle.std.specs.List.{IsDistinct, list_any, range_with_len}
+use Rattle.std.specs.Option.{option_and_then}
 use Rattle.std.proofs.lemmas.Bool.{cases_Bool, eq-eqb, eqb-true, leb-true}
 use Rattle.std.proofs.lemmas.List.{length-map}
 use Rattle.std.proofs.lemmas.List.FromFn.{length-range_with_len}
 use Rattle.std.proofs.lemmas.Map.Keys.{IsDistinct-tail}
 use Rattle.std.proofs.lemmas.Option.{same_Some, slice_get-map, slice_get_within}
-use Rattle.fabric_graph.proofs.DrawnLemmas.{and_both, clashing, listed_is, one_in_range, only, other_number}
-use Rattle.fabric_graph.specs.Laws.{EachCableIsDrawnOnce, joins, shows_cable}
+use Rattle.fabric_graph.proofs.DrawnLemmas.{and_both, clashing, listed_is, one_in_range, only}
+use Rattle.fabric_graph.specs.Laws.{EachCableIsDrawnOnce, shows_cable}
 use Rattle.fabric_graph.specs.Lists.{SeatState, is_in_list, is_listed, listed_seat, may_be_listed, places, seat_at, seat_behind, seat_in, seat_of, seats_of}
-use Rattle.fabric_graph.specs.Nodes.{is_manager}
-use Rattle.fabric_parts.specs.Cable.{ends_at, far_end, is_same_port, other_end, port}
+use Rattle.fabric_parts.specs.Cable.{ends_at, far_end, is_same_port, port}
 use Rattle.fabric_parts.specs.declared.cable.Cable.{Cable}
 use Rattle.fabric_parts.specs.declared.cable.PortRef.{PortRef}
 use Rattle.result_words.proofs.DistinctLemmas.{none_shares}

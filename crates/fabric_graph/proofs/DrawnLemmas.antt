@@ -1,16 +1,15 @@
 -- Each node is drawn once: by itself, or in the list that is drawn at its first adapter.
-use Rattle.std.proofs.Common.{ℕ, zero, suc, ◌+◌, ◌<◌, ◌≤◌, ◌≡◌, ◌≢◌, ◌==◌, ◌∙◌, ap, refl, sym, subst, arith, ◌&&◌, inl, inr, if◌then◌else◌}
-use Rattle.std.proofs.Common.{Bool, true, false, List, [], ◌∷◌, ◌++◌, length, Option, Some, None, option_map, slice_get}
-use Rattle.std.specs.Prelude.{count_by, filter, find}
+use Rattle.std.proofs.Common.{ℕ, zero, suc, ◌+◌, ◌<◌, ◌≤◌, ◌≡◌, ◌≢◌, ◌==◌, ◌∙◌, ap, refl, sym, arith, ◌&&◌, inl, inr, if◌then◌else◌}
+use Rattle.std.proofs.Common.{Bool, true, false, List, [], ◌∷◌, ◌++◌, length, Option, Some, None}
+use Rattle.std.specs.Prelude.{filter, find}
 use Rattle.std.specs.List.{flat_map, range_with_len}
 use Rattle.std.specs.Str.{bytes_eq}
 use Rattle.std.proofs.lemmas.Slice.Eq.{bytes_eq-Decides}
-use Rattle.std.specs.Option.{option_and_then, option_map_or}
 use Rattle.std.proofs.lemmas.Bool.{cases_Bool, eq-eqb, eqb-true}
 use Rattle.std.proofs.lemmas.List.Concat.{flat_map-cons}
 use Rattle.std.proofs.lemmas.List.Elements.{filter-append}
 use Rattle.fabric_graph.specs.Laws.{EachNodeIsDrawnOnce}
-use Rattle.fabric_graph.specs.Lists.{SeatState, drawn_at, drawn_by, if_listed, is_alike, is_beside, is_first, listed_seat, make_list, members, places, seat_in}
+use Rattle.fabric_graph.specs.Lists.{SeatState, drawn_at, if_listed, is_alike, is_beside, is_first, listed_seat, make_list, members, places, seat_in}
 use Rattle.result_words.proofs.ListLemmas.{found_passes}
 
 -- ---- one number among others

@@ -1,12 +1,14 @@
--- The cables of a topology in DOT, as edges with the numbers of the ports at both ends. DOT draws the first end of an edge
--- above the second where they are not in one row, so that each row of switches stands below that of the rank before, and
--- adapters stand below their switches.
-use Rattle.std.specs.Prelude.{ℕ, Bool, true, false, nat_lt, if◌then◌else◌, List, ◌++◌, codes, decimal, slice_get, Option}
-use Rattle.std.specs.Prelude.{Some, None}
+-- The cables of a topology in DOT, as edges with the numbers of the ports at both ends, those that are cut dashed. DOT draws the
+-- first end of an edge above the second where they are not in one row, so that each row of switches stands below that of the rank
+-- before, and adapters stand below their switches.
+use Rattle.std.specs.Prelude.{ℕ, Bool, true, false, nat_lt, if◌then◌else◌, List, [], ◌++◌, codes, decimal, slice_get, Option}
+use Rattle.std.specs.Prelude.{Some, None, is_none}
 use Rattle.std.specs.Option.{option_and_then}
 use Rattle.fabric_graph.specs.Nodes.{quoted}
 use Rattle.fabric_graph.specs.Ranks.{rank_of}
+use Rattle.fabric_parts.specs.Cable.{far_end}
 use Rattle.fabric_parts.specs.declared.cable.Cable.{Cable}
+use Rattle.smp_wire.specs.FabricState.{FabricState}
 use Rattle.topo_file.specs.declared.node.Node.{Node}
 use Rattle.topo_file.specs.Node.{name_at}
 use Rattle.updn_routes.specs.Subnet.{RoutesState}
@@ -29,6 +31,10 @@ downward routes nodes cable =
     else cable
 
 -- ---- its line
+-- nothing goes over the cable in the fabric
+abbrev pub is_cut : FabricState → Cable → Bool
+is_cut fabric cable = is_none (far_end fabric.cables cable.first)
+
 abbrev pub ends : List Node → Cable → List ℕ
 ends nodes cable = quoted (name_at nodes cable.first.node) ++ codes " -- " ++ quoted (name_at nodes cable.second.node)
 
@@ -40,9 +46,13 @@ abbrev pub end_labels : Cable → List ℕ
 end_labels cable =
     end_label (codes "taillabel") cable.first.port ++ codes ", " ++ end_label (codes "headlabel") cable.second.port
 
-abbrev pub edge_line : List Node → Cable → List ℕ
-edge_line nodes cable = codes "  " ++ ends nodes cable ++ codes " [" ++ end_labels cable ++ codes "];\n"
+-- a cable that is cut is drawn as a dashed line
+abbrev pub stroke : (cut : Bool) → List ℕ
+stroke cut = if cut then codes ", style=dashed" else []
 
--- as `"A" -- "h1" [taillabel="2", headlabel="1"];`
-abbrev pub cable_line : RoutesState → List Node → Cable → List ℕ
-cable_line routes nodes cable = edge_line nodes (downward routes nodes cable)
+abbrev pub edge_line : List Node → (cut : Bool) → Cable → List ℕ
+edge_line nodes cut cable = codes "  " ++ ends nodes cable ++ codes " [" ++ end_labels cable ++ stroke cut ++ codes "];\n"
+
+-- as `"A" -- "h1" [taillabel="2", headlabel="1"];`, or, where it is cut, `"A" -- "B" [taillabel="3", headlabel="3", style=dashed];`
+abbrev pub cable_line : RoutesState → List Node → FabricState → Cable → List ℕ
+cable_line routes nodes fabric cable = edge_line nodes (is_cut fabric cable) (downward routes nodes cable)

@@ -5,6 +5,7 @@ use Rattle.fabric_graph.specs.Cables.{cable_line}
 use Rattle.fabric_graph.specs.Lists.{SeatState, is_in_list, place_text, places, seats_of, spacing}
 use Rattle.fabric_graph.specs.Ranks.{rank_line}
 use Rattle.fabric_parts.specs.declared.cable.Cable.{Cable}
+use Rattle.smp_wire.specs.FabricState.{FabricState}
 use Rattle.subnet_model.specs.Configuration.{ConfigurationState}
 use Rattle.topo_file.specs.Topology.{TopologyState}
 use Rattle.updn_routes.specs.Subnet.{RoutesState}
@@ -18,17 +19,17 @@ abbrev pub ranks_drawn : RoutesState → List ℕ
 ranks_drawn routes = range_with_len 0 (length routes.graph.switches)
 
 -- a cable that no list shows
-abbrev pub edge_of : TopologyState → RoutesState → List (Option SeatState) → Cable → List ℕ
-edge_of plan routes seats cable = if is_in_list seats cable then [] else cable_line routes plan.nodes cable
+abbrev pub edge_of : TopologyState → RoutesState → FabricState → List (Option SeatState) → Cable → List ℕ
+edge_of plan routes fabric seats cable = if is_in_list seats cable then [] else cable_line routes plan.nodes fabric cable
 
--- each node, by itself or in a list; each rank; and each cable that no list shows
-unfoldable pub text_by : TopologyState → ConfigurationState → RoutesState → List (Option SeatState) → List ℕ
-text_by plan subnet routes seats =
+-- each node, by itself or in a list; each rank; and each cable that no list shows, those that are cut in the fabric too
+unfoldable pub text_by : TopologyState → ConfigurationState → RoutesState → FabricState → List (Option SeatState) → List ℕ
+text_by plan subnet routes fabric seats =
     head ++ spacing seats
     ++ flat_map (place_text plan subnet seats) (places seats)
     ++ flat_map (rank_line routes plan.nodes) (ranks_drawn routes)
-    ++ flat_map (edge_of plan routes seats) plan.cables
+    ++ flat_map (edge_of plan routes fabric seats) plan.cables
     ++ codes "}\n"
 
-abbrev pub graph_text : TopologyState → ConfigurationState → RoutesState → List ℕ
-graph_text plan subnet routes = text_by plan subnet routes (seats_of plan subnet)
+abbrev pub graph_text : TopologyState → ConfigurationState → RoutesState → FabricState → List ℕ
+graph_text plan subnet routes fabric = text_by plan subnet routes fabric (seats_of plan subnet)

@@ -1,6 +1,6 @@
 -- The lists of a picture: channel adapters of one port that hang on one switch and are in the same partitions stand in one node
 -- of it, a line for each.
-use Rattle.std.specs.Prelude.{ℕ, ◌==◌, ◌&&◌, ◌||◌, Bool, true, false, not, nat_eq, nat_le, count_by, filter, find}
+use Rattle.std.specs.Prelude.{ℕ, ◌==◌, ◌&&◌, ◌||◌, Bool, false, not, nat_le, count_by, filter, find}
 use Rattle.std.specs.Prelude.{if◌then◌else◌, length, map, slice_get}
 use Rattle.std.specs.Prelude.{List, [], ◌∷◌, ◌++◌, codes, decimal, flat_map, Option, Some, None, is_some, option_map}
 use Rattle.std.specs.Int.{w16, to_be_bytes}

@@ -1,11 +1,13 @@
-//! The cables of a topology, as edges.
+//! The cables of a topology, as edges; those that are cut in the fabric are dashed.
 
 ghost use Rattle.std.specs.Prelude.{◌≡◌, ◌++◌, OnOk};
-ghost use Rattle.fabric_graph.specs.Cables.{cable_line, downward, edge_line, end_label, end_labels, ends, is_above, rank_at};
+ghost use Rattle.fabric_graph.specs.Cables.{cable_line, downward, edge_line, end_label, end_labels, ends, is_above, is_cut, rank_at};
+ghost use Rattle.fabric_graph.specs.Cables.{stroke};
 
 use crate::nodes::push_quoted;
 use crate::ranks::rank_of;
 use fabric_parts::Cable;
+use fabric_wire::Fabric;
 use line_parts::push_decimal;
 use std::alloc::AllocError;
 use topo_file::{Node, name_at};
@@ -16,11 +18,20 @@ pub(crate) fn push_cable_line(
     text: &mut Vec<u8>,
     routes: &Routes,
     nodes: &[Node],
+    fabric: &Fabric,
     cable: &Cable,
 ) -> Result<(), AllocError>
-    ensures { OnOk result (text.new.items ≡ text.old.items ++ cable_line routes.now nodes.now cable.now) }
+    ensures { OnOk result (text.new.items ≡ text.old.items ++ cable_line routes.now nodes.now fabric.now cable.now) }
 {
-    push_edge_line(text, nodes, downward(routes, nodes, *cable))
+    let cut = is_cut(fabric, cable);
+    push_edge_line(text, nodes, cut, downward(routes, nodes, *cable))
+}
+
+/// Whether nothing goes over this cable of the topology in the fabric.
+fn is_cut(fabric: &Fabric, cable: &Cable) -> bool
+    ensures { result ≡ is_cut fabric.now cable.now }
+{
+    fabric.far_end(cable.first).is_none()
 }
 
 /// The cable from its upper end.
@@ -57,14 +68,27 @@ fn is_above(one: Option<usize>, other: Option<usize>) -> bool
     }
 }
 
-fn push_edge_line(text: &mut Vec<u8>, nodes: &[Node], cable: Cable) -> Result<(), AllocError>
-    ensures { OnOk result (text.new.items ≡ text.old.items ++ edge_line nodes.now cable) }
+fn push_edge_line(
+    text: &mut Vec<u8>,
+    nodes: &[Node],
+    cut: bool,
+    cable: Cable,
+) -> Result<(), AllocError>
+    ensures { OnOk result (text.new.items ≡ text.old.items ++ edge_line nodes.now cut cable) }
 {
     text.extend_from_slice(b"  ")?;
     push_ends(text, nodes, cable)?;
     text.extend_from_slice(b" [")?;
     push_end_labels(text, cable)?;
+    text.extend_from_slice(stroke(cut))?;
     text.extend_from_slice(b"];\n")
+}
+
+/// How the edge of a cable is drawn.
+fn stroke(cut: bool) -> &'static [u8]
+    ensures { result.now ≡ stroke cut }
+{
+    if cut { b", style=dashed" } else { b"" }
 }
 
 fn push_ends(text: &mut Vec<u8>, nodes: &[Node], cable: Cable) -> Result<(), AllocError>

@@ -11,6 +11,7 @@ use crate::list_lines::push_place_text;
 use crate::lists::{Seat, has_lists, is_in_list, seats_of};
 use crate::ranks::push_rank_line;
 use fabric_parts::Cable;
+use fabric_wire::Fabric;
 use std::alloc::{AllocError, Global};
 use subnet_model::Configuration;
 use topo_file::{Node, Topology};
@@ -21,17 +22,25 @@ use updn_routes::Routes;
 /// alone can be refused.
 ///
 /// Switches are boxes and channel adapters ellipses, with the LIDs of their ports, and adapters are coloured by the
-/// partitions other than the default one that they are in.
+/// partitions other than the default one that they are in. Cables that are cut in the fabric are dashed.
 pub fn graph_text(
     alloc: Global,
     topology: &Topology,
     configuration: &Configuration,
     routes: &Routes,
+    fabric: &Fabric,
 ) -> Result<Vec<u8>, AllocError>
-    ensures { IfOk result (λ text. text.items ≡ graph_text topology.now configuration.now routes.now) }
+    ensures { IfOk result (λ text. text.items ≡ graph_text topology.now configuration.now routes.now fabric.now) }
 {
     let seats = seats_of(alloc, topology, configuration)?;
-    text_by(alloc, topology, configuration, routes, seats.as_slice())
+    text_by(
+        alloc,
+        topology,
+        configuration,
+        routes,
+        fabric,
+        seats.as_slice(),
+    )
 }
 
 #[tactic(auto, unfolding(crate::specs::Graph::text_by))]
@@ -40,16 +49,17 @@ fn text_by(
     topology: &Topology,
     configuration: &Configuration,
     routes: &Routes,
+    fabric: &Fabric,
     seats: &[Option<Seat>],
 ) -> Result<Vec<u8>, AllocError>
-    ensures { IfOk result (λ text. text.items ≡ text_by topology.now configuration.now routes.now seats.now) }
+    ensures { IfOk result (λ text. text.items ≡ text_by topology.now configuration.now routes.now fabric.now seats.now) }
 {
     let mut text = Vec::new(alloc);
     text.extend_from_slice(head())?;
     text.extend_from_slice(spacing(seats))?;
     push_nodes(alloc, &mut text, topology, configuration, seats)?;
     push_ranks(&mut text, routes, topology.nodes())?;
-    push_cables(&mut text, topology, routes, seats)?;
+    push_cables(&mut text, topology, routes, fabric, seats)?;
     text.extend_from_slice(b"}\n")?;
     Ok(text)
 }
@@ -104,13 +114,14 @@ fn push_cables(
     text: &mut Vec<u8>,
     topology: &Topology,
     routes: &Routes,
+    fabric: &Fabric,
     seats: &[Option<Seat>],
 ) -> Result<(), AllocError>
     ensures { OnOk result (text.new.items
-        ≡ text.old.items ++ flat_map (edge_of topology.now routes.now seats.now) topology.now.cables) }
+        ≡ text.old.items ++ flat_map (edge_of topology.now routes.now fabric.now seats.now) topology.now.cables) }
 {
     for cable in topology.cables() {
-        push_edge_of(text, topology, routes, seats, cable)?;
+        push_edge_of(text, topology, routes, fabric, seats, cable)?;
     }
     Ok(())
 }
@@ -120,14 +131,15 @@ fn push_edge_of(
     text: &mut Vec<u8>,
     topology: &Topology,
     routes: &Routes,
+    fabric: &Fabric,
     seats: &[Option<Seat>],
     cable: &Cable,
 ) -> Result<(), AllocError>
-    ensures { OnOk result (text.new.items ≡ text.old.items ++ edge_of topology.now routes.now seats.now cable.now) }
+    ensures { OnOk result (text.new.items ≡ text.old.items ++ edge_of topology.now routes.now fabric.now seats.now cable.now) }
 {
     if is_in_list(seats, cable) {
         Ok(())
     } else {
-        push_cable_line(text, routes, topology.nodes(), cable)
+        push_cable_line(text, routes, topology.nodes(), fabric, cable)
     }
 }

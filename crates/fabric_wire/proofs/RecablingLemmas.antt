@@ -24,10 +24,8 @@ use Rattle.smp_wire.proofs.CableLemmas.{ports_turn, same_port}
 use Rattle.switch_model.specs.Links.{port_linked, ports_linked}
 use Rattle.switch_model.specs.declared.switch_port.SwitchPort.{SwitchPort}
 use Rattle.switch_model.proofs.LinkLemmas.{links_keep_good}
-use Rattle.fabric_wire.specs.AdapterPorts.{IsKept}
 use Rattle.fabric_wire.specs.Laws.{CablesKeepGood}
-use Rattle.fabric_wire.specs.Cabling.{CablingState, cable_cut, cable_mended, fabric_over, is_between, is_not_between}
-use Rattle.fabric_wire.proofs.KeptPortLemmas.{alike_finds}
+use Rattle.fabric_wire.specs.Cabling.{CablingState, cable_cut, cable_mended, is_between, is_not_between}
 use Rattle.fabric_wire.specs.Recabling.{cabling_of, cabling_with, can_change, candidates, changed, node_linked, nodes_linked}
 
 -- ---- a node whose link is another
@@ -332,19 +330,6 @@ stays_good a b up fabric good can =
       manager_cabled = manager_cabled up a b fabric.manager (cabling_of fabric)
           (λ cable between. not_between old a b fabric.manager cable asks.first asks.second good.manager_adapter between) good.manager_cabled;
     }
-
--- what is kept of a fabric, in the parts that are put together anew
-pub stays_kept : (a b : PortRef) (up : Bool) (fabric : FabricState) (place_of : ℕ → Option PortRef) (nodes : List Node) (cabling : CablingState)
-    → can_change a b up fabric ≡ true → nodes ≡ nodes_linked up a (nodes_linked up b fabric.nodes) → cabling ≡ cabling_with up a b (cabling_of fabric)
-    → IsKept fabric place_of → IsKept (fabric_over nodes cabling fabric.manager) place_of
-stays_kept a b up fabric place_of nodes cabling can nodes_are cabling_is kept =
-    let same = nodes_alike up a b fabric.nodes in
-    subst (λ (some : List Node). IsKept (fabric_over some cabling fabric.manager) place_of) (sym nodes_are)
-    (subst (λ (one : CablingState). IsKept (fabric_over (nodes_linked up a (nodes_linked up b fabric.nodes)) one fabric.manager) place_of) (sym cabling_is)
-    (record {
-      good = stays_good a b up fabric kept.good can;
-      found = alike_finds fabric.nodes (nodes_linked up a (nodes_linked up b fabric.nodes)) place_of same.switches same.ends kept.found;
-    }))
 
 pub cables_keep_good : CablesKeepGood
 cables_keep_good fabric a b up good = by (can_change a b up fabric) refl

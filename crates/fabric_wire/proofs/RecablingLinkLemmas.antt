@@ -22,8 +22,10 @@ use Rattle.switch_model.specs.Links.{linked, port_linked, ports_linked, with_lin
 use Rattle.switch_model.specs.SwitchState.{SwitchState}
 use Rattle.switch_model.specs.declared.switch_port.SwitchPort.{SwitchPort}
 use Rattle.fabric_wire.proofs.CutLemmas.{Free, apart, between_one, free_first, put_behind, taken_out}
-use Rattle.fabric_wire.proofs.RecablingLemmas.{asked, linked_alike, nodes_alike, port_same, switch_same}
-use Rattle.fabric_wire.specs.Cabling.{CablingState, cable_cut, cable_mended, is_between, is_not_between}
+use Rattle.fabric_wire.proofs.KeptPortLemmas.{alike_finds}
+use Rattle.fabric_wire.proofs.RecablingLemmas.{asked, linked_alike, nodes_alike, port_same, stays_good, switch_same}
+use Rattle.fabric_wire.specs.AdapterPorts.{IsKept}
+use Rattle.fabric_wire.specs.Cabling.{CablingState, cable_cut, cable_mended, fabric_over, is_between, is_not_between}
 use Rattle.fabric_wire.specs.Laws.{CablesKeepLinks}
 use Rattle.fabric_wire.specs.Recabling.{cabling_of, cabling_with, can_change, changed, node_linked, nodes_linked}
 
@@ -256,3 +258,17 @@ cables_keep_links fabric a b up good links = by (can_change a b up fabric) refl
     by : (can : Bool) → can_change a b up fabric ≡ can → ShowsLinks (if can then changed a b up fabric else fabric)
     by true can = changed_shows a b up fabric good links can
     by false can = links
+
+-- ---- what is kept of a fabric, in the parts that are put together anew
+pub stays_kept : (a b : PortRef) (up : Bool) (fabric : FabricState) (place_of : ℕ → Option PortRef) (nodes : List Node) (cabling : CablingState)
+    → can_change a b up fabric ≡ true → nodes ≡ nodes_linked up a (nodes_linked up b fabric.nodes) → cabling ≡ cabling_with up a b (cabling_of fabric)
+    → IsKept fabric place_of → IsKept (fabric_over nodes cabling fabric.manager) place_of
+stays_kept a b up fabric place_of nodes cabling can nodes_are cabling_is kept =
+    let same = nodes_alike up a b fabric.nodes in
+    subst (λ (some : List Node). IsKept (fabric_over some cabling fabric.manager) place_of) (sym nodes_are)
+    (subst (λ (one : CablingState). IsKept (fabric_over (nodes_linked up a (nodes_linked up b fabric.nodes)) one fabric.manager) place_of) (sym cabling_is)
+    (record {
+      good = stays_good a b up fabric kept.good can;
+      links = changed_shows a b up fabric kept.good kept.links can;
+      found = alike_finds fabric.nodes (nodes_linked up a (nodes_linked up b fabric.nodes)) place_of same.switches same.ends kept.found;
+    }))

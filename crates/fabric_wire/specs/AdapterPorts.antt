@@ -2,7 +2,7 @@
 use Rattle.std.specs.Prelude.{ℕ, ◌≡◌, ◌<◌, ◌⊎◌, ◌↔◌, List, Option, Some}
 use Rattle.fabric_parts.specs.declared.cable.PortRef.{PortRef}
 use Rattle.smp_wire.specs.FabricState.{FabricState}
-use Rattle.smp_wire.specs.Good.{IsGood}
+use Rattle.smp_wire.specs.Good.{IsGood, ShowsLinks}
 use Rattle.smp_wire.specs.declared.node.Node.{Node}
 use Rattle.packet_ways.specs.Deliveries.{guid_at}
 
@@ -10,9 +10,10 @@ use Rattle.packet_ways.specs.Deliveries.{guid_at}
 abbrev pub Finds : List Node → (ℕ → Option PortRef) → Type 0
 Finds nodes place_of = (guid : ℕ) (at : PortRef) → place_of guid ≡ Some at ↔ (guid_at nodes at ≡ Some guid)
 
--- what a fabric is at all times: good, and its ports are found
+-- what a fabric is at all times: good, its links show, and its ports are found
 pub record IsKept (fabric : FabricState) (place_of : ℕ → Option PortRef) : Type 0 where
   pub good : IsGood fabric
+  pub links : ShowsLinks fabric
   pub found : Finds fabric.nodes place_of
 
 -- ---- the look-up while it is made: it has the ports before this one, node by node

@@ -87,6 +87,15 @@ impl Fabric {
         })
     }
 
+    /// What holds of every fabric at all times: it is good, and a port is Down exactly where it has no cable.
+    pub fn known_kept(&self)
+        ensures good { IsGood self.now }
+        ensures links { ShowsLinks self.now }
+    {
+        // What a value meets is known once a field is named.
+        let _ = &self.manager;
+    }
+
     /// Its nodes, with what they hold.
     pub fn nodes(&self) -> &[Node]
         ensures { result.now ≡ self.now.nodes }
@@ -126,8 +135,9 @@ impl Fabric {
         }
     }
 
-    /// Whether the ports are of switches, with a cable between them that can be mended, or cut.
-    fn can_change(&self, a: PortRef, b: PortRef, up: bool) -> bool
+    /// Whether [`Fabric::set_cable`] would change something: the ports are of switches, with a cable between them that can be
+    /// mended, or cut.
+    pub fn can_change(&self, a: PortRef, b: PortRef, up: bool) -> bool
         ensures { result ≡ can_change a b up self.now }
     {
         is_switch_at(&self.nodes, a.node)

@@ -1,7 +1,10 @@
 pub mod ReceiveLemmas
 pub mod SliceLemmas
+pub mod NobodyLemmas
+pub mod OverLemmas
 pub mod ToldLemmas
 pub mod GroupLemmas
 pub mod ListedLemmas
 pub mod StartLemmas
 pub mod ServeLemmas
+pub mod RecableLemmas

@@ -14,15 +14,13 @@ use Rattle.sa_queries.specs.Visible.{SaState}
 use Rattle.sa_replies.specs.State.{IsRememberedOf}
 use Rattle.smp_wire.specs.FabricState.{FabricState}
 use Rattle.smp_wire.specs.Good.{IsGood}
-use Rattle.subnet_fabric.proofs.GroupLemmas.{a_fabric_with_groups_is_as_listed}
-use Rattle.subnet_fabric.proofs.ListedLemmas.{up}
+use Rattle.subnet_fabric.proofs.StandingListedLemmas.{a_standing_fabric_is_as_listed, is_brought_up}
 use Rattle.subnet_fabric.specs.Laws.{all_keys}
 use Rattle.subnet_model.specs.declared.subnet_port.SubnetPort.{SubnetPort}
 use Rattle.subnet_ports.proofs.EndPortLemmas.{end_ports_stand_in_order}
 use Rattle.subnet_ports.specs.Ports.{configuration_of, ports_of}
 use Rattle.subnet_sends.specs.OfFabric.{IsFabricOf}
 use Rattle.sweep.proofs.MetLemmas.{good_once}
-use Rattle.table_push.proofs.AllMaskLemmas.{masks_keep_what_is_up}
 use Rattle.table_push.specs.BroughtUp.{IsBroughtUp}
 use Rattle.table_push.specs.BroughtUpLaws.{by_guid}
 use Rattle.topo_file.specs.Sound.{IsSound}
@@ -37,12 +35,8 @@ pub served_is_up : (plan : TopologyState) (partitions : List Partition) (groups 
     → IsSound plan → ArePartitions partitions → IsServed plan (ports_of partitions plan) groups routes fabric
     → IsBroughtUp routes (all_keys (ports_of partitions plan)) fabric
 served_is_up plan partitions groups routes fabric sound whole served =
-    let keys = all_keys (ports_of partitions plan) in
-    let receives = receives_at (ports_of partitions plan) groups in
-    let by = served.up in
-    subst (IsBroughtUp routes keys) (sym served.masks)
-    (masks_keep_what_is_up routes keys receives served.base
-    (subst (IsBroughtUp routes keys) (sym by.is) (up plan partitions sound whole routes by.are by.home by.pushed)))
+    subst (IsBroughtUp routes (all_keys (ports_of partitions plan))) (sym served.masks)
+    (is_brought_up plan partitions routes served.base (receives_at (ports_of partitions plan) groups) sound whole served.stands)
 
 -- tests that agree at each port of a channel adapter make one fabric of a list
 module _ (ports : List SubnetPort) (one other : ℕ → ℕ → Bool) (fabric : FabricState) (good : IsGood fabric)
@@ -86,7 +80,7 @@ module _ (plan : TopologyState) (partitions : List Partition) (state : SaState) 
   by_lids : IsFabricOf ports (by_guid routes.lids receives) fabric
   by_lids =
       subst (IsFabricOf ports (by_guid routes.lids receives)) (sym served.masks)
-      (a_fabric_with_groups_is_as_listed plan partitions routes served.base receives sound whole served.up
+      (a_standing_fabric_is_as_listed plan partitions routes served.base receives sound whole served.stands
       (are_of_groups ports state.partitions remembered.groups (few_numbers partitions plan state whole remembered)))
 
   agrees : (mlid : ℕ) (at : PortRef) (one : AdapterState) → IsCabledPort fabric at one

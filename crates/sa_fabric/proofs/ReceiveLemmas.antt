@@ -37,7 +37,7 @@ any_swap : {X Y : Type 0} (p : X → Y → Bool) (xs : List X) (ys : List Y) →
 any_swap p [] ys = sym (any_none ys)
 any_swap p (x ∷ xs) ys = ap (λ rest. list_any (p x) ys || rest) (any_swap p xs ys) ∙ sym (any_either (p x) (λ y. list_any (λ x. p x y) xs) ys)
 
-any_kept : {X : Type 0} (p q : X → Bool) (xs : List X) → list_any p (filter q xs) ≡ list_any (λ x. q x && p x) xs
+pub any_kept : {X : Type 0} (p q : X → Bool) (xs : List X) → list_any p (filter q xs) ≡ list_any (λ x. q x && p x) xs
 any_kept p q [] = refl
 any_kept p q (x ∷ xs) = elim (cases_Bool (q x)) [
   | inl passes ↦ rw passes (ap (λ rest. p x || rest) (any_kept p q xs))

@@ -5,11 +5,15 @@ use Rattle.pkey_rules.specs.declared.key_table.TheConstants.{PARTITIONS}
 use Rattle.sa_answer.specs.Registry.{RegistryState, changed_between}
 use Rattle.sa_groups.specs.Groups.{PartitionGroups}
 use Rattle.sa_replies.specs.State.{IsRememberedOf}
+use Rattle.fabric_wire.specs.Recabling.{cabling_of}
 use Rattle.smp_wire.specs.FabricState.{FabricState}
-use Rattle.subnet_fabric.specs.BringUp.{IsBroughtUpBy}
+use Rattle.subnet_fabric.proofs.StandingListedLemmas.{one_fabric_stands}
 use Rattle.subnet_fabric.specs.Laws.{all_keys}
+use Rattle.subnet_fabric.specs.Standing.{IsStanding}
 use Rattle.subnet_model.specs.Configuration.{ConfigurationState}
 use Rattle.subnet_model.specs.declared.subnet_port.SubnetPort.{SubnetPort}
+use Rattle.subnet_ports.specs.Ports.{ports_of}
+use Rattle.table_push.specs.BroughtUp.{IsBroughtUp}
 use Rattle.table_push.specs.Masks.{all_masks_pushed}
 use Rattle.topo_file.specs.Topology.{TopologyState}
 use Rattle.updn_routes.specs.Subnet.{RoutesState}
@@ -23,18 +27,24 @@ use Rattle.sa_fabric.specs.Served.{IsServed, Serves, receives_at}
 use Rattle.sa_fabric.specs.Slices.{CanBePushed, slices_pushed, where_in}
 
 pub one_fabric_is_served : OneFabricIsServed
-one_fabric_is_served plan ports partitions routes one other first second =
+one_fabric_is_served plan ports partitions routes one other first second same =
+    let bases = sym (ap cabling_of first.masks) ∙ same ∙ ap cabling_of second.masks in
     first.masks
-    ∙ ap (all_masks_pushed routes (receives_at ports partitions)) (first.up.is ∙ sym second.up.is)
+    ∙ one_fabric_stands plan (all_keys ports) routes (receives_at ports partitions) first.base second.base first.stands second.stands bases
     ∙ sym second.masks
 
--- ---- SMPs find their way in it
+-- ---- it is up, so SMPs find their way in it
+pub still_up : (plan : TopologyState) (routes : RoutesState) (registry : RegistryState) (fabric : FabricState) (serves : Serves plan routes registry fabric)
+    → IsBroughtUp routes (all_keys (ports_of serves.partitions plan)) fabric
+still_up plan routes registry fabric serves =
+    let groups = registry.administration.remembered.partitions in
+    let served = subst (λ (configuration : ConfigurationState). IsServed plan configuration.ports groups routes fabric) serves.configured serves.served in
+    served_is_up plan serves.partitions groups routes fabric serves.sound serves.whole served
+
 pub can_be_pushed : (plan : TopologyState) (routes : RoutesState) (registry : RegistryState) (fabric : FabricState) → Serves plan routes registry fabric
     → CanBePushed routes fabric
 can_be_pushed plan routes registry fabric serves =
-    let groups = registry.administration.remembered.partitions in
-    let served = subst (λ (configuration : ConfigurationState). IsServed plan configuration.ports groups routes fabric) serves.configured serves.served in
-    let is = served_is_up plan serves.partitions groups routes fabric serves.sound serves.whole served in
+    let is = still_up plan routes registry fabric serves in
     record { graph = is.graph; good = is.good }
 
 -- ---- and the numbers of its partitions are few
@@ -90,7 +100,7 @@ module _ (plan : TopologyState) (routes : RoutesState) (registry next : Registry
     configured = same ∙ serves.configured;
     served = record {
       base = serves.served.base;
-      up = subst (λ (configuration : ConfigurationState). IsBroughtUpBy plan (all_keys configuration.ports) routes serves.served.base) (sym same) serves.served.up;
+      stands = subst (λ (configuration : ConfigurationState). IsStanding plan (all_keys configuration.ports) routes serves.served.base) (sym same) serves.served.stands;
       masks = pushed ∙ masked;
     };
   }

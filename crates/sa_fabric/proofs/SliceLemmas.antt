@@ -5,6 +5,7 @@ use Rattle.std.specs.Option.{option_map_or}
 use Rattle.std.proofs.lemmas.Bool.{and_parts, cases_Bool, eq-eqb, eqb-true, false≢true, leb-true, ltb-true}
 use Rattle.std.proofs.lemmas.List.Folds.{list_any_more}
 use Rattle.std.proofs.lemmas.Option.{get_or_from_slice_get, same_Some}
+use Rattle.fabric_wire.specs.Recabling.{cabling_of}
 use Rattle.fabric_parts.specs.declared.lid.TheConstants.{FIRST_MULTICAST_LID}
 use Rattle.result_words.proofs.ElementLemmas.{get_other}
 use Rattle.sa_answer.specs.Registry.{RegistryState}
@@ -79,7 +80,7 @@ alike_at routes partition one other masks agree None = refl
 alike_at routes partition one other masks agree (Some place) =
     ap (λ (blocks : List (List ℕ)). with_slice partition blocks masks) (slices_are_their_own routes partition place one other agree)
 
-pushed_alike : (routes : RoutesState) (partition : ℕ) (one other : ℕ → ℕ → Bool) (fabric : FabricState)
+pub pushed_alike : (routes : RoutesState) (partition : ℕ) (one other : ℕ → ℕ → Bool) (fabric : FabricState)
     → ((mlid lid : ℕ) → is_in_slice partition mlid ≡ true → one mlid lid ≡ other mlid lid)
     → masks_pushed routes partition one fabric ≡ masks_pushed routes partition other fabric
 pushed_alike routes partition one other fabric agree =
@@ -208,3 +209,9 @@ slices_more routes registry numbers k number fabric now left there before one =
           ∙ ap (λ (n : ℕ). slices_pushed routes registry (take n numbers) fabric) up;
       stands = one.stands;
     }
+
+-- no cable is touched by a push
+pub slices_keep_cables : (routes : RoutesState) (registry : RegistryState) (numbers : List ℕ) (fabric : FabricState)
+    → cabling_of (slices_pushed routes registry numbers fabric) ≡ cabling_of fabric
+slices_keep_cables routes registry [] fabric = refl
+slices_keep_cables routes registry (number ∷ numbers) fabric = slices_keep_cables routes registry numbers (slice_pushed routes registry fabric number)

@@ -1,5 +1,6 @@
 -- What holds of every fabric that is served: the statements of the laws of `src/laws.rt`.
 use Rattle.std.specs.Prelude.{◌≡◌, List}
+use Rattle.fabric_wire.specs.Recabling.{cabling_of}
 use Rattle.partition_file.specs.Sound.{IsSound as ArePartitions}
 use Rattle.partition_file.specs.declared.partition.Partition.{Partition}
 use Rattle.sa_groups.specs.Delivery.{is_receiver_of}
@@ -32,8 +33,9 @@ StartsAreServed =
     → IsSound plan → ArePartitions partitions → IsBroughtUpBy plan (all_keys (ports_of partitions plan)) routes fabric
     → IsServed plan (ports_of partitions plan) (start_of (configuration_of partitions plan)) routes fabric
 
--- what was brought up is served by one set of masks: nothing else than who receives tells what the fabric is
+-- with the same cables in place it is served by one set of masks: nothing else than who receives tells what the fabric is
 abbrev pub OneFabricIsServed : Type 0
 OneFabricIsServed =
     (plan : TopologyState) (ports : List SubnetPort) (partitions : List PartitionGroups) (routes : RoutesState) (one other : FabricState)
-    → IsServed plan ports partitions routes one → IsServed plan ports partitions routes other → one ≡ other
+    → IsServed plan ports partitions routes one → IsServed plan ports partitions routes other → cabling_of one ≡ cabling_of other
+    → one ≡ other

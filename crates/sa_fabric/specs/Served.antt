@@ -9,8 +9,8 @@ use Rattle.sa_answer.specs.Registry.{RegistryState}
 use Rattle.sa_groups.specs.Delivery.{is_receiver_of}
 use Rattle.sa_groups.specs.Groups.{PartitionGroups}
 use Rattle.smp_wire.specs.FabricState.{FabricState}
-use Rattle.subnet_fabric.specs.BringUp.{IsBroughtUpBy}
 use Rattle.subnet_fabric.specs.Laws.{all_keys}
+use Rattle.subnet_fabric.specs.Standing.{IsStanding}
 use Rattle.subnet_model.specs.declared.subnet_port.SubnetPort.{SubnetPort}
 use Rattle.subnet_ports.specs.Ports.{configuration_of}
 use Rattle.subnet_model.specs.declared.group_receiver.GroupReceiver.{GroupReceiver}
@@ -25,11 +25,11 @@ abbrev pub receives_at : List SubnetPort → List PartitionGroups → (mlid lid 
 receives_at ports partitions mlid lid =
     list_any (λ port. (port.lid == lid) && (not (is_switch_type port.node_type) && is_receiver_of partitions mlid port.guid)) ports
 
--- it was brought up with the keys of these ports, and its masks are those of who receives by these groups
+-- it stands with the keys of these ports, and its masks are those of who receives by these groups
 pub record IsServed (plan : TopologyState) (ports : List SubnetPort) (partitions : List PartitionGroups) (routes : RoutesState)
     (fabric : FabricState) : Type 0 where
   pub base : FabricState
-  pub up : IsBroughtUpBy plan (all_keys ports) routes base
+  pub stands : IsStanding plan (all_keys ports) routes base
   pub masks : fabric ≡ all_masks_pushed routes (receives_at ports partitions) base
 
 -- a registry serves it: of the subnet of a topology and its partitions

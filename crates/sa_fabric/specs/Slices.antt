@@ -1,12 +1,15 @@
 -- The slices of partitions, pushed one after another: the clauses of `src/slices.rt`.
-use Rattle.std.specs.Prelude.{ℕ, ◌≡◌, Bool, true, if◌then◌else◌, List, slice_get, Some}
+use Rattle.std.specs.Prelude.{ℕ, ◌≡◌, ◌==◌, Bool, true, false, not, if◌then◌else◌, List, filter, length, slice_get, Some}
 use Rattle.std.specs.List.{fold, list_any}
 use Rattle.sa_answer.specs.Registry.{RegistryState}
 use Rattle.sa_groups.specs.Receivers.{receivers_of}
 use Rattle.smp_wire.specs.FabricState.{FabricState}
 use Rattle.smp_wire.specs.Good.{IsGood}
+use Rattle.smp_wire.specs.declared.node.Node.TheVariants.{Switch}
 use Rattle.subnet_model.specs.declared.group_receiver.GroupReceiver.{GroupReceiver}
 use Rattle.sweep.specs.OfFabric.{IsGraphOf}
+use Rattle.switch_model.specs.Multicast.{has_bits}
+use Rattle.switch_model.specs.SwitchState.{SwitchState}
 use Rattle.table_push.specs.Masks.{all_masks_pushed, is_in_slice, masks_pushed, receives_of}
 use Rattle.updn_routes.specs.Subnet.{RoutesState}
 
@@ -57,3 +60,19 @@ AgreesWith registry receives =
 -- one test in the slices of these partitions, and another outside
 abbrev pub where_in : (numbers : List ℕ) → (now was : ℕ → ℕ → Bool) → (mlid lid : ℕ) → Bool
 where_in numbers now was mlid lid = if list_any (λ number. is_in_slice number mlid) numbers then now mlid lid else was mlid lid
+
+-- ---- after masks of other routes
+-- no switch has a bit for a multicast LID that nobody receives
+abbrev pub HasNoStrayBits : (receives : ℕ → ℕ → Bool) → FabricState → Type 0
+HasNoStrayBits receives fabric =
+    (node mlid : ℕ) (held : SwitchState) → slice_get fabric.nodes node ≡ Some (Switch held)
+    → ((lid : ℕ) → receives mlid lid ≡ false) → has_bits held.masks mlid ≡ false
+
+-- somebody receives in the partition of that number
+abbrev pub is_received : RegistryState → (number : ℕ) → Bool
+is_received registry number =
+    not (length (receivers_of registry.configuration.ports number registry.administration.remembered.partitions) == 0)
+
+-- of these numbers those
+abbrev pub received_in : RegistryState → (numbers : List ℕ) → List ℕ
+received_in registry numbers = filter (is_received registry) numbers

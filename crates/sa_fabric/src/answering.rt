@@ -1,6 +1,7 @@
 //! How a fabric under subnet administration answers.
 
 ghost use Rattle.std.specs.Prelude.{◌≡◌, false, IfErr, IfOk, OnOk};
+ghost use Rattle.fabric_wire.specs.Recabling.{cabling_of};
 ghost use Rattle.sa_answer.specs.Answering.{Answers, answer_to_port};
 ghost use Rattle.sa_fabric.specs.Served.{Serves};
 ghost use Rattle.sa_fabric.specs.declared.answering.AnswerFault.{AnswerFault};
@@ -57,6 +58,7 @@ pub fn answer(
         mads.items administrator.old administrator.new) }
     ensures serves { OnOk result ((plan : TopologyState) → Serves plan routes.now administrator.old fabric.old
         → Serves plan routes.now administrator.new fabric.new) }
+    ensures cabling { OnOk result (cabling_of fabric.new ≡ cabling_of fabric.old) }
     ensures no_push { IfErr result (λ fault. fault ≡ AnswerFault.NoMemory) }
     ensures configuration { administrator.new.configuration ≡ administrator.old.configuration }
 {

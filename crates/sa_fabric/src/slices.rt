@@ -1,19 +1,21 @@
 //! The slices of partitions, pushed as a registry has their receivers.
 
-ghost use Rattle.std.specs.Prelude.{ℕ, ◌≡◌, ◌<◌, [], true, Bool, length, nat_lt, slice_set, IfErr, OnOk, Some};
+ghost use Rattle.std.specs.Prelude.{ℕ, ◌≡◌, ◌<◌, [], ◌∷◌, true, Bool, length, nat_lt, slice_set, IfErr, OnOk, Some};
 ghost use Rattle.std.specs.List.{list_all};
 ghost use Rattle.pkey_rules.specs.declared.key_table.TheConstants.{PARTITIONS};
 ghost use Rattle.sa_groups.specs.Receivers.{receivers_of};
 ghost use Rattle.sa_groups.specs.Sound.{is_sound};
 ghost use Rattle.smp_wire.specs.FabricState.{FabricState};
-ghost use Rattle.sa_fabric.specs.Slices.{AgreesWith, AreRight, CanBePushed, IsKept, IsPushed, slice_pushed, slices_pushed, where_in};
+ghost use Rattle.sa_fabric.specs.Served.{receives_at};
+ghost use Rattle.sa_fabric.specs.Slices.{AgreesWith, AreRight, CanBePushed, HasNoStrayBits, IsKept, IsPushed, received_in, slice_pushed, slices_pushed, where_in};
 ghost use Rattle.sa_fabric.specs.declared.answering.AnswerFault.{AnswerFault};
-ghost use Rattle.table_push.specs.Masks.{masks_pushed, receives_of};
+ghost use Rattle.table_push.specs.Masks.{all_masks_pushed, masks_pushed, receives_of};
 ghost use Rattle.table_push.specs.Pushes.{Leaves};
 
 use crate::answering::AnswerFault;
 use crate::received::Received;
 use fabric_wire::Fabric;
+use pkey_rules::PARTITIONS;
 use sa_answer::Registry;
 use subnet_model::GroupReceiver;
 use table_push::{PushFault, push_changed, push_multicast};
@@ -108,5 +110,50 @@ fn keep(received: &mut Vec<Received>, number: u16, receivers: Vec<GroupReceiver>
     let place = usize::from(number);
     if place < received.len() {
         received[place] = Received::of(receivers);
+    }
+}
+
+/// Pushes the slice of each partition in which somebody receives, over the fabric of the routes' graph, whose masks may be those
+/// of other routes. It has all masks of who receives then: where nobody does there was no bit, and nothing is pushed. Memory
+/// alone can be refused.
+pub(crate) fn push_received(
+    fabric: &mut Fabric,
+    routes: &Routes,
+    registry: &Registry,
+) -> Result<(), AnswerFault>
+    requires stands { CanBePushed routes.now fabric.old }
+    requires no_stray { HasNoStrayBits (receives_at registry.now.configuration.ports registry.now.administration.remembered.partitions) fabric.old }
+    ensures pushed { OnOk result (fabric.new ≡ all_masks_pushed routes.now
+        (receives_at registry.now.configuration.ports registry.now.administration.remembered.partitions) fabric.old) }
+    ensures no_push { IfErr result (λ fault. fault ≡ AnswerFault.NoMemory) }
+{
+    // What is remembered is sound, so each slice is that of its own partition.
+    registry.known_remembered();
+    for number in 0..PARTITIONS as u16 {
+        push_where_received(fabric, routes, registry, number)?;
+    }
+    Ok(())
+}
+
+/// Pushes the slice of a partition, if somebody receives in it. Memory alone can be refused.
+fn push_where_received(
+    fabric: &mut Fabric,
+    routes: &Routes,
+    registry: &Registry,
+    partition: u16,
+) -> Result<(), AnswerFault>
+    requires stands { CanBePushed routes.now fabric.old }
+    requires partition { partition < PARTITIONS }
+    ensures pushed { OnOk result
+        (IsPushed routes.now (slices_pushed routes.now registry.now (received_in registry.now (partition ∷ [])) fabric.old) fabric.new) }
+    ensures no_push { IfErr result (λ fault. fault ≡ AnswerFault.NoMemory) }
+{
+    let receivers = registry.receivers(partition)?;
+    if receivers.is_empty() {
+        return Ok(());
+    }
+    match push_multicast(fabric, routes, partition, &receivers) {
+        Ok(()) => Ok(()),
+        Err(fault) => Err(AnswerFault::Push(fault)),
     }
 }

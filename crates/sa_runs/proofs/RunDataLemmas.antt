@@ -17,7 +17,7 @@ use Rattle.subnet_model.specs.Configured.{IsConfigured}
 use Rattle.subnet_model.specs.Delivery.{asking_key, is_for_sa, manager_key, port_with_guid, reaches_joined, refusal_of}
 use Rattle.subnet_model.specs.Report.{packet_of, state_from}
 use Rattle.subnet_model.specs.declared.command.Command.{Command}
-use Rattle.subnet_model.specs.declared.command.Command.TheVariants.{Ask, Send}
+use Rattle.subnet_model.specs.declared.command.Command.TheVariants.{Ask, Cable, Send}
 use Rattle.subnet_model.specs.declared.command.AskCommand.{AskCommand}
 use Rattle.subnet_model.specs.declared.command.SendCommand.{SendCommand}
 use Rattle.subnet_model.specs.declared.event.Outcome.TheVariants.{Received}
@@ -206,6 +206,7 @@ module _ (configuration : ConfigurationState) (configured : IsConfigured configu
       → Held configuration command (CarriesBytes command) (noted_step configuration noted command)
   step_held (Send command) noted ready = sent_held command (port_with_guid configuration.ports command.port_guid) noted refl ready
   step_held (Ask command) noted ready = asked_held command (port_with_guid configuration.ports command.port_guid) noted refl ready
+  step_held (Cable command) noted ready = record { events = λ below. tt; state = ready }
 
   run_ready : (commands : List Command) (noted : NotedState) → IsReady configuration noted
       → IsReady configuration (state_from (noted_step configuration) noted commands)

@@ -11,7 +11,7 @@ use Rattle.subnet_model.specs.Configuration.{ConfigurationState}
 use Rattle.subnet_model.specs.Delivery.{asking_key, is_for_sa, manager_key, port_with_guid, reaches_joined, refusal_of}
 use Rattle.subnet_model.specs.Report.{answered_in_turn, answered_whole, asked, conversation, delivered, events_from, received_by, replied, reply_to, sent, state_from, step_by, unless_refused}
 use Rattle.subnet_model.specs.declared.command.Command.{Command}
-use Rattle.subnet_model.specs.declared.command.Command.TheVariants.{Ask, Send}
+use Rattle.subnet_model.specs.declared.command.Command.TheVariants.{Ask, Cable, Send}
 use Rattle.subnet_model.specs.declared.command.SendCommand.{SendCommand}
 use Rattle.subnet_model.specs.declared.event.PortEvent.{PortEvent}
 use Rattle.subnet_model.specs.declared.subnet_port.SubnetPort.{SubnetPort}
@@ -128,6 +128,7 @@ module _ (configuration : ConfigurationState) where
   step_beside : (noted : NotedState) (command : Command) → Beside (noted_step configuration noted command) (step_by subnet_administration configuration noted.state command)
   step_beside noted (Send command) = sent_beside (port_with_guid configuration.ports command.port_guid) command noted
   step_beside noted (Ask command) = asked_beside (port_with_guid configuration.ports command.port_guid) command.mad noted
+  step_beside noted (Cable command) = record { events = refl; state = refl }
 
   events_beside : (commands : List Command) (noted : NotedState) (state : Administration) → noted.state ≡ state
       → map (λ one. one.event) (events_from (noted_step configuration) noted commands) ≡ events_from (step_by subnet_administration configuration) state commands
@@ -263,6 +264,7 @@ module _ (configuration : ConfigurationState) where
   step_good : (noted : NotedState) (command : Command) → IsGood configuration.ports noted → Good configuration.ports (noted_step configuration noted command)
   step_good noted (Send command) good = sent_good command (port_with_guid configuration.ports command.port_guid) noted refl good
   step_good noted (Ask command) good = asked_good command.port_guid (port_with_guid configuration.ports command.port_guid) command.mad noted refl good
+  step_good noted (Cable command) good = record { events = refl; state = good }
 
   run_good : (commands : List Command) (noted : NotedState) → IsGood configuration.ports noted
       → Good configuration.ports (events_from (noted_step configuration) noted commands, state_from (noted_step configuration) noted commands)

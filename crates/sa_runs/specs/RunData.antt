@@ -7,22 +7,24 @@ use Rattle.subnet_model.specs.Configuration.{ConfigurationState}
 use Rattle.subnet_model.specs.Configured.{IsConfigured}
 use Rattle.subnet_model.specs.Delivery.{is_for_sa}
 use Rattle.subnet_model.specs.declared.command.Command.{Command}
-use Rattle.subnet_model.specs.declared.command.Command.TheVariants.{Ask, Send}
+use Rattle.subnet_model.specs.declared.command.Command.TheVariants.{Ask, Cable, Send}
 use Rattle.subnet_model.specs.declared.event.Outcome.{Outcome}
 use Rattle.subnet_model.specs.declared.event.Outcome.TheVariants.{Received, Refused}
 use Rattle.sa_replies.specs.Notes.{NotedByte}
 use Rattle.sa_replies.specs.Sources.{filled}
 use Rattle.sa_runs.specs.Sources.{NotedEvent, NotedEvents, NotedState, noted_after, noted_step}
 
--- what a port sends are bytes
+-- what a port sends are bytes; of a cable nothing is sent
 abbrev pub CarriesBytes : Command → Type 0
 CarriesBytes (Send command) = AllBelowBase 256 command.payload
 CarriesBytes (Ask command) = AllBelowBase 256 command.mad
+CarriesBytes (Cable command) = Unit {0}
 
 -- it sends them to another port, and not to subnet administration
 abbrev pub IsBetweenPorts : Command → Type 0
 IsBetweenPorts (Send command) = is_for_sa command ≡ false
 IsBetweenPorts (Ask command) = ⊥
+IsBetweenPorts (Cable command) = ⊥
 
 -- the data of a packet are the bytes that are noted of it, and then 0; only a packet between two ports, and a refusal, have
 -- nothing noted

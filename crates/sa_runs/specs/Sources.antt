@@ -7,7 +7,7 @@ use Rattle.subnet_model.specs.Configuration.{ConfigurationState}
 use Rattle.subnet_model.specs.Delivery.{asking_key, is_for_sa, manager_key, port_with_guid, reaches_joined, refusal_of}
 use Rattle.subnet_model.specs.Report.{events_from, received_by, reply_to, report_by, state_from}
 use Rattle.subnet_model.specs.declared.command.Command.{Command}
-use Rattle.subnet_model.specs.declared.command.Command.TheVariants.{Ask, Send}
+use Rattle.subnet_model.specs.declared.command.Command.TheVariants.{Ask, Cable, Send}
 use Rattle.subnet_model.specs.declared.command.SendCommand.{SendCommand}
 use Rattle.subnet_model.specs.declared.event.PortEvent.{PortEvent}
 use Rattle.subnet_model.specs.declared.event.Outcome.TheVariants.{Refused}
@@ -117,6 +117,7 @@ noted_step configuration noted (Send command) =
     noted_sent configuration (port_with_guid configuration.ports command.port_guid) command noted
 noted_step configuration noted (Ask command) =
     noted_asked configuration (port_with_guid configuration.ports command.port_guid) command.mad noted
+noted_step configuration noted (Cable command) = ([], noted)
 
 -- ---- a run: at the start nothing is noted
 abbrev pub noted_start : ConfigurationState → NotedState

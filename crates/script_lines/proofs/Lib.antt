@@ -3,4 +3,4 @@ pub mod MaskLemmas
 pub mod PutLemmas
 pub mod AskedLemmas
 pub mod AskLoopLemmas
-pub mod SenderLemmas
+pub mod CommandLemmas

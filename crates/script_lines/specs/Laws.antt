@@ -1,10 +1,10 @@
 -- What holds of every script that is accepted.
-use Rattle.std.specs.Prelude.{ℕ, ◌≡◌, true, false, List, Ok}
+use Rattle.std.specs.Prelude.{ℕ, ◌≡◌, true, false, List, Some, Ok}
 use Rattle.std.specs.List.{All}
-use Rattle.fabric_parts.specs.Cable.{is_cabled, is_same_port}
+use Rattle.fabric_parts.specs.Cable.{far_end, is_cabled, is_same_port}
+use Rattle.fabric_parts.specs.declared.cable.Cable.{Cable}
 use Rattle.fabric_parts.specs.declared.cable.PortRef.{PortRef}
 use Rattle.subnet_model.specs.declared.command.Command.{Command}
-use Rattle.subnet_model.specs.declared.command.Command.TheVariants.{Ask, Send}
 use Rattle.topo_file.specs.Node.{is_switch_at, port_guid_at}
 use Rattle.topo_file.specs.Sound.{is_port}
 use Rattle.topo_file.specs.Topology.{TopologyState}
@@ -19,12 +19,25 @@ pub record IsSendingPort (plan : TopologyState) (guid : ℕ) : Type 0 where
   pub other : is_same_port at plan.sm ≡ false
   pub guid_is : port_guid_at plan.nodes at ≡ guid
 
-abbrev pub IsSentFrom : TopologyState → Command → Type 0
-IsSentFrom plan (Send command) = IsSendingPort plan command.port_guid
-IsSentFrom plan (Ask command) = IsSendingPort plan command.port_guid
+-- a port of a switch, not its port 0
+pub record IsSwitchEnd (plan : TopologyState) (at : PortRef) : Type 0 where
+  pub there : is_port plan.nodes at ≡ true
+  pub of_switch : is_switch_at plan.nodes at.node ≡ true
 
--- each command that a script gives is one of such a port
-abbrev pub CommandsHaveSendingPorts : Type 0
-CommandsHaveSendingPorts =
+-- a cable of the topology, between ports of switches; its ends stand in either order
+pub record IsSwitchCable (plan : TopologyState) (cable : Cable) : Type 0 where
+  pub first : IsSwitchEnd plan cable.first
+  pub second : IsSwitchEnd plan cable.second
+  pub joined : far_end plan.cables cable.first ≡ Some cable.second
+
+-- the port or the cable that a command names is there
+abbrev pub NamesWhatIsThere : TopologyState → Command → Type 0
+NamesWhatIsThere plan (Command.Send command) = IsSendingPort plan command.port_guid
+NamesWhatIsThere plan (Command.Ask command) = IsSendingPort plan command.port_guid
+NamesWhatIsThere plan (Command.Cable command) = IsSwitchCable plan command.cable
+
+-- so it is with each command that a script gives
+abbrev pub CommandsNameWhatIsThere : Type 0
+CommandsNameWhatIsThere =
     (plan : TopologyState) (script : List ℕ) (commands : List Command) → commands_in plan script ≡ Ok commands
-    → All (IsSentFrom plan) commands
+    → All (NamesWhatIsThere plan) commands

@@ -6,5 +6,6 @@ pub mod Seen
 pub mod Send
 pub mod Ask
 pub mod Asking
+pub mod SwitchCable
 pub mod Script
 pub mod Laws

@@ -1,5 +1,5 @@
 -- What a script stands for over a topology: a list of commands, or the first line that is at fault.
-use Rattle.std.specs.Prelude.{ℕ, List, [], ◌∷◌, ◌++◌, codes, Option, Some, None, Result, Ok, Err, if◌then◌else◌}
+use Rattle.std.specs.Prelude.{ℕ, true, false, List, [], ◌∷◌, ◌++◌, codes, Option, Some, None, Result, Ok, Err, if◌then◌else◌}
 use Rattle.std.specs.Option.{ok_or, option_to_list}
 use Rattle.std.specs.Str.{bytes_eq}
 use Rattle.text_words.specs.Lines.{lines, words_of}
@@ -9,6 +9,7 @@ use Rattle.topo_file.specs.Topology.{TopologyState}
 use Rattle.subnet_model.specs.declared.command.Command.{Command}
 use Rattle.script_lines.specs.Ask.{ask_of}
 use Rattle.script_lines.specs.Send.{send_of}
+use Rattle.script_lines.specs.SwitchCable.{cable_of}
 use Rattle.script_lines.specs.declared.script_cause.ScriptCause.{ScriptCause}
 use Rattle.script_lines.specs.declared.script_cause.ScriptCause.TheVariants.{Malformed}
 
@@ -18,6 +19,8 @@ command_in plan [] = Ok None
 command_in plan (first ∷ rest) =
     if bytes_eq first (codes "send") then (send_of plan rest >>= λ command. Ok (Some command))
     else if bytes_eq first (codes "ask") then (ask_of plan rest >>= λ command. Ok (Some command))
+    else if bytes_eq first (codes "cut") then (cable_of plan false rest >>= λ command. Ok (Some command))
+    else if bytes_eq first (codes "mend") then (cable_of plan true rest >>= λ command. Ok (Some command))
     else Err Malformed
 
 unfoldable pub command_of : TopologyState → List ℕ → Result (Option Command) ScriptCause

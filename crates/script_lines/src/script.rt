@@ -6,6 +6,7 @@ ghost use Rattle.script_lines.specs.Script.{command_of};
 use crate::ask::ask_of;
 use crate::script_cause::ScriptCause;
 use crate::send::send_of;
+use crate::switch_cable::cable_of;
 use subnet_model::Command;
 use text_words::Words;
 use topo_file::Topology;
@@ -24,6 +25,10 @@ pub fn command_of(topology: &Topology, line: &[u8]) -> Result<Option<Command>, S
         send_of(topology, words)?
     } else if first == b"ask".as_slice() {
         ask_of(topology, words)?
+    } else if first == b"cut".as_slice() {
+        cable_of(topology, false, words)?
+    } else if first == b"mend".as_slice() {
+        cable_of(topology, true, words)?
     } else {
         return Err(ScriptCause::Malformed);
     };

@@ -26,6 +26,9 @@ pub enum ScriptCause {
     /// A field is misspelt or out of its range.
     #[error("a field is misspelt or out of its range")]
     BadField,
+    /// The two words are not the ends of one cable between two switches.
+    #[error("there is no such cable between two switches")]
+    UnknownCable,
 }
 
 impl ScriptCause {
@@ -40,6 +43,7 @@ impl ScriptCause {
             ScriptCause::UncabledPort => "SF4",
             ScriptCause::PayloadTooLong => "SF5",
             ScriptCause::BadField => "SF6",
+            ScriptCause::UnknownCable => "SF7",
         }
     }
 }

@@ -4,6 +4,7 @@ use Rattle.std.specs.Option.{option_and_then}
 use Rattle.std.proofs.lemmas.List.{append-nil, append_assoc, map-append}
 use Rattle.data_packet.specs.declared.refusal.Refusal.{Refusal}
 use Rattle.fabric_parts.specs.declared.cable.PortRef.{PortRef}
+use Rattle.fabric_wire.specs.Recabling.{cabling_of}
 use Rattle.packet_ways.specs.Deliveries.{HasPort, adapter_at}
 use Rattle.port_model.specs.AdapterState.{AdapterState}
 use Rattle.sa_answer.specs.Registry.{RegistryState}
@@ -59,6 +60,7 @@ pub record OnTheWay (roster : RosterState) (routes : RoutesState) (old : Registr
       → (left ≡ []) × (events ≡ Refused command.port_guid refusal ∷ []) × (registry ≡ old) × (fabric ≡ was)
   pub acked : List (List ℕ)
   pub answered : MadsCome was fabric command.port_guid (command.mad ∷ acked) events
+  pub cabling : cabling_of fabric ≡ cabling_of was
   pub stands : Stands roster routes registry fabric
 
 -- one MAD more comes
@@ -124,6 +126,7 @@ module _ (roster : RosterState) (routes : RoutesState) (old : RegistryState) (wa
         (no_acks given.mads.items nothing.0, once.comes.refused at own refusal there guid gives, nothing.1, nothing.2);
     acked = [];
     answered = (left, given.events.items, [], once.comes, (refl, refl), sym (append-nil given.events.items));
+    cabling = once.cabling;
     stands = once.stands;
   }
 
@@ -170,6 +173,7 @@ module _ (roster : RosterState) (routes : RoutesState) (old : RegistryState) (wa
       acked = before.acked ++ ack ∷ [];
       answered =
           mads_come_more was fabric left command.port_guid (command.mad ∷ before.acked) ack events given.events.items before.answered once.comes;
+      cabling = once.cabling ∙ before.cabling;
       stands = once.stands;
     }
 
@@ -186,7 +190,7 @@ module _ (roster : RosterState) (routes : RoutesState) (old : RegistryState) (wa
       by (Some under) is_under before = rw (is, is_under) (sym (append-nil (map event_of events)) ∙ before.0, before.1)
 
   pub ends : (events : List Event) (registry : RegistryState) (fabric : FabricState) → OnTheWay roster routes old was command [] events registry fabric
-      → StepsTo roster routes old was (Ask command) events registry fabric
+      → StepsTo roster routes routes old was (Ask command) events registry fabric
   ends events registry fabric before = record {
     comes = record {
       nobody = λ none. (before.nobody none).1;
@@ -203,6 +207,8 @@ module _ (roster : RosterState) (routes : RoutesState) (old : RegistryState) (wa
     refused = λ refuses.
         let nothing = before.refused refuses.0 refuses.1 refuses.2 refuses.3 refuses.4 refuses.5 in
         (nothing.2, nothing.3);
+    routes_stay = refl;
+    cabling = before.cabling;
     stands = before.stands;
   }
 

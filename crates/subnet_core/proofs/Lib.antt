@@ -2,7 +2,9 @@ pub mod LookupLemmas
 pub mod CommandLemmas
 pub mod HeadlineLemmas
 pub mod BringUpLemmas
+mod CableLemmas
 pub mod RunLemmas
+pub mod AfterLemmas
 pub mod SenderLemmas
 pub mod StepLemmas
 pub mod ListingLemmas

@@ -6,6 +6,7 @@ use Rattle.data_packet.specs.declared.packet.Packet.{Packet}
 use Rattle.data_packet.specs.declared.refusal.Refusal.{Refusal}
 use Rattle.data_packet.specs.declared.refusal.Refusal.TheVariants.{KeyNotHeld}
 use Rattle.fabric_parts.specs.declared.cable.PortRef.{PortRef}
+use Rattle.fabric_wire.specs.Recabling.{cabling_of}
 use Rattle.packet_ways.specs.Deliveries.{DeliveryState, adapter_at}
 use Rattle.pkey_rules.specs.KeyTable.{holds}
 use Rattle.pkey_rules.specs.PKey.{default_base, key_of}
@@ -106,13 +107,15 @@ module _ (roster : RosterState) (routes : RoutesState) (old : RegistryState) (wa
       unanswered = λ at own refusal there guid gives. (mads, refl, refl);
       told = λ own sends. under own (asking_key own.keys) (told ports receives own (stands_as_listed roster routes old was stands) sends);
       nobody = λ none. (mads, refl, refl);
+      cabling = refl;
       stands = stands;
     }
 
   -- ---- or it is a request
   module _ (command : AskCommand) (deliveries : Vec Delivery Global) (comes : ComesOfAsk was command (Request deliveries)) (told : AskIsAsListed was command (Request deliveries))
       (given : Answer) (new : RegistryState) (left : FabricState) (after : Stands roster routes new left)
-      (answers : AnswersRequests roster old command.port_guid deliveries.items given new) (back : AreSentBack left deliveries.items given.events.items) where
+      (answers : AnswersRequests roster old command.port_guid deliveries.items given new) (back : AreSentBack left deliveries.items given.events.items)
+      (cables : cabling_of left ≡ cabling_of was) where
     asked_under : (own : SubnetPort) → IsSender ports (asked_as command true) own → (key : Option ℕ) → asking_key own.keys ≡ key
         → AsksAsListed ports receives own command key (Request deliveries) → AsksUnder ports own key command.mad old.administration given new.administration
     asked_under own sends None is listed = absurd (false≢true (sym listed.1))
@@ -141,6 +144,7 @@ module _ (roster : RosterState) (routes : RoutesState) (old : RegistryState) (wa
       told = λ own sends.
           asked_under own sends (asking_key own.keys) refl (told ports receives own (stands_as_listed roster routes old was stands) sends);
       nobody = λ none. no_events [] (comes.nobody none);
+      cabling = cables;
       stands = after;
     }
 
@@ -149,9 +153,11 @@ module _ (roster : RosterState) (routes : RoutesState) (old : RegistryState) (wa
       → (new : RegistryState) (left : FabricState) (result : Result Answer AnswerFault)
       → IfOk result (λ given. AnswersRequests roster old command.port_guid deliveries.items given new)
       → IfOk result (λ given. AreSentBack left deliveries.items given.events.items) → OnOk result (Stands roster routes new left)
+      → OnOk result (cabling_of left ≡ cabling_of was)
       → IfOk result (λ given. AsksOnce roster routes old was command given new left)
-  once_if_ok command deliveries comes told new left (Ok given) answers back after = once_by_request command deliveries comes told given new left after answers back
-  once_if_ok command deliveries comes told new left (Err fault) answers back after = tt
+  once_if_ok command deliveries comes told new left (Ok given) answers back after cables =
+      once_by_request command deliveries comes told given new left after answers back cables
+  once_if_ok command deliveries comes told new left (Err fault) answers back after cables = tt
 
   -- ---- a packet that a port sends
   abbrev Step : SendCommand → List Event → Administration → Type 0
@@ -170,7 +176,7 @@ module _ (roster : RosterState) (routes : RoutesState) (old : RegistryState) (wa
     sent_so sender (Some refusal) is listed = (listed.events, refl)
     sent_so sender None is listed = rw (sym listed.request) (listed.events, refl)
 
-    pub steps_by_events : StepsTo roster routes old was (Send command) events.items old was
+    pub steps_by_events : StepsTo roster routes routes old was (Send command) events.items old was
     steps_by_events = record {
       comes = record {
         nobody = λ none. (comes.nobody none).0;
@@ -184,12 +190,15 @@ module _ (roster : RosterState) (routes : RoutesState) (old : RegistryState) (wa
           (sent_so sender (refusal_of sender command) refl (told ports receives sender (stands_as_listed roster routes old was stands) names.1));
       nobody = λ none. (refl, refl);
       refused = λ refuses. (refl, refl);
+      routes_stay = refl;
+      cabling = refl;
       stands = stands;
     }
 
   module _ (command : SendCommand) (deliveries : Vec Delivery Global) (comes : ComesOf was command (Request deliveries))
       (told : SendIsAsListed was command (Request deliveries)) (given : Answer) (new : RegistryState) (left : FabricState) (after : Stands roster routes new left)
-      (answers : AnswersRequests roster old command.port_guid deliveries.items given new) (back : AreSentBack left deliveries.items given.events.items) where
+      (answers : AnswersRequests roster old command.port_guid deliveries.items given new) (back : AreSentBack left deliveries.items given.events.items)
+      (cables : cabling_of left ≡ cabling_of was) where
     -- a port that does not refuse holds the key
     held : (sender : SubnetPort) → refusal_of sender command ≡ None → holds command.p_key sender.keys ≡ true
     held sender allowed = by (holds command.p_key sender.keys) refl
@@ -217,7 +226,7 @@ module _ (roster : RosterState) (routes : RoutesState) (old : RegistryState) (wa
     no_answer : {X : Type 0} (events : List Event) → AreEvents (Request deliveries) events → X
     no_answer events are = absurd (false≢true (sym are.1))
 
-    pub steps_by_request : StepsTo roster routes old was (Send command) given.events.items new left
+    pub steps_by_request : StepsTo roster routes routes old was (Send command) given.events.items new left
     steps_by_request = record {
       comes = record {
         nobody = λ none. no_answer [] (comes.nobody none);
@@ -232,5 +241,7 @@ module _ (roster : RosterState) (routes : RoutesState) (old : RegistryState) (wa
           (answered_so sender names.1 (refusal_of sender command) refl (told ports receives sender (stands_as_listed roster routes old was stands) names.1));
       nobody = λ none. no_answer [] (comes.nobody none);
       refused = λ refuses. no_answer _ (comes.refused refuses.0 refuses.1);
+      routes_stay = refl;
+      cabling = cables;
       stands = after;
     }

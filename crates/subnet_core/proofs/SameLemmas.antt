@@ -3,6 +3,7 @@ use Rattle.std.proofs.Common.{ℕ, ◌≡◌, ◌==◌, ◌&&◌, Bool, true, fa
 use Rattle.std.proofs.lemmas.Bool.{and_from, and_parts}
 use Rattle.std.proofs.lemmas.Bool.Decides.{Decides-eqb}
 use Rattle.std.proofs.lemmas.Slice.Eq.{bytes_eq-Decides}
+use Rattle.std.specs.Cmp.{booleans_Decides}
 use Rattle.std.specs.Cmp.Lexicographic.{pointwise}
 use Rattle.data_packet.specs.contracts.packet.PacketPartialEq.TheImpl as packet_eq
 use Rattle.data_packet.specs.contracts.refusal.RefusalPartialEq.TheImpl as refusal_eq
@@ -13,11 +14,18 @@ use Rattle.subnet_model.specs.declared.event.Outcome.{Outcome}
 use Rattle.subnet_model.specs.declared.event.Outcome.TheVariants.{Received as RecvOutcome, Refused as RefusedOutcome}
 use Rattle.subnet_model.specs.declared.event.PortEvent.{PortEvent}
 use Rattle.subnet_model.specs.Restriction.{events_at}
+use Rattle.fabric_parts.specs.contracts.cable.CablePartialEq.TheImpl as cable_eq
+use Rattle.fabric_parts.specs.contracts.cable.PortRefPartialEq.TheImpl as port_eq
+use Rattle.fabric_parts.specs.declared.cable.Cable.{Cable}
+use Rattle.fabric_parts.specs.declared.cable.PortRef.{PortRef}
+use Rattle.subnet_model.specs.contracts.command.CableCommandPartialEq.TheImpl as cable_command_eq
 use Rattle.subnet_model.specs.contracts.command.AskCommandPartialEq.TheImpl as ask_eq
 use Rattle.subnet_model.specs.contracts.command.CommandPartialEq.TheImpl as command_eq
 use Rattle.subnet_model.specs.contracts.command.SendCommandPartialEq.TheImpl as send_eq
 use Rattle.subnet_model.specs.declared.command.AskCommand.{AskCommand}
 use Rattle.subnet_model.specs.declared.command.Command.{Command}
+use Rattle.subnet_model.specs.declared.command.CableCommand.{CableCommand}
+use Rattle.subnet_model.specs.declared.command.Command.TheVariants as command
 use Rattle.subnet_model.specs.declared.command.Command.TheVariants.{Ask, Send}
 use Rattle.subnet_model.specs.declared.command.SendCommand.{SendCommand}
 use Rattle.subnet_sends.specs.Sends.{event_of}
@@ -60,13 +68,37 @@ ask_decides a b =
     (λ same. λ i. record { port_guid = same.0 i; mad = same.1 i })
     (λ same. (ap (λ (one : AskCommand). one.port_guid) same, ap (λ (one : AskCommand). one.mad) same))
 
+port_decides : (a b : PortRef) → Decides (port_eq.eq-value.it a b) (a ≡ b)
+port_decides a b =
+    decides_as (port_eq.eq-value.it a b) (both_decide _ _ (Decides-eqb a.node b.node) (Decides-eqb a.port b.port))
+    (λ same. λ i. record { node = same.0 i; port = same.1 i })
+    (λ same. (ap (λ (one : PortRef). one.node) same, ap (λ (one : PortRef). one.port) same))
+
+ends_decide : (a b : Cable) → Decides (cable_eq.eq-value.it a b) (a ≡ b)
+ends_decide a b =
+    decides_as (cable_eq.eq-value.it a b) (both_decide _ _ (port_decides a.first b.first) (port_decides a.second b.second))
+    (λ same. λ i. record { first = same.0 i; second = same.1 i })
+    (λ same. (ap (λ (one : Cable). one.first) same, ap (λ (one : Cable). one.second) same))
+
+cable_decides : (a b : CableCommand) → Decides (cable_command_eq.eq-value.it a b) (a ≡ b)
+cable_decides a b =
+    decides_as (cable_command_eq.eq-value.it a b) (both_decide _ _ (ends_decide a.cable b.cable) (booleans_Decides a.up b.up))
+    (λ same. λ i. record { cable = same.0 i; up = same.1 i })
+    (λ same. (ap (λ (one : CableCommand). one.cable) same, ap (λ (one : CableCommand). one.up) same))
+
 pub command_decides : (a b : Command) → Decides (command_eq.eq-value.it a b) (a ≡ b)
 command_decides (Send a) (Send b) =
     decides_as (send_eq.eq-value.it a b) (send_decides a b) (λ same. ap Send same) (λ same. cc)
 command_decides (Ask a) (Ask b) =
     decides_as (ask_eq.eq-value.it a b) (ask_decides a b) (λ same. ap Ask same) (λ same. cc)
+command_decides (command.Cable a) (command.Cable b) =
+    decides_as (cable_command_eq.eq-value.it a b) (cable_decides a b) (λ same. ap command.Cable same) (λ same. cc)
 command_decides (Send a) (Ask b) = (λ e. absurd cc, λ same. absurd cc)
+command_decides (Send a) (command.Cable b) = (λ e. absurd cc, λ same. absurd cc)
 command_decides (Ask a) (Send b) = (λ e. absurd cc, λ same. absurd cc)
+command_decides (Ask a) (command.Cable b) = (λ e. absurd cc, λ same. absurd cc)
+command_decides (command.Cable a) (Send b) = (λ e. absurd cc, λ same. absurd cc)
+command_decides (command.Cable a) (Ask b) = (λ e. absurd cc, λ same. absurd cc)
 
 -- ---- events
 packet_decides : (a b : Packet) → Decides (packet_eq.eq-value.it a b) (a ≡ b)

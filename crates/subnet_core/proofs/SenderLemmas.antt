@@ -13,7 +13,7 @@ use Rattle.subnet_model.specs.Configuration.{ConfigurationState}
 use Rattle.subnet_model.specs.Configured.{HaveLidsInOrder}
 use Rattle.subnet_model.specs.Delivery.{port_with_guid}
 use Rattle.subnet_model.specs.declared.command.Command.{Command}
-use Rattle.subnet_model.specs.declared.command.Command.TheVariants.{Ask, Send}
+use Rattle.subnet_model.specs.declared.command.Command.TheVariants.{Ask, Cable, Send}
 use Rattle.subnet_model.specs.declared.subnet_port.SubnetPort.{SubnetPort}
 use Rattle.subnet_ports.proofs.EndPortLemmas.{end_ports_stand_in_order}
 use Rattle.subnet_ports.proofs.OwnEndLemmas.{one_end}
@@ -26,8 +26,8 @@ use Rattle.topo_file.specs.Topology.{TopologyState}
 use Rattle.subnet_core.specs.Laws.{EachCommandNamesASender}
 use Rattle.subnet_core.specs.Roster.{IsRostered, RosterState}
 use Rattle.subnet_core.specs.Senders.{NamesSender}
-use Rattle.script_lines.proofs.SenderLemmas.{commands_sent, line_sends}
-use Rattle.script_lines.specs.Laws.{IsSendingPort, IsSentFrom}
+use Rattle.script_lines.proofs.CommandLemmas.{commands_name_what_is_there, line_names}
+use Rattle.script_lines.specs.Laws.{IsSendingPort, NamesWhatIsThere}
 use Rattle.script_lines.specs.Script.{command_of}
 
 -- a search finds what passes
@@ -90,24 +90,25 @@ module _ (roster : RosterState) (is : IsRostered roster) where
       let kind = ap is_switch_type end.node_type ∙ type_kept (is_switch_at plan.nodes end.at.node) in
       (one.0, record { named = one.1; adapter = kind ∙ ap (λ (at : PortRef). is_switch_at plan.nodes at.node) same ∙ from.adapter })
 
-  names_sender : (command : Command) → IsSentFrom plan command → NamesSender ports command
+  names_sender : (command : Command) → NamesWhatIsThere plan command → NamesSender ports command
   names_sender (Send command) from =
       let listed = adapter_listed command.port_guid (sends_from plan command.port_guid from) in
       (listed.0, record { named = listed.1.named; adapter = listed.1.adapter })
   names_sender (Ask command) from =
       let listed = adapter_listed command.port_guid (sends_from plan command.port_guid from) in
       (listed.0, record { named = listed.1.named; adapter = listed.1.adapter })
+  names_sender (Cable command) from = tt
 
 -- what a line gives, if it gives a command
 pub line_names_sender : (roster : RosterState) → IsRostered roster → (line : List ℕ) (given : Option Command)
     → command_of roster.plan line ≡ Ok given → IfSome given (NamesSender roster.configuration.ports)
 line_names_sender roster is line None read = tt
-line_names_sender roster is line (Some command) read = names_sender roster is command (line_sends roster.plan line command read)
+line_names_sender roster is line (Some command) read = names_sender roster is command (line_names roster.plan line command read)
 
 pub commands_name_senders : EachCommandNamesASender
 commands_name_senders roster is script commands given =
-    All-weaker (IsSentFrom roster.plan) (NamesSender roster.configuration.ports) (names_sender roster is) commands
-    (commands_sent roster.plan script commands given)
+    All-weaker (NamesWhatIsThere roster.plan) (NamesSender roster.configuration.ports) (names_sender roster is) commands
+    (commands_name_what_is_there roster.plan script commands given)
 
 -- ---- the subnet manager's port is the first of the list, and a channel adapter's
 pub record IsManager (ports : List SubnetPort) (manager : SubnetPort) : Type 0 where

@@ -1,13 +1,12 @@
 -- What the first lines of a script tell is the beginning of what all of them tell.
 use Rattle.std.proofs.Common.{ℕ, suc, ◌≡◌, ◌+◌, ◌-◌, ◌⊎◌, ◌∙◌, inl, inr, ap, refl, sym, arith, append_assoc, append-nil, Bool, true, false, List, [], ◌∷◌, ◌++◌}
-use Rattle.std.proofs.Common.{filter, length, nat_lt, flat_map, Option, Some, None, Result, Ok, Err, IfSome}
+use Rattle.std.proofs.Common.{filter, length, nat_lt, Option, Some, None, Result, Ok, Err, IfSome}
 use Rattle.std.specs.Io.KnownBytes.{Consumes, IsAtEnd}
 use Rattle.std.specs.List.{onto_first}
 use Rattle.std.specs.Option.{option_to_list}
 use Rattle.std.proofs.lemmas.Bool.Decides.{nat_tests}
 use Rattle.std.proofs.lemmas.Grind.{flat_map-append}
 use Rattle.result_words.specs.AtLine.{AtLine, after_lines, on_line}
-use Rattle.result_words.specs.Steps.{◌>>=◌}
 use Rattle.result_words.proofs.StepLemmas.{same_ok}
 use Rattle.script_lines.specs.Script.{command_of, with_line}
 use Rattle.script_lines.specs.declared.script_cause.ScriptCause.{ScriptCause}

@@ -3,6 +3,7 @@ use Rattle.std.specs.Prelude.{ℕ, ◌≡◌, true, List, [], ◌∷◌, map, Op
 use Rattle.data_packet.specs.declared.refusal.Refusal.{Refusal}
 use Rattle.data_packet.specs.declared.refusal.Refusal.TheVariants.{KeyNotHeld}
 use Rattle.fabric_parts.specs.declared.cable.PortRef.{PortRef}
+use Rattle.fabric_wire.specs.Recabling.{cabling_of}
 use Rattle.packet_ways.specs.Deliveries.{DeliveryState, HasPort, adapter_at}
 use Rattle.pkey_rules.specs.KeyTable.{holds}
 use Rattle.port_model.specs.AdapterState.{AdapterState}
@@ -13,11 +14,11 @@ use Rattle.sa_runs.specs.Administration.{subnet_administration}
 use Rattle.smp_wire.specs.FabricState.{FabricState}
 use Rattle.subnet_core.specs.BringUp.{Stands, SubnetState}
 use Rattle.subnet_core.specs.Roster.{RosterState}
-use Rattle.subnet_core.specs.Senders.{Comes, MadComes, NamesSender, Refuses}
+use Rattle.subnet_core.specs.Cabling.{IsCabledAfter, RoutesStay}
+use Rattle.subnet_core.specs.Senders.{Comes, HasSender, MadComes, NamesSender, Refuses}
 use Rattle.subnet_core.specs.declared.answering.Answer.{Answer}
 use Rattle.subnet_model.specs.Delivery.{asking_key, is_for_sa, manager_key, reaches_joined}
 use Rattle.subnet_model.specs.Report.{received_by, reply_to, step_by}
-use Rattle.subnet_model.specs.Restriction.{actor}
 use Rattle.subnet_model.specs.declared.command.AskCommand.{AskCommand}
 use Rattle.subnet_model.specs.declared.command.Command.{Command}
 use Rattle.subnet_model.specs.declared.command.SendCommand.{SendCommand}
@@ -66,6 +67,7 @@ pub record AsksOnce (roster : RosterState) (routes : RoutesState) (old : Registr
   pub told : (own : SubnetPort) → IsSender roster.configuration.ports (asked_as command true) own
       → AsksUnder roster.configuration.ports own (asking_key own.keys) command.mad old.administration given new.administration
   pub nobody : (HasPort was.nodes command.port_guid → ⊥) → (given.mads.items ≡ []) × (new ≡ old) × (left ≡ was)
+  pub cabling : cabling_of left ≡ cabling_of was
   pub stands : Stands roster routes new left
 
 -- ---- one command
@@ -73,22 +75,26 @@ pub record AsksOnce (roster : RosterState) (routes : RoutesState) (old : Registr
 abbrev pub IsStep : List PortEvent × Administration → List Event → Administration → Type 0
 IsStep after events new = (map event_of events ≡ after.0) × (new ≡ after.1)
 
-pub record StepsTo (roster : RosterState) (routes : RoutesState) (old : RegistryState) (was : FabricState) (command : Command)
+pub record StepsTo (roster : RosterState) (routes next : RoutesState) (old : RegistryState) (was : FabricState) (command : Command)
     (events : List Event) (new : RegistryState) (left : FabricState) : Type 0 where
   pub comes : Comes was left command events
   pub told : NamesSender roster.configuration.ports command
       → IsStep (step_by subnet_administration roster.configuration old.administration command) events new.administration
-  pub nobody : (HasPort was.nodes (actor command) → ⊥) → (new ≡ old) × (left ≡ was)
+  pub nobody : (HasSender was.nodes command → ⊥) → (new ≡ old) × (left ≡ was)
   pub refused : Refuses was command → (new ≡ old) × (left ≡ was)
-  pub stands : Stands roster routes new left
+  pub routes_stay : RoutesStay command routes next
+  pub cabling : IsCabledAfter roster.plan command (cabling_of was) (cabling_of left)
+  pub stands : Stands roster next new left
 
--- the subnet after it: who is in it and the routes stay; what is remembered is the definition's; where no port has the
--- command's GUID, or that port refuses to send, all stays
+-- the subnet after it: who is in it stays; the routes stay unless a cable is to be cut or mended, and cables are in place as the
+-- definition says; what is remembered is the definition's; where no port has the command's GUID, or that port refuses to send,
+-- all stays
 pub record IsNext (old : SubnetState) (command : Command) (new : SubnetState) : Type 0 where
   pub roster : new.roster ≡ old.roster
-  pub routes : new.routes ≡ old.routes
+  pub routes : RoutesStay command old.routes new.routes
+  pub cabling : IsCabledAfter old.roster.plan command (cabling_of old.fabric) (cabling_of new.fabric)
   pub whole : new.is_broken ≡ old.is_broken
   pub administration : NamesSender old.roster.configuration.ports command
       → new.administration ≡ (step_by subnet_administration old.roster.configuration old.administration command).1
-  pub nobody : (HasPort old.fabric.nodes (actor command) → ⊥) → new ≡ old
+  pub nobody : (HasSender old.fabric.nodes command → ⊥) → new ≡ old
   pub refused : Refuses old.fabric command → new ≡ old

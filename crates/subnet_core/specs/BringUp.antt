@@ -36,16 +36,12 @@ pub record SubnetState : Type 0 where
 abbrev pub up_in : SubnetState → BroughtUpState
 up_in subnet = record { routes = subnet.routes; fabric = subnet.fabric }
 
--- the topology as its cables stand: the one that was read
-abbrev pub standing_plan : SubnetState → TopologyState
-standing_plan subnet = subnet.roster.plan
-
--- where it is not broken, its fabric is the one that was brought up, with the masks of exactly those who receive what is sent to
--- groups by the memberships held
+-- where it is not broken, its fabric stands with the cables that are in place, with the masks of exactly those who receive what
+-- is sent to groups by the memberships held
 abbrev pub StaysUp : SubnetState → Type 0
 StaysUp subnet =
     subnet.is_broken ≡ false
-    → IsServed (standing_plan subnet) subnet.roster.configuration.ports subnet.administration.remembered.partitions subnet.routes
+    → IsServed subnet.roster.plan subnet.roster.configuration.ports subnet.administration.remembered.partitions subnet.routes
     subnet.fabric
 
 -- a registry and a fabric stand as the roster says, and the registry serves the fabric

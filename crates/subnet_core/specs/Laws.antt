@@ -3,11 +3,13 @@ use Rattle.std.specs.Prelude.{ℕ, ◌≡◌, List, Option, Ok}
 use Rattle.std.specs.List.{All}
 use Rattle.subnet_model.specs.declared.command.Command.{Command}
 use Rattle.sa_runs.specs.Administration.{subnet_administration}
+use Rattle.subnet_core.specs.After.{IsUpAfter}
 use Rattle.subnet_core.specs.BringUp.{Becomes}
 use Rattle.subnet_core.specs.Headline.{RecordsComeFromNear}
 use Rattle.subnet_core.specs.Roster.{IsRostered, RosterState, roster_of}
 use Rattle.subnet_core.specs.Run.{report_of, told_of}
 use Rattle.subnet_core.specs.Stream.{commands_before_fault}
+use Rattle.subnet_fabric.specs.BringUp.{BroughtUpState}
 use Rattle.subnet_model.specs.Configured.{HaveLidsInOrder}
 use Rattle.subnet_model.specs.Isolation.{DependsOnNear}
 use Rattle.subnet_model.specs.Source.{ComesFromNear}
@@ -43,3 +45,10 @@ StreamsKeepPartitionsApart =
     let events = (told_of roster.configuration commands).events in
     DependsOnNear subnet_administration roster.configuration p commands events × ComesFromNear roster.configuration.ports p events
     × RecordsComeFromNear roster.configuration p commands events
+
+-- ---- what a script leaves
+-- by the same routes it is one fabric
+abbrev pub OneFabricIsLeft : Type 0
+OneFabricIsLeft =
+    (roster : RosterState) (commands : List Command) (one other : BroughtUpState) → IsUpAfter roster commands one
+    → IsUpAfter roster commands other → one.routes ≡ other.routes → one.fabric ≡ other.fabric

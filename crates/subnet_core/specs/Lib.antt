@@ -4,7 +4,9 @@ pub mod Roster
 pub mod BringUp
 pub mod Run
 pub mod Senders
+pub mod Cabling
 pub mod Answering
+pub mod After
 pub mod Laws
 pub mod EventLines
 pub mod WholeLines

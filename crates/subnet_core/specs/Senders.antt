@@ -6,10 +6,11 @@ use Rattle.fabric_parts.specs.declared.cable.PortRef.{PortRef}
 use Rattle.packet_ways.specs.Deliveries.{AreDeliveries, DeliveryState, HasPort, adapter_at}
 use Rattle.port_model.specs.AdapterState.{AdapterState}
 use Rattle.smp_wire.specs.FabricState.{FabricState}
+use Rattle.smp_wire.specs.declared.node.Node.{Node}
 use Rattle.subnet_model.specs.Delivery.{is_for_sa}
 use Rattle.subnet_model.specs.declared.command.AskCommand.{AskCommand}
 use Rattle.subnet_model.specs.declared.command.Command.{Command}
-use Rattle.subnet_model.specs.declared.command.Command.TheVariants.{Ask, Send}
+use Rattle.subnet_model.specs.declared.command.Command.TheVariants.{Ask, Cable, Send}
 use Rattle.subnet_model.specs.declared.command.SendCommand.{SendCommand}
 use Rattle.subnet_model.specs.declared.subnet_port.SubnetPort.{SubnetPort}
 use Rattle.subnet_sends.specs.Replies.{ComeOfReplies}
@@ -18,10 +19,17 @@ use Rattle.subnet_sends.specs.declared.event.Event.{Event}
 use Rattle.subnet_sends.specs.declared.event.Event.TheVariants.{Refused}
 use Rattle.subnet_sends.specs.Laws.{IsSender}
 
--- a command names a listed port of a channel adapter
+-- a command names a listed port of a channel adapter, if it is one of a port
 abbrev pub NamesSender : List SubnetPort → Command → Type 0
 NamesSender ports (Send command) = (sender : SubnetPort) × IsSender ports command sender
 NamesSender ports (Ask command) = (sender : SubnetPort) × IsSender ports (asked_as command true) sender
+NamesSender ports (Cable command) = Unit {0}
+
+-- a port of a channel adapter has the GUID that it names
+abbrev pub HasSender : List Node → Command → Type 0
+HasSender nodes (Send command) = HasPort nodes command.port_guid
+HasSender nodes (Ask command) = HasPort nodes command.port_guid
+HasSender nodes (Cable command) = Unit {0}
 
 -- the port that a command names refuses to send
 abbrev pub Refuses : FabricState → Command → Type 0
@@ -29,6 +37,7 @@ Refuses fabric (Send command) = (refusal : Refusal) × Stamps fabric command (Er
 Refuses fabric (Ask command) =
     (at : PortRef) × (own : AdapterState) × (refusal : Refusal) × (adapter_at fabric.nodes at ≡ Some own)
     × (own.port_guid ≡ command.port_guid) × (given_to_ask own command ≡ Err refusal)
+Refuses fabric (Cable command) = ⊥
 
 -- ---- these events come of a command, by what the ports and switches of the fabric hold; the fabric that is left may have
 -- other masks, since who receives what is sent to groups may be others
@@ -82,3 +91,4 @@ pub record AskComes (was left : FabricState) (command : AskCommand) (events : Li
 abbrev pub Comes : FabricState → FabricState → Command → List Event → Type 0
 Comes was left (Send command) events = SendComes was left command events
 Comes was left (Ask command) events = AskComes was left command events
+Comes was left (Cable command) events = events ≡ []

@@ -1,18 +1,20 @@
 //! One command over the fabric, and subnet administration's answers.
 
 ghost use Rattle.std.specs.Prelude.{◌≡◌, [], IfErr, IfOk, OnOk};
+ghost use Rattle.fabric_wire.specs.Recabling.{cabling_of};
 ghost use Rattle.subnet_core.specs.Answering.{AnswersRequests, AsksOnce, StepsTo};
 ghost use Rattle.subnet_core.specs.BringUp.{Stands};
 ghost use Rattle.subnet_core.specs.Senders.{AreSentBack};
-ghost use Rattle.subnet_model.specs.declared.command.Command.TheVariants.{Ask, Send};
+ghost use Rattle.subnet_model.specs.declared.command.Command.TheVariants.{Ask, Cable, Send};
 
 use crate::acknowledging::acknowledgements;
+use crate::bringing_up::keys_of;
 use crate::roster::Roster;
 use fabric_wire::{Delivery, Fabric};
 use mad_layout::Mad;
-use sa_fabric::{Administrator, AnswerFault, answer};
+use sa_fabric::{Administrator, AnswerFault, answer, recable};
 use std::alloc::Global;
-use subnet_model::{AskCommand, Command, SendCommand};
+use subnet_model::{AskCommand, CableCommand, Command, SendCommand};
 use subnet_sends::{Event, Sent, ask, manager_key, reply, send};
 use updn_routes::Routes;
 
@@ -42,20 +44,49 @@ impl Answer {
 pub(crate) fn carried_out(
     alloc: Global,
     roster: &Roster,
-    routes: &Routes,
+    routes: &mut Routes,
     fabric: &mut Fabric,
     administrator: &mut Administrator,
     command: &Command,
 ) -> Result<Vec<Event>, AnswerFault>
-    requires { Stands roster.now routes.now administrator.old fabric.old }
+    requires { Stands roster.now routes.old administrator.old fabric.old }
     ensures steps { IfOk result (λ events.
-        StepsTo roster.now routes.now administrator.old fabric.old command.now events.items administrator.new fabric.new) }
+        StepsTo roster.now routes.old routes.new administrator.old fabric.old command.now events.items administrator.new fabric.new) }
     ensures no_push { IfErr result (λ fault. fault ≡ AnswerFault.NoMemory) }
 {
     match command {
         Command::Send(command) => sent(alloc, roster, routes, fabric, administrator, command),
         Command::Ask(command) => asked(alloc, roster, routes, fabric, administrator, command),
+        Command::Cable(command) => recabled(alloc, roster, routes, fabric, administrator, command),
     }
+}
+
+/// Carries out a command to cut a cable, or to mend it. Nothing happens at ports.
+fn recabled(
+    alloc: Global,
+    roster: &Roster,
+    routes: &mut Routes,
+    fabric: &mut Fabric,
+    administrator: &Administrator,
+    command: &CableCommand,
+) -> Result<Vec<Event>, AnswerFault>
+    requires { Stands roster.now routes.old administrator.now fabric.old }
+    ensures steps { IfOk result (λ events.
+        StepsTo roster.now routes.old routes.new administrator.now fabric.old (Cable command.now) events.items administrator.now fabric.new) }
+    ensures no_push { IfErr result (λ fault. fault ≡ AnswerFault.NoMemory) }
+{
+    let keys = keys_of(alloc, roster.configuration().ports())?;
+    recable(
+        alloc,
+        roster.topology(),
+        fabric,
+        routes,
+        administrator,
+        &keys,
+        command.cable,
+        command.up,
+    )?;
+    Ok(Vec::new(alloc))
 }
 
 /// Carries out a command to send.
@@ -69,7 +100,7 @@ fn sent(
 ) -> Result<Vec<Event>, AnswerFault>
     requires { Stands roster.now routes.now administrator.old fabric.old }
     ensures steps { IfOk result (λ events.
-        StepsTo roster.now routes.now administrator.old fabric.old (Send command.now) events.items administrator.new fabric.new) }
+        StepsTo roster.now routes.now routes.now administrator.old fabric.old (Send command.now) events.items administrator.new fabric.new) }
     ensures no_push { IfErr result (λ fault. fault ≡ AnswerFault.NoMemory) }
 {
     match send(alloc, fabric, command)? {
@@ -100,7 +131,7 @@ fn asked(
 ) -> Result<Vec<Event>, AnswerFault>
     requires { Stands roster.now routes.now administrator.old fabric.old }
     ensures steps { IfOk result (λ events.
-        StepsTo roster.now routes.now administrator.old fabric.old (Ask command.now) events.items administrator.new fabric.new) }
+        StepsTo roster.now routes.now routes.now administrator.old fabric.old (Ask command.now) events.items administrator.new fabric.new) }
     ensures no_push { IfErr result (λ fault. fault ≡ AnswerFault.NoMemory) }
 {
     let first = asked_once(alloc, roster, routes, fabric, administrator, command)?;
@@ -162,6 +193,7 @@ fn answered(
         × (administrator.new ≡ administrator.old) × (fabric.new ≡ fabric.old)) }
     ensures back { IfOk result (λ given. AreSentBack fabric.new deliveries.now given.events.items) }
     ensures stands { OnOk result (Stands roster.now routes.now administrator.new fabric.new) }
+    ensures cabling { OnOk result (cabling_of fabric.new ≡ cabling_of fabric.old) }
     ensures no_push { IfErr result (λ fault. fault ≡ AnswerFault.NoMemory) }
 {
     let Some(request) = deliveries.first() else {

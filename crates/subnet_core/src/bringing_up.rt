@@ -48,7 +48,10 @@ fn fabric_of(alloc: Global, roster: &Roster) -> Result<BroughtUp, RunFault>
 }
 
 /// The keys of these ports, port by port.
-fn keys_of(alloc: Global, ports: &[SubnetPort]) -> Result<Vec<KeyTable<PARTITIONS>>, AllocError>
+pub(crate) fn keys_of(
+    alloc: Global,
+    ports: &[SubnetPort],
+) -> Result<Vec<KeyTable<PARTITIONS>>, AllocError>
     ensures { IfOk result (λ keys. keys.items ≡ all_keys ports.now) }
 {
     let mut keys = Vec::new(alloc);

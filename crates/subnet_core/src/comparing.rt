@@ -11,7 +11,7 @@ ghost use Rattle.subnet_core.specs.Roster.{RunGives, of_text, roster_of};
 ghost use Rattle.subnet_core.specs.Senders.{NamesSender};
 ghost use Rattle.subnet_core.specs.declared.fault.RunFault.TheVariants.{NoMemory, SecondScript};
 ghost use Rattle.subnet_model.specs.Near.{is_near};
-ghost use Rattle.subnet_model.specs.Restriction.{actor, commands_of, events_at};
+ghost use Rattle.subnet_model.specs.Restriction.{actor, acts_in, commands_of, events_at};
 ghost use Rattle.subnet_sends.specs.Sends.{event_of};
 
 use crate::bringing_up::bring_up;
@@ -199,16 +199,27 @@ fn run_again(
 fn keep_near(commands: &mut Vec<Command>, ports: &[SubnetPort], port: u64)
     ensures { commands.new.items ≡ commands_of (is_near ports.now port) commands.old.items }
 {
-    commands.retain(|command| is_near(ports, port, actor(command)));
+    commands.retain(|command| is_near_actor(ports, port, command));
 }
 
-/// The GUID of the port that acts.
-fn actor(command: &Command) -> u64
+/// Whether a port acts that is near the port of that GUID.
+fn is_near_actor(ports: &[SubnetPort], port: u64, command: &Command) -> bool
+    ensures { result ≡ acts_in (is_near ports.now port) command.now }
+{
+    match actor(command) {
+        Some(guid) => is_near(ports, port, guid),
+        None => false,
+    }
+}
+
+/// The GUID of the port that acts, if one does.
+fn actor(command: &Command) -> Option<u64>
     ensures { result ≡ actor command.now }
 {
     match command {
-        Command::Send(command) => command.port_guid,
-        Command::Ask(command) => command.port_guid,
+        Command::Send(command) => Some(command.port_guid),
+        Command::Ask(command) => Some(command.port_guid),
+        Command::Cable(_) => None,
     }
 }
 

@@ -1,7 +1,7 @@
 //! The laws of scripts that are accepted, and of what becomes of a fabric. Each function's contract is its law; it
 //! does nothing.
 
-ghost use Rattle.subnet_core.specs.Laws.{EachCommandNamesASender, OneThingBecomesOfAFabric, StreamsKeepPartitionsApart, TextsHaveOneAnswer};
+ghost use Rattle.subnet_core.specs.Laws.{EachCommandNamesASender, OneFabricIsLeft, OneThingBecomesOfAFabric, StreamsKeepPartitionsApart, TextsHaveOneAnswer};
 ghost use Rattle.subnet_core.specs.WholeLines.{ReportLinesAreWhole};
 ghost use Rattle.subnet_core.specs.WrongRules.{CountedEventsTellOfFarPorts};
 
@@ -14,6 +14,12 @@ pub fn each_command_names_a_sender()
 /// depends on the texts alone, and not on the order in which a sweep finds switches.
 pub fn one_thing_becomes_of_a_fabric()
     ensures { OneThingBecomesOfAFabric }
+{}
+
+/// By the same routes one fabric is left by the commands of a script: which cables are in place, and all that its switches and
+/// ports hold then, follows from the topology, the partitions and these commands.
+pub fn one_fabric_is_left()
+    ensures { OneFabricIsLeft }
 {}
 
 /// Each form of a line of a report, once as a whole text.

@@ -16,6 +16,7 @@ mod comparing;
 mod event_lines;
 mod fault;
 mod laws;
+mod leaving;
 mod listing;
 mod lookup;
 mod report;
@@ -29,9 +30,11 @@ pub use crate::bringing_up::bring_up;
 pub use crate::comparing::{Comparison, compare};
 pub use crate::fault::{RunFault, StepFault};
 pub use crate::laws::{
-    counted_events_tell_of_far_ports, each_command_names_a_sender, one_thing_becomes_of_a_fabric,
-    report_lines_are_whole, streams_keep_partitions_apart, texts_have_one_answer,
+    counted_events_tell_of_far_ports, each_command_names_a_sender, one_fabric_is_left,
+    one_thing_becomes_of_a_fabric, report_lines_are_whole, streams_keep_partitions_apart,
+    texts_have_one_answer,
 };
+pub use crate::leaving::left_by;
 pub use crate::report::Report;
 pub use crate::roster::{Roster, read_roster};
 pub use crate::running::run;

@@ -5,6 +5,7 @@ ghost use Rattle.sa_replies.specs.State.{at_start};
 ghost use Rattle.sa_runs.specs.Administration.{subnet_administration};
 ghost use Rattle.subnet_model.specs.Near.{near};
 ghost use Rattle.subnet_model.specs.Report.{events_from, step_by};
+ghost use Rattle.subnet_core.specs.After.{IsThrough};
 ghost use Rattle.subnet_core.specs.Answering.{IsNext};
 ghost use Rattle.subnet_core.specs.BringUp.{IsStarted, IsUp, StaysUp};
 ghost use Rattle.subnet_core.specs.Listing.{listing_text};
@@ -84,8 +85,8 @@ impl Subnet {
         &self.roster
     }
 
-    /// Its one fabric. Where the subnet is not broken it is as it was brought up, with the masks of exactly those who receive
-    /// what is sent to groups: commands change nothing else of it.
+    /// Its one fabric. Where the subnet is not broken it stands with the cables that are in place, with the masks of exactly
+    /// those who receive what is sent to groups: commands change nothing else of it.
     pub fn fabric(&self) -> &Fabric
         ensures value { result.now ≡ self.now.fabric }
         ensures up { StaysUp self.now }
@@ -93,7 +94,7 @@ impl Subnet {
         &self.fabric
     }
 
-    /// The routes in it, with the graph that the sweep found and the LIDs.
+    /// The routes in it, with the graph that the last sweep found and the LIDs.
     pub fn routes(&self) -> &Routes
         ensures { result.now ≡ self.now.routes }
     {
@@ -141,7 +142,8 @@ impl Subnet {
 
     /// Carries out one command over the fabric, and answers its events in order. What is for subnet administration is
     /// answered, and the port that asks acknowledges each segment of a table; where a command changes who receives what is
-    /// sent to groups, the masks of the fabric's switches follow.
+    /// sent to groups, the masks of the fabric's switches follow. A cable is cut, or mended, where the topology can be brought up
+    /// with what is in place then, and the fabric is swept and set up anew; else all stays. That is no event.
     ///
     /// Once memory was refused the subnet is broken for good: every later step answers `Broken` and changes nothing. Its
     /// roster stays, so that lines can be parsed and members listed; what it remembers, its routes and its fabric may be
@@ -169,7 +171,7 @@ impl Subnet {
         let events = carried_out(
             self.alloc,
             &self.roster,
-            &self.routes,
+            &mut self.routes,
             &mut self.fabric,
             &mut self.administrator,
             command,
@@ -189,6 +191,17 @@ impl Subnet {
         subnet.carry_out(&mut events, commands)?;
         let configuration = subnet.roster.into_configuration();
         Ok(Report::new(subnet.alloc, configuration, events))
+    }
+
+    /// Carries out commands one after another. What they tell is dropped.
+    pub(crate) fn run_through(&mut self, commands: &[Command]) -> Result<(), StepFault>
+        requires { All (NamesSender self.old.roster.configuration.ports) commands.now }
+        ensures { OnOk result (IsThrough commands.now self.old self.new) }
+    {
+        for command in commands {
+            self.step(command)?;
+        }
+        Ok(())
     }
 
     /// Carries out commands one after another, and adds their events to those before.

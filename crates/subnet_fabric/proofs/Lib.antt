@@ -19,3 +19,7 @@ pub mod RecabledMaskLemmas
 pub mod RecabledLemmas
 pub mod RecabledGroupLemmas
 pub mod RecabledSoundLemmas
+pub mod StandingReachLemmas
+pub mod StandingLookLemmas
+pub mod StandingLemmas
+pub mod StandingListedLemmas

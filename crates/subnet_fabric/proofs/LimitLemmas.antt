@@ -1,5 +1,5 @@
 -- The fabric of a topology is not too big for a graph: a topology has no more switches and ports of adapters than that.
-use Rattle.std.proofs.Common.{ℕ, zero, suc, ◌+◌, ◌≡◌, ◌≤◌, ◌<◌, ◌==◌, ◌||◌, ◌∙◌, inl, inr, ap, refl, sym, subst, cond, not, nat_le, Bool, true, false, nat_eq}
+use Rattle.std.proofs.Common.{ℕ, zero, suc, ◌+◌, ◌≡◌, ◌≤◌, ◌<◌, ◌==◌, ◌∙◌, inl, inr, ap, refl, sym, subst, cond, not, nat_le, Bool, true, false, nat_eq}
 use Rattle.std.proofs.Common.{List, [], ◌∷◌, ◌++◌, length, map, if◌then◌else◌, arith}
 use Rattle.std.specs.Cmp.{IsEquivalence}
 use Rattle.std.specs.List.{IsDistinct, count_by, list_all, list_any, range_with_len}

@@ -19,7 +19,7 @@ use Rattle.smp_wire.specs.declared.node.Node.{Node}
 use Rattle.smp_wire.specs.declared.node.Node.TheVariants.{Switch, Adapter}
 use Rattle.sweep.specs.Graph.{GraphState}
 use Rattle.sweep.specs.Hops.{IsTooFar, IsWithin}
-use Rattle.sweep.specs.OfFabric.{Found, IsGraphOf, Leads, all_ports, guid_at, link_to, node_at, nodes_of, port_to, ports_at, row_of, switch_of}
+use Rattle.sweep.specs.OfFabric.{Found, IsGraphOf, IsLayoutOf, Leads, all_ports, guid_at, link_to, node_at, nodes_of, port_to, ports_at, row_of, switch_of}
 use Rattle.sweep.specs.Seen.{name_at, name_in, seen_at, seen_in}
 use Rattle.sweep.specs.declared.seen.Seen.{Seen}
 use Rattle.table_push.proofs.NumberedLemmas.{long_numbered}
@@ -152,11 +152,14 @@ linears_look : (routes : RoutesState) (node : Node) → look (switch_by (with_li
 linears_look routes (Switch held) = refl
 linears_look routes (Adapter ports) = refl
 
+pub infos_look : (change : ℕ → ℕ → PortInfo → PortInfo) (node : Node) → look (infos_by change node) ≡ look node
+infos_look change node = looks (infos_by change) (infos_unseen change) (infos_hidden change) node
+
 pub keys_look : (change : ℕ → ℕ → List ℕ → List ℕ) (node : Node) → look (keys_by change node) ≡ look node
 keys_look change node = looks (keys_by change) (keys_unseen change) (keys_hidden change) node
 
 pub ports_look : (routes : RoutesState) (keys : List (List ℕ)) (node : Node) → look (with_ports routes keys node) ≡ look node
-ports_look routes keys node = tops_look (length routes.lids) _ ∙ looks (infos_by _) (infos_unseen _) (infos_hidden _) node
+ports_look routes keys node = tops_look (length routes.lids) _ ∙ infos_look _ node
 
 pub all_look : (routes : RoutesState) (keys : List (List ℕ)) (node : Node) → look (with_all routes keys node) ≡ look node
 all_look routes keys node = linears_look routes _ ∙ keys_look _ (with_ports routes keys node) ∙ ports_look routes keys node
@@ -206,7 +209,7 @@ module _ (fabric : FabricState) (new : List Node) (same : LooksSame fabric.nodes
   unfolding hop
   hop_same starts here number = rw (kind_same here.node, is_there (port here.node number)) refl
 
-  walk_same : (starts : Bool) (here : PortRef) (numbers : List ℕ)
+  pub walk_same : (starts : Bool) (here : PortRef) (numbers : List ℕ)
       → walk new fabric.cables starts here numbers ≡ walk fabric.nodes fabric.cables starts here numbers
   walk_same starts here [] = refl
   walk_same starts here (number ∷ numbers) =
@@ -225,10 +228,10 @@ module _ (fabric : FabricState) (new : List Node) (same : LooksSame fabric.nodes
   }
 
   -- ---- it has the same graph
-  guid_same : (place : ℕ) → guid_at next place ≡ guid_at fabric place
+  pub guid_same : (place : ℕ) → guid_at next place ≡ guid_at fabric place
   guid_same place = or_same node_guid 0 fabric.nodes new place (read (λ one. one.guid))
 
-  count_same : (place : ℕ) → ports_at next place ≡ ports_at fabric place
+  pub count_same : (place : ℕ) → ports_at next place ≡ ports_at fabric place
   count_same place = or_same port_count 0 fabric.nodes new place (read (λ one. one.count))
 
   then_same : {Y : Type 0} (f : Look → Option Y) (place : ℕ)
@@ -240,10 +243,10 @@ module _ (fabric : FabricState) (new : List Node) (same : LooksSame fabric.nodes
       by None = refl
       by (Some node) = refl
 
-  name_same : (at : PortRef) → name_at next at ≡ name_at fabric at
+  pub name_same : (at : PortRef) → name_at next at ≡ name_at fabric at
   name_same at = then_same (λ one. one.name at.port) at.node
 
-  seen_same : (at : PortRef) → seen_at next at ≡ seen_at fabric at
+  pub seen_same : (at : PortRef) → seen_at next at ≡ seen_at fabric at
   seen_same at = then_same (λ one. one.seen at.port) at.node
 
   switch_same : (one : Found) → switch_of next one ≡ switch_of fabric one
@@ -280,19 +283,20 @@ module _ (fabric : FabricState) (new : List Node) (same : LooksSame fabric.nodes
     short = leads.short;
   }
 
-  pub graph_too : (graph : GraphState) → IsGraphOf graph fabric → IsGraphOf graph next
-  graph_too graph of = record {
-    layout = record {
-      found = of.layout.found;
-      once = of.layout.once;
-      all = λ node. of.layout.all node ∙ sym (kind_same node);
-      manager = ap (option_map (λ (seen : Seen). seen.port_guid)) (seen_same fabric.manager) ∙ of.layout.manager;
-      switches = of.layout.switches ∙ sym (λ i. map (λ one. switch_same one i) of.layout.found);
-      rows = of.layout.rows ∙ sym (λ i. map (λ one. row_same (nodes_of of.layout.found) one.node i) of.layout.found);
-      ports = of.layout.ports ∙ sym (ports_same of.layout.found);
-    };
-    lead = λ i d within. leads_same _ (of.lead i d within);
+  pub layout_too : (graph : GraphState) → IsLayoutOf graph fabric → IsLayoutOf graph next
+  layout_too graph layout = record {
+    found = layout.found;
+    once = layout.once;
+    all = λ node. layout.all node ∙ sym (kind_same node);
+    manager = ap (option_map (λ (seen : Seen). seen.port_guid)) (seen_same fabric.manager) ∙ layout.manager;
+    switches = layout.switches ∙ sym (λ i. map (λ one. switch_same one i) layout.found);
+    rows = layout.rows ∙ sym (λ i. map (λ one. row_same (nodes_of layout.found) one.node i) layout.found);
+    ports = layout.ports ∙ sym (ports_same layout.found);
   }
+
+  pub graph_too : (graph : GraphState) → IsGraphOf graph fabric → IsGraphOf graph next
+  unfolding layout_too
+  graph_too graph of = record { layout = layout_too graph of.layout; lead = λ i d within. leads_same _ (of.lead i d within) }
 
 -- ---- cables are as far
 -- and they are that whatever is cut

@@ -84,7 +84,7 @@ told_after read same up a b nodes place =
     by None = refl
     by (Some node) = one a (linked_at up b place node) ∙ one b node
 
-as_many : (number : ℕ) (up : Bool) (ports : List SwitchPort) → length (ports_linked number up ports) ≡ length ports
+pub as_many : (number : ℕ) (up : Bool) (ports : List SwitchPort) → length (ports_linked number up ports) ≡ length ports
 as_many number up ports = by (slice_get ports number)
   where
     by : (found : Option SwitchPort) → length (option_map_or (λ port. slice_set ports number (port_linked up port)) found ports) ≡ length ports

@@ -25,7 +25,7 @@ use Rattle.subnet_fabric.specs.BringUp.{root_guids}
 use Rattle.subnet_fabric.specs.SetUp.{are_switches, has_switch}
 
 -- a node of the fabric has the GUID that the topology says
-same_guid : (plan : TopologyState) (node : ℕ) → list_all is_sized plan.nodes ≡ true → guid_in_fabric (fabric_of plan) node ≡ guid_at plan.nodes node
+pub same_guid : (plan : TopologyState) (node : ℕ) → list_all is_sized plan.nodes ≡ true → guid_in_fabric (fabric_of plan) node ≡ guid_at plan.nodes node
 same_guid plan node sized =
     ap (λ (o : Option _). option_map_or node_guid o 0) (node_at plan.cables plan.nodes node) ∙ by (slice_get plan.nodes node) refl
   where

@@ -1,6 +1,6 @@
 -- What the faults of its parts become where a fabric is not brought up.
 use Rattle.subnet_fabric.specs.declared.fault.FabricFault.{FabricFault}
-use Rattle.subnet_fabric.specs.declared.fault.FabricFault.TheVariants.{NoMemory, Sweep, NoLegalPath, Push}
+use Rattle.subnet_fabric.specs.declared.fault.FabricFault.TheVariants.{NoMemory, Sweep, NoLegalPath}
 use Rattle.sweep.specs.declared.fault.SweepFault.{SweepFault}
 use Rattle.sweep.specs.declared.fault.SweepFault.TheVariants as sweep
 use Rattle.updn_routes.specs.declared.fault.RouteFault.{RouteFault}

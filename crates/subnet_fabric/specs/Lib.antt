@@ -3,3 +3,5 @@ pub mod SetUp
 pub mod BringUp
 pub mod Laws
 pub mod Recabled
+pub mod Standing
+pub mod StandingLaws

@@ -51,7 +51,7 @@ pub fn bring_up_fabric(
 }
 
 /// The GUIDs of the topology's roots, in the order in which they are named.
-fn root_guids(alloc: Global, topology: &Topology) -> Result<Vec<u64>, AllocError>
+pub(crate) fn root_guids(alloc: Global, topology: &Topology) -> Result<Vec<u64>, AllocError>
     ensures { IfOk result (λ guids. guids.items ≡ root_guids topology.now) }
 {
     let nodes = topology.nodes();

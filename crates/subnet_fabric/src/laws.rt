@@ -2,6 +2,7 @@
 //! does nothing.
 
 ghost use Rattle.subnet_fabric.specs.Laws.{AFabricIsBroughtUpAsListed, AFabricWithGroupsIsAsListed, NoPathExcludesComingUp, OnePairHasNoPath, OneTableIsLeft, TooFarExcludesTheRest};
+ghost use Rattle.subnet_fabric.specs.StandingLaws.{AStandingFabricIsAsListed, BroughtUpStands, MasksLetItStand, OneCablingFollows, OneFabricStands};
 ghost use Rattle.subnet_fabric.specs.Recabled.{BroughtUpIsUpWithAll, MasksKeepItUp, RecabledIsAsBroughtUp, WhatIsUpIsSound};
 
 /// The fabric of a topology, brought up with the keys of its end ports, is the fabric of their list: each listed port of a
@@ -62,4 +63,30 @@ pub fn masks_keep_it_up()
 /// keys. So nothing of the time before is left but the masks, which stay.
 pub fn recabled_is_as_brought_up()
     ensures { RecabledIsAsBroughtUp }
+{}
+
+/// A topology's fabric that is brought up stands: it is up with all its cables.
+pub fn brought_up_stands()
+    ensures { BroughtUpStands }
+{}
+
+/// A fabric that stands does so with the masks of any groups.
+pub fn masks_let_it_stand()
+    ensures { MasksLetItStand }
+{}
+
+/// A fabric that stands with the keys of its end ports is the fabric of their list, and of the groups whose masks its switches
+/// have, whichever of its cables are cut. So what its ports stamp and what it delivers is what the list tells.
+pub fn a_standing_fabric_is_as_listed()
+    ensures { AStandingFabricIsAsListed }
+{}
+
+/// What stands is one fabric for the same routes, keys, cables in place and groups, whatever was cut and mended before.
+pub fn one_fabric_stands()
+    ensures { OneFabricStands }
+{}
+
+/// After a cable was to be cut, or mended, one thing only can be said of which are in place.
+pub fn one_cabling_follows()
+    ensures { OneCablingFollows }
 {}

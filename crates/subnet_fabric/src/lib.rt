@@ -7,19 +7,25 @@
 //! [`a_fabric_is_brought_up_as_listed`]; that one thing becomes of a topology's fabric say
 //! [`too_far_excludes_the_rest`], [`no_path_excludes_coming_up`], [`one_pair_has_no_path`] and [`one_table_is_left`]. While
 //! cables are cut and mended, a fabric that is set up again is that of the topology with the cables that are in place:
-//! [`recabled_is_as_brought_up`] (`specs/Recabled.antt`).
+//! [`recabled_is_as_brought_up`] (`specs/Recabled.antt`). [`recable`] plans such a change, makes it and sets the fabric up
+//! again, or leaves all as it is (`specs/Standing.antt`): the fabric stays that of the list of end ports
+//! ([`a_standing_fabric_is_as_listed`]).
 #![tactic(auto)]
 
 mod bring_up;
 mod fault;
 mod laws;
+mod recabling;
 mod setting_up;
 
 pub use crate::bring_up::{BroughtUp, bring_up_fabric};
 pub use crate::fault::FabricFault;
 pub use crate::laws::{
-    a_fabric_is_brought_up_as_listed, a_fabric_with_groups_is_as_listed, brought_up_is_up_with_all,
-    masks_keep_it_up, no_path_excludes_coming_up, one_pair_has_no_path, one_table_is_left,
-    recabled_is_as_brought_up, too_far_excludes_the_rest, what_is_up_is_sound,
+    a_fabric_is_brought_up_as_listed, a_fabric_with_groups_is_as_listed,
+    a_standing_fabric_is_as_listed, brought_up_is_up_with_all, brought_up_stands, masks_keep_it_up,
+    masks_let_it_stand, no_path_excludes_coming_up, one_cabling_follows, one_fabric_stands,
+    one_pair_has_no_path, one_table_is_left, recabled_is_as_brought_up, too_far_excludes_the_rest,
+    what_is_up_is_sound,
 };
+pub use crate::recabling::recable;
 pub use crate::setting_up::set_up;

@@ -14,7 +14,7 @@ use Rattle.pkey_rules.specs.PKey.{default_base, key_of, matches}
 use Rattle.pkey_rules.specs.KeyTable.{accepts, holds, shares}
 use Rattle.subnet_model.specs.declared.subnet_port.SubnetPort.{SubnetPort}
 use Rattle.subnet_model.specs.declared.command.Command.{Command}
-use Rattle.subnet_model.specs.declared.command.Command.TheVariants.{Ask, Send}
+use Rattle.subnet_model.specs.declared.command.Command.TheVariants.{Ask, Cable, Send}
 use Rattle.subnet_model.specs.declared.command.SendCommand.{SendCommand}
 use Rattle.subnet_model.specs.declared.event.PortEvent.{PortEvent}
 use Rattle.subnet_model.specs.declared.event.Outcome.{Outcome}
@@ -24,7 +24,7 @@ use Rattle.subnet_model.specs.Configuration.{ConfigurationState}
 use Rattle.subnet_model.specs.Near.{shares_with, ports_share, is_near}
 use Rattle.subnet_model.specs.Delivery.{port_with_guid, refusal_of, reaches_joined, is_for_sa, key_that_matches, manager_key, asking_key}
 use Rattle.subnet_model.specs.Report.{packet_of, received_by, unless_refused, answered_in_turn, answered_whole, reply_to, replied, delivered, sent, conversation, asked, step_by, events_from, state_from}
-use Rattle.subnet_model.specs.Restriction.{actor, events_at}
+use Rattle.subnet_model.specs.Restriction.{acts_in, events_at}
 use Rattle.subnet_model.specs.Source.{is_lid_near, HasSlidNear, HaveSlidsNear, IsFromNear, ComesFromNear, same_lid}
 use Rattle.subnet_model.specs.Isolation.{Alike, Isolates, KeepsApart}
 use Rattle.subnet_model.specs.Laws.{Isolated}
@@ -324,11 +324,12 @@ asked_far {configuration = configuration} law p guid mad s t (Some own) found fa
     conversation_far law p own (asking_key own.keys) mad s t (ap (is_near configuration.ports p) (found_guid configuration.ports guid own found) ∙ far) alike
 
 step_far : {S V : Type 0} {configuration : ConfigurationState} {administrator : Administrator S} {is_sound : S → Bool} {sees : ℕ → S → V}
-    → KeepsApart configuration administrator is_sound sees → (p : ℕ) (command : Command) (s t : S) → is_near configuration.ports p (actor command) ≡ false
+    → KeepsApart configuration administrator is_sound sees → (p : ℕ) (command : Command) (s t : S) → acts_in (is_near configuration.ports p) command ≡ false
     → Alike is_sound sees p s t → Unmoved is_sound sees p t (step_by administrator configuration s command)
 step_far {configuration = configuration} law p (Send command) s t far alike = sent_far law p command s t (port_with_guid configuration.ports command.port_guid) refl far alike
 step_far {configuration = configuration} law p (Ask command) s t far alike =
     asked_far law p command.port_guid command.mad s t (port_with_guid configuration.ports command.port_guid) refl far alike
+step_far law p (Cable command) s t far alike = record { events = refl; after = alike }
 
 -- ---- of any port
 delivered_alike : {S V : Type 0} {configuration : ConfigurationState} {administrator : Administrator S} {is_sound : S → Bool} {sees : ℕ → S → V}
@@ -382,11 +383,12 @@ step_alike : {S V : Type 0} {configuration : ConfigurationState} {administrator 
 step_alike {configuration = configuration} law p (Send command) s t alike = sent_alike law p command s t (port_with_guid configuration.ports command.port_guid) refl alike
 step_alike {configuration = configuration} law p (Ask command) s t alike =
     asked_alike law p command.port_guid command.mad s t (port_with_guid configuration.ports command.port_guid) refl alike
+step_alike law p (Cable command) s t alike = record { events = refl; after = alike }
 
 steps_isolate : {S V : Type 0} {configuration : ConfigurationState} {administrator : Administrator S} {is_sound : S → Bool} {sees : ℕ → S → V}
     → KeepsApart configuration administrator is_sound sees → (p : ℕ)
     → Isolates (administrator.begins configuration) (step_by administrator configuration) (Alike is_sound sees p)
-    (λ command. is_near configuration.ports p (actor command)) (events_at p)
+    (λ command. acts_in (is_near configuration.ports p) command) (events_at p)
 steps_isolate law p = record {
   far = λ s t command away alike. let moved = step_far law p command s t away alike in (moved.events, moved.after);
   near = λ s t command beside alike. let same = step_alike law p command s t alike in (same.events, same.after);
@@ -520,6 +522,7 @@ step_slids administrator configuration p state (Send command) =
     sent_slids administrator configuration p command (port_with_guid configuration.ports command.port_guid) state refl
 step_slids administrator configuration p state (Ask command) =
     asked_slids administrator configuration p command.port_guid command.mad (port_with_guid configuration.ports command.port_guid) state refl
+step_slids administrator configuration p state (Cable command) = All-nil (λ event. HasSlidNear configuration.ports p event.what)
 
 run_slids : {S : Type 0} (administrator : Administrator S) (configuration : ConfigurationState) (p : ℕ) (commands : List Command) (state : S)
     → HaveSlidsNear configuration.ports p (events_from (step_by administrator configuration) state commands)

@@ -7,7 +7,7 @@ use Rattle.subnet_model.specs.Configuration.{ConfigurationState}
 use Rattle.subnet_model.specs.Delivery.{asking_key, is_for_sa, manager_key, port_with_guid, reaches_joined, refusal_of}
 use Rattle.subnet_model.specs.Report.{answered_in_turn, answered_whole, asked, conversation, delivered, received_by, replied, sent, state_from, step_by, unless_refused}
 use Rattle.subnet_model.specs.declared.command.Command.{Command}
-use Rattle.subnet_model.specs.declared.command.Command.TheVariants.{Ask, Send}
+use Rattle.subnet_model.specs.declared.command.Command.TheVariants.{Ask, Cable, Send}
 use Rattle.subnet_model.specs.declared.command.SendCommand.{SendCommand}
 use Rattle.subnet_model.specs.declared.event.PortEvent.{PortEvent}
 use Rattle.subnet_model.specs.declared.subnet_port.SubnetPort.{SubnetPort}
@@ -64,6 +64,7 @@ module _ {S : Type 0} (P : S → Type 0) (administrator : Administrator S) (conf
   step_keeps : (command : Command) (s : S) → P s → P (step_by administrator configuration s command).1
   step_keeps (Send command) s so = sent_keeps command s (port_with_guid configuration.ports command.port_guid) refl so
   step_keeps (Ask command) s so = asked_keeps command.port_guid command.mad s (port_with_guid configuration.ports command.port_guid) refl so
+  step_keeps (Cable command) s so = so
 
   pub run_keeps : (commands : List Command) (s : S) → P s → P (state_from (step_by administrator configuration) s commands)
   run_keeps [] s so = so

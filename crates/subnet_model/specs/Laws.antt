@@ -1,14 +1,16 @@
 -- What holds of every subnet and every list of commands.
-use Rattle.std.specs.Prelude.{ℕ, ◌≡◌, Bool, true, List, All}
+use Rattle.std.specs.Prelude.{ℕ, ◌≡◌, Bool, true, List, ◌∷◌, All}
 use Rattle.std.specs.List.{IsDistinct}
 use Rattle.subnet_model.specs.declared.subnet_port.SubnetPort.{SubnetPort}
+use Rattle.subnet_model.specs.declared.command.CableCommand.{CableCommand}
 use Rattle.subnet_model.specs.declared.command.Command.{Command}
+use Rattle.subnet_model.specs.declared.command.Command.TheVariants.{Cable}
 use Rattle.subnet_model.specs.declared.event.PortEvent.{PortEvent}
 use Rattle.subnet_model.specs.Administrator.{Administrator}
 use Rattle.subnet_model.specs.Configuration.{ConfigurationState}
 use Rattle.subnet_model.specs.Near.{is_near}
 use Rattle.subnet_model.specs.Report.{step_by, report_by, state_from}
-use Rattle.subnet_model.specs.Restriction.{actor, commands_of, events_at}
+use Rattle.subnet_model.specs.Restriction.{acts_in, commands_of, events_at}
 use Rattle.subnet_model.specs.Source.{ComesFromNear, HaveSlidsNear, is_lid_near, same_lid}
 use Rattle.subnet_model.specs.Isolation.{Alike, Isolates, IsIsolated, KeepsApart}
 
@@ -19,7 +21,7 @@ pub record Isolated {S V : Type 0} (configuration : ConfigurationState) (adminis
     (sees : ℕ → S → V) : Type 0 where
   pub steps : (p : ℕ)
       → Isolates (administrator.begins configuration) (step_by administrator configuration) (Alike is_sound sees p)
-      (λ command. is_near configuration.ports p (actor command)) (events_at p)
+      (λ command. acts_in (is_near configuration.ports p) command) (events_at p)
   pub runs : (commands : List Command)
       → IsIsolated administrator configuration commands (report_by administrator configuration commands)
   pub states : (p : ℕ) (commands : List Command)
@@ -32,6 +34,12 @@ abbrev pub EveryKeeperIsolates : Type 0 → Type 0 → Type 0
 EveryKeeperIsolates S V =
     (configuration : ConfigurationState) (administrator : Administrator S) (is_sound : S → Bool) (sees : ℕ → S → V)
     → KeepsApart configuration administrator is_sound sees → Isolated configuration administrator is_sound sees
+
+-- whichever ports a list of commands is restricted to, what happens to a cable is left out of it
+abbrev pub RestrictionsDropCables : Type 0
+RestrictionsDropCables =
+    (in_set : ℕ → Bool) (command : CableCommand) (commands : List Command)
+    → commands_of in_set (Cable command ∷ commands) ≡ commands_of in_set commands
 
 -- where no two ports have one LID, the port of a LID near p is near p
 abbrev pub ThePortOfALidIsNear : Type 0

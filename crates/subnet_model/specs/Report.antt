@@ -7,7 +7,7 @@ use Rattle.data_packet.specs.declared.refusal.Refusal.{Refusal}
 use Rattle.data_packet.specs.declared.refusal.Refusal.TheVariants.{KeyNotHeld}
 use Rattle.subnet_model.specs.declared.subnet_port.SubnetPort.{SubnetPort}
 use Rattle.subnet_model.specs.declared.command.Command.{Command}
-use Rattle.subnet_model.specs.declared.command.Command.TheVariants.{Ask, Send}
+use Rattle.subnet_model.specs.declared.command.Command.TheVariants.{Ask, Cable, Send}
 use Rattle.subnet_model.specs.declared.command.SendCommand.{SendCommand}
 use Rattle.subnet_model.specs.declared.event.PortEvent.{PortEvent}
 use Rattle.subnet_model.specs.declared.event.Outcome.TheVariants.{Received, Refused}
@@ -87,12 +87,14 @@ asked administrator configuration (Some own) mad state =
     conversation administrator configuration own (asking_key own.keys) mad state
 asked administrator configuration None mad state = ([], state)
 
--- the events of one command, and the state after it
+-- the events of one command, and the state after it; a cable that is cut or mended brings no event, and leaves what
+-- subnet administration remembers
 abbrev pub step_by : {S : Type 0} → Administrator S → ConfigurationState → S → Command → List PortEvent × S
 step_by administrator configuration state (Send command) =
     sent administrator configuration (port_with_guid configuration.ports command.port_guid) command state
 step_by administrator configuration state (Ask command) =
     asked administrator configuration (port_with_guid configuration.ports command.port_guid) command.mad state
+step_by administrator configuration state (Cable command) = ([], state)
 
 -- ---- many
 -- the events of commands that follow one another from a state

@@ -1,17 +1,23 @@
 -- What of a run concerns a port: its events, and the commands of a set of ports.
-use Rattle.std.specs.Prelude.{ℕ, Bool, ◌==◌, List, filter}
+use Rattle.std.specs.Prelude.{ℕ, Bool, false, ◌==◌, List, Option, Some, None, filter}
+use Rattle.std.specs.Option.{option_map_or}
 use Rattle.subnet_model.specs.declared.command.Command.{Command}
-use Rattle.subnet_model.specs.declared.command.Command.TheVariants.{Ask, Send}
+use Rattle.subnet_model.specs.declared.command.Command.TheVariants.{Ask, Cable, Send}
 use Rattle.subnet_model.specs.declared.event.PortEvent.{PortEvent}
 
--- the port that acts, by its GUID
-abbrev pub actor : Command → ℕ
-actor (Send command) = command.port_guid
-actor (Ask command) = command.port_guid
+-- the port that acts, by its GUID; none where a cable is cut or mended
+abbrev pub actor : Command → Option ℕ
+actor (Send command) = Some command.port_guid
+actor (Ask command) = Some command.port_guid
+actor (Cable command) = None
 
--- the commands of the ports of a set of GUIDs, in order
+-- a port of this set of GUIDs acts
+abbrev pub acts_in : (ℕ → Bool) → Command → Bool
+acts_in in_set command = option_map_or in_set (actor command) false
+
+-- the commands of the ports of a set of GUIDs, in order: none of them is to a cable
 abbrev pub commands_of : (ℕ → Bool) → List Command → List Command
-commands_of in_set commands = filter (λ command. in_set (actor command)) commands
+commands_of in_set commands = filter (λ command. acts_in in_set command) commands
 
 -- the events at the port of this GUID, in order
 abbrev pub events_at : ℕ → List PortEvent → List PortEvent

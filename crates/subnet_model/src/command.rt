@@ -1,19 +1,21 @@
-//! What ports are told to do.
+//! What ports are told to do, and what happens to cables.
 
 ghost use Rattle.std.specs.Prelude.{◌≡◌};
 ghost use Rattle.subnet_model.specs.Delivery.{is_for_sa};
 
 use data_packet::{Payload, QueuePair};
-use fabric_parts::MANAGER_LID;
+use fabric_parts::{Cable, MANAGER_LID};
 use mad_layout::Mad;
 
-/// What a port is told to do.
+/// What a port is told to do, or what happens to a cable.
 #[derive(Debug, Drop, PartialEq, Eq)]
 pub enum Command {
     /// To send a packet.
     Send(SendCommand),
     /// To ask something of the subnet administration.
     Ask(AskCommand),
+    /// A cable between two switches is cut, or mended; no port acts.
+    Cable(CableCommand),
 }
 
 /// A packet that a port is told to send.
@@ -49,4 +51,13 @@ pub struct AskCommand {
     pub port_guid: u64,
     /// The MAD that it sends.
     pub mad: Mad,
+}
+
+/// What happens to a cable between two switches.
+#[derive(Debug, Drop, PartialEq, Eq)]
+pub struct CableCommand {
+    /// The cable, its ends in the order in which they are named.
+    pub cable: Cable,
+    /// Whether it is mended, and not cut.
+    pub up: bool,
 }

@@ -2,13 +2,18 @@
 //! contract is the law.
 
 ghost use Rattle.subnet_model.specs.Groups.{GroupsReachOthers};
-ghost use Rattle.subnet_model.specs.Laws.{EveryKeeperIsolates, SlidsNameTheirPorts, ThePortOfALidIsNear};
+ghost use Rattle.subnet_model.specs.Laws.{EveryKeeperIsolates, RestrictionsDropCables, SlidsNameTheirPorts, ThePortOfALidIsNear};
 
 /// Whoever answers what is asked of the subnet administration: where it keeps ports apart, so does a subnet. A command
 /// of a port that is far from another brings that one no event, and leaves a state that is alike to it; one of a port
 /// near it brings it the same events in states that are alike, and leaves them alike.
 pub fn every_keeper_isolates<S, V>()
     ensures { EveryKeeperIsolates S V }
+{}
+
+/// A restriction to ports drops what happens to cables, so that what a port receives does not depend on it.
+pub fn restrictions_drop_cables()
+    ensures { RestrictionsDropCables }
 {}
 
 /// A multicast group brings a packet to each port that has joined it and may receive the packet, but not to its sender.

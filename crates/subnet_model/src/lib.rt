@@ -3,8 +3,9 @@
 //! Here are the definitions that the product's promises are made of: who is near whom
 //! (`specs/Near.antt`), whom a packet reaches (`specs/Delivery.antt`), what a list of commands brings
 //! about (`specs/Report.antt`), and the sentence itself, that what a port receives depends only on
-//! the ports near it (`specs/Isolation.antt`). There is no cable, table or hop in them: a subnet is a
-//! list of ports with their LIDs and keys (IBA volume 1, chapter 14). Who answers what ports send to
+//! the ports near it (`specs/Isolation.antt`). No cable, table or hop bears on them: a subnet is a
+//! list of ports with their LIDs and keys (IBA volume 1, chapter 14), and a cable that is cut or mended
+//! brings nobody anything. Who answers what ports send to
 //! subnet administration is a parameter of them (`specs/Administrator.antt`): whoever keeps ports apart
 //! leaves every run isolated ([`every_keeper_isolates`]).
 #![tactic(auto)]
@@ -19,12 +20,13 @@ mod nearness;
 mod node_name;
 mod subnet_port;
 
-pub use crate::command::{AskCommand, Command, SendCommand};
+pub use crate::command::{AskCommand, CableCommand, Command, SendCommand};
 pub use crate::configuration::Configuration;
 pub use crate::event::{Outcome, PortEvent};
 pub use crate::group_receiver::GroupReceiver;
 pub use crate::laws::{
-    every_keeper_isolates, groups_reach_others, slids_name_their_ports, the_port_of_a_lid_is_near,
+    every_keeper_isolates, groups_reach_others, restrictions_drop_cables, slids_name_their_ports,
+    the_port_of_a_lid_is_near,
 };
 pub use crate::lids::{lid_of, lids_of};
 pub use crate::nearness::{is_near, near};

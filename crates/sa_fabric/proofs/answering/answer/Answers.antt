@@ -1,6 +1,8 @@
 use Rattle.std.proofs.Common.{ℕ, ◌∙◌, ap, subst, sym, List}
 use Rattle.sa_answer.specs.Registry.{RegistryState}
 use Rattle.sa_fabric.proofs.ReceiveLemmas.{in_its_slice}
+use Rattle.fabric_wire.specs.Recabling.{cabling_of}
+use Rattle.sa_fabric.proofs.SliceLemmas.{slices_keep_cables}
 use Rattle.sa_fabric.proofs.ServeLemmas.{can_be_pushed, numbers_are_few, serves_again, told}
 use Rattle.sa_fabric.specs.Served.{Serves, receives_at}
 use Rattle.sa_fabric.specs.Slices.{AgreesWith, AreRight, slices_pushed, where_in}
@@ -52,3 +54,8 @@ returns-clause-serves c plan given =
     (c.in_ok-push_slices.ensures.pushed.is
     ∙ ap (λ (numbers : List ℕ). slices_pushed c.args.routes.now c.handle.new.self numbers c.args.fabric.now)
     (c.as_slice.ensures.value ∙ c.in_ok-reaction.ensures.reacts.changed))
+
+pub returns-clause-cabling : goal.returns-clause-cabling
+returns-clause-cabling c =
+    ap cabling_of c.in_ok-push_slices.ensures.pushed.is
+    ∙ slices_keep_cables c.args.routes.now c.handle.new.self c.as_slice.result.now c.args.fabric.now

@@ -21,4 +21,4 @@ returns-in-Request-clause-once c =
     c.deref.ensures.value c.answered.ensures.answers)
     (subst (λ (some : List DeliveryState). IfOk c.answered.result (λ given. AreSentBack c.answered.new.fabric some given.events.items))
     c.deref.ensures.value c.answered.ensures.back)
-    c.answered.ensures.stands
+    c.answered.ensures.stands c.answered.ensures.cabling

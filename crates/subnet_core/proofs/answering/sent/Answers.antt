@@ -20,3 +20,4 @@ returns-in_ok-given-in-Request-clause-steps c =
     c.deref.ensures.value c.in_ok-given-in-Request.ensures.answers)
     (subst (λ (some : List DeliveryState). AreSentBack c.answered.new.fabric some c.in_ok-given-in-Request.given.events.items) c.deref.ensures.value
     c.in_ok-given-in-Request.ensures.back)
+    c.in_ok-given-in-Request.ensures.cabling

@@ -11,7 +11,9 @@ pub invariant_of-result : goal.invariant_of-result
 invariant_of-result c =
     let is_good = made IsGood c.args.topology.now _ _ _ c.in_ok-nodes.ensures (c.in_ok-cabling.ensures ∙ ap uncut c.cables.ensures.value)
     c.sm.ensures.value (good c.args.topology.now c.known_sound.ensures) in
-    record { good = is_good; found = rw (← c.deref.ensures.value) c.in_ok-adapter_ports.ensures }
+    let shown = made ShowsLinks c.args.topology.now _ _ _ c.in_ok-nodes.ensures (c.in_ok-cabling.ensures ∙ ap uncut c.cables.ensures.value)
+    c.sm.ensures.value (links c.args.topology.now) in
+    record { good = is_good; links = shown; found = rw (← c.deref.ensures.value) c.in_ok-adapter_ports.ensures }
 
 pub places_by_guid-requires-clause-counts : goal.places_by_guid-requires-clause-counts
 places_by_guid-requires-clause-counts c =

@@ -5,7 +5,8 @@ use Rattle.smp_wire.specs.FabricState.{FabricState}
 use Rattle.smp_wire.specs.declared.node.Node.{Node}
 use Rattle.fabric_wire.specs.Cabling.{fabric_over}
 use Rattle.fabric_wire.specs.Recabling.{cabling_with, can_change, nodes_linked}
-use Rattle.fabric_wire.proofs.RecablingLemmas.{are_ports, stays_kept}
+use Rattle.fabric_wire.proofs.RecablingLemmas.{are_ports}
+use Rattle.fabric_wire.proofs.RecablingLinkLemmas.{stays_kept}
 use Rattle.fabric_wire.proofs.fabric.Fabric.set_cable.Goals as goal
 
 pub set_links-requires-clause-first : goal.set_links-requires-clause-first

@@ -1,0 +1,83 @@
+-- A command to cut a cable, or to mend it; and what any command leaves of a subnet.
+use Rattle.std.proofs.Common.{◌≡◌, ap, refl, subst, sym, Bool, false, List, [], map}
+use Rattle.fabric_wire.specs.Recabling.{cabling_of}
+use Rattle.sa_answer.specs.Registry.{RegistryState}
+use Rattle.sa_fabric.specs.Served.{IsServed, Serves}
+use Rattle.smp_wire.specs.FabricState.{FabricState}
+use Rattle.subnet_core.specs.Answering.{IsNext, StepsTo}
+use Rattle.subnet_core.specs.BringUp.{Stands, SubnetState}
+use Rattle.subnet_core.specs.Cabling.{RoutesStay}
+use Rattle.subnet_core.specs.Roster.{RosterState}
+use Rattle.subnet_core.specs.Senders.{HasSender, Refuses}
+use Rattle.subnet_fabric.specs.Standing.{IsNextCabling}
+use Rattle.subnet_model.specs.Configuration.{ConfigurationState}
+use Rattle.subnet_model.specs.declared.command.CableCommand.{CableCommand}
+use Rattle.subnet_model.specs.declared.command.Command.{Command}
+use Rattle.subnet_model.specs.declared.command.Command.TheVariants.{Ask, Cable, Send}
+use Rattle.subnet_sends.specs.Sends.{event_of}
+use Rattle.subnet_sends.specs.declared.event.Event.{Event}
+use Rattle.updn_routes.specs.Subnet.{RoutesState}
+
+module _ (roster : RosterState) (routes : RoutesState) (registry : RegistryState) (was : FabricState) (stands : Stands roster routes registry was)
+    (next : RoutesState) (left : FabricState) (serves : Serves roster.plan next registry left) where
+  -- who is in the subnet stays, and so does what is remembered
+  stands_with : Stands roster next registry left
+  stands_with = record {
+    rostered = stands.rostered;
+    configured = stands.configured;
+    whole = stands.whole;
+    state = stands.state;
+    served = subst (λ (configuration : ConfigurationState). IsServed roster.plan configuration.ports registry.administration.remembered.partitions next left)
+        stands.configured serves.served;
+  }
+
+  pub steps_by_cable : (command : CableCommand) (events : List Event) → events ≡ []
+      → IsNextCabling roster.plan command.cable.first command.cable.second command.up (cabling_of was) (cabling_of left)
+      → StepsTo roster routes next registry was (Cable command) events registry left
+  steps_by_cable command events none cabling = record {
+    comes = none;
+    told = λ names. (ap (map event_of) none, refl);
+    nobody = λ nobody. absurd (nobody tt);
+    refused = λ refuses. absurd refuses;
+    routes_stay = tt;
+    cabling = cabling;
+    stands = stands_with;
+  }
+
+-- ---- the subnet after a command
+module _ (roster : RosterState) (routes next : RoutesState) (old new : RegistryState) (was left : FabricState) (is_broken : Bool) (whole : is_broken ≡ false) where
+  abbrev pub before : SubnetState
+  before = record { roster = roster; routes = routes; fabric = was; administration = old.administration; is_broken = is_broken }
+
+  abbrev pub after : SubnetState
+  after = record { roster = roster; routes = next; fabric = left; administration = new.administration; is_broken = false }
+
+  stays : next ≡ routes → (new ≡ old) × (left ≡ was) → after ≡ before
+  stays same nothing = λ i. record {
+    roster = roster;
+    routes = same i;
+    fabric = nothing.1 i;
+    administration = (nothing.0 i).administration;
+    is_broken = sym whole i;
+  }
+
+  nobody_acts : (command : Command) → RoutesStay command routes next → (HasSender was.nodes command → ⊥) → (new ≡ old) × (left ≡ was) → after ≡ before
+  nobody_acts (Send command) same nobody nothing = stays same nothing
+  nobody_acts (Ask command) same nobody nothing = stays same nothing
+  nobody_acts (Cable command) same nobody nothing = absurd (nobody tt)
+
+  port_refuses : (command : Command) → RoutesStay command routes next → Refuses was command → (new ≡ old) × (left ≡ was) → after ≡ before
+  port_refuses (Send command) same refuses nothing = stays same nothing
+  port_refuses (Ask command) same refuses nothing = stays same nothing
+  port_refuses (Cable command) same refuses nothing = absurd refuses
+
+  pub next_of : (command : Command) (events : List Event) → StepsTo roster routes next old was command events new left → IsNext before command after
+  next_of command events steps = record {
+    roster = refl;
+    routes = steps.routes_stay;
+    cabling = steps.cabling;
+    whole = sym whole;
+    administration = λ names. (steps.told names).1;
+    nobody = λ nobody. nobody_acts command steps.routes_stay nobody (steps.nobody nobody);
+    refused = λ refuses. port_refuses command steps.routes_stay refuses (steps.refused refuses);
+  }

@@ -1,0 +1,51 @@
+//! What a script leaves of a subnet.
+
+ghost use Rattle.std.specs.Prelude.{◌≡◌, List, Ok, IfErr, IfOk};
+ghost use Rattle.std.specs.Option.{option_copied};
+ghost use Rattle.result_words.specs.Gives.{Fails};
+ghost use Rattle.script_lines.specs.Script.{commands_in};
+ghost use Rattle.subnet_core.specs.After.{IsLeft, IsUpAfter};
+ghost use Rattle.subnet_core.specs.BringUp.{IsStarted, up_in};
+ghost use Rattle.subnet_core.specs.Roster.{fault_in, of_text, roster_of};
+ghost use Rattle.subnet_core.specs.declared.fault.RunFault.TheVariants.{Script};
+ghost use Rattle.subnet_model.specs.declared.command.Command.{Command};
+
+use crate::bringing_up::bring_up;
+use crate::fault::RunFault;
+use crate::running::commands_in;
+use crate::subnet::Subnet;
+use std::alloc::Global;
+
+/// The subnet of a topology under a partition file, or without one, as a script leaves it, if there is one. The subnet is
+/// brought up, and the whole script is read, before anything of it is carried out; what it tells is dropped.
+///
+/// Cables that it cut stay cut: so routes, tables and masks are those that packets go by after its last line.
+pub fn left_by(
+    alloc: Global,
+    topology: &[u8],
+    partitions: Option<&[u8]>,
+    script: Option<&[u8]>,
+) -> Result<Subnet, RunFault>
+    ensures { IsLeft (roster_of topology.now (option_copied partitions.entry)) (option_copied script.entry) result }
+{
+    let subnet = bring_up(alloc, topology, partitions)?;
+    match script {
+        Some(script) => after(alloc, subnet, script),
+        None => Ok(subnet),
+    }
+}
+
+/// The subnet after a script.
+fn after(alloc: Global, subnet: Subnet, script: &[u8]) -> Result<Subnet, RunFault>
+    requires { IsStarted subnet }
+    ensures roster { IfOk result (λ left. left.roster ≡ subnet.roster) }
+    ensures left { IfOk result (λ left. (commands : List Command) × (commands_in subnet.roster.plan script.now ≡ Ok commands)
+        × IsUpAfter subnet.roster commands (up_in left)) }
+    ensures fault { IfErr result (λ fault. Fails (fault_in fault) (of_text Script (commands_in subnet.roster.plan script.now))) }
+{
+    let mut left = subnet;
+    left.roster().known_listed();
+    let commands = commands_in(alloc, &left, script)?;
+    left.run_through(&commands)?;
+    Ok(left)
+}
