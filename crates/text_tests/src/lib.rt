@@ -10,6 +10,8 @@ mod asks;
 #[cfg(test)]
 mod cables;
 #[cfg(test)]
+mod discoveries;
+#[cfg(test)]
 mod fixtures;
 #[cfg(test)]
 mod partition_members;

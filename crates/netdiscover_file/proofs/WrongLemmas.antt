@@ -1,0 +1,94 @@
+-- What wrong rules let pass.
+use Rattle.std.proofs.Common.{◌≡◌, refl, ℕ, true, false, nat_eq, arith, List, [], ◌∷◌, Some, None}
+use Rattle.std.proofs.lemmas.Bool.{false≢true}
+use Rattle.fabric_parts.specs.Cable.{port}
+use Rattle.result_words.proofs.DistinctLemmas.{differ, distinct}
+use Rattle.result_words.proofs.ListLemmas.{IsDistinct-nil}
+use Rattle.netdiscover_file.specs.declared.kind.NodeKind.TheVariants.{ChannelAdapter, Switch}
+use Rattle.netdiscover_file.specs.declared.node.Node.{Node}
+use Rattle.netdiscover_file.specs.declared.port.PortLine.{PortLine}
+use Rattle.netdiscover_file.specs.Discovery.{DraftState}
+use Rattle.netdiscover_file.specs.Sound.{shares_guid, shares_port, AreSound, IsSoundSoFar}
+use Rattle.netdiscover_file.specs.WrongRules.{ANodeMayBeJoinedToItself, FarEndsAloneAreNotEnough, NodesAloneAreNotEnough, NumbersAloneAreNotEnough, OtherEndsAloneMayBeTwo, PortsAloneAreNotEnough}
+
+-- a switch of two ports, with this GUID and that of its port 0
+abbrev switch : ℕ → ℕ → Node
+switch guid port_guid = record { id = record { kind = Switch; guid = guid }; ports = 2; name = []; lid = Some 1; port_guid = Some port_guid; line = 1 }
+
+-- a line of a switch's port, which leads to another
+abbrev leads : ℕ → ℕ → ℕ → ℕ → PortLine
+leads place number far_guid far_number =
+    record { port = port place number; guid = None; lid = None; far = record { node = record { kind = Switch; guid = far_guid }; port = far_number; guid = None }; line = 1 }
+
+-- both ports of the first switch lead to port 1 of the second, which leads back to port 1 alone
+pub far_ends_alone_are_not_enough : FarEndsAloneAreNotEnough
+far_ends_alone_are_not_enough law =
+    let told : false ≡ true = law (switch 1 1 ∷ switch 2 2 ∷ []) (leads 0 1 2 1 ∷ leads 0 2 2 1 ∷ leads 1 1 1 1 ∷ []) refl in
+    false≢true told
+
+-- one switch stands already
+abbrev one_switch : DraftState
+one_switch = record { nodes = switch 1 1 ∷ []; ports = []; port_guids = 1 ∷ []; switch_guids = None; initiator = None }
+
+one_sound : IsSoundSoFar (switch 1 1 ∷ []) [] (1 ∷ [])
+one_sound = record {
+  lines = record {
+    own_nodes = distinct shares_guid (switch 1 1 ∷ []) refl;
+    own_lines = IsDistinct-nil shares_port;
+    own_guids = distinct nat_eq (1 ∷ []) refl;
+    are_ports = refl;
+    have_own = refl;
+  };
+  all_noted = refl;
+}
+
+-- another, whose port 0 has the GUID of the first one's
+pub nodes_alone_are_not_enough : NodesAloneAreNotEnough
+nodes_alone_are_not_enough law =
+    let told : false ≡ true = differ nat_eq (1 ∷ 1 ∷ []) (law one_switch (switch 2 1) one_sound refl).own_guids in
+    false≢true told
+
+-- another of the same GUID
+pub ports_alone_are_not_enough : PortsAloneAreNotEnough
+ports_alone_are_not_enough law =
+    let told : false ≡ true = differ shares_guid (switch 1 1 ∷ switch 1 2 ∷ []) (law one_switch (switch 1 2) one_sound refl).own_nodes in
+    false≢true told
+
+-- two adapters, whose ports have the GUIDs 5 and 7; the line of the one tells 9 of the other
+abbrev adapter : ℕ → Node
+adapter guid = record { id = record { kind = ChannelAdapter; guid = guid }; ports = 1; name = []; lid = None; port_guid = None; line = 1 }
+
+abbrev joined : ℕ → ℕ → ℕ → ℕ → PortLine
+joined place guid far_node far_guid =
+    record { port = port place 1; guid = Some guid; lid = Some 1; far = record { node = record { kind = ChannelAdapter; guid = far_node }; port = 1; guid = Some far_guid }; line = 1 }
+
+pub numbers_alone_are_not_enough : NumbersAloneAreNotEnough
+numbers_alone_are_not_enough law =
+    let told : false ≡ true = law (adapter 1 ∷ adapter 2 ∷ []) (joined 0 5 2 9 ∷ joined 1 7 1 5 ∷ []) refl in
+    false≢true told
+
+-- a switch whose ports are joined to each other
+abbrev loop_lines : List PortLine
+loop_lines = leads 0 1 1 2 ∷ leads 0 2 1 1 ∷ []
+
+loop_sound : AreSound (switch 1 1 ∷ []) loop_lines
+loop_sound = record {
+  own_nodes = distinct shares_guid (switch 1 1 ∷ []) refl;
+  own_lines = distinct shares_port loop_lines refl;
+  own_guids = distinct nat_eq (1 ∷ []) refl;
+  are_ports = refl;
+  have_own = refl;
+}
+
+pub a_node_may_be_joined_to_itself : ANodeMayBeJoinedToItself
+a_node_may_be_joined_to_itself law =
+    let told : false ≡ true = law (switch 1 1 ∷ []) loop_lines loop_sound (leads 0 1 1 2) in
+    false≢true told
+
+-- two lines of one port, both of which lead back
+pub other_ends_alone_may_be_two : OtherEndsAloneMayBeTwo
+other_ends_alone_may_be_two law =
+    let same : ◌≡◌ {A = ℕ} 1 2 =
+    law (record { nodes = switch 1 1 ∷ switch 2 2 ∷ []; ports = leads 0 1 2 1 ∷ leads 1 1 1 1 ∷ leads 1 1 1 1 ∷ []; initiator = None }) refl
+    (leads 0 1 2 1) (leads 1 1 1 1) (leads 1 1 1 1) 1 2 refl refl refl refl in
+    omega (arith, same)

@@ -1,0 +1,10 @@
+use Rattle.std.proofs.Common.{◌==◌, ap, ◌∙◌}
+use Rattle.netdiscover_file.specs.Node.{place_of}
+use Rattle.netdiscover_file.proofs.IndexLemmas.{place_by_key}
+use Rattle.netdiscover_file.proofs.node.NodeList.place_of.Goals as goal
+
+pub returns : goal.returns
+returns c =
+    c.get_index_of.ensures.index
+    ∙ place_by_key (λ key. c.args.guid == key) (λ node. node.id.guid) c.self.inside.guids.keys c.self.inside.nodes.items c.self.invariant
+    ∙ ap (place_of c.args.guid) c.self.view_is

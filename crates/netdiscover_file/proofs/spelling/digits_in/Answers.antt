@@ -1,0 +1,20 @@
+use Rattle.std.proofs.Common.{◌<◌, length, arith, sym, ◌∙◌}
+use Rattle.text_words.proofs.NumberLemmas.{starts, spells_more, stops, all_spelt}
+use Rattle.netdiscover_file.proofs.spelling.digits_in.Goals as goal
+
+pub loop-byte-init : goal.loop-byte-init
+loop-byte-init c = starts c.args.radix c.args.digits.now
+
+pub loop-byte-preserved : goal.loop-byte-preserved
+loop-byte-preserved c =
+    spells_more c.args.radix c.loop-byte.value c.loop-byte.byte-index c.in_ok-value.value c.args.digits.now c.loop-byte-test.true c.loop-byte.invariant (sym c.in_ok-value.ensures)
+
+pub returns-in_err-value : goal.returns-in_err-value
+returns-in_err-value c =
+    c.from_residual.ensures
+    ∙ sym (stops c.args.radix c.loop-byte.value c.loop-byte.byte-index c.args.digits.now (omega arith) c.loop-byte-test.true c.loop-byte.invariant (sym c.with_digit.ensures ∙ c.in_err-value.was))
+
+pub returns : goal.returns
+returns c =
+    let some : 0 < length c.args.digits.now = grind arith in
+    sym (all_spelt c.args.radix c.loop-byte.value c.loop-byte.byte-index c.args.digits.now some c.loop-byte-test.false c.loop-byte.invariant)

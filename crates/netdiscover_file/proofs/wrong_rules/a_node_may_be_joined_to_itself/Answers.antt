@@ -1,0 +1,5 @@
+use Rattle.netdiscover_file.proofs.WrongLemmas.{a_node_may_be_joined_to_itself}
+use Rattle.netdiscover_file.proofs.wrong_rules.a_node_may_be_joined_to_itself.Goals as goal
+
+pub returns : goal.returns
+returns c = a_node_may_be_joined_to_itself

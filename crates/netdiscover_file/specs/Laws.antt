@@ -1,0 +1,45 @@
+-- What is so of all discoveries: the statements of the laws of `src/laws.rt`.
+use Rattle.std.specs.Prelude.{ℕ, Bool, ◌≡◌, true, false, not, find, List, ◌∷◌, ◌++◌, [], slice_get, Some, None}
+use Rattle.std.specs.List.{list_all}
+use Rattle.netdiscover_file.specs.declared.node.Node.{Node}
+use Rattle.netdiscover_file.specs.declared.port.PortLine.{PortLine}
+use Rattle.netdiscover_file.specs.Agreement.{is_one_cable, stands_at_both_ends}
+use Rattle.netdiscover_file.specs.Discovery.{DiscoveryState, DraftState, has_taken_guid}
+use Rattle.netdiscover_file.specs.Sound.{has_other_end, AreSound, IsSound, IsSoundSoFar}
+
+-- a cable stands once at its other end: the lines that lead back to a line are one, in every discovery of which this is so
+abbrev pub OneOtherEndWhere : (DiscoveryState → Type 0) → Type 0
+OneOtherEndWhere So =
+    (discovery : DiscoveryState) → So discovery → (line a b : PortLine) (i j : ℕ)
+    → slice_get discovery.ports i ≡ Some a → slice_get discovery.ports j ≡ Some b
+    → is_one_cable discovery.nodes line a ≡ true → is_one_cable discovery.nodes line b ≡ true → i ≡ j
+
+abbrev pub OneOtherEnd : Type 0
+OneOtherEnd = OneOtherEndWhere IsSound
+
+-- where no line fails this test, each has one that leads back
+abbrev pub TellsMissingEnds : (List Node → List PortLine → PortLine → Bool) → Type 0
+TellsMissingEnds test =
+    (nodes : List Node) (ports : List PortLine) → find (λ line. not (test nodes ports line)) ports ≡ None
+    → list_all (has_other_end nodes ports) ports ≡ true
+
+abbrev pub MissingEndsAreTold : Type 0
+MissingEndsAreTold = TellsMissingEnds stands_at_both_ends
+
+-- a line passes this test exactly where some line leads back
+abbrev pub TellsOnlyMissingEnds : (List Node → List PortLine → PortLine → Bool) → Type 0
+TellsOnlyMissingEnds test =
+    (nodes : List Node) (ports : List PortLine) → AreSound nodes ports → (line : PortLine)
+    → test nodes ports line ≡ has_other_end nodes ports line
+
+abbrev pub OnlyMissingEndsAreTold : Type 0
+OnlyMissingEndsAreTold = TellsOnlyMissingEnds stands_at_both_ends
+
+-- a node of which this test does not tell that a GUID of it is taken leaves all GUIDs apart
+abbrev pub TellsTakenGuids : (DraftState → Node → Bool) → Type 0
+TellsTakenGuids test =
+    (so_far : DraftState) (node : Node) → IsSoundSoFar so_far.nodes so_far.ports so_far.port_guids → test so_far node ≡ false
+    → AreSound (so_far.nodes ++ node ∷ []) so_far.ports
+
+abbrev pub TakenGuidsAreTold : Type 0
+TakenGuidsAreTold = TellsTakenGuids has_taken_guid

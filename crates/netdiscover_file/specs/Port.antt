@@ -1,0 +1,30 @@
+-- The lines of ports, in their order.
+use Rattle.std.specs.Prelude.{ℕ, Bool, true, false, ◌==◌, List, position, slice_get, Option, Some, None}
+use Rattle.std.specs.List.{list_any}
+use Rattle.std.specs.Option.{option_and_then}
+use Rattle.fabric_parts.specs.declared.cable.PortRef.{PortRef}
+use Rattle.fabric_parts.specs.Cable.{is_same_port}
+use Rattle.netdiscover_file.specs.declared.port.PortLine.{PortLine}
+
+-- where the line of this port stands among the lines
+abbrev pub place_of_line : PortRef → List PortLine → Option ℕ
+place_of_line port lines = position (λ line. is_same_port port line.port) lines
+
+-- the line of this port
+abbrev pub line_of : PortRef → List PortLine → Option PortLine
+line_of port lines = option_and_then (λ place. slice_get lines place) (place_of_line port lines)
+
+-- the GUID is one of these
+abbrev pub is_told : ℕ → List ℕ → Bool
+is_told guid told = list_any (λ other. guid == other) told
+
+-- likewise, where there is one
+abbrev pub is_told_already : Option ℕ → List ℕ → Bool
+is_told_already (Some guid) told = is_told guid told
+is_told_already None told = false
+
+-- both are the same GUID, or both are none
+abbrev pub is_same_guid : Option ℕ → Option ℕ → Bool
+is_same_guid (Some a) (Some b) = a == b
+is_same_guid None None = true
+is_same_guid _ _ = false

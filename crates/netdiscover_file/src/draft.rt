@@ -1,0 +1,205 @@
+//! A discovery of which lines are still to come.
+
+ghost use Rattle.std.specs.Prelude.{◌≡◌, None, false, true, IfOk, option_map};
+ghost use Rattle.result_words.specs.Gives.{seen_by};
+ghost use Rattle.netdiscover_file.specs.Discovery.{has_taken_guid, header_of, header_spelt, is_of_another, new_port, node_told, nothing, port_told};
+ghost use Rattle.netdiscover_file.specs.Node.{node_seen, place_of};
+ghost use Rattle.netdiscover_file.specs.Port.{is_told_already, place_of_line};
+ghost use Rattle.netdiscover_file.specs.Sound.{has_own, is_port};
+
+use crate::assignment::SwitchGuids;
+use crate::comment::quoted_name;
+use crate::ends::{NodeId, far_end_of, node_id_in, own_end_in};
+use crate::fault::DiscoveryCause;
+use crate::kind::NodeKind;
+use crate::lids::{node_lid, own_lid};
+use crate::node::{NewNode, NodeList, is_switch_at, last_place, port_at};
+use crate::port::{GuidList, PortLine, PortList};
+use crate::spelling::port_count_in;
+use std::alloc::Global;
+use std::marker::Model;
+use text_words::Words;
+
+/// What the lines so far tell.
+#[derive(Debug, Drop)]
+pub(crate) struct Draft {
+    pub(crate) nodes: NodeList,
+    pub(crate) ports: PortList,
+    // Of all ports that were told: of adapters' and routers' ports, and of switches' ports 0.
+    pub(crate) port_guids: GuidList,
+    // Of the switch whose header is to come.
+    pub(crate) switch_guids: Option<SwitchGuids>,
+    pub(crate) initiator: Option<u64>,
+}
+
+impl Model for Draft {
+    ghost use Rattle.netdiscover_file.specs.Discovery.{DraftState};
+    ghost use Rattle.netdiscover_file.specs.Sound.{IsSoundSoFar};
+
+    ghost Value = { DraftState };
+
+    ghost view = { λ draft. record {
+      nodes = draft.nodes;
+      ports = draft.ports;
+      port_guids = draft.port_guids;
+      switch_guids = draft.switch_guids;
+      initiator = draft.initiator;
+    } };
+
+    ghost invariant = { λ draft. IsSoundSoFar draft.nodes draft.ports draft.port_guids };
+}
+
+impl Draft {
+    #[tactic(auto, using(crate::proofs::SoundLemmas::nothing_sound))]
+    pub(crate) fn new(alloc: Global) -> Draft
+        ensures { result ≡ nothing }
+    {
+        Draft {
+            nodes: NodeList::new(alloc),
+            ports: PortList::new(alloc),
+            port_guids: GuidList::new(alloc),
+            switch_guids: None,
+            initiator: None,
+        }
+    }
+
+    /// Whether a GUID of the node is another's too.
+    fn has_taken_guid(&self, node: &NewNode) -> bool
+        ensures { result ≡ has_taken_guid self.now (node_seen node.now) }
+    {
+        is_of_another(self.switch_guids, node.id)
+            || (self.nodes.place_of(node.id.guid).is_some()
+                || self.port_guids.is_told_already(node.port_guid))
+    }
+
+    /// The GUID that was told of port 0 of the node whose header is to come.
+    fn coming_port_guid(&self) -> Option<u64>
+        ensures { result ≡ option_map (λ guids. guids.port) self.now.switch_guids }
+    {
+        match self.switch_guids {
+            Some(guids) => Some(guids.port),
+            None => None,
+        }
+    }
+
+    /// The node that a header tells, by the words after the first and the comment.
+    #[tactic(auto, unfolding(crate::specs::Discovery::node_told))]
+    pub(crate) fn node_told<'a>(
+        &self,
+        line: usize,
+        kind: NodeKind,
+        words: Words<'_>,
+        comment: &'a [u8],
+    ) -> Result<NewNode<'a>, DiscoveryCause>
+        ensures value { seen_by node_seen result ≡ node_told self.now line kind words.entry comment.now }
+        ensures new { IfOk result (λ node. place_of node.id.guid self.now.nodes ≡ None) }
+        ensures own { IfOk result (λ node. is_told_already node.port_guid self.now.port_guids ≡ false) }
+    {
+        let node = header_of(line, kind, self.coming_port_guid(), words, comment)?;
+        if self.has_taken_guid(&node) {
+            return Err(DiscoveryCause::DuplicateGuid);
+        }
+        Ok(node)
+    }
+
+    /// Judges the line of a port against those before it.
+    fn new_port(&self, line: PortLine) -> Result<PortLine, DiscoveryCause>
+        ensures value { result ≡ new_port self.now line }
+        ensures same { IfOk result (λ told. told ≡ line) }
+        ensures new { IfOk result (λ told. place_of_line told.port self.now.ports ≡ None) }
+        ensures own { IfOk result (λ told. is_told_already told.guid self.now.port_guids ≡ false) }
+    {
+        if self.ports.place_of_line(line.port).is_some() {
+            return Err(DiscoveryCause::NoSuchPort);
+        }
+        if self.port_guids.is_told_already(line.guid) {
+            return Err(DiscoveryCause::DuplicateGuid);
+        }
+        Ok(line)
+    }
+
+    /// What the line of a port tells, by its words and its comment.
+    #[tactic(auto, unfolding(crate::specs::Discovery::port_told))]
+    pub(crate) fn port_told(
+        &self,
+        line: usize,
+        first: &[u8],
+        words: Words<'_>,
+        comment: &[u8],
+    ) -> Result<PortLine, DiscoveryCause>
+        ensures value { result ≡ port_told self.now line first.now words.entry comment.now }
+        ensures new { IfOk result (λ told. place_of_line told.port self.now.ports ≡ None) }
+        ensures own { IfOk result (λ told. is_told_already told.guid self.now.port_guids ≡ false) }
+        ensures is_port { IfOk result (λ told. is_port self.now.nodes told.port ≡ true) }
+        ensures has_own { IfOk result (λ told. has_own self.now.nodes told ≡ true) }
+    {
+        let own = own_end_in(first)?;
+        let far = far_end_of(words)?;
+        let nodes = self.nodes.as_slice();
+        let place = last_place(nodes).ok_or(DiscoveryCause::NoSuchPort)?;
+        let lid = own_lid(is_switch_at(nodes, place), own.guid, comment)?;
+        let port = port_at(nodes, place, own.number).ok_or(DiscoveryCause::NoSuchPort)?;
+        self.new_port(PortLine {
+            port,
+            guid: own.guid,
+            lid,
+            far,
+            line,
+        })
+    }
+}
+
+/// Whether the line before a header told the GUIDs of another switch.
+fn is_of_another(guids: Option<SwitchGuids>, id: NodeId) -> bool
+    ensures { result ≡ is_of_another guids id }
+{
+    match guids {
+        Some(guids) => !(id.kind.is_switch() && guids.node == id.guid),
+        None => false,
+    }
+}
+
+#[tactic(auto, unfolding(crate::specs::Discovery::header_of))]
+fn header_of<'a>(
+    line: usize,
+    kind: NodeKind,
+    port_guid: Option<u64>,
+    words: Words<'_>,
+    comment: &'a [u8],
+) -> Result<NewNode<'a>, DiscoveryCause>
+    ensures { seen_by node_seen result ≡ header_of line kind port_guid words.entry comment.now }
+{
+    let mut words = words;
+    let (Some(ports), Some(id), None) = (words.next(), words.next(), words.next()) else {
+        return Err(DiscoveryCause::Malformed);
+    };
+    header_spelt(line, kind, port_guid, ports, id, comment)
+}
+
+#[tactic(auto, unfolding(crate::specs::Discovery::header_spelt))]
+fn header_spelt<'a>(
+    line: usize,
+    kind: NodeKind,
+    port_guid: Option<u64>,
+    ports: &[u8],
+    id: &[u8],
+    comment: &'a [u8],
+) -> Result<NewNode<'a>, DiscoveryCause>
+    ensures { seen_by node_seen result ≡ header_spelt line kind port_guid ports.now id.now comment.now }
+{
+    let ports = port_count_in(ports)?;
+    let id = node_id_in(id)?;
+    let (name, behind) = quoted_name(comment)?;
+    let lid = node_lid(kind, behind)?;
+    if !id.kind.is_same(kind) {
+        return Err(DiscoveryCause::Malformed);
+    }
+    Ok(NewNode {
+        id,
+        ports,
+        name,
+        lid,
+        port_guid,
+        line,
+    })
+}

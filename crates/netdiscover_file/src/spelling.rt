@@ -1,0 +1,111 @@
+//! Numbers, as `ibnetdiscover` prints them.
+
+ghost use Rattle.std.specs.Prelude.{◌≡◌, ◌≤◌, ◌<◌, IfOk};
+ghost use Rattle.text_words.specs.Number.{digits_in, digit_step};
+ghost use Rattle.netdiscover_file.specs.Spelling.{decimal_in, full_guid_in, guid_in, lid_in, lmc_in, number_below, port_count_in, port_number_in};
+
+use crate::fault::DiscoveryCause;
+
+fn digits_in(radix: u32, digits: &[u8]) -> Option<u128>
+    requires low { 2 ≤ radix }
+    requires high { radix ≤ 36 }
+    ensures { result ≡ digits_in radix digits.now }
+{
+    if digits.is_empty() {
+        return None;
+    }
+    let mut value = 0;
+    for byte in digits {
+        value = with_digit(radix, value, *byte)?;
+    }
+    Some(value)
+}
+
+/// The number that one more digit makes, if it is a digit and 128 bits hold the number.
+fn with_digit(radix: u32, value: u128, byte: u8) -> Option<u128>
+    requires low { 2 ≤ radix }
+    requires high { radix ≤ 36 }
+    ensures { result ≡ digit_step radix value byte }
+{
+    let digit = char::from(byte).to_digit(radix)?;
+    value
+        .checked_mul(u128::from(radix))?
+        .checked_add(u128::from(digit))
+}
+
+/// The number below the top that digits of this radix spell.
+fn number_below(top: u128, radix: u32, digits: &[u8]) -> Result<u128, DiscoveryCause>
+    requires low { 2 ≤ radix }
+    requires high { radix ≤ 36 }
+    ensures value { result ≡ number_below top radix digits.now }
+    ensures within { IfOk result (λ number. number < top) }
+{
+    match digits_in(radix, digits) {
+        Some(number) if number < top => Ok(number),
+        _ => Err(DiscoveryCause::Malformed),
+    }
+}
+
+pub(crate) fn decimal_in(digits: &[u8]) -> Result<u128, DiscoveryCause>
+    ensures { result ≡ decimal_in digits.now }
+{
+    digits_in(10, digits).ok_or(DiscoveryCause::Malformed)
+}
+
+pub(crate) fn guid_in(digits: &[u8]) -> Result<u64, DiscoveryCause>
+    ensures { result ≡ guid_in digits.now }
+{
+    match number_below(1 << 64, 16, digits) {
+        Ok(guid) => Ok(guid as u64),
+        Err(cause) => Err(cause),
+    }
+}
+
+/// A GUID that is spelt with all its digits.
+pub(crate) fn full_guid_in(digits: &[u8]) -> Result<u64, DiscoveryCause>
+    ensures { result ≡ full_guid_in digits.now }
+{
+    if digits.len() != 16 {
+        return Err(DiscoveryCause::Malformed);
+    }
+    guid_in(digits)
+}
+
+pub(crate) fn lid_in(digits: &[u8]) -> Result<u16, DiscoveryCause>
+    ensures { result ≡ lid_in digits.now }
+{
+    match number_below(1 << 16, 10, digits) {
+        Ok(lid) => Ok(lid as u16),
+        Err(cause) => Err(cause),
+    }
+}
+
+/// The mask control of a LID.
+pub(crate) fn lmc_in(digits: &[u8]) -> Result<u8, DiscoveryCause>
+    ensures { result ≡ lmc_in digits.now }
+{
+    match number_below(1 << 3, 10, digits) {
+        Ok(lmc) => Ok(lmc as u8),
+        Err(cause) => Err(cause),
+    }
+}
+
+pub(crate) fn port_number_in(digits: &[u8]) -> Result<u8, DiscoveryCause>
+    ensures { result ≡ port_number_in digits.now }
+{
+    match number_below(1 << 8, 10, digits) {
+        Ok(number) => Ok(number as u8),
+        Err(cause) => Err(cause),
+    }
+}
+
+/// How many ports a node has.
+pub(crate) fn port_count_in(digits: &[u8]) -> Result<u8, DiscoveryCause>
+    ensures { result ≡ port_count_in digits.now }
+{
+    let count = port_number_in(digits)?;
+    if count < 1 {
+        return Err(DiscoveryCause::Malformed);
+    }
+    Ok(count)
+}

@@ -1,0 +1,35 @@
+//! Wrong rules for what agrees, and the law that each breaks, so that a reader sees that the laws say something. Each
+//! function does nothing: its contract says that with this rule the law is false.
+
+ghost use Rattle.netdiscover_file.specs.WrongRules.{ANodeMayBeJoinedToItself, FarEndsAloneAreNotEnough, NodesAloneAreNotEnough};
+ghost use Rattle.netdiscover_file.specs.WrongRules.{NumbersAloneAreNotEnough, OtherEndsAloneMayBeTwo, PortsAloneAreNotEnough};
+
+/// Where a far end need only be there, a line may have none that leads back.
+pub fn far_ends_alone_are_not_enough()
+    ensures { FarEndsAloneAreNotEnough }
+{}
+
+/// Where both ends need only name one another's nodes and numbers, they may tell the GUID of another port.
+pub fn numbers_alone_are_not_enough()
+    ensures { NumbersAloneAreNotEnough }
+{}
+
+/// Where a cable must join two nodes, one between two ports of a node is told to be wrong.
+pub fn a_node_may_be_joined_to_itself()
+    ensures { ANodeMayBeJoinedToItself }
+{}
+
+/// Where two lines may be of one port, two may lead back to one line.
+pub fn other_ends_alone_may_be_two()
+    ensures { OtherEndsAloneMayBeTwo }
+{}
+
+/// Where a new node need only have a GUID of its own, two ports may share one.
+pub fn nodes_alone_are_not_enough()
+    ensures { NodesAloneAreNotEnough }
+{}
+
+/// Where the port of a new node need only have a GUID of its own, two nodes may share one.
+pub fn ports_alone_are_not_enough()
+    ensures { PortsAloneAreNotEnough }
+{}
