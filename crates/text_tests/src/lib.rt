@@ -14,6 +14,8 @@ mod discoveries;
 #[cfg(test)]
 mod fixtures;
 #[cfg(test)]
+mod imports;
+#[cfg(test)]
 mod partition_members;
 #[cfg(test)]
 mod partitions;

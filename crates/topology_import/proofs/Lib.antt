@@ -1,0 +1,6 @@
+pub mod IndexLemmas
+pub mod LoopLemmas
+pub mod NameLemmas
+pub mod TextLemmas
+pub mod LawLemmas
+pub mod WrongLemmas

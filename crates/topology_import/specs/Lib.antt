@@ -1,0 +1,13 @@
+pub mod Index
+pub mod Ends
+pub mod Nodes
+pub mod Names
+pub mod Cables
+pub mod Text
+pub mod Fault
+pub mod Agreement
+pub mod Import
+pub mod Laws
+pub mod WrongRules
+pub use Rattle.topo_file.specs.Topology
+pub use Rattle.netdiscover_file.specs.Discovery

@@ -1,0 +1,65 @@
+-- Wrong rules for which topologies are those of a discovery, and the law that each breaks.
+use Rattle.std.specs.Prelude.{ℕ, Bool, ◌&&◌, ◌||◌, List}
+use Rattle.std.specs.List.{list_all, list_any}
+use Rattle.fabric_parts.specs.declared.cable.Cable.{Cable}
+use Rattle.netdiscover_file.specs.declared.port.PortLine.{PortLine}
+use Rattle.netdiscover_file.specs.Discovery.{DiscoveryState}
+use Rattle.topo_file.specs.Topology.{TopologyState}
+use Rattle.topology_import.specs.declared.planned.Planned.{Planned}
+use Rattle.topology_import.specs.Agreement.{are_as_planned, has_cable, has_ends, is_end_port, is_port_of, is_told}
+use Rattle.topology_import.specs.Ends.{counted, ends}
+use Rattle.topology_import.specs.Laws.{TellsOthers}
+
+-- adapters may have any ports besides
+abbrev pub agrees_without_ends : DiscoveryState → List Planned → ℕ → TopologyState → Bool
+agrees_without_ends discovery planned manager plan =
+    are_as_planned planned plan.nodes
+    && (list_all (has_cable discovery plan) (counted discovery)
+    && (list_all (is_told discovery plan) plan.cables && is_end_port plan.nodes plan.sm manager))
+
+abbrev pub EndsAreWanted : Type 0
+EndsAreWanted = TellsOthers agrees_without_ends → ⊥
+
+-- no line is asked for its cable
+abbrev pub agrees_without_lines : DiscoveryState → List Planned → ℕ → TopologyState → Bool
+agrees_without_lines discovery planned manager plan =
+    are_as_planned planned plan.nodes
+    && (list_all (has_ends (ends discovery)) plan.nodes && (list_all (is_told discovery plan) plan.cables && is_end_port plan.nodes plan.sm manager))
+
+abbrev pub LinesAreWanted : Type 0
+LinesAreWanted = TellsOthers agrees_without_lines → ⊥
+
+-- no cable is asked for its lines
+abbrev pub agrees_without_cables : DiscoveryState → List Planned → ℕ → TopologyState → Bool
+agrees_without_cables discovery planned manager plan =
+    are_as_planned planned plan.nodes
+    && (list_all (has_ends (ends discovery)) plan.nodes
+    && (list_all (has_cable discovery plan) (counted discovery) && is_end_port plan.nodes plan.sm manager))
+
+abbrev pub CablesAreWanted : Type 0
+CablesAreWanted = TellsOthers agrees_without_cables → ⊥
+
+-- the subnet manager may be anywhere
+abbrev pub agrees_without_manager : DiscoveryState → List Planned → ℕ → TopologyState → Bool
+agrees_without_manager discovery planned manager plan =
+    are_as_planned planned plan.nodes
+    && (list_all (has_ends (ends discovery)) plan.nodes
+    && (list_all (has_cable discovery plan) (counted discovery) && list_all (is_told discovery plan) plan.cables))
+
+abbrev pub TheManagerIsWanted : Type 0
+TheManagerIsWanted = TellsOthers agrees_without_manager → ⊥
+
+-- a cable is that of each line at whose port it ends, wherever it leads
+abbrev pub ends_at_line : DiscoveryState → TopologyState → PortLine → Cable → Bool
+ends_at_line discovery plan line cable = is_port_of discovery plan.nodes line cable.first || is_port_of discovery plan.nodes line cable.second
+
+abbrev pub agrees_at_near_ends : DiscoveryState → List Planned → ℕ → TopologyState → Bool
+agrees_at_near_ends discovery planned manager plan =
+    are_as_planned planned plan.nodes
+    && (list_all (has_ends (ends discovery)) plan.nodes
+    && (list_all (λ line. list_any (ends_at_line discovery plan line) plan.cables) (counted discovery)
+    && (list_all (λ cable. list_any (λ line. ends_at_line discovery plan line cable) (counted discovery)) plan.cables
+    && is_end_port plan.nodes plan.sm manager)))
+
+abbrev pub NearEndsAloneAreNotEnough : Type 0
+NearEndsAloneAreNotEnough = TellsOthers agrees_at_near_ends → ⊥

@@ -1,0 +1,35 @@
+//! What is so of every topology that is given, and the wrong rules that break it. The functions do nothing; their clauses
+//! are the theorems.
+
+ghost use Rattle.topology_import.specs.Laws.{OthersAreTold};
+ghost use Rattle.topology_import.specs.WrongRules.{CablesAreWanted, EndsAreWanted, LinesAreWanted, NearEndsAloneAreNotEnough, TheManagerIsWanted};
+
+/// A topology that passes the test of this crate is that of the discovery.
+pub fn others_are_told()
+    ensures { OthersAreTold }
+{}
+
+/// Where adapters may have any ports besides, one may have a port that was not discovered.
+pub fn ends_are_wanted()
+    ensures { EndsAreWanted }
+{}
+
+/// Where no line is asked for its cable, an end port may have none.
+pub fn lines_are_wanted()
+    ensures { LinesAreWanted }
+{}
+
+/// Where no cable is asked for its lines, ports may be joined that no lines join.
+pub fn cables_are_wanted()
+    ensures { CablesAreWanted }
+{}
+
+/// Where the subnet manager may be anywhere, it may be on no port at all.
+pub fn the_manager_is_wanted()
+    ensures { TheManagerIsWanted }
+{}
+
+/// Where a cable need only end at the port of a line, two adapters may have changed places.
+pub fn near_ends_alone_are_not_enough()
+    ensures { NearEndsAloneAreNotEnough }
+{}

@@ -1,0 +1,151 @@
+//! The names of nodes.
+
+ghost use Rattle.std.specs.Prelude.{◌≡◌, ◌++◌, [], ◌∷◌, not, map, take, IfOk, OnOk};
+ghost use Rattle.text_words.specs.Words.{is_name_byte};
+ghost use Rattle.topology_import.specs.Names.{free_number, has_name, name_at, name_byte, named, numbered, or_node, own_name, spelt, suffix, with_name};
+
+use crate::nodes::Meant;
+use crate::parts::push_decimal;
+use crate::planned::PlannedList;
+use fabric_parts::NAME_BYTES;
+use netdiscover_file::Node;
+use std::alloc::{AllocError, Global};
+
+/// The name of the node there as it stands, or no name where there is none.
+pub(crate) fn name_at(nodes: &[Node], place: usize) -> &[u8]
+    ensures { result.now ≡ name_at nodes.now place }
+{
+    match nodes.get(place) {
+        Some(node) => node.name.as_bytes(),
+        None => &[],
+    }
+}
+
+fn is_name_byte(byte: u8) -> bool
+    ensures { result ≡ is_name_byte byte }
+{
+    byte.is_ascii_alphanumeric() || (byte == b'_' || (byte == b'-' || byte == b'.'))
+}
+
+fn name_byte(byte: u8) -> u8
+    ensures { result ≡ name_byte byte }
+{
+    if is_name_byte(byte) { byte } else { b'_' }
+}
+
+/// As many bytes as a name has at most.
+fn cut_to(bytes: usize, name: &[u8]) -> &[u8]
+    ensures { result.now ≡ take bytes name.now }
+{
+    if name.len() <= bytes {
+        name
+    } else {
+        &name[..bytes]
+    }
+}
+
+fn plain(alloc: Global, name: &[u8]) -> Result<Vec<u8>, AllocError>
+    ensures { IfOk result (λ text. text.items ≡ map name_byte name.now) }
+{
+    name.iter().map(|byte| name_byte(*byte)).collect(alloc)
+}
+
+fn or_node(alloc: Global, name: Vec<u8>) -> Result<Vec<u8>, AllocError>
+    ensures { IfOk result (λ text. text.items ≡ or_node name.items) }
+{
+    if name.is_empty() {
+        return Vec::from_slice(alloc, b"node");
+    }
+    Ok(name)
+}
+
+/// A name, spelt with the bytes that one may have.
+fn spelt(alloc: Global, name: &[u8]) -> Result<Vec<u8>, AllocError>
+    ensures { IfOk result (λ text. text.items ≡ spelt name.now) }
+{
+    let name = plain(alloc, cut_to(NAME_BYTES, name))?;
+    or_node(alloc, name)
+}
+
+fn suffix(alloc: Global, number: usize) -> Result<Vec<u8>, AllocError>
+    ensures { IfOk result (λ text. text.items ≡ suffix number) }
+{
+    let mut text = Vec::from_slice(alloc, b"-")?;
+    push_decimal(&mut text, number)?;
+    Ok(text)
+}
+
+/// A name with a number behind it.
+fn numbered(alloc: Global, name: &[u8], number: usize) -> Result<Vec<u8>, AllocError>
+    ensures { IfOk result (λ text. text.items ≡ numbered name.now number) }
+{
+    let suffix = suffix(alloc, number)?;
+    let mut text = Vec::from_slice(alloc, cut_to(NAME_BYTES.saturating_sub(suffix.len()), name))?;
+    text.extend_from_slice(suffix.as_slice())?;
+    Ok(text)
+}
+
+/// Whether no node has the name with this number.
+fn is_free(
+    alloc: Global,
+    nodes: &PlannedList,
+    name: &[u8],
+    number: usize,
+) -> Result<bool, AllocError>
+    ensures { IfOk result (λ free. free ≡ not (has_name nodes.now (numbered name.now number))) }
+{
+    let name = numbered(alloc, name, number)?;
+    Ok(!nodes.has_name(name.as_slice()))
+}
+
+/// The first number with which the name is free.
+fn free_number(alloc: Global, nodes: &PlannedList, name: &[u8]) -> Result<usize, AllocError>
+    ensures { IfOk result (λ number. number ≡ free_number nodes.now name.now) }
+{
+    let count = nodes.as_slice().len();
+    for number in 2..count + 2 {
+        if is_free(alloc, nodes, name, number)? {
+            return Ok(number);
+        }
+    }
+    Ok(count + 2)
+}
+
+/// A name of which no node is yet.
+fn own_name(alloc: Global, nodes: &PlannedList, name: Vec<u8>) -> Result<Vec<u8>, AllocError>
+    ensures { IfOk result (λ text. text.items ≡ own_name nodes.now name.items) }
+{
+    if !nodes.has_name(name.as_slice()) {
+        return Ok(name);
+    }
+    let number = free_number(alloc, nodes, name.as_slice())?;
+    numbered(alloc, name.as_slice(), number)
+}
+
+fn push_named(
+    alloc: Global,
+    found: &[Node],
+    nodes: &mut PlannedList,
+    node: &Meant,
+) -> Result<(), AllocError>
+    ensures { OnOk result (nodes.new ≡ nodes.old ++ with_name found.now nodes.old node.now ∷ []) }
+{
+    let name = spelt(alloc, name_at(found, node.node))?;
+    let name = own_name(alloc, nodes, name)?;
+    nodes.push(alloc, name, *node)
+}
+
+/// Nodes with their names, each named after those before it.
+pub(crate) fn named(
+    alloc: Global,
+    found: &[Node],
+    nodes: &[Meant],
+) -> Result<PlannedList, AllocError>
+    ensures { IfOk result (λ list. list ≡ named found.now [] nodes.now) }
+{
+    let mut list = PlannedList::new(alloc);
+    for node in nodes {
+        push_named(alloc, found, &mut list, node)?;
+    }
+    Ok(list)
+}
