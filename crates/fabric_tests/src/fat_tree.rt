@@ -184,12 +184,26 @@ fn send_alike(rt: &impl Abort, planned: &Routes, found: &Routes) -> Result<(), F
     Ok(())
 }
 
+/// Routes without that cable, planned for the fabric that a sweep finds.
+fn planned_over(alloc: Global, fabric: &mut Fabric) -> Result<Routes, Fail> {
+    let graph = graph_of(alloc, fabric)?;
+    is_planned(alloc, &graph)
+}
+
+/// Routes of the fabric that a sweep finds.
+fn routes_over(alloc: Global, fabric: &mut Fabric) -> Result<Routes, Fail> {
+    let graph = graph_of(alloc, fabric)?;
+    routes_below_spines(alloc, graph)
+}
+
+/// What is planned for that cable less is found once it is cut.
+fn is_found_as_planned(rt: &impl Abort, alloc: Global, fabric: &mut Fabric) -> Result<(), Fail> {
+    let planned = planned_over(alloc, fabric)?;
+    fabric.set_cable(ON_LEAF, ON_SPINE, false);
+    send_alike(rt, &planned, &routes_over(alloc, fabric)?)
+}
+
 #[test]
 fn what_is_planned_for_a_cable_less_is_found_without_it(rt: HostRuntime) -> Result<(), Fail> {
-    let mut fabric = fat_tree_of(rt.alloc(), 32)?;
-    let graph = graph_of(rt.alloc(), &mut fabric)?;
-    let planned = is_planned(rt.alloc(), &graph)?;
-    fabric.set_cable(ON_LEAF, ON_SPINE, false);
-    let found = routes_below_spines(rt.alloc(), graph_of(rt.alloc(), &mut fabric)?)?;
-    send_alike(&rt, &planned, &found)
+    is_found_as_planned(&rt, rt.alloc(), &mut fat_tree_of(rt.alloc(), 32)?)
 }

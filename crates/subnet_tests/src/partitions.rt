@@ -17,11 +17,20 @@ port 0x0005 0x0000000000000121 h2/1
 port 0x0006 0x0000000000000131 h3/1
 ";
 
-/// The two-switch fabric under that file; a clause on it would have the caller's proof read both texts.
-fn under_one_partition(alloc: Global) -> Result<Configuration, Fail> {
-    let topology = topo_file::read(alloc, TWO_SWITCHES.as_bytes())?;
-    let partitions = partition_file::read(alloc, ONE_PARTITION_FILE.as_bytes())?;
+/// The end ports of a topology under a file. Both are given, and there is no clause: a proof would read the texts.
+fn configured(alloc: Global, topology: &[u8], file: &[u8]) -> Result<Configuration, Fail> {
+    let topology = topo_file::read(alloc, topology)?;
+    let partitions = partition_file::read(alloc, file)?;
     Ok(configuration_of(alloc, &topology, &partitions)?)
+}
+
+/// The two-switch fabric under that file.
+fn under_one_partition(alloc: Global) -> Result<Configuration, Fail> {
+    configured(
+        alloc,
+        TWO_SWITCHES.as_bytes(),
+        ONE_PARTITION_FILE.as_bytes(),
+    )
 }
 
 #[test]

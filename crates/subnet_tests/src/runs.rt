@@ -7,9 +7,14 @@ use std::test::Fail;
 use subnet_core::{RunFault, StepFault, Subnet, bring_up, run};
 use subnet_model::Command;
 
-/// The two-switch fabric without a partition file; a clause on it would have each caller's proof read its text.
+/// The subnet of a topology without a partition file. It is given, and has no clause: a proof would read the text.
+fn subnet_of(alloc: Global, topology: &[u8]) -> Result<Subnet, RunFault> {
+    bring_up(alloc, topology, None)
+}
+
+/// The two-switch fabric without a partition file.
 fn two_switch_subnet(alloc: Global) -> Result<Subnet, RunFault> {
-    bring_up(alloc, TWO_SWITCHES.as_bytes(), None)
+    subnet_of(alloc, TWO_SWITCHES.as_bytes())
 }
 
 /// How many events a line leads to, and the port of the first.
