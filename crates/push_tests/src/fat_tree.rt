@@ -124,14 +124,24 @@ fn is_brought_up(rt: &impl Abort, alloc: Global, leaves: u16, smps: u64) -> Resu
     requires some { 0 < leaves }
     requires few { leaves ≤ 32 }
 {
-    let mut counting = CountingWire {
-        wire: fat_tree_of(alloc, leaves)?,
-        count: 0,
-    };
-    let routes = routed(alloc, &mut counting, leaves)?;
-    all_is_pushed(alloc, &mut counting, &routes, leaves)?;
-    assert_eq!(rt; counting.count, smps);
+    let count = smps_to_bring_up(alloc, fat_tree_of(alloc, leaves)?, leaves)?;
+    assert_eq!(rt; count, smps);
     Ok(())
+}
+
+fn smps_to_bring_up(alloc: Global, wire: Fabric, leaves: u16) -> Result<u64, Fail>
+    requires { leaves ≤ 32 }
+{
+    let mut counting = CountingWire { wire, count: 0 };
+    all_is_done(alloc, &mut counting, leaves)?;
+    Ok(counting.count)
+}
+
+fn all_is_done<W: SmpWire>(alloc: Global, wire: &mut W, leaves: u16) -> Result<(), Fail>
+    requires { leaves ≤ 32 }
+{
+    let routes = routed(alloc, wire, leaves)?;
+    all_is_pushed(alloc, wire, &routes, leaves)
 }
 
 fn all_is_pushed<W: SmpWire>(

@@ -28,7 +28,7 @@ fn differing(blocks: &[[u8; 64]], others: &[[u8; 64]]) -> usize {
     blocks
         .iter()
         .zip(others)
-        .filter(|(block, other)| block != other)
+        .filter(|(block, other)| block.as_slice() != other.as_slice())
         .count()
 }
 
@@ -73,26 +73,24 @@ fn blocks_of_the_switches_that_change_are_set(rt: HostRuntime) -> Result<(), Fai
     Ok(())
 }
 
-/// One receiver of one of three groups more, or one fewer.
+/// A receiver of one of three groups.
+fn one_by_chance(lids: &[u16], chance: &mut Chance) -> Result<GroupReceiver, Fail> {
+    let place = usize::from(chance.below(250)) % lids.len().max(1);
+    let mlid = MLID + u16::from(chance.below(3));
+    let lid = *lids.get(place).ok_or("a LID")?;
+    Ok(GroupReceiver { mlid, lid })
+}
+
+/// This receiver more, or, where it is there, this one fewer.
 fn one_changed(
     alloc: Global,
     before: &[GroupReceiver],
-    lids: &[u16],
-    chance: &mut Chance,
+    one: GroupReceiver,
 ) -> Result<Vec<GroupReceiver>, Fail> {
-    let place = usize::from(chance.below(250)) % lids.len().max(1);
-    let one = GroupReceiver {
-        mlid: MLID + u16::from(chance.below(3)),
-        lid: *lids.get(place).ok_or("a LID")?,
-    };
-    let mut after = Vec::new(alloc);
-    for other in before {
-        if *other != one {
-            after.push(*other).ok().ok_or("memory")?;
-        }
-    }
+    let mut after = Vec::from_slice(alloc, before).or(Err("memory"))?;
+    after.retain(|other| other.mlid != one.mlid || other.lid != one.lid);
     if after.len() == before.len() {
-        after.push(one).ok().ok_or("memory")?;
+        after.push(one).or(Err("memory"))?;
     }
     Ok(after)
 }
@@ -108,7 +106,8 @@ fn change_200_times(
     let lids = adapter_lids(alloc, routes)?;
     let mut receivers = Vec::new(alloc);
     for _ in 0..200u16 {
-        let after = one_changed(alloc, &receivers, &lids, chance)?;
+        let one = one_by_chance(&lids, chance)?;
+        let after = one_changed(alloc, &receivers, one)?;
         change(rt, alloc, wire, routes, &receivers, &after)?;
         receivers = after;
     }
