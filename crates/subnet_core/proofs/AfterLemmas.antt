@@ -11,7 +11,7 @@ use Rattle.sa_runs.specs.Laws.{remembered_after}
 use Rattle.script_lines.specs.Script.{commands_in}
 use Rattle.smp_wire.specs.FabricState.{FabricState}
 use Rattle.subnet_core.proofs.BringUpLemmas.{fails_mapped, mapped, same_roster}
-use Rattle.subnet_core.specs.After.{IsLeft, IsThrough, IsUpAfter, IsUpBy, left_from}
+use Rattle.subnet_core.specs.After.{IsLeft, IsLeftAfter, IsLeftBy, IsThrough, left_from}
 use Rattle.subnet_core.specs.Answering.{IsNext}
 use Rattle.subnet_core.specs.BringUp.{FailsWith, IsStarted, IsUp, StaysUp, SubnetState, WithFabric, up_from, up_in}
 use Rattle.subnet_core.specs.Cabling.{AreCabledAfter, IsCabledAfter}
@@ -63,19 +63,25 @@ uncut_at_start roster up is =
     λ i. record { cables = cables i; cut = cut i }
 
 pub left_from_start : (old new : SubnetState) (commands : List Command) → IsStarted old → IsThrough commands old new → StaysUp new
-    → IsUpAfter old.roster commands (up_in new)
+    → IsLeftAfter commands new
 left_from_start old new commands started through stays =
-    let served = stays (through.whole ∙ started.whole) in
+    let whole = through.whole ∙ started.whole in
+    let same : old.roster ≡ new.roster = sym through.roster in
     let remembered : new.administration ≡ remembered_after old.roster.configuration commands =
     through.administration
     ∙ ap (λ (state : Administration). state_from (step_by subnet_administration old.roster.configuration) state commands) started.administration in
+    let own : new.administration ≡ remembered_after new.roster.configuration commands =
+    subst (λ (roster : RosterState). new.administration ≡ remembered_after roster.configuration commands) same remembered in
     record {
-      cabling = subst (λ (was : CablingState). AreCabledAfter old.roster.plan commands was (cabling_of new.fabric))
-          (uncut_at_start old.roster (up_in old) started.up) through.cabling;
-      served = subst (λ (state : Administration). IsServed old.roster.plan old.roster.configuration.ports state.remembered.partitions new.routes new.fabric)
-          remembered
-          (subst (λ (roster : RosterState). IsServed roster.plan roster.configuration.ports new.administration.remembered.partitions new.routes new.fabric)
-          through.roster served);
+      whole = whole;
+      administration = own;
+      up = record {
+        cabling = subst (λ (roster : RosterState). AreCabledAfter roster.plan commands (uncut roster.plan.cables) (cabling_of new.fabric)) same
+            (subst (λ (was : CablingState). AreCabledAfter old.roster.plan commands was (cabling_of new.fabric))
+            (uncut_at_start old.roster (up_in old) started.up) through.cabling);
+        served = subst (λ (state : Administration). IsServed new.roster.plan new.roster.configuration.ports state.remembered.partitions new.routes new.fabric)
+            own (stays whole);
+      };
     }
 
 -- ---- what is answered
@@ -101,18 +107,18 @@ module _ (given : Result RosterState RunFault) (script : List ℕ) where
 
   pub left_after : (was : SubnetState) → WithFabric given (λ stop. up_from given stop ≡ Ok was.roster) → (result : Result SubnetState RunFault)
       → IfOk result (λ left. left.roster ≡ was.roster)
-      → IfOk result (λ left. (commands : List Command) × (commands_in was.roster.plan script ≡ Ok commands) × IsUpAfter was.roster commands (up_in left))
+      → IfOk result (IsLeftBy (Some script))
       → IfErr result (λ fault. Fails (fault_in fault) (of_text Script (commands_in was.roster.plan script)))
       → IsLeft given (Some script) result
   left_after was up (Ok left) roster after fails = (
     same_roster given up.stop was.roster up.is ∙ ap (λ (one : RosterState). Ok one) (sym roster),
-    subst (λ (one : RosterState). IsUpBy one (up_in left) (Some script)) (sym roster) after,
+    after,
   )
   left_after was up (Err fault) roster after fails = script_fails was.roster (fault_in fault) up fails
 
 pub left_as_up : (given : Result RosterState RunFault) (subnet : SubnetState) → WithFabric given (λ stop. up_from given stop ≡ Ok subnet.roster)
     → IsStarted subnet → IsLeft given None (Ok subnet)
-left_as_up given subnet up started = (same_roster given up.stop subnet.roster up.is, started.up)
+left_as_up given subnet up started = (same_roster given up.stop subnet.roster up.is, started)
 
 -- ---- one fabric is left
 one_follows : (plan : TopologyState) (command : Command) (was one other : CablingState) → IsCabledAfter plan command was one

@@ -1,5 +1,5 @@
 -- What stands in a subnet once the commands of a script were carried out.
-use Rattle.std.specs.Prelude.{ℕ, ◌≡◌, List, [], Option, Some, None, Result, Ok, Err}
+use Rattle.std.specs.Prelude.{ℕ, ◌≡◌, false, List, [], Option, Some, None, Result, Ok, Err}
 use Rattle.fabric_wire.specs.Cabling.{uncut}
 use Rattle.fabric_wire.specs.Recabling.{cabling_of}
 use Rattle.result_words.specs.AtLine.{AtLine}
@@ -9,7 +9,7 @@ use Rattle.sa_runs.specs.Administration.{subnet_administration}
 use Rattle.sa_runs.specs.Laws.{remembered_after}
 use Rattle.script_lines.specs.Script.{commands_in}
 use Rattle.script_lines.specs.declared.script_cause.ScriptCause.{ScriptCause}
-use Rattle.subnet_core.specs.BringUp.{FailsWith, IsStopped, IsUp, SubnetState, up_from, up_in}
+use Rattle.subnet_core.specs.BringUp.{FailsWith, IsStarted, IsStopped, IsUp, SubnetState, up_from, up_in}
 use Rattle.subnet_core.specs.Cabling.{AreCabledAfter}
 use Rattle.subnet_core.specs.Roster.{RosterState, fault_in, of_text}
 use Rattle.subnet_core.specs.declared.fault.RunFault.{RunFault}
@@ -45,15 +45,20 @@ script_read plan (Some script) = of_text Script (commands_in plan script)
 unfoldable pub left_from : Result RosterState RunFault → Option (List ℕ) → Option RunFault → Result (List Command) RunFault
 left_from given script stop = up_from given stop >>= λ roster. script_read roster.plan script
 
--- the fabric is up, and nothing was carried out, or this script was
-abbrev pub IsUpBy : RosterState → BroughtUpState → Option (List ℕ) → Type 0
-IsUpBy roster up None = IsUp roster up
-IsUpBy roster up (Some script) =
-    (commands : List Command) × (commands_in roster.plan script ≡ Ok commands) × IsUpAfter roster commands up
+-- a subnet that carried out these commands: it is whole, remembers what they left, and its fabric is up after them
+pub record IsLeftAfter (commands : List Command) (left : SubnetState) : Type 0 where
+  pub whole : left.is_broken ≡ false
+  pub administration : left.administration ≡ remembered_after left.roster.configuration commands
+  pub up : IsUpAfter left.roster commands (up_in left)
+
+-- or the commands of this script; without one it is as it came up
+abbrev pub IsLeftBy : Option (List ℕ) → SubnetState → Type 0
+IsLeftBy None left = IsStarted left
+IsLeftBy (Some script) left = (commands : List Command) × (commands_in left.roster.plan script ≡ Ok commands) × IsLeftAfter commands left
 
 -- what is answered is the subnet that is left, or the first fault, unless memory was refused
 abbrev pub IsLeft : Result RosterState RunFault → Option (List ℕ) → Result SubnetState RunFault → Type 0
-IsLeft given script (Ok left) = (given ≡ Ok left.roster) × IsUpBy left.roster (up_in left) script
+IsLeft given script (Ok left) = (given ≡ Ok left.roster) × IsLeftBy script left
 IsLeft given script (Err fault) = FailsWith given (fault_in fault) (left_from given script)
 
 -- ---- what becomes of the fabric of texts: this is left of it, or a fault stops it

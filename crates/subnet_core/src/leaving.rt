@@ -1,14 +1,13 @@
 //! What a script leaves of a subnet.
 
-ghost use Rattle.std.specs.Prelude.{◌≡◌, List, Ok, IfErr, IfOk};
+ghost use Rattle.std.specs.Prelude.{◌≡◌, Some, IfErr, IfOk};
 ghost use Rattle.std.specs.Option.{option_copied};
 ghost use Rattle.result_words.specs.Gives.{Fails};
 ghost use Rattle.script_lines.specs.Script.{commands_in};
-ghost use Rattle.subnet_core.specs.After.{IsLeft, IsUpAfter};
-ghost use Rattle.subnet_core.specs.BringUp.{IsStarted, up_in};
+ghost use Rattle.subnet_core.specs.After.{IsLeft, IsLeftBy};
+ghost use Rattle.subnet_core.specs.BringUp.{IsStarted};
 ghost use Rattle.subnet_core.specs.Roster.{fault_in, of_text, roster_of};
 ghost use Rattle.subnet_core.specs.declared.fault.RunFault.TheVariants.{Script};
-ghost use Rattle.subnet_model.specs.declared.command.Command.{Command};
 
 use crate::bringing_up::bring_up;
 use crate::fault::RunFault;
@@ -39,8 +38,7 @@ pub fn left_by(
 fn after(alloc: Global, subnet: Subnet, script: &[u8]) -> Result<Subnet, RunFault>
     requires { IsStarted subnet }
     ensures roster { IfOk result (λ left. left.roster ≡ subnet.roster) }
-    ensures left { IfOk result (λ left. (commands : List Command) × (commands_in subnet.roster.plan script.now ≡ Ok commands)
-        × IsUpAfter subnet.roster commands (up_in left)) }
+    ensures left { IfOk result (IsLeftBy (Some script.now)) }
     ensures fault { IfErr result (λ fault. Fails (fault_in fault) (of_text Script (commands_in subnet.roster.plan script.now))) }
 {
     let mut left = subnet;

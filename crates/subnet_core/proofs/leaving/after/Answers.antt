@@ -1,10 +1,12 @@
-use Rattle.std.proofs.Common.{◌∙◌, ap, subst, List}
+use Rattle.std.proofs.Common.{◌≡◌, ◌∙◌, ap, subst, sym, List, Ok}
 use Rattle.std.proofs.lemmas.Result.{err_from_is_err_and}
 use Rattle.subnet_core.proofs.AfterLemmas.{left_from_start}
 use Rattle.subnet_core.proofs.CommandLemmas.{text_is_good}
 use Rattle.subnet_core.proofs.SenderLemmas.{commands_name_senders}
 use Rattle.subnet_core.specs.After.{IsThrough}
 use Rattle.subnet_core.specs.BringUp.{StaysUp, SubnetState}
+use Rattle.script_lines.specs.Script.{commands_in}
+use Rattle.subnet_core.specs.Roster.{RosterState}
 use Rattle.subnet_core.specs.declared.fault.RunFault.TheVariants.{Script}
 use Rattle.subnet_model.specs.declared.command.Command.{Command}
 use Rattle.subnet_core.proofs.leaving.after.Goals as goal
@@ -31,6 +33,7 @@ returns-clause-left c =
     let stays : StaysUp c.run_through.new.self = λ whole.
     rw (← c.left-2.view_is) (c.left-2.invariant (ap (λ (subnet : SubnetState). subnet.is_broken) c.left-2.view_is ∙ whole)).served in (
       c.in_ok-commands.commands.items,
-      text_is_good Script _ _ c.in_ok-commands.ensures,
+      subst (λ (roster : RosterState). commands_in roster.plan c.args.script.now ≡ Ok c.in_ok-commands.commands.items) (sym through.roster)
+          (text_is_good Script _ _ c.in_ok-commands.ensures),
       left_from_start c.args.subnet c.run_through.new.self c.in_ok-commands.commands.items c.requires through stays,
     )
