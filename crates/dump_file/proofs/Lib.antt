@@ -1,0 +1,4 @@
+pub mod IndexLemmas
+pub mod SoundLemmas
+pub mod EndLemmas
+pub mod ExampleLemmas

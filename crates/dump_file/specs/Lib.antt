@@ -1,0 +1,12 @@
+pub mod Fault
+pub mod Parts
+pub mod Destination
+pub mod Row
+pub mod Heading
+pub mod Table
+pub mod Dump
+pub mod Index
+pub mod Sound
+pub mod Examples
+pub use Rattle.text_words.specs.Lines
+pub use Rattle.text_words.specs.Number

@@ -1,0 +1,168 @@
+//! A dump of which lines are still to come.
+
+ghost use Rattle.std.specs.Prelude.{◌≡◌, ◌++◌, None, false, true, IfOk, OnErr, OnOk, [], ◌∷◌};
+ghost use Rattle.dump_file.specs.Dump.{count_told, heading_of, heading_told, new_heading, new_row, nothing, row_told, rows_counted, rows_so_far, with_rows};
+ghost use Rattle.dump_file.specs.Index.{KnowSame, KnowsMore};
+ghost use Rattle.dump_file.specs.Row.{is_said_otherwise, may_follow};
+ghost use Rattle.dump_file.specs.Sound.{may_take};
+ghost use Rattle.dump_file.specs.Table.{place_of};
+
+use crate::fault::DumpCause;
+use crate::heading::{Heading, heading_in};
+use crate::parts::{count_in, cut};
+use crate::row::{Row, are_two, may_follow, row_in, valid_count};
+use crate::stage::Stage;
+use crate::table::TableList;
+use indexmap::IndexMap;
+use std::alloc::{AllocError, Global};
+use std::marker::Model;
+
+/// What the lines so far tell.
+#[derive(Debug, Drop)]
+pub(crate) struct Draft {
+    pub(crate) tables: TableList,
+    pub(crate) stage: Stage,
+    // Of the table that is open.
+    pub(crate) rows: Vec<Row>,
+    // The end port of each LID of which a row says one.
+    pub(crate) ends: IndexMap<u16, u64>,
+}
+
+impl Model for Draft {
+    ghost use Rattle.dump_file.specs.Dump.{DraftState};
+    ghost use Rattle.dump_file.specs.Sound.{IsSoundSoFar};
+    ghost use Rattle.dump_file.specs.Table.{rows_of};
+    ghost use Rattle.dump_file.specs.Index.{KnowsEnds};
+    ghost use Rattle.std.specs.Prelude.{◌++◌};
+
+    ghost Value = { DraftState };
+
+    ghost view = { λ draft. record { tables = draft.tables; stage = draft.stage; rows = draft.rows.items } };
+
+    ghost invariant = { λ draft.
+        IsSoundSoFar (record { tables = draft.tables; stage = draft.stage; rows = draft.rows.items })
+        × KnowsEnds draft.ends (rows_of draft.tables ++ draft.rows.items) };
+}
+
+impl Draft {
+    pub(crate) fn new(alloc: Global) -> Draft
+        ensures { result ≡ nothing }
+    {
+        Draft {
+            tables: TableList::new(alloc),
+            stage: Stage::Between,
+            rows: Vec::new(alloc),
+            ends: IndexMap::new(alloc),
+        }
+    }
+
+    /// Judges a heading against the tables before it.
+    fn new_heading(&self, heading: Heading) -> Result<Heading, DumpCause>
+        ensures value { result ≡ new_heading self.now heading }
+        ensures new { IfOk result (λ told. place_of told.guid self.now.tables ≡ None) }
+    {
+        if self.tables.place_of(heading.guid).is_some() {
+            return Err(DumpCause::DuplicateTable);
+        }
+        Ok(heading)
+    }
+
+    /// The heading that a line tells, of a switch that has no table yet.
+    #[tactic(auto, unfolding(crate::specs::Dump::heading_told))]
+    pub(crate) fn heading_told(&self, number: usize, text: &[u8]) -> Result<Heading, DumpCause>
+        ensures value { result ≡ heading_told number self.now text.now }
+        ensures new { IfOk result (λ told. place_of told.guid self.now.tables ≡ None) }
+    {
+        let heading = heading_in(number, text)?;
+        self.new_heading(heading)
+    }
+
+    /// Whether a row before says that another end port has this row's LID.
+    fn is_said_otherwise(&self, row: Row) -> bool
+        ensures { result ≡ is_said_otherwise (rows_so_far self.now) row }
+    {
+        are_two(self.ends.get(&row.lid).copied(), row.destination.guid())
+    }
+
+    /// Judges a row of the table that is open against those before it.
+    fn new_row(&self, heading: Heading, row: Row) -> Result<Row, DumpCause>
+        ensures value { result ≡ new_row self.now heading row }
+        ensures rising { IfOk result (λ told. may_follow heading.top self.now.rows told.lid ≡ true) }
+        ensures one_end { IfOk result (λ told. is_said_otherwise (rows_so_far self.now) told ≡ false) }
+    {
+        if !may_follow(heading.top, self.rows.as_slice(), row.lid) {
+            return Err(DumpCause::WrongLid);
+        }
+        if self.is_said_otherwise(row) {
+            return Err(DumpCause::TwoEndPorts);
+        }
+        Ok(row)
+    }
+
+    /// The row that a line tells, of the table that is open.
+    #[tactic(auto, unfolding(crate::specs::Dump::row_told))]
+    pub(crate) fn row_told(
+        &self,
+        number: usize,
+        heading: Heading,
+        text: &[u8],
+    ) -> Result<Row, DumpCause>
+        ensures value { result ≡ row_told number self.now heading text.now }
+        ensures rising { IfOk result (λ told. may_follow heading.top self.now.rows told.lid ≡ true) }
+        ensures one_end { IfOk result (λ told. is_said_otherwise (rows_so_far self.now) told ≡ false) }
+    {
+        let row = row_in(number, text)?;
+        self.new_row(heading, row)
+    }
+
+    /// Adds a row to the table that is open. Memory alone can be refused, and then all stays as it was.
+    pub(crate) fn push(&mut self, row: Row) -> Result<(), AllocError>
+        requires open { may_take (heading_of self.old.stage) self.old.rows row ≡ true }
+        requires one_end { is_said_otherwise (rows_so_far self.old) row ≡ false }
+        ensures ok { OnOk result (self.new ≡ with_rows self.old (self.old.rows ++ row ∷ [])) }
+        ensures err { OnErr result (self.new ≡ self.old) }
+    {
+        self.rows.reserve(1)?;
+        know_end(&mut self.ends, row)?;
+        self.rows.push(row)?;
+        Ok(())
+    }
+}
+
+/// Notes whose the row's LID is, if the row says it. Memory alone can be refused, and then all is as before.
+fn know_end(ends: &mut IndexMap<u16, u64>, row: Row) -> Result<(), AllocError>
+    ensures ok { OnOk result (KnowsMore row ends.old ends.new) }
+    ensures err { OnErr result (KnowSame ends.old ends.new) }
+{
+    if let Some(guid) = row.destination.guid() {
+        ends.insert(row.lid, guid)?;
+    }
+    Ok(())
+}
+
+/// How many rows the last line of a table counts by these words.
+fn rows_counted(rows: &[Row], words: &[u8]) -> Result<usize, DumpCause>
+    ensures { result ≡ rows_counted rows.now words.now }
+{
+    if words == b"valid lids dumped".as_slice() {
+        return Ok(valid_count(rows));
+    }
+    if words == b"lids dumped".as_slice() {
+        return Ok(rows.len());
+    }
+    Err(DumpCause::Malformed)
+}
+
+/// What the last line of a table counts, if there are as many rows.
+#[tactic(auto, unfolding(crate::specs::Dump::count_told))]
+pub(crate) fn count_told(rows: &[Row], text: &[u8]) -> Result<u128, DumpCause>
+    ensures { result ≡ count_told rows.now text.now }
+{
+    let (number, words) = cut(b' ', text)?;
+    let number = count_in(number)?;
+    let count = rows_counted(rows, words)?;
+    if number != count as u128 {
+        return Err(DumpCause::WrongCount);
+    }
+    Ok(number)
+}

@@ -1,0 +1,69 @@
+//! Why a text is refused.
+
+ghost use Rattle.std.specs.Prelude.{◌≡◌};
+
+use result_words::LineError;
+use std::alloc::AllocError;
+use thiserror::Error;
+
+/// What is wrong with a line.
+#[derive(Clone, Copy, Debug, PartialEq, Eq, Error)]
+pub enum DumpCause {
+    /// The line is none that `dump_fts` prints, or it stands where it cannot, as a row outside a table.
+    #[error("the line is malformed, or stands where it cannot")]
+    Malformed,
+    /// The row ends behind its port, as `dump_fts -n` prints it: which end port has the LID is not told.
+    #[error("the row does not tell whose its LID is")]
+    EndNotTold,
+    /// The switch has a table already.
+    #[error("the switch has a table already")]
+    DuplicateTable,
+    /// The LID is not above that of the row before, or it is above the table's top.
+    #[error("the LID does not rise, or is above the top of its table")]
+    WrongLid,
+    /// The last line of a table counts other rows than there are.
+    #[error("the table has another number of rows")]
+    WrongCount,
+    /// The text ends within a table, or tells of none. It is told for line 0.
+    #[error("the text ends within a table, or has none")]
+    Unfinished,
+    /// The LID is said to be another end port's by a row before.
+    #[error("the LID is another end port's by a row before")]
+    TwoEndPorts,
+}
+
+/// Why a text was not read.
+#[derive(Clone, Copy, Debug, PartialEq, Eq, Error)]
+pub enum DumpFault {
+    /// Memory was refused.
+    #[error("out of memory")]
+    NoMemory,
+    /// The first fault of the text.
+    #[error("line {line}: {cause}")]
+    At {
+        /// The line, counted from 1; 0 where the fault is of no line, but of the text as a whole.
+        line: usize,
+        /// What is wrong.
+        cause: DumpCause,
+    },
+}
+
+impl From<DumpCause> for LineError<DumpCause> {
+    ghost use Rattle.result_words.specs.declared.line_error.LineError.TheVariants.{Fault};
+
+    ghost from_gives = { λ cause e. e ≡ Fault cause };
+
+    fn from(cause: DumpCause) -> LineError<DumpCause> {
+        LineError::Fault(cause)
+    }
+}
+
+impl From<AllocError> for DumpFault {
+    ghost use Rattle.dump_file.specs.declared.fault.DumpFault.TheVariants as text;
+
+    ghost from_gives = { λ _ e. e ≡ text.NoMemory };
+
+    fn from(_error: AllocError) -> DumpFault {
+        DumpFault::NoMemory
+    }
+}

@@ -1,0 +1,255 @@
+//! The reader of a whole text.
+
+ghost use Rattle.std.specs.Prelude.{◌≡◌, Some, None, IfOk};
+ghost use Rattle.result_words.specs.AtLine.{on_line};
+ghost use Rattle.result_words.specs.Gives.{Gives, LineGives};
+ghost use Rattle.dump_file.specs.Dump.{after_between, after_line, after_multicast, after_rows, after_text, are_mlids_counted};
+ghost use Rattle.dump_file.specs.Dump.{count_told, dump_of, heading_of, heading_told, if_title, is_heading, is_multicast_end, is_multicast_heading};
+ghost use Rattle.dump_file.specs.Dump.{is_passed_over, row_told, told_by, whole, with_heading, with_row, with_table};
+ghost use Rattle.dump_file.specs.Fault.{fault_in};
+ghost use Rattle.dump_file.specs.Sound.{IsSound};
+
+use crate::draft::{Draft, count_told};
+use crate::dump::Dump;
+use crate::fault::{DumpCause, DumpFault};
+use crate::heading::Heading;
+use crate::parts::trimmed;
+use crate::stage::Stage;
+use result_words::LineError;
+use std::alloc::Global;
+use text_words::{Lines, cut_at, number_in};
+
+impl Draft {
+    fn take_heading(&mut self, number: usize, text: &[u8]) -> Result<(), LineError<DumpCause>>
+        requires between { heading_of self.old.stage ≡ None }
+        ensures { LineGives (λ _. self.new) result (with_heading self.old (heading_told number self.old text.now)) }
+    {
+        let heading = self.heading_told(number, text)?;
+        self.stage = Stage::FirstTitle(heading);
+        Ok(())
+    }
+
+    fn take_row(
+        &mut self,
+        number: usize,
+        heading: Heading,
+        text: &[u8],
+    ) -> Result<(), LineError<DumpCause>>
+        requires open { heading_of self.old.stage ≡ Some heading }
+        ensures { LineGives (λ _. self.new) result (with_row self.old (row_told number self.old heading text.now)) }
+    {
+        let row = self.row_told(number, heading, text)?;
+        self.push(row)?;
+        Ok(())
+    }
+
+    fn take_count(
+        &mut self,
+        alloc: Global,
+        heading: Heading,
+        text: &[u8],
+    ) -> Result<(), LineError<DumpCause>>
+        requires open { heading_of self.old.stage ≡ Some heading }
+        ensures { LineGives (λ _. self.new) result (with_table self.old heading (count_told self.old.rows text.now)) }
+    {
+        count_told(self.rows.as_slice(), text)?;
+        self.tables.push(alloc, heading, &mut self.rows)?;
+        self.stage = Stage::Between;
+        Ok(())
+    }
+
+    fn take_between(&mut self, number: usize, text: &[u8]) -> Result<(), LineError<DumpCause>>
+        requires between { heading_of self.old.stage ≡ None }
+        ensures { LineGives (λ _. self.new) result (after_between number self.old text.now) }
+    {
+        if is_heading(text) {
+            return self.take_heading(number, text);
+        }
+        if is_multicast_heading(text) {
+            self.stage = Stage::Multicast;
+            return Ok(());
+        }
+        if text.starts_with(b"*** WARNING ***") {
+            return Ok(());
+        }
+        Err(LineError::Fault(DumpCause::Malformed))
+    }
+
+    fn take_in_table(
+        &mut self,
+        alloc: Global,
+        number: usize,
+        heading: Heading,
+        text: &[u8],
+    ) -> Result<(), LineError<DumpCause>>
+        requires open { heading_of self.old.stage ≡ Some heading }
+        ensures { LineGives (λ _. self.new) result (after_rows number self.old heading text.now) }
+    {
+        if text.starts_with(b"0x") {
+            return self.take_row(number, heading, text);
+        }
+        self.take_count(alloc, heading, text)
+    }
+
+    fn take_multicast(&mut self, text: &[u8]) -> Result<(), LineError<DumpCause>>
+        requires multicast { heading_of self.old.stage ≡ None }
+        ensures { LineGives (λ _. self.new) result (after_multicast self.old text.now) }
+    {
+        if is_heading(text) || is_multicast_heading(text) {
+            return Err(LineError::Fault(DumpCause::Malformed));
+        }
+        if is_multicast_end(text) {
+            self.stage = Stage::Between;
+        }
+        Ok(())
+    }
+
+    fn take_title(&mut self, is_title: bool, next: Stage) -> Result<(), LineError<DumpCause>>
+        requires same { heading_of next ≡ heading_of self.old.stage }
+        ensures { LineGives (λ _. self.new) result (if_title is_title self.old next) }
+    {
+        if !is_title {
+            return Err(LineError::Fault(DumpCause::Malformed));
+        }
+        self.stage = next;
+        Ok(())
+    }
+
+    fn take_text(
+        &mut self,
+        alloc: Global,
+        number: usize,
+        text: &[u8],
+    ) -> Result<(), LineError<DumpCause>>
+        ensures { LineGives (λ _. self.new) result (after_text self.old.stage number self.old text.now) }
+    {
+        match self.stage {
+            Stage::Between => self.take_between(number, text),
+            Stage::FirstTitle(heading) => {
+                let is_title = text == b"  Lid  Out   Destination".as_slice();
+                self.take_title(is_title, Stage::SecondTitle(heading))
+            }
+            Stage::SecondTitle(heading) => {
+                let is_title = text == b"       Port     Info".as_slice();
+                self.take_title(is_title, Stage::Rows(heading))
+            }
+            Stage::Rows(heading) => self.take_in_table(alloc, number, heading, text),
+            Stage::Multicast => self.take_multicast(text),
+        }
+    }
+
+    #[tactic(auto, unfolding(crate::specs::Dump::after_line))]
+    fn take_line(
+        &mut self,
+        alloc: Global,
+        number: usize,
+        line: &[u8],
+    ) -> Result<(), LineError<DumpCause>>
+        ensures { LineGives (λ _. self.new) result (after_line number self.old line.now) }
+    {
+        let text = trimmed(line);
+        if is_passed_over(text) {
+            return Ok(());
+        }
+        self.take_text(alloc, number, text)
+    }
+
+    /// Takes the line of this number, and tells its fault with the number.
+    fn take_numbered(&mut self, alloc: Global, number: usize, line: &[u8]) -> Result<(), DumpFault>
+        ensures { Gives fault_in (λ _. self.new) result (on_line number (after_line number self.old line.now)) }
+    {
+        match self.take_line(alloc, number, line) {
+            Ok(()) => Ok(()),
+            Err(LineError::NoMemory) => Err(DumpFault::NoMemory),
+            Err(LineError::Fault(cause)) => Err(DumpFault::At {
+                line: number,
+                cause,
+            }),
+        }
+    }
+
+    /// The dump, if its last table has ended and there is one.
+    #[tactic(auto, unfolding(crate::specs::Dump::whole))]
+    fn finish(self) -> Result<Dump, DumpFault>
+        ensures { Gives fault_in (λ dump. dump) result (whole self) }
+    {
+        if !self.stage.is_between() || self.tables.as_slice().is_empty() {
+            return Err(DumpFault::At {
+                line: 0,
+                cause: DumpCause::Unfinished,
+            });
+        }
+        Ok(Dump {
+            tables: self.tables,
+            ends: self.ends,
+        })
+    }
+}
+
+fn is_heading(text: &[u8]) -> bool
+    ensures { result ≡ is_heading text.now }
+{
+    text.starts_with(b"Unicast lids [")
+}
+
+fn is_multicast_heading(text: &[u8]) -> bool
+    ensures { result ≡ is_multicast_heading text.now }
+{
+    text.starts_with(b"Multicast mlids [")
+}
+
+fn are_mlids_counted(words: &[u8]) -> bool
+    ensures { result ≡ are_mlids_counted words.now }
+{
+    words == b"valid mlids dumped".as_slice() || words == b"mlids dumped".as_slice()
+}
+
+/// Whether a multicast table ends here.
+fn is_multicast_end(text: &[u8]) -> bool
+    ensures { result ≡ is_multicast_end text.now }
+{
+    match cut_at(b' ', text) {
+        Some((number, words)) => number_in(number).is_some() && are_mlids_counted(words),
+        None => false,
+    }
+}
+
+/// Whether nothing stands on a line, or a comment.
+fn is_passed_over(text: &[u8]) -> bool
+    ensures { result ≡ is_passed_over text.now }
+{
+    text.is_empty() || text.starts_with(b"#")
+}
+
+fn told_by(alloc: Global, text: &[u8]) -> Result<Draft, DumpFault>
+    ensures { Gives fault_in (λ draft. draft) result (told_by text.now) }
+{
+    let mut draft = Draft::new(alloc);
+    let mut number = 0;
+    for line in Lines::new(text) {
+        number += 1;
+        draft.take_numbered(alloc, number, line)?;
+    }
+    Ok(draft)
+}
+
+/// What a text of `dump_fts` tells, or its first fault with the line.
+///
+/// Lines are judged in turn, each after those before it; `specs/Dump.antt` says how. Time is linear in the length
+/// of the text, and no name is kept.
+///
+/// Read are the tables that `dump_fts` and `ibroute` print, with their option `-a` or without, and those of
+/// `fabric tables`. Passed over are lines with nothing on them, lines that begin with `#`, multicast tables, and the
+/// warning that ends what `dump_mfts` prints. Where a line ends in blanks, or in CR LF, these do not count.
+#[tactic(auto, unfolding(crate::specs::Dump::dump_of))]
+pub fn read(alloc: Global, text: &[u8]) -> Result<Dump, DumpFault>
+    // What the text tells, or its first fault.
+    ensures exact { Gives fault_in (λ dump. dump) result (dump_of text.now) }
+    // No switch has two tables, LIDs rise in each up to its top, and each LID has one end port.
+    ensures sound { IfOk result (λ dump. IsSound dump) }
+{
+    let draft = told_by(alloc, text)?;
+    let dump = draft.finish()?;
+    dump.known_sound();
+    Ok(dump)
+}

@@ -1,0 +1,30 @@
+//! Where in the text a line stands.
+
+ghost use Rattle.std.specs.Prelude.{◌≡◌};
+ghost use Rattle.dump_file.specs.Dump.{is_between};
+
+use crate::heading::Heading;
+
+/// What is to come after the lines so far.
+#[derive(Clone, Copy, Debug)]
+pub(crate) enum Stage {
+    /// A table.
+    Between,
+    /// The first of the two titles of a table.
+    FirstTitle(Heading),
+    /// The second.
+    SecondTitle(Heading),
+    /// A row of a table, or its last line.
+    Rows(Heading),
+    /// A line of a multicast table.
+    Multicast,
+}
+
+impl Stage {
+    /// Whether no table is open.
+    pub(crate) fn is_between(self) -> bool
+        ensures { result ≡ is_between self }
+    {
+        matches!(self, Stage::Between)
+    }
+}

@@ -1,0 +1,73 @@
+-- Steps of what follows entries.
+use Rattle.std.proofs.Common.{◌≡◌, ◌∙◌, ap, refl, sym, ℕ, suc, ◌+◌, ◌-◌, ◌<◌, ◌≤◌, true, false, ◌==◌, List, [], ◌∷◌, ◌++◌, arith}
+use Rattle.std.proofs.Common.{Option, Some, None, option_map}
+use Rattle.std.proofs.lemmas.List.{append-nil, append_assoc}
+use Rattle.route_audit.specs.declared.following.Turn.{Turn}
+use Rattle.route_audit.specs.declared.following.Turn.TheVariants as turns
+use Rattle.route_audit.specs.Following.{back, end_within, if_goes, then_end, turn}
+use Rattle.route_audit.specs.Net.{NetState}
+
+-- one switch more
+pub end_step : (net : NetState) (lid total count at : ℕ) (whole : Option Turn) → count < total → end_within net lid (total - count) at ≡ whole
+    → then_end (λ next. end_within net lid (total - (count + 1)) next) (turn net lid at) ≡ whole
+end_step net lid total count at whole less so_far =
+    let more : total - count ≡ suc (total - (count + 1)) = omega (arith, less) in
+    ap (λ (n : ℕ). end_within net lid n at) (sym more) ∙ so_far
+
+pub end_over : (net : NetState) (lid total count at : ℕ) (whole : Option Turn) → total ≤ count → end_within net lid (total - count) at ≡ whole → None ≡ whole
+end_over net lid total count at whole over so_far =
+    let none : total - count ≡ 0 = omega (arith, over) in
+    ap (λ (n : ℕ). end_within net lid n at) (sym none) ∙ so_far
+
+pub back_step : (net : NetState) (lid home total count at : ℕ) (so_far : List ℕ) (whole : Option (List ℕ)) → count < total
+    → option_map (λ rest. so_far ++ rest) (back net lid home (total - count) at) ≡ whole
+    → option_map (λ rest. so_far ++ rest) (back net lid home (suc (total - (count + 1))) at) ≡ whole
+back_step net lid home total count at so_far whole less is =
+    let more : total - count ≡ suc (total - (count + 1)) = omega (arith, less) in
+    ap (λ (n : ℕ). option_map (λ rest. so_far ++ rest) (back net lid home n at)) (sym more) ∙ is
+
+pub back_over : (net : NetState) (lid home total count at : ℕ) (so_far : List ℕ) (whole : Option (List ℕ)) → total ≤ count
+    → option_map (λ rest. so_far ++ rest) (back net lid home (total - count) at) ≡ whole → None ≡ whole
+back_over net lid home total count at so_far whole over is =
+    let none : total - count ≡ 0 = omega (arith, over) in
+    ap (λ (n : ℕ). option_map (λ rest. so_far ++ rest) (back net lid home n at)) (sym none) ∙ is
+
+onto_joined : (so_far : List ℕ) (place : ℕ) (o : Option (List ℕ)) → option_map (λ rest. so_far ++ rest) (option_map (λ rest. place ∷ rest) o) ≡ option_map (λ rest. (so_far ++ place ∷ []) ++ rest) o
+onto_joined so_far place None = refl
+onto_joined so_far place (Some rest) = ap (λ (xs : List ℕ). Some xs) (sym (append_assoc so_far (place ∷ []) rest))
+
+pub back_goes_on : (net : NetState) (lid home count at next : ℕ) (so_far : List ℕ) (whole : Option (List ℕ)) → (at == home) ≡ false → turn net lid at ≡ turns.Goes next
+    → option_map (λ rest. so_far ++ rest) (back net lid home (suc count) at) ≡ whole
+    → option_map (λ rest. (so_far ++ at ∷ []) ++ rest) (back net lid home count next) ≡ whole
+back_goes_on net lid home count at next so_far whole away goes is =
+    let step : back net lid home (suc count) at ≡ option_map (λ rest. at ∷ rest) (back net lid home count next) = rw (away, goes) refl in
+    sym (onto_joined so_far at (back net lid home count next)) ∙ ap (option_map (λ rest. so_far ++ rest)) (sym step) ∙ is
+
+-- a turn that does not go on
+pub ends_here : (rest : ℕ → Option Turn) (turned : Turn) → ((next : ℕ) → turned ≡ turns.Goes next → ⊥) → then_end rest turned ≡ Some turned
+ends_here rest (turns.Goes next) stays = absurd (stays next refl)
+ends_here rest (turns.Arrives there) stays = refl
+ends_here rest turns.Hole stays = refl
+ends_here rest (turns.Nowhere number) stays = refl
+ends_here rest turns.Unknown stays = refl
+
+pub goes_nowhere : (rest : ℕ → Option (List ℕ)) (turned : Turn) → ((next : ℕ) → turned ≡ turns.Goes next → ⊥) → if_goes rest turned ≡ None
+goes_nowhere rest (turns.Goes next) stays = absurd (stays next refl)
+goes_nowhere rest (turns.Arrives there) stays = refl
+goes_nowhere rest turns.Hole stays = refl
+goes_nowhere rest (turns.Nowhere number) stays = refl
+goes_nowhere rest turns.Unknown stays = refl
+
+pub comes_back : (net : NetState) (lid home count at : ℕ) (so_far : List ℕ) (whole : Option (List ℕ)) → (at == home) ≡ true
+    → option_map (λ rest. so_far ++ rest) (back net lid home (suc count) at) ≡ whole → Some so_far ≡ whole
+comes_back net lid home count at so_far whole here is =
+    let step : back net lid home (suc count) at ≡ Some [] = rw here refl in
+    ap (λ (xs : List ℕ). Some xs) (sym (append-nil so_far)) ∙ sym (ap (option_map (λ rest. so_far ++ rest)) step) ∙ is
+
+pub back_ends : (net : NetState) (lid home count at : ℕ) (so_far : List ℕ) (whole : Option (List ℕ)) → (at == home) ≡ false
+    → ((next : ℕ) → turn net lid at ≡ turns.Goes next → ⊥)
+    → option_map (λ rest. so_far ++ rest) (back net lid home (suc count) at) ≡ whole → None ≡ whole
+back_ends net lid home count at so_far whole away stays is =
+    let step : back net lid home (suc count) at ≡ None =
+    (rw away refl) ∙ ap (option_map (λ rest. at ∷ rest)) (goes_nowhere (λ next. back net lid home count next) (turn net lid at) stays) in
+    sym (ap (option_map (λ rest. so_far ++ rest)) step) ∙ is

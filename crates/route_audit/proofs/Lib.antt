@@ -1,0 +1,11 @@
+pub mod CircleLemmas
+pub mod NetLemmas
+pub mod FollowingLemmas
+pub mod LidLemmas
+pub mod ChannelLemmas
+pub mod LineLemmas
+pub mod RoundLemmas
+pub mod EndlessLemmas
+pub mod CircleLawLemmas
+pub mod WrongLemmas
+pub mod SafeLemmas

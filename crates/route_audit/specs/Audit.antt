@@ -1,0 +1,92 @@
+-- The audit of a dump over a topology: what is printed, and whether the routes to adapters are sound.
+use Rattle.std.specs.Prelude.{ℕ, ◌==◌, ◌&&◌, ◌||◌, Bool, true, false, not, List, [], ◌∷◌, ◌++◌, codes, decimal, filter, flat_map, length, map, is_none, is_some, Option, Some, None}
+use Rattle.std.specs.List.{list_all}
+use Rattle.dump_file.specs.Dump.{DumpState}
+use Rattle.fabric_parts.specs.declared.cable.PortRef.{PortRef}
+use Rattle.topo_file.specs.Connectivity.{switches}
+use Rattle.topo_file.specs.Topology.{TopologyState}
+use Rattle.route_audit.specs.declared.following.Fate.TheVariants as fates
+use Rattle.route_audit.specs.declared.lids.Aim.{Aim}
+use Rattle.route_audit.specs.declared.pairs.Pair.{Pair}
+use Rattle.route_audit.specs.Channels.{deadlock}
+use Rattle.route_audit.specs.Lids.{aims, is_adapters, is_told}
+use Rattle.route_audit.specs.Lines.{files_by, port_text, troubles_by}
+use Rattle.route_audit.specs.Net.{NetState, table_at}
+use Rattle.route_audit.specs.Pairs.{all_reached, count_of, pairs_by, to_adapters, to_switches}
+
+-- what is found: the lines, and whether the routes to adapters are sound
+pub record AuditState : Type 0 where
+  pub text : List ℕ
+  pub is_safe : Bool
+
+-- ---- circles of channels
+abbrev pub lids_of : List Aim → List ℕ
+lids_of all = map (λ aim. aim.lid) all
+
+-- along the LIDs of adapter ports; and along all LIDs of end ports, where those alone make none
+abbrev pub adapters_ring : NetState → List Aim → Option (List PortRef)
+adapters_ring net all = deadlock net (lids_of (filter (is_adapters net) all))
+
+abbrev pub if_none : {X : Type 0} → Option X → Option X → Option X
+if_none None other = other
+if_none (Some x) other = None
+
+abbrev pub switches_ring : NetState → List Aim → Option (List PortRef)
+switches_ring net all = if_none (adapters_ring net all) (deadlock net (lids_of (filter is_told all)))
+
+-- `deadlock s6/3 s8/2`, `deadlock switch-lids s2/3 s3/3`
+abbrev pub port_word : NetState → PortRef → List ℕ
+port_word net port = codes " " ++ port_text net port
+
+abbrev pub ring_line : NetState → List ℕ → Option (List PortRef) → List ℕ
+ring_line net words (Some ring) = words ++ flat_map (port_word net) ring ++ 10 ∷ []
+ring_line net words None = []
+
+-- ---- counts
+-- `adapters: 196 pairs, 196 reached, 0 holes, 0 nowhere, 0 wrong, 0 loops, 0 unknown, no deadlock`
+abbrev pub deadlock_word : Bool → List ℕ
+deadlock_word true = codes "deadlock"
+deadlock_word false = codes "no deadlock"
+
+unfoldable pub reached_part : List Pair → List ℕ
+reached_part pairs = decimal (length pairs) ++ codes " pairs, " ++ decimal (count_of fates.Reached pairs) ++ codes " reached, "
+
+unfoldable pub lost_part : List Pair → List ℕ
+lost_part pairs =
+    decimal (count_of fates.Hole pairs) ++ codes " holes, " ++ decimal (count_of fates.Nowhere pairs) ++ codes " nowhere, "
+    ++ decimal (count_of fates.Wrong pairs) ++ codes " wrong, "
+
+unfoldable pub other_part : List Pair → List ℕ
+other_part pairs = decimal (count_of fates.Loop pairs) ++ codes " loops, " ++ decimal (count_of fates.Unknown pairs) ++ codes " unknown, "
+
+unfoldable pub count_line : List ℕ → List Pair → Bool → List ℕ
+count_line title pairs locks = title ++ reached_part pairs ++ lost_part pairs ++ other_part pairs ++ deadlock_word locks ++ 10 ∷ []
+
+unfoldable pub counts_by : List Pair → Bool → Bool → List ℕ
+counts_by pairs adapters switches =
+    count_line (codes "adapters: ") (to_adapters pairs) adapters ++ count_line (codes "switches: ") (to_switches pairs) switches
+    ++ count_line (codes "audit: ") pairs (adapters || switches)
+
+-- ---- the whole
+unfoldable pub text_by : NetState → List Aim → Option (List PortRef) → Option (List PortRef) → List ℕ
+text_by net all adapters switches =
+    files_by net all ++ troubles_by net all ++ ring_line net (codes "deadlock") adapters ++ ring_line net (codes "deadlock switch-lids") switches
+    ++ counts_by (pairs_by net all) (is_some adapters) (is_some switches)
+
+-- ---- each switch has a table and there is one, all LIDs of adapter ports are reached from each, and along them no channels
+-- wait for one another in a circle
+abbrev pub has_table : NetState → ℕ → Bool
+has_table net place = is_some (table_at net place)
+
+abbrev pub safe_by : NetState → List Aim → Option (List PortRef) → Bool
+safe_by net all adapters =
+    list_all (has_table net) (switches net.plan.nodes) && (not (length net.dump.tables == 0) && (all_reached (to_adapters (pairs_by net all)) && is_none adapters))
+
+unfoldable pub audit_of : NetState → AuditState
+audit_of net = record {
+  text = text_by net (aims net) (adapters_ring net (aims net)) (switches_ring net (aims net));
+  is_safe = safe_by net (aims net) (adapters_ring net (aims net));
+}
+
+abbrev pub audit : TopologyState → DumpState → AuditState
+audit plan dump = audit_of (record { plan = plan; dump = dump })

@@ -1,0 +1,101 @@
+-- What is so of all fabrics and dumps: the statements of the laws of `src/laws.rt`.
+use Rattle.std.specs.Prelude.{ℕ, ◌≡◌, ◌<◌, Bool, true, false, ◌&&◌, List, [], ◌∷◌, Option, Some, None}
+use Rattle.std.specs.List.{list_all, list_any}
+use Rattle.fabric_parts.specs.Cable.{is_same_port}
+use Rattle.fabric_parts.specs.declared.cable.PortRef.{PortRef}
+use Rattle.topo_file.specs.Node.{is_switch_at}
+use Rattle.route_audit.specs.declared.following.Turn.{Turn}
+use Rattle.route_audit.specs.declared.following.Turn.TheVariants as turns
+use Rattle.route_audit.specs.Audit.{audit_of}
+use Rattle.route_audit.specs.Channels.{channels, deadlock, depends}
+use Rattle.route_audit.specs.Following.{end_from, end_within, loop_from, turn}
+use Rattle.route_audit.specs.Lids.{aim_of}
+use Rattle.route_audit.specs.Net.{NetState}
+
+-- ---- following entries
+-- what goes from this switch never ends, whatever number of switches it is followed through
+abbrev pub NeverEnds : NetState → ℕ → ℕ → Type 0
+NeverEnds net lid place = (count : ℕ) → end_within net lid count place ≡ None
+
+-- where this gives no end there is none
+abbrev pub TellsEndless : (NetState → ℕ → ℕ → Option Turn) → Type 0
+TellsEndless end = (net : NetState) (lid place : ℕ) → is_switch_at net.plan.nodes place ≡ true → end net lid place ≡ None → NeverEnds net lid place
+
+abbrev pub LoopsNeverEnd : Type 0
+LoopsNeverEnd = TellsEndless end_from
+
+-- a way: the switches that it goes on at, one behind the other, and the turn at the last of them, which does not go on
+abbrev pub IsWay : NetState → ℕ → ℕ → List ℕ → Turn → Type 0
+IsWay net lid place [] turned = (turn net lid place ≡ turned) × ((next : ℕ) → turned ≡ turns.Goes next → ⊥)
+IsWay net lid place (next ∷ rest) turned = (turn net lid place ≡ turns.Goes next) × IsWay net lid next rest turned
+
+abbrev pub EndsBy : NetState → ℕ → ℕ → Turn → Type 0
+EndsBy net lid place turned = (way : List ℕ) × IsWay net lid place way turned
+
+-- an end is told exactly where a way along the entries comes to it
+pub record WaysAreFollowed : Type 0 where
+  pub told : (net : NetState) (lid place : ℕ) (turned : Turn) → is_switch_at net.plan.nodes place ≡ true → EndsBy net lid place turned → end_from net lid place ≡ Some turned
+  pub there : (net : NetState) (lid place : ℕ) (turned : Turn) → end_from net lid place ≡ Some turned → EndsBy net lid place turned
+
+-- each of these switches sends the LID on to the next, and the last to the first
+abbrev pub GoRound : NetState → ℕ → ℕ → List ℕ → Type 0
+GoRound net lid first [] = ⊥
+GoRound net lid first (place ∷ []) = turn net lid place ≡ turns.Goes first
+GoRound net lid first (place ∷ next ∷ rest) = (turn net lid place ≡ turns.Goes next) × GoRound net lid first (next ∷ rest)
+
+-- what is told is a loop, and begins where it is told
+abbrev pub TellsLoops : (NetState → ℕ → ℕ → Option (List ℕ)) → Type 0
+TellsLoops tells =
+    (net : NetState) (lid home : ℕ) (ring : List ℕ) → tells net lid home ≡ Some ring
+    → (rest : List ℕ) × (ring ≡ home ∷ rest) × GoRound net lid home (home ∷ rest)
+
+abbrev pub ToldLoopsGoRound : Type 0
+ToldLoopsGoRound = TellsLoops loop_from
+
+-- ---- circles of channels
+-- each waits for the next, and the last for this one
+abbrev pub wait_round : (PortRef → PortRef → Bool) → PortRef → List PortRef → Bool
+wait_round waits first [] = false
+wait_round waits first (a ∷ []) = waits a first
+wait_round waits first (a ∷ b ∷ rest) = waits a b && wait_round waits first (b ∷ rest)
+
+abbrev pub is_circle : (PortRef → PortRef → Bool) → List PortRef → Bool
+is_circle waits [] = false
+is_circle waits (a ∷ rest) = wait_round waits a (a ∷ rest)
+
+abbrev pub are_channels : NetState → List PortRef → Bool
+are_channels net ring = list_all (λ at. list_any (is_same_port at) (channels net)) ring
+
+-- what is told is a circle, of channels that wait for one another
+abbrev pub TellsCircles : (NetState → List ℕ → Option (List PortRef)) → Type 0
+TellsCircles tells =
+    (net : NetState) (lids : List ℕ) (ring : List PortRef) → tells net lids ≡ Some ring → is_circle (depends net lids) ring ≡ true
+
+abbrev pub ToldCirclesWait : Type 0
+ToldCirclesWait = TellsCircles deadlock
+
+-- where none is told no channels wait for one another in a circle, however long
+abbrev pub MissesNone : (NetState → List ℕ → Option (List PortRef)) → Type 0
+MissesNone tells =
+    (net : NetState) (lids : List ℕ) → tells net lids ≡ None → (ring : List PortRef) → are_channels net ring ≡ true
+    → is_circle (depends net lids) ring ≡ false
+
+abbrev pub NoCircleIsMissed : Type 0
+NoCircleIsMissed = MissesNone deadlock
+
+-- ---- what is safe
+-- the end port that the dump and the topology give a LID
+abbrev pub end_port_of : NetState → ℕ → Option PortRef
+end_port_of net lid = (aim_of net lid).end
+
+-- where this says so, from each switch a way leads to the adapter port of each LID
+abbrev pub TellsReached : (NetState → Bool) → Type 0
+TellsReached says =
+    (net : NetState) → says net ≡ true → (place lid : ℕ) (end : PortRef) → is_switch_at net.plan.nodes place ≡ true → lid < 65536
+    → end_port_of net lid ≡ Some end → is_switch_at net.plan.nodes end.node ≡ false → EndsBy net lid place (turns.Arrives end)
+
+abbrev pub says_safe : NetState → Bool
+says_safe net = (audit_of net).is_safe
+
+abbrev pub SafeRoutesReach : Type 0
+SafeRoutesReach = TellsReached says_safe

@@ -1,0 +1,13 @@
+pub mod Circle
+pub mod Marks
+pub mod FarEnds
+pub mod Net
+pub mod Following
+pub mod Lids
+pub mod Channels
+pub mod Exits
+pub mod Pairs
+pub mod Lines
+pub mod Audit
+pub mod Laws
+pub mod WrongRules

@@ -1,0 +1,63 @@
+-- The LIDs that a dump names, and the end ports of the topology that have them.
+use Rattle.std.specs.Prelude.{ℕ, ◌+◌, ◌-◌, ◌==◌, ◌&&◌, nat_le, nat_lt, Bool, false, not, List, [], ◌∷◌, map, flat_map, filter, if◌then◌else◌, Option, Some, None, option_map, is_some}
+use Rattle.std.specs.List.{list_any, range_with_len}
+use Rattle.std.specs.Option.{option_and_then, option_map_or, option_or}
+use Rattle.dump_file.specs.declared.row.Row.{Row}
+use Rattle.dump_file.specs.Dump.{DumpState}
+use Rattle.dump_file.specs.Row.{end_of}
+use Rattle.dump_file.specs.Table.{rows_of}
+use Rattle.fabric_parts.specs.Cable.{port}
+use Rattle.fabric_parts.specs.declared.cable.PortRef.{PortRef}
+use Rattle.topo_file.specs.declared.node.Node.{Node}
+use Rattle.topo_file.specs.Node.{is_switch, is_switch_at}
+use Rattle.route_audit.specs.declared.lids.Aim.{Aim}
+use Rattle.route_audit.specs.Net.{NetState}
+
+-- ---- a row of some table is of this LID
+abbrev pub is_named : List Row → ℕ → Bool
+is_named rows lid = list_any (λ row. row.lid == lid) rows
+
+unfoldable pub all_lids : List ℕ
+all_lids = range_with_len 0 65536
+
+abbrev pub named_lids : DumpState → List ℕ
+named_lids dump = filter (is_named (rows_of dump.tables)) all_lids
+
+-- ---- the port of this GUID: a switch's port 0 has that of the switch, port p of an adapter that which is p above its node's
+abbrev pub number_in : ℕ → Node → Option ℕ
+number_in guid node =
+    if is_switch node then (if guid == node.guid then Some 0 else None)
+    else (if nat_lt node.guid guid && nat_le guid (node.guid + node.ports) then Some (guid - node.guid) else None)
+
+-- the first that has it, of nodes that are counted from this place
+abbrev pub port_from : ℕ → ℕ → List Node → Option PortRef
+port_from guid place [] = None
+port_from guid place (node ∷ rest) = option_or (option_map (port place) (number_in guid node)) (port_from guid (place + 1) rest)
+
+abbrev pub port_of : List Node → ℕ → Option PortRef
+port_of nodes guid = port_from guid 0 nodes
+
+-- ---- what is known of each LID, as LIDs rise
+abbrev pub aim_of : NetState → ℕ → Aim
+aim_of net lid = record {
+  lid = lid;
+  guid = end_of lid (rows_of net.dump.tables);
+  end = option_and_then (port_of net.plan.nodes) (end_of lid (rows_of net.dump.tables));
+}
+
+abbrev pub aims : NetState → List Aim
+aims net = map (aim_of net) (named_lids net.dump)
+
+-- ---- a step of the code, on which no definition stands: of the LIDs below this number that pass the test
+abbrev pub aim_if : NetState → (ℕ → Bool) → ℕ → List Aim
+aim_if net test lid = if test lid then aim_of net lid ∷ [] else []
+
+abbrev pub aims_below : NetState → (ℕ → Bool) → ℕ → List Aim
+aims_below net test count = flat_map (aim_if net test) (range_with_len 0 count)
+
+-- its end port is one of the topology's, and an adapter's
+abbrev pub is_told : Aim → Bool
+is_told aim = is_some aim.end
+
+abbrev pub is_adapters : NetState → Aim → Bool
+is_adapters net aim = option_map_or (λ end. not (is_switch_at net.plan.nodes end.node)) aim.end false

@@ -1,0 +1,128 @@
+-- The lines of an audit, but for its last ones.
+use Rattle.std.specs.Prelude.{ℕ, ◌*◌, ◌==◌, ◌&&◌, nat_le, Bool, true, false, not, List, [], ◌∷◌, ◌++◌, codes, decimal, map, flat_map, if◌then◌else◌, is_none, Option, Some, None}
+use Rattle.std.specs.Int.{w64, to_be_bytes}
+use Rattle.std.specs.List.{list_all, list_any, range_with_len}
+use Rattle.std.specs.Option.{option_map_or}
+use Rattle.dump_file.specs.declared.destination.Destination.{Destination}
+use Rattle.dump_file.specs.declared.destination.Destination.TheVariants.{ChannelAdapter, Switch, Router, FurtherLid, Nobody, NotTold}
+use Rattle.dump_file.specs.declared.table.Table.{Table}
+use Rattle.fabric_parts.specs.Cable.{is_same_port}
+use Rattle.fabric_parts.specs.declared.cable.PortRef.{PortRef}
+use Rattle.line_parts.specs.Parts.{hex_text}
+use Rattle.topo_file.specs.Connectivity.{switches}
+use Rattle.topo_file.specs.Node.{is_switch, name_at}
+use Rattle.topo_file.specs.declared.node.Node.{Node}
+use Rattle.route_audit.specs.declared.following.Turn.{Turn}
+use Rattle.route_audit.specs.declared.following.Turn.TheVariants as turns
+use Rattle.route_audit.specs.declared.lids.Aim.{Aim}
+use Rattle.route_audit.specs.Following.{loop_from, turn}
+use Rattle.route_audit.specs.Lids.{is_named}
+use Rattle.route_audit.specs.Net.{NetState, is_left_out, row_of, table_at}
+
+-- ---- words of lines
+abbrev pub guid_text : ℕ → List ℕ
+guid_text guid = hex_text (to_be_bytes w64 guid)
+
+abbrev pub name_text : NetState → ℕ → List ℕ
+name_text net place = name_at net.plan.nodes place
+
+abbrev pub port_text : NetState → PortRef → List ℕ
+port_text net port = name_text net port.node ++ codes "/" ++ decimal port.port
+
+-- ---- what the files lack
+-- `no-table A`: a switch of which the dump has no table
+abbrev pub no_table_line : NetState → ℕ → List ℕ
+no_table_line net place = if is_none (table_at net place) then codes "no-table " ++ name_text net place ++ 10 ∷ [] else []
+
+-- `no-switch 0x0000000000000020`: a table of a switch that the topology lacks
+abbrev pub has_switch : ℕ → List Node → Bool
+has_switch guid nodes = list_any (λ node. is_switch node && (node.guid == guid)) nodes
+
+abbrev pub no_switch_line : NetState → Table → List ℕ
+no_switch_line net table = if has_switch table.guid net.plan.nodes then [] else codes "no-switch " ++ guid_text table.guid ++ 10 ∷ []
+
+-- `no-port 3 0x7cfe9003009f0a11`: a LID of an end port that the topology lacks
+abbrev pub lacking_line : ℕ → Option ℕ → List ℕ
+lacking_line lid (Some guid) = codes "no-port " ++ decimal lid ++ codes " " ++ guid_text guid ++ 10 ∷ []
+lacking_line lid None = []
+
+abbrev pub no_port_line : Aim → List ℕ
+no_port_line aim = if is_none aim.end then lacking_line aim.lid aim.guid else []
+
+-- `untold 320`: the top of some table, a multiple of 64, of which that table has no row
+abbrev pub leaves_out : ℕ → Table → Bool
+leaves_out lid table = is_left_out table lid && not (is_named table.rows lid)
+
+abbrev pub untold_line : List Table → ℕ → List ℕ
+untold_line tables lid = if list_any (leaves_out lid) tables then codes "untold " ++ decimal lid ++ 10 ∷ [] else []
+
+unfoldable pub multiples : List ℕ
+multiples = map (λ n. n * 64) (range_with_len 0 1024)
+
+unfoldable pub untold_lines : List Table → List ℕ
+untold_lines tables = flat_map (untold_line tables) multiples
+
+unfoldable pub files_by : NetState → List Aim → List ℕ
+files_by net all =
+    flat_map (no_table_line net) (switches net.plan.nodes) ++ flat_map (no_switch_line net) net.dump.tables
+    ++ flat_map no_port_line all ++ untold_lines net.dump.tables
+
+-- ---- what a switch does with a LID
+-- `hole A 24`, `nowhere D 3 port 4`, `wrong C 1 h2/1`
+abbrev pub hole_line : NetState → ℕ → ℕ → List ℕ
+hole_line net place lid = codes "hole " ++ name_text net place ++ codes " " ++ decimal lid ++ 10 ∷ []
+
+abbrev pub nowhere_line : NetState → ℕ → ℕ → ℕ → List ℕ
+nowhere_line net place lid number = codes "nowhere " ++ name_text net place ++ codes " " ++ decimal lid ++ codes " port " ++ decimal number ++ 10 ∷ []
+
+abbrev pub wrong_line : NetState → ℕ → ℕ → PortRef → List ℕ
+wrong_line net place lid there = codes "wrong " ++ name_text net place ++ codes " " ++ decimal lid ++ codes " " ++ port_text net there ++ 10 ∷ []
+
+-- `loop 18 A B`: told at the first switch of the loop
+abbrev pub name_word : NetState → ℕ → List ℕ
+name_word net place = codes " " ++ name_text net place
+
+abbrev pub is_least : ℕ → List ℕ → Bool
+is_least place ring = list_all (λ other. nat_le place other) ring
+
+abbrev pub loop_line : NetState → ℕ → ℕ → Option (List ℕ) → List ℕ
+loop_line net place lid (Some ring) =
+    if is_least place ring then codes "loop " ++ decimal lid ++ flat_map (name_word net) ring ++ 10 ∷ [] else []
+loop_line net place lid None = []
+
+abbrev pub line_by : NetState → ℕ → ℕ → PortRef → Turn → List ℕ
+line_by net place lid end (turns.Goes next) = loop_line net place lid (loop_from net lid place)
+line_by net place lid end (turns.Arrives there) = if is_same_port there end then [] else wrong_line net place lid there
+line_by net place lid end turns.Hole = hole_line net place lid
+line_by net place lid end (turns.Nowhere number) = nowhere_line net place lid number
+line_by net place lid end turns.Unknown = []
+
+-- `stray A 21`: an entry other than 255 for a LID of which the row says that it is nobody's, and no row says another thing
+abbrev pub is_nobodys : Destination → Bool
+is_nobodys Nobody = true
+is_nobodys (ChannelAdapter guid) = false
+is_nobodys (Switch guid) = false
+is_nobodys (Router guid) = false
+is_nobodys (FurtherLid guid) = false
+is_nobodys NotTold = false
+
+abbrev pub is_stray : ℕ → Table → Bool
+is_stray lid table = option_map_or (λ row. is_nobodys row.destination && not (row.port == 255)) (row_of lid table.rows) false
+
+abbrev pub stray_line : NetState → ℕ → ℕ → List ℕ
+stray_line net place lid =
+    if option_map_or (is_stray lid) (table_at net place) false then codes "stray " ++ name_text net place ++ codes " " ++ decimal lid ++ 10 ∷ [] else []
+
+abbrev pub trouble_to : NetState → ℕ → ℕ → Option ℕ → Option PortRef → List ℕ
+trouble_to net place lid guid (Some end) = line_by net place lid end (turn net lid place)
+trouble_to net place lid (Some guid) None = []
+trouble_to net place lid None None = stray_line net place lid
+
+abbrev pub trouble_line : NetState → ℕ → Aim → List ℕ
+trouble_line net place aim = trouble_to net place aim.lid aim.guid aim.end
+
+abbrev pub troubles_at : NetState → List Aim → ℕ → List ℕ
+troubles_at net all place = flat_map (trouble_line net place) all
+
+abbrev pub troubles_by : NetState → List Aim → List ℕ
+troubles_by net all = flat_map (troubles_at net all) (switches net.plan.nodes)

@@ -1,0 +1,42 @@
+-- A topology with the tables that stand in it, and the entry of a LID in the table of a switch.
+use Rattle.std.specs.Prelude.{ℕ, ◌%◌, ◌==◌, ◌&&◌, Bool, List, find, slice_get, if◌then◌else◌, Option, Some, None}
+use Rattle.std.specs.Option.{option_and_then, option_map_or}
+use Rattle.dump_file.specs.declared.row.Row.{Row}
+use Rattle.dump_file.specs.declared.table.Table.{Table}
+use Rattle.dump_file.specs.Dump.{DumpState}
+use Rattle.dump_file.specs.Table.{place_of}
+use Rattle.topo_file.specs.Topology.{TopologyState}
+use Rattle.route_audit.specs.declared.entry.Entry.{Entry}
+use Rattle.route_audit.specs.declared.entry.Entry.TheVariants.{Out, Missing, Untold}
+
+pub record NetState : Type 0 where
+  pub plan : TopologyState
+  pub dump : DumpState
+
+-- ---- the table of a switch
+abbrev pub table_of : ℕ → List Table → Option Table
+table_of guid tables = option_and_then (λ place. slice_get tables place) (place_of guid tables)
+
+-- that of the node there
+abbrev pub table_at : NetState → ℕ → Option Table
+table_at net place = option_and_then (λ node. table_of node.guid net.dump.tables) (slice_get net.plan.nodes place)
+
+-- ---- the entry of a LID
+abbrev pub row_of : ℕ → List Row → Option Row
+row_of lid rows = find (λ row. row.lid == lid) rows
+
+-- the row of the top is left out where it is a multiple of 64, whatever its entry is
+abbrev pub is_left_out : Table → ℕ → Bool
+is_left_out table lid = (lid == table.top) && (lid % 64 == 0)
+
+-- 255 leads nowhere, as no row does
+abbrev pub entry_by : Table → ℕ → Option Row → Entry
+entry_by table lid (Some row) = if row.port == 255 then Missing else Out row.port
+entry_by table lid None = if is_left_out table lid then Untold else Missing
+
+abbrev pub entry_in : ℕ → Table → Entry
+entry_in lid table = entry_by table lid (row_of lid table.rows)
+
+-- of a switch of which there is no table nothing is known
+abbrev pub entry : NetState → ℕ → ℕ → Entry
+entry net lid place = option_map_or (entry_in lid) (table_at net place) Untold

@@ -1,0 +1,136 @@
+//! What comes of a packet to a LID, by the entries that stand in the tables.
+
+ghost use Rattle.std.specs.Prelude.{◌≡◌, option_map, IfOk};
+ghost use Rattle.route_audit.specs.Following.{end_from, fate, fate_by, loop_from, switch_total, turn, turn_to};
+
+use crate::entry::Entry;
+use crate::net::Net;
+use fabric_parts::PortRef;
+use std::alloc::{AllocError, Global};
+
+/// What a switch does with a packet.
+#[derive(Clone, Copy, Debug, PartialEq, Eq)]
+pub(crate) enum Turn {
+    /// It goes on at the switch there.
+    Goes(usize),
+    /// It has come to this end port.
+    Arrives(PortRef),
+    /// There is no entry.
+    Hole,
+    /// The entry is this port, which has no cable.
+    Nowhere(u8),
+    /// The entry is not told.
+    Unknown,
+}
+
+/// What comes of packets from a switch to a LID.
+#[derive(Clone, Copy, Debug, PartialEq, Eq)]
+pub(crate) enum Fate {
+    /// They come to the end port that has the LID.
+    Reached,
+    /// A switch has no entry.
+    Hole,
+    /// A switch sends them out of a port without a cable.
+    Nowhere,
+    /// They come to another end port.
+    Wrong,
+    /// They never end.
+    Loop,
+    /// They come to a switch of which the entry is not told.
+    Unknown,
+}
+
+impl<'a> Net<'a> {
+    fn turn_to(&self, number: u8, there: Option<PortRef>) -> Turn
+        ensures { result ≡ turn_to self.now number there }
+    {
+        match there {
+            Some(there) if self.is_switch_at(there.node) => Turn::Goes(there.node),
+            Some(there) => Turn::Arrives(there),
+            None => Turn::Nowhere(number),
+        }
+    }
+
+    /// What the switch there does with a packet to the LID.
+    pub(crate) fn turn(&self, lid: u16, place: usize) -> Turn
+        ensures { result ≡ turn self.now lid place }
+    {
+        match self.entry(lid, place) {
+            Entry::Untold => Turn::Unknown,
+            Entry::Missing => Turn::Hole,
+            Entry::Out(number) => {
+                let out = PortRef {
+                    node: place,
+                    port: number,
+                };
+                if number == 0 {
+                    Turn::Arrives(out)
+                } else {
+                    self.turn_to(number, self.far_end(out))
+                }
+            }
+        }
+    }
+
+    /// The turn that ends what goes from the switch there to the LID; none where it never ends.
+    fn end_from(&self, lid: u16, place: usize) -> Option<Turn>
+        ensures { result ≡ end_from self.now lid place }
+    {
+        let mut at = place;
+        for _ in 0..self.switches().len() {
+            match self.turn(lid, at) {
+                Turn::Goes(next) => at = next,
+                end => return Some(end),
+            }
+        }
+        None
+    }
+
+    /// What comes of packets from the switch there to the LID, which this end port has.
+    pub(crate) fn fate(&self, lid: u16, end: PortRef, place: usize) -> Fate
+        ensures { result ≡ fate self.now lid end place }
+    {
+        fate_by(end, self.end_from(lid, place))
+    }
+
+    /// The switches of the loop through the one there, from it on, if it is on a loop of the LID.
+    pub(crate) fn loop_from(
+        &self,
+        alloc: Global,
+        lid: u16,
+        home: usize,
+    ) -> Result<Option<Vec<usize>>, AllocError>
+        ensures { IfOk result (λ found. option_map (λ places. places.items) found ≡ loop_from self.now lid home) }
+    {
+        let mut places = Vec::new(alloc);
+        let Turn::Goes(first) = self.turn(lid, home) else {
+            return Ok(None);
+        };
+        places.push(home)?;
+        let mut at = first;
+        for _ in 0..self.switches().len() {
+            if at == home {
+                return Ok(Some(places));
+            }
+            let Turn::Goes(next) = self.turn(lid, at) else {
+                return Ok(None);
+            };
+            places.push(at)?;
+            at = next;
+        }
+        Ok(None)
+    }
+}
+
+fn fate_by(end: PortRef, turn: Option<Turn>) -> Fate
+    ensures { result ≡ fate_by end turn }
+{
+    match turn {
+        None | Some(Turn::Goes(_)) => Fate::Loop,
+        Some(Turn::Arrives(there)) if there == end => Fate::Reached,
+        Some(Turn::Arrives(_)) => Fate::Wrong,
+        Some(Turn::Hole) => Fate::Hole,
+        Some(Turn::Nowhere(_)) => Fate::Nowhere,
+        Some(Turn::Unknown) => Fate::Unknown,
+    }
+}

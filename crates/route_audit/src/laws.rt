@@ -1,0 +1,33 @@
+//! What is so of all audits. The functions do nothing; their clauses are the theorems.
+
+ghost use Rattle.route_audit.specs.Laws.{LoopsNeverEnd, NoCircleIsMissed, SafeRoutesReach, ToldCirclesWait, ToldLoopsGoRound, WaysAreFollowed};
+
+/// What does not end within as many switches as there are never ends.
+pub fn loops_never_end()
+    ensures { LoopsNeverEnd }
+{}
+
+/// An end is told exactly where a way along the entries comes to it.
+pub fn ways_are_followed()
+    ensures { WaysAreFollowed }
+{}
+
+/// A loop that is told is one, from the switch on where it is told.
+pub fn told_loops_go_round()
+    ensures { ToldLoopsGoRound }
+{}
+
+/// A circle that is told is one.
+pub fn told_circles_wait()
+    ensures { ToldCirclesWait }
+{}
+
+/// Where none is told there is none, however long.
+pub fn no_circle_is_missed()
+    ensures { NoCircleIsMissed }
+{}
+
+/// Where routes are safe, from each switch a way along the entries leads to the adapter port of each LID.
+pub fn safe_routes_reach()
+    ensures { SafeRoutesReach }
+{}

@@ -1,0 +1,140 @@
+//! The LIDs that a dump names, and the end ports of the topology that have them.
+
+ghost use Rattle.std.specs.Prelude.{◌≡◌, ◌≤◌, ◌<◌, ◌||◌, ◌==◌, ◌++◌, ◌∷◌, [], true, false, if◌then◌else◌, length, IfOk, OnOk, ℕ};
+ghost use Rattle.dump_file.specs.Row.{end_of};
+ghost use Rattle.dump_file.specs.Table.{rows_of};
+ghost use Rattle.route_audit.specs.Lids.{aim_of, aims, aims_below, is_named, number_in, port_of};
+ghost use Rattle.route_audit.specs.Marks.{is_marked};
+
+use crate::circle::is_marked;
+use crate::net::Net;
+use dump_file::{Row, Table};
+use fabric_parts::PortRef;
+use std::alloc::{AllocError, Global};
+use topo_file::Node;
+
+/// What is known of a LID that a dump names.
+#[derive(Clone, Copy, Debug)]
+pub(crate) struct Aim {
+    pub(crate) lid: u16,
+    /// The GUID of the end port that has it, if a row says one.
+    pub(crate) guid: Option<u64>,
+    /// The end port of this GUID, if the topology has it.
+    pub(crate) end: Option<PortRef>,
+}
+
+/// The number of the port of the node that has this GUID, if one does.
+fn number_in(guid: u64, node: &Node) -> Option<u8>
+    ensures { result ≡ number_in guid node.now }
+{
+    if node.is_switch() {
+        return if guid == node.guid { Some(0) } else { None };
+    }
+    let ports = node.ports;
+    if guid <= node.guid {
+        return None;
+    }
+    let number = guid - node.guid;
+    if number > u64::from(ports) {
+        return None;
+    }
+    Some(number as u8)
+}
+
+/// The port of this GUID.
+fn port_of(nodes: &[Node], guid: u64) -> Option<PortRef>
+    ensures { result ≡ port_of nodes.now guid }
+{
+    for place in 0..nodes.len() {
+        if let Some(port) = number_in(guid, &nodes[place]) {
+            return Some(PortRef { node: place, port });
+        }
+    }
+    None
+}
+
+fn mark(marks: &mut [bool], lid: u16)
+    requires { 65536 ≤ length marks.old }
+    ensures long { length marks.new ≡ length marks.old }
+    ensures marked { (other : ℕ) → is_marked marks.new other ≡ (is_marked marks.old other || (lid == other)) }
+{
+    marks[usize::from(lid)] = true;
+}
+
+/// Marks the LIDs of these rows.
+fn mark_lids(marks: &mut [bool], rows: &[Row])
+    requires { 65536 ≤ length marks.old }
+    ensures long { length marks.new ≡ length marks.old }
+    ensures marked { (lid : ℕ) → is_marked marks.new lid ≡ (is_marked marks.old lid || is_named rows.now lid) }
+{
+    for row in rows {
+        mark(marks, row.lid);
+    }
+}
+
+pub(crate) fn blank(alloc: Global, count: usize) -> Result<Vec<bool>, AllocError>
+    ensures long { IfOk result (λ marks. length marks.items ≡ count) }
+    ensures none { IfOk result (λ marks. (lid : ℕ) → is_marked marks.items lid ≡ false) }
+{
+    vec![in alloc; false; count]
+}
+
+/// A mark for each LID that a row of these tables names.
+fn marks_of(alloc: Global, tables: &[Table], count: usize) -> Result<Vec<bool>, AllocError>
+    requires { 65536 ≤ count }
+    ensures { IfOk result (λ marks. (lid : ℕ) → is_marked marks.items lid ≡ is_named (rows_of tables.now) lid) }
+{
+    let mut marks = blank(alloc, count)?;
+    for table in tables {
+        mark_lids(&mut marks, table.rows.as_slice());
+    }
+    Ok(marks)
+}
+
+impl<'a> Net<'a> {
+    fn aim_of(&self, lid: u16) -> Aim
+        ensures { result ≡ aim_of self.now lid }
+    {
+        let guid = self.dump().end_of(lid);
+        let end = match guid {
+            Some(guid) => port_of(self.nodes(), guid),
+            None => None,
+        };
+        Aim { lid, guid, end }
+    }
+
+    fn push_aim(&self, aims: &mut Vec<Aim>, marks: &[bool], lid: usize) -> Result<(), AllocError>
+        requires { lid < 65536 }
+        ensures { OnOk result (aims.new.items ≡ aims.old.items ++ (if is_marked marks.now lid then aim_of self.now lid ∷ [] else [])) }
+    {
+        if is_marked(marks, lid) {
+            aims.push(self.aim_of(lid as u16))?;
+        }
+        Ok(())
+    }
+
+    fn aims_below(
+        &self,
+        alloc: Global,
+        marks: &[bool],
+        count: usize,
+    ) -> Result<Vec<Aim>, AllocError>
+        requires { count ≤ 65536 }
+        ensures { IfOk result (λ all. all.items ≡ aims_below self.now (is_marked marks.now) count) }
+    {
+        let mut aims = Vec::new(alloc);
+        for lid in 0..count {
+            self.push_aim(&mut aims, marks, lid)?;
+        }
+        Ok(aims)
+    }
+
+    /// What is known of each LID that a row names, as LIDs rise.
+    pub(crate) fn aims(&self, alloc: Global) -> Result<Vec<Aim>, AllocError>
+        ensures { IfOk result (λ all. all.items ≡ aims self.now) }
+    {
+        let marks = marks_of(alloc, self.dump().tables(), 65536)?;
+        let aims = self.aims_below(alloc, &marks, 65536)?;
+        Ok(aims)
+    }
+}

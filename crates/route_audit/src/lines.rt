@@ -1,0 +1,401 @@
+//! The lines of an audit, but for its last ones.
+
+ghost use Rattle.std.specs.Prelude.{◌≡◌, ◌≤◌, ◌*◌, ◌++◌, true, false, Some, OnOk, flat_map};
+ghost use Rattle.std.specs.List.{list_any, range_with_len};
+ghost use Rattle.std.specs.Option.{option_map_or};
+ghost use Rattle.route_audit.specs.Following.{loop_from, turn};
+ghost use Rattle.route_audit.specs.Lids.{is_named};
+ghost use Rattle.route_audit.specs.Net.{table_at};
+ghost use Rattle.dump_file.specs.Sound.{is_rising};
+ghost use Rattle.route_audit.specs.Lines.{files_by, guid_text, has_switch, hole_line, is_least, is_nobodys, is_stray, lacking_line, leaves_out};
+ghost use Rattle.route_audit.specs.Lines.{line_by, loop_line, name_text, name_word, no_port_line, no_switch_line, no_table_line};
+ghost use Rattle.route_audit.specs.Lines.{nowhere_line, port_text, stray_line, trouble_line, troubles_at, troubles_by, untold_line, untold_lines, wrong_line};
+ghost use Rattle.topo_file.specs.Connectivity.{switches};
+
+use crate::following::Turn;
+use crate::lids::Aim;
+use crate::net::{Net, is_left_out, row_of};
+use dump_file::{Destination, Row, Table};
+use fabric_parts::PortRef;
+use line_parts::{push_decimal, push_hex};
+use std::alloc::{AllocError, Global};
+use topo_file::{Node, name_at};
+
+fn push_guid(text: &mut Vec<u8>, guid: u64) -> Result<(), AllocError>
+    ensures { OnOk result (text.new.items ≡ text.old.items ++ guid_text guid) }
+{
+    push_hex(text, &guid.to_be_bytes())
+}
+
+fn has_switch(guid: u64, nodes: &[Node]) -> bool
+    ensures { result ≡ has_switch guid nodes.now }
+{
+    nodes
+        .iter()
+        .any(|node| node.is_switch() && node.guid == guid)
+}
+
+fn push_lacking(text: &mut Vec<u8>, lid: u16, guid: Option<u64>) -> Result<(), AllocError>
+    ensures { OnOk result (text.new.items ≡ text.old.items ++ lacking_line lid guid) }
+{
+    if let Some(guid) = guid {
+        text.extend_from_slice(b"no-port ")?;
+        push_decimal(text, usize::from(lid))?;
+        text.extend_from_slice(b" ")?;
+        push_guid(text, guid)?;
+        text.push(b'\n')?;
+    }
+    Ok(())
+}
+
+fn push_no_port(text: &mut Vec<u8>, aim: &Aim) -> Result<(), AllocError>
+    ensures { OnOk result (text.new.items ≡ text.old.items ++ no_port_line aim.now) }
+{
+    let aim = *aim;
+    if aim.end.is_none() {
+        push_lacking(text, aim.lid, aim.guid)?;
+    }
+    Ok(())
+}
+
+fn push_no_ports(text: &mut Vec<u8>, aims: &[Aim]) -> Result<(), AllocError>
+    ensures { OnOk result (text.new.items ≡ text.old.items ++ flat_map no_port_line aims.now) }
+{
+    for aim in aims {
+        push_no_port(text, aim)?;
+    }
+    Ok(())
+}
+
+fn is_named(rows: &[Row], lid: u16) -> bool
+    ensures { result ≡ is_named rows.now lid }
+{
+    rows.iter().any(|row| row.lid == lid)
+}
+
+fn leaves_out(lid: u16, table: &Table) -> bool
+    ensures { result ≡ leaves_out lid table.now }
+{
+    is_left_out(table, lid) && !is_named(table.rows.as_slice(), lid)
+}
+
+fn some_leaves_out(tables: &[Table], lid: u16) -> bool
+    ensures { result ≡ list_any (leaves_out lid) tables.now }
+{
+    tables.iter().any(|table| leaves_out(lid, table))
+}
+
+fn is_nobodys(destination: Destination) -> bool
+    ensures { result ≡ is_nobodys destination }
+{
+    match destination {
+        Destination::Nobody => true,
+        _ => false,
+    }
+}
+
+fn is_stray(lid: u16, table: &Table) -> bool
+    requires { is_rising table.now ≡ true }
+    ensures { result ≡ is_stray lid table.now }
+{
+    match row_of(table.rows.as_slice(), lid, table.top) {
+        Some(row) => is_nobodys(row.destination) && row.port != 255,
+        None => false,
+    }
+}
+
+fn is_least(place: usize, ring: &[usize]) -> bool
+    ensures { result ≡ is_least place ring.now }
+{
+    ring.iter().all(|other| place <= *other)
+}
+
+impl<'a> Net<'a> {
+    fn push_name(&self, text: &mut Vec<u8>, place: usize) -> Result<(), AllocError>
+        ensures { OnOk result (text.new.items ≡ text.old.items ++ name_text self.now place) }
+    {
+        text.extend_from_slice(name_at(self.nodes(), place))
+    }
+
+    pub(crate) fn push_port(&self, text: &mut Vec<u8>, port: PortRef) -> Result<(), AllocError>
+        ensures { OnOk result (text.new.items ≡ text.old.items ++ port_text self.now port) }
+    {
+        self.push_name(text, port.node)?;
+        text.extend_from_slice(b"/")?;
+        push_decimal(text, usize::from(port.port))
+    }
+
+    fn push_no_table(&self, text: &mut Vec<u8>, place: usize) -> Result<(), AllocError>
+        ensures { OnOk result (text.new.items ≡ text.old.items ++ no_table_line self.now place) }
+    {
+        if self.table_at(place).is_none() {
+            text.extend_from_slice(b"no-table ")?;
+            self.push_name(text, place)?;
+            text.push(b'\n')?;
+        }
+        Ok(())
+    }
+
+    fn push_no_tables(&self, text: &mut Vec<u8>) -> Result<(), AllocError>
+        ensures { OnOk result (text.new.items ≡ text.old.items ++ flat_map (no_table_line self.now) (switches self.now.plan.nodes)) }
+    {
+        for place in self.switches() {
+            self.push_no_table(text, *place)?;
+        }
+        Ok(())
+    }
+
+    fn push_no_switch(&self, text: &mut Vec<u8>, table: &Table) -> Result<(), AllocError>
+        ensures { OnOk result (text.new.items ≡ text.old.items ++ no_switch_line self.now table.now) }
+    {
+        if !has_switch(table.guid, self.nodes()) {
+            text.extend_from_slice(b"no-switch ")?;
+            push_guid(text, table.guid)?;
+            text.push(b'\n')?;
+        }
+        Ok(())
+    }
+
+    fn push_no_switches(&self, text: &mut Vec<u8>) -> Result<(), AllocError>
+        ensures { OnOk result (text.new.items ≡ text.old.items ++ flat_map (no_switch_line self.now) self.now.dump.tables) }
+    {
+        for table in self.dump().tables() {
+            self.push_no_switch(text, table)?;
+        }
+        Ok(())
+    }
+
+    fn is_left_out_of_one(&self, lid: u16) -> bool
+        ensures { result ≡ list_any (leaves_out lid) self.now.dump.tables }
+    {
+        some_leaves_out(self.dump().tables(), lid)
+    }
+
+    fn push_untold(&self, text: &mut Vec<u8>, lid: u16) -> Result<(), AllocError>
+        ensures { OnOk result (text.new.items ≡ text.old.items ++ untold_line self.now.dump.tables lid) }
+    {
+        if self.is_left_out_of_one(lid) {
+            text.extend_from_slice(b"untold ")?;
+            push_decimal(text, usize::from(lid))?;
+            text.push(b'\n')?;
+        }
+        Ok(())
+    }
+
+    fn push_untold_below(&self, text: &mut Vec<u8>, count: u16) -> Result<(), AllocError>
+        requires { count ≤ 1024 }
+        ensures { OnOk result (text.new.items ≡ text.old.items ++ flat_map (λ n. untold_line self.now.dump.tables (n * 64)) (range_with_len 0 count)) }
+    {
+        for number in 0..count {
+            self.push_untold(text, number * 64)?;
+        }
+        Ok(())
+    }
+
+    /// Adds the LIDs that a table leaves out.
+    fn push_untold_lines(&self, text: &mut Vec<u8>) -> Result<(), AllocError>
+        ensures { OnOk result (text.new.items ≡ text.old.items ++ untold_lines self.now.dump.tables) }
+    {
+        self.push_untold_below(text, 1024)?;
+        Ok(())
+    }
+
+    /// Adds what the dump and the topology lack of one another.
+    #[tactic(auto, unfolding(crate::specs::Lines::files_by))]
+    pub(crate) fn push_files(&self, text: &mut Vec<u8>, aims: &[Aim]) -> Result<(), AllocError>
+        ensures { OnOk result (text.new.items ≡ text.old.items ++ files_by self.now aims.now) }
+    {
+        self.push_no_tables(text)?;
+        self.push_no_switches(text)?;
+        push_no_ports(text, aims)?;
+        self.push_untold_lines(text)?;
+        Ok(())
+    }
+
+    fn push_hole(&self, text: &mut Vec<u8>, place: usize, lid: u16) -> Result<(), AllocError>
+        ensures { OnOk result (text.new.items ≡ text.old.items ++ hole_line self.now place lid) }
+    {
+        text.extend_from_slice(b"hole ")?;
+        self.push_name(text, place)?;
+        text.extend_from_slice(b" ")?;
+        push_decimal(text, usize::from(lid))?;
+        text.push(b'\n')?;
+        Ok(())
+    }
+
+    fn push_nowhere(
+        &self,
+        text: &mut Vec<u8>,
+        place: usize,
+        lid: u16,
+        number: u8,
+    ) -> Result<(), AllocError>
+        ensures { OnOk result (text.new.items ≡ text.old.items ++ nowhere_line self.now place lid number) }
+    {
+        text.extend_from_slice(b"nowhere ")?;
+        self.push_name(text, place)?;
+        text.extend_from_slice(b" ")?;
+        push_decimal(text, usize::from(lid))?;
+        text.extend_from_slice(b" port ")?;
+        push_decimal(text, usize::from(number))?;
+        text.push(b'\n')?;
+        Ok(())
+    }
+
+    fn push_wrong(
+        &self,
+        text: &mut Vec<u8>,
+        place: usize,
+        lid: u16,
+        there: PortRef,
+    ) -> Result<(), AllocError>
+        ensures { OnOk result (text.new.items ≡ text.old.items ++ wrong_line self.now place lid there) }
+    {
+        text.extend_from_slice(b"wrong ")?;
+        self.push_name(text, place)?;
+        text.extend_from_slice(b" ")?;
+        push_decimal(text, usize::from(lid))?;
+        text.extend_from_slice(b" ")?;
+        self.push_port(text, there)?;
+        text.push(b'\n')?;
+        Ok(())
+    }
+
+    fn push_name_word(&self, text: &mut Vec<u8>, place: usize) -> Result<(), AllocError>
+        ensures { OnOk result (text.new.items ≡ text.old.items ++ name_word self.now place) }
+    {
+        text.extend_from_slice(b" ")?;
+        self.push_name(text, place)
+    }
+
+    fn push_name_words(&self, text: &mut Vec<u8>, ring: &[usize]) -> Result<(), AllocError>
+        ensures { OnOk result (text.new.items ≡ text.old.items ++ flat_map (name_word self.now) ring.now) }
+    {
+        for place in ring {
+            self.push_name_word(text, *place)?;
+        }
+        Ok(())
+    }
+
+    fn push_ring(
+        &self,
+        text: &mut Vec<u8>,
+        place: usize,
+        lid: u16,
+        ring: &[usize],
+    ) -> Result<(), AllocError>
+        ensures { OnOk result (text.new.items ≡ text.old.items ++ loop_line self.now place lid (Some ring.now)) }
+    {
+        if is_least(place, ring) {
+            text.extend_from_slice(b"loop ")?;
+            push_decimal(text, usize::from(lid))?;
+            self.push_name_words(text, ring)?;
+            text.push(b'\n')?;
+        }
+        Ok(())
+    }
+
+    fn push_loop(
+        &self,
+        alloc: Global,
+        text: &mut Vec<u8>,
+        place: usize,
+        lid: u16,
+    ) -> Result<(), AllocError>
+        ensures { OnOk result (text.new.items ≡ text.old.items ++ loop_line self.now place lid (loop_from self.now lid place)) }
+    {
+        if let Some(ring) = self.loop_from(alloc, lid, place)? {
+            self.push_ring(text, place, lid, &ring)?;
+        }
+        Ok(())
+    }
+
+    fn push_line(
+        &self,
+        alloc: Global,
+        text: &mut Vec<u8>,
+        place: usize,
+        lid: u16,
+        end: PortRef,
+    ) -> Result<(), AllocError>
+        ensures { OnOk result (text.new.items ≡ text.old.items ++ line_by self.now place lid end (turn self.now lid place)) }
+    {
+        match self.turn(lid, place) {
+            Turn::Goes(_) => self.push_loop(alloc, text, place, lid),
+            Turn::Arrives(there) if there == end => Ok(()),
+            Turn::Arrives(there) => self.push_wrong(text, place, lid, there),
+            Turn::Hole => self.push_hole(text, place, lid),
+            Turn::Nowhere(number) => self.push_nowhere(text, place, lid, number),
+            Turn::Unknown => Ok(()),
+        }
+    }
+
+    fn is_stray_at(&self, place: usize, lid: u16) -> bool
+        ensures { result ≡ option_map_or (is_stray lid) (table_at self.now place) false }
+    {
+        match self.table_at(place) {
+            Some(table) => is_stray(lid, table),
+            None => false,
+        }
+    }
+
+    fn push_stray(&self, text: &mut Vec<u8>, place: usize, lid: u16) -> Result<(), AllocError>
+        ensures { OnOk result (text.new.items ≡ text.old.items ++ stray_line self.now place lid) }
+    {
+        if self.is_stray_at(place, lid) {
+            text.extend_from_slice(b"stray ")?;
+            self.push_name(text, place)?;
+            text.extend_from_slice(b" ")?;
+            push_decimal(text, usize::from(lid))?;
+            text.push(b'\n')?;
+        }
+        Ok(())
+    }
+
+    fn push_trouble(
+        &self,
+        alloc: Global,
+        text: &mut Vec<u8>,
+        place: usize,
+        aim: &Aim,
+    ) -> Result<(), AllocError>
+        ensures { OnOk result (text.new.items ≡ text.old.items ++ trouble_line self.now place aim.now) }
+    {
+        let aim = *aim;
+        match (aim.guid, aim.end) {
+            (_, Some(end)) => self.push_line(alloc, text, place, aim.lid, end),
+            (Some(_), None) => Ok(()),
+            (None, None) => self.push_stray(text, place, aim.lid),
+        }
+    }
+
+    fn push_troubles_at(
+        &self,
+        alloc: Global,
+        text: &mut Vec<u8>,
+        aims: &[Aim],
+        place: usize,
+    ) -> Result<(), AllocError>
+        ensures { OnOk result (text.new.items ≡ text.old.items ++ troubles_at self.now aims.now place) }
+    {
+        for aim in aims {
+            self.push_trouble(alloc, text, place, aim)?;
+        }
+        Ok(())
+    }
+
+    /// Adds what is wrong at each switch with each LID.
+    pub(crate) fn push_troubles(
+        &self,
+        alloc: Global,
+        text: &mut Vec<u8>,
+        aims: &[Aim],
+    ) -> Result<(), AllocError>
+        ensures { OnOk result (text.new.items ≡ text.old.items ++ troubles_by self.now aims.now) }
+    {
+        for place in self.switches() {
+            self.push_troubles_at(alloc, text, aims, *place)?;
+        }
+        Ok(())
+    }
+}

@@ -1,0 +1,106 @@
+//! What packets come to from each switch to each LID that is an end port's.
+
+ghost use Rattle.std.specs.Prelude.{◌≡◌, ◌++◌, true, filter, IfOk, OnOk};
+ghost use Rattle.route_audit.specs.Pairs.{all_reached, count_of, is_fate, pair_at, pairs_at, pairs_by, to_adapters, to_switches};
+
+use crate::following::Fate;
+use crate::lids::Aim;
+use crate::net::Net;
+use std::alloc::{AllocError, Global};
+
+/// A switch and a LID of an end port.
+#[derive(Clone, Copy, Debug)]
+pub(crate) struct Pair {
+    /// Whether the end port is a switch's.
+    pub(crate) to_switch: bool,
+    /// What packets come to.
+    pub(crate) fate: Fate,
+}
+
+impl<'a> Net<'a> {
+    fn push_pair(&self, pairs: &mut Vec<Pair>, place: usize, aim: &Aim) -> Result<(), AllocError>
+        ensures { OnOk result (pairs.new.items ≡ pairs.old.items ++ pair_at self.now place aim.now) }
+    {
+        let aim = *aim;
+        if let Some(end) = aim.end {
+            pairs.push(Pair {
+                to_switch: self.is_switch_at(end.node),
+                fate: self.fate(aim.lid, end, place),
+            })?;
+        }
+        Ok(())
+    }
+
+    fn push_pairs(
+        &self,
+        pairs: &mut Vec<Pair>,
+        aims: &[Aim],
+        place: usize,
+    ) -> Result<(), AllocError>
+        ensures { OnOk result (pairs.new.items ≡ pairs.old.items ++ pairs_at self.now aims.now place) }
+    {
+        for aim in aims {
+            self.push_pair(pairs, place, aim)?;
+        }
+        Ok(())
+    }
+
+    /// All pairs.
+    pub(crate) fn pairs(&self, alloc: Global, aims: &[Aim]) -> Result<Vec<Pair>, AllocError>
+        ensures { IfOk result (λ pairs. pairs.items ≡ pairs_by self.now aims.now) }
+    {
+        let mut pairs = Vec::new(alloc);
+        for place in self.switches() {
+            self.push_pairs(&mut pairs, aims, *place)?;
+        }
+        Ok(pairs)
+    }
+}
+
+fn is_fate(a: Fate, b: Fate) -> bool
+    ensures { result ≡ is_fate a b }
+{
+    match (a, b) {
+        (Fate::Reached, Fate::Reached)
+        | (Fate::Hole, Fate::Hole)
+        | (Fate::Nowhere, Fate::Nowhere)
+        | (Fate::Wrong, Fate::Wrong)
+        | (Fate::Loop, Fate::Loop)
+        | (Fate::Unknown, Fate::Unknown) => true,
+        _ => false,
+    }
+}
+
+/// The pairs whose LIDs are adapter ports'.
+pub(crate) fn to_adapters(alloc: Global, pairs: &[Pair]) -> Result<Vec<Pair>, AllocError>
+    ensures { IfOk result (λ some. some.items ≡ to_adapters pairs.now) }
+{
+    pairs
+        .iter()
+        .copied()
+        .filter(|pair| !pair.to_switch)
+        .collect(alloc)
+}
+
+/// The pairs whose LIDs are switches'.
+pub(crate) fn to_switches(alloc: Global, pairs: &[Pair]) -> Result<Vec<Pair>, AllocError>
+    ensures { IfOk result (λ some. some.items ≡ to_switches pairs.now) }
+{
+    pairs
+        .iter()
+        .copied()
+        .filter(|pair| pair.to_switch)
+        .collect(alloc)
+}
+
+pub(crate) fn count_of(fate: Fate, pairs: &[Pair]) -> usize
+    ensures { result ≡ count_of fate pairs.now }
+{
+    pairs.iter().filter(|pair| is_fate(fate, pair.fate)).count()
+}
+
+pub(crate) fn all_reached(pairs: &[Pair]) -> bool
+    ensures { result ≡ all_reached pairs.now }
+{
+    pairs.iter().all(|pair| is_fate(Fate::Reached, pair.fate))
+}

@@ -1,0 +1,34 @@
+//! Wrong rules for what is told, and the law that each breaks, so that a reader sees that the laws say something. Each
+//! function does nothing: its contract says that with this rule the law is false.
+
+ghost use Rattle.route_audit.specs.WrongRules.{LoopsBeginWhereTold, TablesAreNotEnough, OtherLidsDoNotCount, TheLastWaitsForTheFirst, TwoMakeACircle, WaysAreLonger};
+
+/// Where what does not end at the first switch is told to be endless, it may end at the second.
+pub fn ways_are_longer()
+    ensures { WaysAreLonger }
+{}
+
+/// Where a loop is told without the switch where it is told, it does not begin there.
+pub fn loops_begin_where_told()
+    ensures { LoopsBeginWhereTold }
+{}
+
+/// Where dependencies along another LID count too, channels are told that do not wait for one another along these.
+pub fn other_lids_do_not_count()
+    ensures { OtherLidsDoNotCount }
+{}
+
+/// Where circles of two channels are not told, one is missed.
+pub fn two_make_a_circle()
+    ensures { TwoMakeACircle }
+{}
+
+/// Where the last channel is left out, the one before it does not wait for the first.
+pub fn the_last_waits_for_the_first()
+    ensures { TheLastWaitsForTheFirst }
+{}
+
+/// Where it is enough that each switch has a table, one may have a hole.
+pub fn tables_are_not_enough()
+    ensures { TablesAreNotEnough }
+{}
