@@ -1,0 +1,17 @@
+pub mod FarLemmas
+pub mod SoundLemmas
+pub mod PlanLemmas
+pub mod LossLemmas
+pub mod ConnectedLemmas
+pub mod NeededLemmas
+pub mod TableLemmas
+pub mod FateLemmas
+pub mod ChangeLemmas
+pub mod TextLemmas
+pub mod TreeLemmas
+pub mod TreeHopLemmas
+pub mod MaskReadLemmas
+pub mod PlacedLemmas
+pub mod MaskMeetLemmas
+pub mod LidLemmas
+pub mod MaskChangeLemmas

@@ -1,0 +1,107 @@
+-- What the answers say of fabrics: the statements of the laws of `src/laws.rt`.
+use Rattle.std.specs.Prelude.{ℕ, ◌≡◌, ◌≢◌, ◌<◌, ◌≤◌, ◌↔◌, true, List, length}
+use Rattle.std.specs.List.{Contains}
+use Rattle.fabric_parts.specs.NodeType.{is_switch_type}
+use Rattle.fabric_parts.specs.declared.cable.Cable.{Cable}
+use Rattle.partition_file.specs.declared.heading.Heading.{Heading}
+use Rattle.pkey_rules.specs.declared.key_table.TheConstants.{PARTITIONS}
+use Rattle.smp_wire.specs.FabricState.{FabricState}
+use Rattle.subnet_fabric.specs.BringUp.{BroughtUpState, IsBroughtUpBy, IsBroughtUpOf}
+use Rattle.subnet_fabric.specs.Standing.{CanComeUp}
+use Rattle.subnet_model.specs.Configuration.{ConfigurationState}
+use Rattle.subnet_model.specs.declared.subnet_port.SubnetPort.{SubnetPort}
+use Rattle.table_push.specs.Masks.{LiesInTable, all_masks_pushed}
+use Rattle.topo_file.specs.Sound.{IsSound}
+use Rattle.topo_file.specs.Topology.{TopologyState}
+use Rattle.updn_routes.specs.Subnet.{RoutesState}
+use Rattle.cable_cuts.specs.Cables.{can_be_cut, without_cable}
+use Rattle.cable_cuts.specs.Changes.{Tables, changes, entry_by, entry_in}
+use Rattle.cable_cuts.specs.Fate.{ArePlannedFor, HaveBroughtUp, IsFate}
+use Rattle.cable_cuts.specs.Masks.{Masks, mask_by, mask_changes, mask_in, receives_all}
+use Rattle.sa_groups.specs.Groups.{first_mlid}
+use Rattle.cable_cuts.specs.Outcomes.{IsOutcome}
+use Rattle.cable_cuts.specs.Texts.{TellsAll, TellsOne, keeps}
+use Rattle.cable_cuts.specs.declared.changes.Change.{Change}
+use Rattle.cable_cuts.specs.declared.fate.Cut.{Cut}
+use Rattle.cable_cuts.specs.declared.fate.Cut.TheVariants.{Keeps, Stops}
+use Rattle.cable_cuts.specs.declared.outcome.Outcome.{Outcome}
+
+-- ---- whether it comes up
+-- a cable is told as one that the fabric keeps without exactly where the fabric of the topology without it comes up
+abbrev pub KeptIsWhatComesUp : Type 0
+KeptIsWhatComesUp =
+    (plan : TopologyState) (configuration : ConfigurationState) (routes : RoutesState) (cable : Cable) (outcome : Outcome)
+    → IsOutcome plan configuration routes cable outcome → (keeps outcome ≡ true) ↔ CanComeUp (without_cable cable plan)
+
+-- ---- what differs
+-- an entry is told exactly where these tables have different ports there: of a switch among the end ports, for the LID of one
+pub record IsDifference (ports : List SubnetPort) (one other : Tables) (change : Change) : Type 0 where
+  pub switch : SubnetPort
+  pub switch_listed : Contains ports switch
+  pub is_switch : is_switch_type switch.node_type ≡ true
+  pub port : SubnetPort
+  pub port_listed : Contains ports port
+  pub differ : one switch.guid port.lid ≢ other switch.guid port.lid
+  pub change_is : change ≡ record { switch = switch.lid; lid = port.lid; was = one switch.guid port.lid; becomes = other switch.guid port.lid }
+
+abbrev pub ChangesAreWhatDiffers : Type 0
+ChangesAreWhatDiffers =
+    (ports : List SubnetPort) (one other : Tables) (change : Change)
+    → Contains (changes ports one other) change ↔ IsDifference ports one other change
+
+-- and the tables are those that the two fabrics hold: that of the topology, and that of the topology without the cable, brought up
+abbrev pub ChangesAreTheFabrics : Type 0
+ChangesAreTheFabrics =
+    (plan : TopologyState) (ports : List SubnetPort) (cable : Cable) (keys other_keys : List (List ℕ)) (routes others : RoutesState)
+    (fabric left : FabricState) → IsSound plan → IsBroughtUpBy plan keys routes fabric → can_be_cut plan cable ≡ true
+    → ArePlannedFor (without_cable cable plan) others → IsBroughtUpOf (without_cable cable plan) other_keys left
+    → changes ports (entry_by routes) (entry_by others) ≡ changes ports (entry_in fabric) (entry_in left)
+
+-- ---- masks
+-- that a fabric holds once those of a partition's group are pushed by its routes, for all members
+abbrev pub mask_pushed : List SubnetPort → RoutesState → FabricState → Masks
+mask_pushed ports routes fabric number heading =
+    mask_in (all_masks_pushed routes (receives_all ports heading.base (first_mlid number)) fabric) number heading
+
+-- those of the first 32 partitions are the two fabrics' too, bit by bit
+abbrev pub MasksAreTheFabrics : Type 0
+MasksAreTheFabrics =
+    (plan : TopologyState) (ports : List SubnetPort) (cable : Cable) (keys other_keys : List (List ℕ)) (routes others : RoutesState)
+    (fabric : FabricState) (left : BroughtUpState) (number : ℕ) (heading : Heading) (guid port : ℕ) → IsSound plan
+    → IsBroughtUpBy plan keys routes fabric → can_be_cut plan cable ≡ true → ArePlannedFor (without_cable cable plan) others
+    → IsBroughtUpBy (without_cable cable plan) other_keys left.routes left.fabric → LiesInTable number → port < 48
+    → (mask_by ports routes number heading guid port ≡ mask_pushed ports routes fabric number heading guid port)
+    × (mask_by ports others number heading guid port ≡ mask_pushed ports left.routes left.fabric number heading guid port)
+
+-- so the masks that are counted are those in which the two fabrics differ
+abbrev pub MaskChangesAreTheFabrics : Type 0
+MaskChangesAreTheFabrics =
+    (plan : TopologyState) (configuration : ConfigurationState) (cable : Cable) (keys other_keys : List (List ℕ)) (routes others : RoutesState)
+    (fabric : FabricState) (left : BroughtUpState) → IsSound plan → length configuration.partitions ≤ PARTITIONS
+    → IsBroughtUpBy plan keys routes fabric → can_be_cut plan cable ≡ true → ArePlannedFor (without_cable cable plan) others
+    → IsBroughtUpBy (without_cable cable plan) other_keys left.routes left.fabric
+    → mask_changes configuration (mask_by configuration.ports routes) (mask_by configuration.ports others)
+    ≡ mask_changes configuration (mask_pushed configuration.ports routes fabric) (mask_pushed configuration.ports left.routes left.fabric)
+
+-- ---- one answer
+-- that tell the same: the tables and masks of the fabric, or why it does not come up
+abbrev pub TellTheSame : Cut → Cut → Type 0
+TellTheSame (Keeps one) (Keeps other) =
+    (entry_by other ≡ entry_by one) × ((ports : List SubnetPort) → mask_by ports other ≡ mask_by ports one)
+TellTheSame (Stops one) (Stops other) = other ≡ one
+TellTheSame (Keeps one) (Stops other) = ⊥
+TellTheSame (Stops one) (Keeps other) = ⊥
+
+-- one thing becomes of a fabric without a cable
+abbrev pub OneFateIsTold : Type 0
+OneFateIsTold =
+    (plan : TopologyState) (routes : RoutesState) (cable : Cable) (one other : Cut) → IsSound plan → HaveBroughtUp plan routes
+    → can_be_cut plan cable ≡ true → IsFate (without_cable cable plan) one → IsFate (without_cable cable plan) other → TellTheSame one other
+
+-- so each text is one
+abbrev pub OneTextIsTold : Type 0
+OneTextIsTold =
+    (plan : TopologyState) (configuration : ConfigurationState) (routes : RoutesState) (cable : Cable) (one other : List ℕ) → IsSound plan
+    → HaveBroughtUp plan routes
+    → (TellsAll plan configuration routes one → TellsAll plan configuration routes other → other ≡ one)
+    × (can_be_cut plan cable ≡ true → TellsOne plan configuration routes cable one → TellsOne plan configuration routes cable other → other ≡ one)

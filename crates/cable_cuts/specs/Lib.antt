@@ -1,0 +1,9 @@
+pub mod Cables
+pub mod Fate
+pub mod Changes
+pub mod Outcomes
+pub mod Texts
+pub mod Needed
+pub mod Laws
+pub mod Masks
+pub mod Whole

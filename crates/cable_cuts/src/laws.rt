@@ -1,0 +1,45 @@
+//! What the answers say of fabrics. Each function's contract is its law; it does nothing.
+
+ghost use Rattle.cable_cuts.specs.Laws.{ChangesAreTheFabrics, ChangesAreWhatDiffers, KeptIsWhatComesUp, MaskChangesAreTheFabrics, MasksAreTheFabrics, OneFateIsTold, OneTextIsTold};
+ghost use Rattle.cable_cuts.specs.Whole.{LinesAreWhole};
+
+/// A cable is told as one that the fabric keeps without exactly where the fabric of the topology without it comes up.
+pub fn kept_is_what_comes_up()
+    ensures { KeptIsWhatComesUp }
+{}
+
+/// An entry is told exactly where two tables have different ports there, for a switch and the LID of an end port.
+pub fn changes_are_what_differs()
+    ensures { ChangesAreWhatDiffers }
+{}
+
+/// These are the tables that two fabrics hold: that of the topology that is up, and that of the topology without the cable, however
+/// it is brought up.
+pub fn changes_are_the_fabrics()
+    ensures { ChangesAreTheFabrics }
+{}
+
+/// So are the masks: those that the two fabrics hold once the masks of a partition's group are pushed, for all its members.
+pub fn masks_are_the_fabrics()
+    ensures { MasksAreTheFabrics }
+{}
+
+/// So the masks that are counted are those in which the two fabrics differ.
+pub fn mask_changes_are_the_fabrics()
+    ensures { MaskChangesAreTheFabrics }
+{}
+
+/// One thing becomes of the fabric of a sound topology without one of its cables, whatever layout of it routes are computed over.
+pub fn one_fate_is_told()
+    ensures { OneFateIsTold }
+{}
+
+/// So of each topology, and of each cable, one text is right.
+pub fn one_text_is_told()
+    ensures { OneTextIsTold }
+{}
+
+/// Each form of a line, once as a whole text.
+pub fn lines_are_whole()
+    ensures { LinesAreWhole }
+{}
