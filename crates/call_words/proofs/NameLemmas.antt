@@ -1,19 +1,21 @@
 -- The names of files are words as they stand.
-use Rattle.std.proofs.Common.{◌≡◌, ◌∙◌, Ok, ap, Bool, true, false, List, [], ◌∷◌, Option, Some, None, option_map, codes, refl, subst, if◌then◌else◌}
+use Rattle.std.proofs.Common.{ℕ, ◌≡◌, ◌∙◌, Ok, ap, Bool, true, false, List, [], ◌∷◌, Option, Some, None, option_map, codes, refl, subst, if◌then◌else◌}
 use Rattle.std.specs.List.{All}
 use Rattle.std.specs.Option.{option_to_list}
 use Rattle.std.specs.Str.{bytes_eq}
 use Rattle.std.proofs.lemmas.List.Elements.{All-append, All-cons, All-nil}
 use Rattle.clap.specs.Words.{Row, Text, first_of}
 use Rattle.clap.proofs.OnLiterals.{clap_on_literals}
+use Rattle.code_texts.specs.Codes.{code_of}
 use Rattle.code_texts.specs.declared.code.Code.{Code}
 use Rattle.call_words.specs.Laws.{FilesAreNamedAsGiven, IsWordOf, NamesKeepTheirBlanks}
-use Rattle.call_words.specs.Words.{Names, all_names, asked_by, asked_by_command, asked_of, asked_or, call_in, compare_by, diff_by, explain_by, file_in, in_subnet, inspect_by, run_by, scripts_by}
+use Rattle.call_words.specs.Words.{Names, asked_by, asked_by_command, asked_of, asked_or, call_in, compare_by, cuts_by, diff_by, explain_by, file_in, graph_with, guid_by, import_by, is_given, in_subnet, inspect_by, opened_for, run_by, scripts_by}
 use Rattle.call_words.specs.Words.{subcommand_in, text_for, trace_by, work_names}
 use Rattle.call_words.specs.declared.call.Call.{Call}
-use Rattle.call_words.specs.declared.call.Call.TheVariants.{Explain, Subnet}
+use Rattle.call_words.specs.declared.call.CutView.TheVariants.{All as AllCuts, One, Picture}
+use Rattle.call_words.specs.declared.call.Call.TheVariants.{Explain}
 use Rattle.call_words.specs.declared.call.Work.{Work}
-use Rattle.call_words.specs.declared.call.Work.TheVariants.{Check, Compare, Diff, Inspect, Run, Shares}
+use Rattle.call_words.specs.declared.call.Work.TheVariants.{Check, Compare, Cuts, Diff, Inspect, Run, Shares}
 use Rattle.call_words.specs.declared.call.Inspection.{Inspection}
 use Rattle.call_words.specs.declared.call.Inspection.TheVariants.{Graph, Keys, Tables}
 use Rattle.call_words.specs.declared.call.Subcommand.{Subcommand}
@@ -23,8 +25,12 @@ use Rattle.call_words.specs.declared.call.Subcommand.TheVariants as command
 abbrev WorkIsGiven : List Row → Option (Work Text Text) → Type 0
 WorkIsGiven rows work = (asked : Work Text Text) → work ≡ Some asked → All (IsWordOf rows) (work_names asked)
 
-same_names : (asked names : Names) → Some (Subnet asked) ≡ Some (Subnet names) → asked ≡ names
-same_names asked names e = cc
+same_call : (found call : Call Names Text) → Some found ≡ Some call → found ≡ call
+same_call found call e = cc
+
+-- the names that are opened for what is asked, if something is
+abbrev IsGiven : List Row → Option (Call Names Text) → Type 0
+IsGiven rows found = (call : Call Names Text) → found ≡ Some call → All (IsWordOf rows) (opened_for (Ok call))
 
 -- a word for a file, which `-` is not
 file_given : (rows : List Row) (word : Text) → IsWordOf rows word → All (IsWordOf rows) (option_to_list (file_in word))
@@ -34,14 +40,13 @@ file_given rows word is = by (bytes_eq word (codes "-"))
     by true = All-nil (IsWordOf rows)
     by false = All-cons (IsWordOf rows) word [] is (All-nil (IsWordOf rows))
 
-subnet_given : (rows : List Row) (work : Option (Work Text Text)) (names : Names) → WorkIsGiven rows work
-    → in_subnet rows work ≡ Some (Subnet names) → All (IsWordOf rows) (all_names names)
-subnet_given rows work names given is = by (first_of (codes "TOPO") rows) refl (first_of (codes "PARTS") rows) refl work refl is
+subnet_given : (rows : List Row) (work : Option (Work Text Text)) → WorkIsGiven rows work → IsGiven rows (in_subnet rows work)
+subnet_given rows work given call is = by (first_of (codes "TOPO") rows) refl (first_of (codes "PARTS") rows) refl work refl is
   where
     by : (topology : Option Text) → first_of (codes "TOPO") rows ≡ topology → (partitions : Option Text) → first_of (codes "PARTS") rows ≡ partitions
-        → (w : Option (Work Text Text)) → work ≡ w → asked_by topology partitions w ≡ Some (Subnet names) → All (IsWordOf rows) (all_names names)
+        → (w : Option (Work Text Text)) → work ≡ w → asked_by topology partitions w ≡ Some call → All (IsWordOf rows) (opened_for (Ok call))
     by (Some topology) t (Some partitions) p (Some w) e is =
-        subst (λ (n : Names). All (IsWordOf rows) (all_names n)) (same_names _ names is)
+        subst (λ (asked : Call Names Text). All (IsWordOf rows) (opened_for (Ok asked))) (same_call _ call is)
         (All-cons (IsWordOf rows) topology _ (codes "TOPO", t)
         (All-append (IsWordOf rows) _ _ (file_given rows partitions (codes "PARTS", p)) (given w e)))
     by (Some topology) t (Some partitions) p None e is = absurd cc
@@ -75,6 +80,12 @@ run_given rows asked e = by (first_of (codes "SCRIPT") rows) refl e
         let same : Run word ≡ asked = cc in
         subst (λ (w : Work Text Text). All (IsWordOf rows) (work_names w)) same (All-cons (IsWordOf rows) word [] (codes "SCRIPT", at) (All-nil (IsWordOf rows)))
 
+cuts_given : (rows : List Row) (first second : Option Text) → WorkIsGiven rows (cuts_by first second)
+cuts_given rows None None asked e = without_file rows (Cuts AllCuts) refl asked e
+cuts_given rows (Some first) (Some second) asked e = without_file rows (Cuts (One first second)) refl asked e
+cuts_given rows (Some first) None asked e = absurd cc
+cuts_given rows None (Some second) asked e = absurd cc
+
 inspect_given : (rows : List Row) (seen : Option (Inspection Text)) → WorkIsGiven rows (inspect_by rows seen)
 inspect_given rows None asked e = absurd cc
 inspect_given rows (Some what) asked e =
@@ -84,6 +95,14 @@ inspect_given rows (Some what) asked e =
     by : (script : Option Text) → first_of (codes "SCRIPT") rows ≡ script → All (IsWordOf rows) (option_to_list script)
     by None at = All-nil (IsWordOf rows)
     by (Some word) at = All-cons (IsWordOf rows) word [] (codes "SCRIPT", at) (All-nil (IsWordOf rows))
+
+graph_given : (rows : List Row) (cuts : Bool) → WorkIsGiven rows (graph_with cuts (first_of (codes "SCRIPT") rows))
+graph_given rows cuts asked e = by cuts (first_of (codes "SCRIPT") rows) refl e
+  where
+    by : (flag : Bool) (script : Option Text) → first_of (codes "SCRIPT") rows ≡ script → graph_with flag script ≡ Some asked → All (IsWordOf rows) (work_names asked)
+    by true (Some word) at is = absurd cc
+    by true None at is = without_file rows (Cuts Picture) refl asked is
+    by false script at is = inspect_given rows (Some Graph) asked (rw at is)
 
 compare_given : (rows : List Row) → WorkIsGiven rows (compare_by rows)
 compare_given rows asked e = by (first_of (codes "S1") rows) refl (first_of (codes "S2") rows) refl (first_of (codes "PORT") rows) e
@@ -99,40 +118,55 @@ compare_given rows asked e = by (first_of (codes "S1") rows) refl (first_of (cod
     by (Some first) one None two port is = absurd cc
     by None one second two port is = absurd cc
 
-explain_given : (rows : List Row) (code : Option Text) (names : Names) → explain_by code ≡ Some (Subnet names) → All (IsWordOf rows) (all_names names)
-explain_given rows None names e = absurd cc
-explain_given rows (Some word) names e = absurd (no-subnet _ e)
+import_given : (rows : List Row) (manager : Option (Option ℕ)) → IsGiven rows (import_by (first_of (codes "NETDISCOVER") rows) manager)
+import_given rows manager call is = by (first_of (codes "NETDISCOVER") rows) refl manager is
   where
-    no-subnet : (found : Option Code) → option_map (λ code. Explain (Some code)) found ≡ Some (Subnet names) → ⊥
-    no-subnet None e = cc
-    no-subnet (Some code) e = cc
+    by : (netdiscover : Option Text) → first_of (codes "NETDISCOVER") rows ≡ netdiscover → (guid : Option (Option ℕ)) → import_by netdiscover guid ≡ Some call
+        → All (IsWordOf rows) (opened_for (Ok call))
+    by (Some netdiscover) n (Some guid) is =
+        subst (λ (asked : Call Names Text). All (IsWordOf rows) (opened_for (Ok asked))) (same_call _ call is)
+        (All-cons (IsWordOf rows) netdiscover [] (codes "NETDISCOVER", n) (All-nil (IsWordOf rows)))
+    by (Some netdiscover) n None is = absurd cc
+    by None n guid is = absurd cc
 
-command_given : (given : Subcommand) (rows : List Row) (names : Names) → call_in given rows ≡ Some (Subnet names) → All (IsWordOf rows) (all_names names)
-command_given command.Check rows names is = subnet_given rows _ names (without_file rows Check refl) is
-command_given command.Shares rows names is = subnet_given rows _ names (without_file rows (Shares (first_of (codes "PORT") rows)) refl) is
-command_given command.Diff rows names is = subnet_given rows _ names (diff_given rows) is
-command_given command.Tables rows names is = subnet_given rows _ names (inspect_given rows (Some Tables)) is
-command_given command.Keys rows names is = subnet_given rows _ names (inspect_given rows (Some Keys)) is
-command_given command.Trace rows names is = subnet_given rows _ names (inspect_given rows (trace_by rows)) is
-command_given command.Graph rows names is = subnet_given rows _ names (inspect_given rows (Some Graph)) is
-command_given command.Run rows names is = subnet_given rows _ names (run_given rows) is
-command_given command.Compare rows names is = subnet_given rows _ names (compare_given rows) is
-command_given command.Explain rows names is = explain_given rows (first_of (codes "CODE") rows) names is
+explain_given : (rows : List Row) (code : Option Text) → IsGiven rows (explain_by code)
+explain_given rows None call e =
+    subst (λ (asked : Call Names Text). All (IsWordOf rows) (opened_for (Ok asked))) (same_call _ call e) (All-nil (IsWordOf rows))
+explain_given rows (Some word) call e = by (code_of word) e
+  where
+    by : (found : Option Code) → option_map (λ code. Explain (Some code)) found ≡ Some call → All (IsWordOf rows) (opened_for (Ok call))
+    by None e = absurd cc
+    by (Some code) e =
+        subst (λ (asked : Call Names Text). All (IsWordOf rows) (opened_for (Ok asked))) (same_call _ call e) (All-nil (IsWordOf rows))
+
+command_given : (given : Subcommand) (rows : List Row) → IsGiven rows (call_in given rows)
+command_given command.Check rows = subnet_given rows _ (without_file rows Check refl)
+command_given command.Shares rows = subnet_given rows _ (without_file rows (Shares (first_of (codes "PORT") rows)) refl)
+command_given command.Diff rows = subnet_given rows _ (diff_given rows)
+command_given command.Tables rows = subnet_given rows _ (inspect_given rows (Some Tables))
+command_given command.Keys rows = subnet_given rows _ (inspect_given rows (Some Keys))
+command_given command.Trace rows = subnet_given rows _ (inspect_given rows (trace_by rows))
+command_given command.Graph rows = subnet_given rows _ (graph_given rows (is_given rows (codes "CUTS")))
+command_given command.Run rows = subnet_given rows _ (run_given rows)
+command_given command.Compare rows = subnet_given rows _ (compare_given rows)
+command_given command.Cuts rows = subnet_given rows _ (cuts_given rows (first_of (codes "PORT") rows) (first_of (codes "PORT2") rows))
+command_given command.Import rows = import_given rows (guid_by (first_of (codes "SM") rows))
+command_given command.Explain rows = explain_given rows (first_of (codes "CODE") rows)
 
 pub files_are_given : FilesAreNamedAsGiven
-files_are_given word rows names is = by (subcommand_in word) is
+files_are_given word rows call is = by (subcommand_in word) is
   where
-    call_by : (given : Subcommand) (call : Option (Call Names)) → call_in given rows ≡ call → asked_or (text_for given) call ≡ Ok (Subnet names)
-        → All (IsWordOf rows) (all_names names)
-    call_by given (Some call) e is =
-        let same : call ≡ Subnet names = cc in
-        command_given given rows names (e ∙ ap (λ (c : Call Names). Some c) same)
+    call_by : (given : Subcommand) (found : Option (Call Names Text)) → call_in given rows ≡ found → asked_or (text_for given) found ≡ Ok call
+        → All (IsWordOf rows) (opened_for (Ok call))
+    call_by given (Some found) e is =
+        let same : found ≡ call = cc in
+        command_given given rows call (e ∙ ap (λ (c : Call Names Text). Some c) same)
     call_by given None e is = absurd cc
 
-    by : (given : Option Subcommand) → asked_by_command given rows ≡ Ok (Subnet names) → All (IsWordOf rows) (all_names names)
+    by : (given : Option Subcommand) → asked_by_command given rows ≡ Ok call → All (IsWordOf rows) (opened_for (Ok call))
     by (Some given) is = call_by given (call_in given rows) refl is
     by None is = absurd cc
 
 pub blanks_are_kept : NamesKeepTheirBlanks
 unfolding clap_on_literals asked_of
-blanks_are_kept = record { plain = refl; before = refl; behind = refl; script = refl; looked = refl; dashes = refl; dash = refl }
+blanks_are_kept = record { plain = refl; before = refl; behind = refl; script = refl; looked = refl; dashes = refl; import = refl; dash = refl }

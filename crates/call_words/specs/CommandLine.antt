@@ -1,7 +1,7 @@
 -- The commands of the program and their arguments, as clap reads them.
 use Rattle.std.specs.Prelude.{codes, Some, true}
 use Rattle.clap.specs.Words.{App, Rule, Text, new_app, new_rule, with_rule, with_subcommand}
-use Rattle.clap.specs.declared.builder.ArgAction.TheVariants.{Set}
+use Rattle.clap.specs.declared.builder.ArgAction.TheVariants.{Set, SetTrue}
 
 -- an argument that has to be given
 abbrev pub wanted : Text → Rule
@@ -36,8 +36,12 @@ trace_command =
     let packet = with_rule (with_rule from (wanted (codes "DLID"))) (wanted (codes "PKEY")) in
     with_rule packet (optional (codes "SCRIPT"))
 
+-- `--cuts`
+abbrev pub cuts_flag : Rule
+cuts_flag = record (new_rule (codes "CUTS")) { long = Some (codes "cuts"); action = Some SetTrue }
+
 abbrev pub graph_command : App
-graph_command = with_rule (subnet_command (codes "graph")) (optional (codes "SCRIPT"))
+graph_command = with_rule (with_rule (subnet_command (codes "graph")) (optional (codes "SCRIPT"))) cuts_flag
 
 abbrev pub run_command : App
 run_command = with_rule (subnet_command (codes "run")) (wanted (codes "SCRIPT"))
@@ -46,6 +50,16 @@ abbrev pub compare_command : App
 compare_command =
     let scripts = with_rule (with_rule (subnet_command (codes "compare")) (wanted (codes "S1"))) (wanted (codes "S2")) in
     with_rule scripts (wanted (codes "PORT"))
+
+abbrev pub cuts_command : App
+cuts_command = with_rule (with_rule (subnet_command (codes "cuts")) (optional (codes "PORT"))) (optional (codes "PORT2"))
+
+-- `--sm GUID`
+abbrev pub manager_option : Rule
+manager_option = record (new_rule (codes "SM")) { long = Some (codes "sm"); action = Some Set; value_names = 1 }
+
+abbrev pub import_command : App
+import_command = with_rule (with_rule (new_app (codes "import")) (wanted (codes "NETDISCOVER"))) manager_option
 
 abbrev pub explain_command : App
 explain_command = with_rule (new_app (codes "explain")) (optional (codes "CODE"))
@@ -65,4 +79,6 @@ fabric_command =
     let graphs = with_subcommand traces graph_command.top in
     let runs = with_subcommand graphs run_command.top in
     let compares = with_subcommand runs compare_command.top in
-    with_subcommand compares explain_command.top
+    let cuts = with_subcommand compares cuts_command.top in
+    let imports = with_subcommand cuts import_command.top in
+    with_subcommand imports explain_command.top

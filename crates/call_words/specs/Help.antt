@@ -43,6 +43,12 @@ about_run = codes "Runs a script in a subnet, and prints what its ports receive"
 abbrev pub about_compare : List ℕ
 about_compare = codes "Tells whether two scripts agree for a port, and whether the same happens at it"
 
+abbrev pub about_cuts : List ℕ
+about_cuts = codes "Tells what the loss of each cable between switches would do, before it is out"
+
+abbrev pub about_import : List ℕ
+about_import = codes "Makes a topology of what ibnetdiscover printed of a real fabric"
+
 abbrev pub about_explain : List ℕ
 about_explain = codes "Tells what the code of a fault or a refusal means, or lists all codes"
 
@@ -84,6 +90,21 @@ help_of_second_script = codes "The second script"
 
 abbrev pub help_of_compared : List ℕ
 help_of_compared = codes "The port, of a channel adapter: `h1/1`; it may be the subnet manager's"
+
+abbrev pub help_of_first_end : List ℕ
+help_of_first_end = codes "A port of a switch, at one end of a cable: `A/3`"
+
+abbrev pub help_of_second_end : List ℕ
+help_of_second_end = codes "The port of a switch at its other end"
+
+abbrev pub help_of_cuts : List ℕ
+help_of_cuts = codes "Draws in red the cables that the fabric cannot do without"
+
+abbrev pub help_of_netdiscover : List ℕ
+help_of_netdiscover = codes "What ibnetdiscover printed of the fabric"
+
+abbrev pub help_of_manager : List ℕ
+help_of_manager = codes "The GUID of the subnet manager's port: a number of 64 bits, as `0x101`"
 
 -- ---- for words that are refused by the program itself
 abbrev pub not_text_line : List ℕ

@@ -2,8 +2,8 @@
 use Rattle.std.specs.Prelude.{◌≡◌, ◌∷◌, [], List, Ok, Some, codes}
 use Rattle.std.specs.List.{All}
 use Rattle.clap.specs.Words.{Row, Text, first_of}
-use Rattle.call_words.specs.Words.{Names, all_names, asked_by_clap, asked_in, opened_for}
-use Rattle.call_words.specs.declared.call.Call.TheVariants.{Subnet}
+use Rattle.call_words.specs.Words.{Names, asked_by_clap, asked_in, opened_for}
+use Rattle.call_words.specs.declared.call.Call.{Call}
 
 -- the name is the word of an argument, as it stands
 abbrev pub IsWordOf : List Row → Text → Type 0
@@ -12,8 +12,8 @@ IsWordOf rows name = (argument : Text) × (first_of argument rows ≡ Some name)
 -- each name that is opened is a word as clap found it, whatever stands in it
 abbrev pub FilesAreNamedAsGiven : Type 0
 FilesAreNamedAsGiven =
-    (word : Text) (rows : List Row) (names : Names) → asked_in (Some (word, rows)) ≡ Ok (Subnet names)
-    → All (IsWordOf rows) (all_names names)
+    (word : Text) (rows : List Row) (call : Call Names Text) → asked_in (Some (word, rows)) ≡ Ok call
+    → All (IsWordOf rows) (opened_for (Ok call))
 
 -- the names that are opened where the words behind the program's own are these
 abbrev pub opened_by : List Text → List Text
@@ -27,4 +27,5 @@ pub record NamesKeepTheirBlanks : Type 0 where
   pub script : opened_by (codes "run" ∷ codes "Net" ∷ codes "-" ∷ codes " sends " ∷ []) ≡ codes "Net" ∷ codes " sends " ∷ []
   pub looked : opened_by (codes "keys" ∷ codes "net" ∷ codes "-" ∷ codes "sends " ∷ []) ≡ codes "net" ∷ codes "sends " ∷ []
   pub dashes : opened_by (codes "graph" ∷ codes "net" ∷ codes "-" ∷ codes "-" ∷ []) ≡ codes "net" ∷ codes "-" ∷ []
+  pub import : opened_by (codes "import" ∷ codes " net" ∷ codes "--sm" ∷ codes "7" ∷ []) ≡ codes " net" ∷ []
   pub dash : opened_by (codes "diff" ∷ codes "net" ∷ codes "-" ∷ codes " -" ∷ []) ≡ codes "net" ∷ codes " -" ∷ []

@@ -1,9 +1,9 @@
 -- What the words of a call ask for.
 use Rattle.std.specs.Prelude.{List, [], ◌∷◌, ◌++◌, codes, map, string_bytes, Option, Some, None, option_map, Result, Ok, Err}
 use Rattle.std.specs.Prelude.{String}
-use Rattle.std.specs.Prelude.{if◌then◌else◌, ℕ}
+use Rattle.std.specs.Prelude.{if◌then◌else◌, ◌^◌, Bool, true, false, ℕ}
 use Rattle.std.specs.Global.{Global}
-use Rattle.std.specs.Option.{option_and_then, option_to_list}
+use Rattle.std.specs.Option.{option_and_then, option_map_or, option_to_list}
 use Rattle.std.specs.Str.{bytes_eq}
 use Rattle.clap.specs.Words.{Row, Text, Kinds, fault_of, first_of, subcommand_of}
 use Rattle.std.specs.Borrow.{Bor}
@@ -14,15 +14,17 @@ use Rattle.call_words.specs.CommandLine.{fabric_command}
 use Rattle.call_words.specs.Help.{not_text_line}
 use Rattle.call_words.specs.declared.call.Asked.{Asked}
 use Rattle.call_words.specs.declared.call.Call.{Call}
-use Rattle.call_words.specs.declared.call.Call.TheVariants.{Explain, Subnet}
+use Rattle.call_words.specs.declared.call.CutView.{CutView}
+use Rattle.call_words.specs.declared.call.CutView.TheVariants.{All, One, Picture}
+use Rattle.call_words.specs.declared.call.Call.TheVariants.{Explain, Import, Subnet}
 use Rattle.call_words.specs.declared.call.Work.{Work}
 use Rattle.call_words.specs.declared.call.Inspection.{Inspection}
 use Rattle.call_words.specs.declared.call.Inspection.TheVariants.{Graph, Keys, Tables, Trace}
 use Rattle.call_words.specs.declared.call.Subcommand.{Subcommand}
 use Rattle.call_words.specs.declared.call.Subcommand.TheVariants as command
-use Rattle.call_words.specs.declared.help.TheConstants.{NO_SUCH_CODE, NO_SUCH_NUMBER}
-use Rattle.call_words.specs.declared.call.Work.TheVariants.{Check, Compare, Diff, Inspect, Run, Shares}
-use Rattle.text_words.specs.Number.{u16_in}
+use Rattle.call_words.specs.declared.help.TheConstants.{NO_SCRIPT_WITH_CUTS, NO_SECOND_PORT, NO_SUCH_CODE, NO_SUCH_GUID, NO_SUCH_NUMBER}
+use Rattle.call_words.specs.declared.call.Work.TheVariants.{Check, Compare, Cuts, Diff, Inspect, Run, Shares}
+use Rattle.text_words.specs.Number.{if_under, number_in, u16_in}
 
 -- ---- what is asked for, with the names of the files as texts
 pub record Names : Type 0 where
@@ -36,11 +38,17 @@ named_inspection Keys = Keys
 named_inspection (Trace port dlid p_key) = Trace port.now dlid p_key
 named_inspection Graph = Graph
 
+abbrev pub named_view : CutView (Bor Text) → CutView Text
+named_view All = All
+named_view (One first second) = One first.now second.now
+named_view Picture = Picture
+
 abbrev pub named_work : Work (Bor Text) (Bor Text) → Work Text Text
 named_work Check = Check
 named_work (Shares port) = Shares (option_map (λ word. word.now) port)
 named_work (Diff second) = Diff (option_map (λ word. word.now) second)
 named_work (Inspect what script) = Inspect (named_inspection what) (option_map (λ name. name.now) script)
+named_work (Cuts view) = Cuts (named_view view)
 named_work (Run script) = Run script.now
 named_work (Compare first second port) = Compare first.now second.now port.now
 
@@ -51,15 +59,16 @@ names asked = record {
   work = named_work asked.work;
 }
 
-abbrev pub named_call : Call Asked → Call Names
+abbrev pub named_call : Call Asked (Bor Text) → Call Names Text
 named_call (Subnet asked) = Subnet (names asked)
+named_call (Import netdiscover manager) = Import netdiscover.now manager
 named_call (Explain code) = Explain code
 
 -- what words ask for, or the text that they are refused with, where it is known
 abbrev pub Asking : Type 0
-Asking = Result (Call Names) (Option Text)
+Asking = Result (Call Names Text) (Option Text)
 
-abbrev pub named_found : Result (Call Asked) (Bor Text) → Asking
+abbrev pub named_found : Result (Call Asked (Bor Text)) (Bor Text) → Asking
 named_found (Ok call) = Ok (named_call call)
 named_found (Err text) = Err (Some text.now)
 
@@ -70,6 +79,12 @@ file_in word = if bytes_eq word (codes "-") then None else Some word
 
 abbrev pub diff_by : Option Text → Option (Work Text Text)
 diff_by second = option_map (λ word. Diff (file_in word)) second
+
+-- all cables, or the one that two ports name; one port alone asks for nothing
+abbrev pub cuts_by : Option Text → Option Text → Option (Work Text Text)
+cuts_by None None = Some (Cuts All)
+cuts_by (Some first) (Some second) = Some (Cuts (One first second))
+cuts_by _ _ = None
 
 abbrev pub run_by : Option Text → Option (Work Text Text)
 run_by script = option_map (λ name. Run name) script
@@ -89,6 +104,19 @@ u16_by word = option_and_then u16_in word
 abbrev pub inspect_by : List Row → Option (Inspection Text) → Option (Work Text Text)
 inspect_by rows seen = option_map (λ what. Inspect what (first_of (codes "SCRIPT") rows)) seen
 
+-- a flag that is given has the value `true`
+abbrev pub is_given : List Row → Text → Bool
+is_given rows name = option_map_or (λ value. bytes_eq value (codes "true")) (first_of name rows) false
+
+-- a picture; one that tells cables apart takes no script
+abbrev pub graph_with : (cuts : Bool) → Option Text → Option (Work Text Text)
+graph_with true (Some script) = None
+graph_with true None = Some (Cuts Picture)
+graph_with false script = Some (Inspect Graph script)
+
+abbrev pub graph_by : List Row → Option (Work Text Text)
+graph_by rows = graph_with (is_given rows (codes "CUTS")) (first_of (codes "SCRIPT") rows)
+
 abbrev pub packet_by : Option Text → Option ℕ → Option ℕ → Option (Inspection Text)
 packet_by (Some port) (Some dlid) (Some p_key) = Some (Trace port dlid p_key)
 packet_by _ _ _ = None
@@ -97,32 +125,45 @@ abbrev pub trace_by : List Row → Option (Inspection Text)
 trace_by rows =
     packet_by (first_of (codes "PORT") rows) (u16_by (first_of (codes "DLID") rows)) (u16_by (first_of (codes "PKEY") rows))
 
-abbrev pub asked_by : Option Text → Option Text → Option (Work Text Text) → Option (Call Names)
+abbrev pub asked_by : Option Text → Option Text → Option (Work Text Text) → Option (Call Names Text)
 asked_by (Some topology) (Some partitions) (Some work) =
     Some (Subnet (record { topology = topology; partitions = file_in partitions; work = work }))
 asked_by _ _ _ = None
 
 -- this work in the subnet of a topology and of partitions
-abbrev pub in_subnet : List Row → Option (Work Text Text) → Option (Call Names)
+abbrev pub in_subnet : List Row → Option (Work Text Text) → Option (Call Names Text)
 in_subnet rows work = asked_by (first_of (codes "TOPO") rows) (first_of (codes "PARTS") rows) work
 
+-- a GUID, as topologies write it; no word is none
+abbrev pub guid_by : Option Text → Option (Option ℕ)
+guid_by None = Some None
+guid_by (Some word) = option_map (λ guid. Some guid) (if_under (2 ^ 64) (number_in word))
+
+abbrev pub import_by : Option Text → Option (Option ℕ) → Option (Call Names Text)
+import_by (Some netdiscover) (Some manager) = Some (Import netdiscover manager)
+import_by _ _ = None
+
 -- a word for a code that spells none asks for nothing
-abbrev pub explain_by : Option Text → Option (Call Names)
+abbrev pub explain_by : Option Text → Option (Call Names Text)
 explain_by None = Some (Explain None)
 explain_by (Some word) = option_map (λ code. Explain (Some code)) (code_of word)
 
--- `check` takes no more words than its subnet's, `shares` takes a port, and `tables`, `keys`, `trace` and `graph` take a script;
--- `diff` needs other partitions, `trace` a packet, `run` a script, and `compare` two scripts and a port; `explain` takes a code
-abbrev pub call_in : Subcommand → List Row → Option (Call Names)
+-- `check` takes no more words than its subnet's, `shares` takes a port, and `tables`, `keys`, `trace` and `graph` take a script,
+-- `cuts` two ports;
+-- `diff` needs other partitions, `trace` a packet, `run` a script, and `compare` two scripts and a port; `import` needs a file of
+-- its own and takes a GUID, and `explain` takes a code
+abbrev pub call_in : Subcommand → List Row → Option (Call Names Text)
 call_in command.Check rows = in_subnet rows (Some Check)
 call_in command.Shares rows = in_subnet rows (Some (Shares (first_of (codes "PORT") rows)))
 call_in command.Diff rows = in_subnet rows (diff_by (first_of (codes "PARTS2") rows))
 call_in command.Tables rows = in_subnet rows (inspect_by rows (Some Tables))
 call_in command.Keys rows = in_subnet rows (inspect_by rows (Some Keys))
 call_in command.Trace rows = in_subnet rows (inspect_by rows (trace_by rows))
-call_in command.Graph rows = in_subnet rows (inspect_by rows (Some Graph))
+call_in command.Graph rows = in_subnet rows (graph_by rows)
 call_in command.Run rows = in_subnet rows (run_by (first_of (codes "SCRIPT") rows))
 call_in command.Compare rows = in_subnet rows (compare_by rows)
+call_in command.Cuts rows = in_subnet rows (cuts_by (first_of (codes "PORT") rows) (first_of (codes "PORT2") rows))
+call_in command.Import rows = import_by (first_of (codes "NETDISCOVER") rows) (guid_by (first_of (codes "SM") rows))
 call_in command.Explain rows = explain_by (first_of (codes "CODE") rows)
 
 -- ---- all words
@@ -137,15 +178,21 @@ subcommand_in word =
     else if bytes_eq word (codes "graph") then Some command.Graph
     else if bytes_eq word (codes "run") then Some command.Run
     else if bytes_eq word (codes "compare") then Some command.Compare
+    else if bytes_eq word (codes "cuts") then Some command.Cuts
+    else if bytes_eq word (codes "import") then Some command.Import
     else if bytes_eq word (codes "explain") then Some command.Explain
     else None
 
--- the text for a word that clap takes and that is none: in a trace that is a number, and else a code
+-- the text for a word that clap takes and that is none, that lacks another or does not go with it: in a trace that is a number, in
+-- an import a GUID, of cuts a port, in a picture a script, and else a code
 abbrev pub text_for : Subcommand → Text
 text_for command.Trace = NO_SUCH_NUMBER.now
+text_for command.Import = NO_SUCH_GUID.now
+text_for command.Cuts = NO_SECOND_PORT.now
+text_for command.Graph = NO_SCRIPT_WITH_CUTS.now
 text_for _ = NO_SUCH_CODE.now
 
-abbrev pub asked_or : Text → Option (Call Names) → Asking
+abbrev pub asked_or : Text → Option (Call Names Text) → Asking
 asked_or text (Some call) = Ok call
 asked_or text None = Err (Some text)
 
@@ -198,6 +245,7 @@ work_names Check = []
 work_names (Shares port) = []
 work_names (Diff second) = option_to_list second
 work_names (Inspect what script) = option_to_list script
+work_names (Cuts view) = []
 work_names (Run script) = script ∷ []
 work_names (Compare first second port) = first ∷ second ∷ []
 
@@ -207,4 +255,5 @@ all_names asked = asked.topology ∷ (option_to_list asked.partitions ++ work_na
 abbrev pub opened_for : Asking → List Text
 opened_for (Err text) = []
 opened_for (Ok (Subnet asked)) = all_names asked
+opened_for (Ok (Import netdiscover manager)) = netdiscover ∷ []
 opened_for (Ok (Explain code)) = []

@@ -27,6 +27,10 @@ pub enum Subcommand {
     Run,
     /// `compare`, which compares two scripts for a port.
     Compare,
+    /// `cuts`, which tells what the loss of cables would do.
+    Cuts,
+    /// `import`, which makes a topology of a real fabric.
+    Import,
     /// `explain`, which says what codes mean.
     Explain,
 }
@@ -47,6 +51,8 @@ pub enum Work<W, S> {
         /// The script after whose commands that is; where there is none, it is as the subnet comes up.
         script: Option<S>,
     },
+    /// Tell what the loss of cables between switches would do.
+    Cuts(CutView<W>),
     /// Run a script.
     Run(S),
     /// Compare two scripts for a port, that a word names.
@@ -58,6 +64,22 @@ pub enum Work<W, S> {
         /// The word for the port.
         port: W,
     },
+}
+
+/// What to tell of the loss of cables.
+#[derive(Clone, Copy)]
+pub enum CutView<W> {
+    /// What that of each cable between switches would do.
+    All,
+    /// What that of one would do, whose ends two words name.
+    One {
+        /// The word for the one.
+        first: W,
+        /// The word for the other.
+        second: W,
+    },
+    /// A picture, in which the cables that the fabric can't do without are red.
+    Picture,
 }
 
 /// What to look at in the fabric of a subnet.
@@ -75,9 +97,16 @@ pub enum Inspection<W> {
 
 /// What a call is for.
 #[derive(Drop)]
-pub enum Call<A> {
+pub enum Call<A, W> {
     /// Something in a subnet.
     Subnet(A),
+    /// Make a topology of what `ibnetdiscover` printed of a real fabric.
+    Import {
+        /// The file that has it.
+        netdiscover: W,
+        /// The GUID of the subnet manager's port, if a word tells it.
+        manager: Option<u64>,
+    },
     /// Say what a code means, or which codes there are.
     Explain(Option<Code>),
 }

@@ -4,23 +4,27 @@ ghost use Rattle.std.specs.Prelude.{◌≡◌, false, List, ℕ, Option, None, S
 ghost use Rattle.clap.specs.Words.{app_of, rule_of, subcommand_rows_of};
 ghost use Rattle.clap.specs.declared.builder.command.Command.TheViews.{out-Command as fields_of};
 ghost use Rattle.call_words.specs.CommandLine.{check_command, compare_command, diff_command, explain_command, fabric_command, graph_command};
-ghost use Rattle.call_words.specs.CommandLine.{keys_command, optional, run_command, shares_command, subnet_command, tables_command, trace_command};
+ghost use Rattle.call_words.specs.CommandLine.{cuts_command, cuts_flag, import_command, keys_command, manager_option, optional, run_command, shares_command};
+ghost use Rattle.call_words.specs.CommandLine.{subnet_command, tables_command, trace_command};
 ghost use Rattle.call_words.specs.CommandLine.{wanted};
-ghost use Rattle.call_words.specs.Help.{about_check, about_compare, about_diff, about_explain, about_graph, about_keys, about_program, about_run};
+ghost use Rattle.call_words.specs.Help.{about_check, about_compare, about_cuts, about_diff, about_explain, about_graph, about_import, about_keys};
+ghost use Rattle.call_words.specs.Help.{about_program, about_run};
 ghost use Rattle.call_words.specs.Help.{about_shares, about_tables, about_trace, help_of_code, help_of_dlid, help_of_key};
 ghost use Rattle.call_words.specs.Help.{help_of_compared, help_of_first_script, help_of_partitions, help_of_second_script};
-ghost use Rattle.call_words.specs.Help.{help_of_port, help_of_script, help_of_script_before, help_of_second_partitions, help_of_sender, help_of_topology};
+ghost use Rattle.call_words.specs.Help.{help_of_cuts, help_of_first_end, help_of_second_end};
+ghost use Rattle.call_words.specs.Help.{help_of_manager, help_of_netdiscover, help_of_port, help_of_script, help_of_script_before};
+ghost use Rattle.call_words.specs.Help.{help_of_second_partitions, help_of_sender, help_of_topology};
 ghost use Rattle.call_words.specs.Help.{program_name, program_version, text_in};
 ghost use Rattle.call_words.specs.Refusals.{IsShown};
 ghost use Rattle.call_words.specs.Words.{asked_in, asked_of};
-ghost use Rattle.call_words.specs.declared.help.TheConstants.{CHANGES, CODES, COMPARISON, GRAPH, KEYS, LISTING, REPORT, SHARES, STATUSES, TABLES};
+ghost use Rattle.call_words.specs.declared.help.TheConstants.{CHANGES, CODES, COMPARISON, CUTS, GRAPH, IMPORT, KEYS, LISTING, REPORT, SHARES, STATUSES, TABLES};
 ghost use Rattle.call_words.specs.declared.help.TheConstants.{TRACE};
 
 use crate::call::Refused;
 use crate::help::{
-    ABOUT, ABOUT_CHECK, ABOUT_COMPARE, ABOUT_DIFF, ABOUT_EXPLAIN, ABOUT_GRAPH, ABOUT_KEYS,
-    ABOUT_RUN, ABOUT_SHARES, ABOUT_TABLES, ABOUT_TRACE, CHANGES, CODES, COMPARISON, GRAPH, KEYS,
-    LISTING, REPORT, SHARES, STATUSES, TABLES, TRACE,
+    ABOUT, ABOUT_CHECK, ABOUT_COMPARE, ABOUT_CUTS, ABOUT_DIFF, ABOUT_EXPLAIN, ABOUT_GRAPH,
+    ABOUT_IMPORT, ABOUT_KEYS, ABOUT_RUN, ABOUT_SHARES, ABOUT_TABLES, ABOUT_TRACE, CHANGES, CODES,
+    COMPARISON, CUTS, GRAPH, IMPORT, KEYS, LISTING, REPORT, SHARES, STATUSES, TABLES, TRACE,
 };
 use clap::error::ErrorKind;
 use clap::{Arg, ArgAction, ArgMatches, Command, Error};
@@ -159,6 +163,61 @@ fn optional_script<'a>(alloc: Global) -> Arg<'a>
         .help("A script: what has been done before")
 }
 
+fn optional_first_end<'a>(alloc: Global) -> Arg<'a>
+    ensures global { result.global ≡ false }
+    ensures rule { rule_of result ≡ optional (codes "PORT") }
+    ensures help { text_in result.help ≡ Some help_of_first_end }
+{
+    Arg::new(alloc, "PORT")
+        .action(ArgAction::Set)
+        .help("A port of a switch, at one end of a cable: `A/3`")
+}
+
+fn optional_second_end<'a>(alloc: Global) -> Arg<'a>
+    ensures global { result.global ≡ false }
+    ensures rule { rule_of result ≡ optional (codes "PORT2") }
+    ensures help { text_in result.help ≡ Some help_of_second_end }
+{
+    Arg::new(alloc, "PORT2")
+        .action(ArgAction::Set)
+        .help("The port of a switch at its other end")
+}
+
+fn cuts_flag<'a>(alloc: Global) -> Arg<'a>
+    ensures global { result.global ≡ false }
+    ensures rule { rule_of result ≡ cuts_flag }
+    ensures help { text_in result.help ≡ Some help_of_cuts }
+{
+    Arg::new(alloc, "CUTS")
+        .long("cuts")
+        .action(ArgAction::SetTrue)
+        .help("Draws in red the cables that the fabric cannot do without")
+}
+
+fn wanted_netdiscover<'a>(alloc: Global) -> Arg<'a>
+    ensures global { result.global ≡ false }
+    ensures rule { rule_of result ≡ wanted (codes "NETDISCOVER") }
+    ensures help { text_in result.help ≡ Some help_of_netdiscover }
+{
+    wanted(
+        alloc,
+        "NETDISCOVER",
+        "What ibnetdiscover printed of the fabric",
+    )
+}
+
+fn manager_option<'a>(alloc: Global) -> Arg<'a>
+    ensures global { result.global ≡ false }
+    ensures rule { rule_of result ≡ manager_option }
+    ensures help { text_in result.help ≡ Some help_of_manager }
+{
+    Arg::new(alloc, "SM")
+        .long("sm")
+        .value_name("GUID")
+        .action(ArgAction::Set)
+        .help("The GUID of the subnet manager's port: a number of 64 bits, as `0x101`")
+}
+
 fn optional_code<'a>(alloc: Global) -> Arg<'a>
     ensures global { result.global ≡ false }
     ensures rule { rule_of result ≡ optional (codes "CODE") }
@@ -261,7 +320,9 @@ fn graph_command<'a>(alloc: Global) -> Result<Command<'a>, AllocError>
     ensures about { IfOk result (λ command. text_in (fields_of command).about ≡ Some about_graph) }
     ensures help { IfOk result (λ command. text_in (fields_of command).after_help ≡ Some GRAPH.now) }
 {
-    let command = subnet_command(alloc, "graph")?.arg(optional_script(alloc))?;
+    let command = subnet_command(alloc, "graph")?
+        .arg(optional_script(alloc))?
+        .arg(cuts_flag(alloc))?;
     Ok(command.about(ABOUT_GRAPH).after_help(GRAPH))
 }
 
@@ -286,6 +347,30 @@ fn compare_command<'a>(alloc: Global) -> Result<Command<'a>, AllocError>
         .arg(wanted_second_script(alloc))?
         .arg(wanted_compared(alloc))?;
     Ok(command.about(ABOUT_COMPARE).after_help(COMPARISON))
+}
+
+/// The command that tells what the loss of cables would do.
+fn cuts_command<'a>(alloc: Global) -> Result<Command<'a>, AllocError>
+    ensures words { IfOk result (λ command. app_of command ≡ cuts_command) }
+    ensures about { IfOk result (λ command. text_in (fields_of command).about ≡ Some about_cuts) }
+    ensures help { IfOk result (λ command. text_in (fields_of command).after_help ≡ Some CUTS.now) }
+{
+    let command = subnet_command(alloc, "cuts")?
+        .arg(optional_first_end(alloc))?
+        .arg(optional_second_end(alloc))?;
+    Ok(command.about(ABOUT_CUTS).after_help(CUTS))
+}
+
+/// The command that makes a topology of a real fabric.
+fn import_command<'a>(alloc: Global) -> Result<Command<'a>, AllocError>
+    ensures words { IfOk result (λ command. app_of command ≡ import_command) }
+    ensures about { IfOk result (λ command. text_in (fields_of command).about ≡ Some about_import) }
+    ensures help { IfOk result (λ command. text_in (fields_of command).after_help ≡ Some IMPORT.now) }
+{
+    let command = Command::new(alloc, "import")
+        .arg(wanted_netdiscover(alloc))?
+        .arg(manager_option(alloc))?;
+    Ok(command.about(ABOUT_IMPORT).after_help(IMPORT))
 }
 
 /// The command that says what codes mean.
@@ -317,6 +402,8 @@ fn fabric_command<'a>(alloc: Global) -> Result<Command<'a>, AllocError>
         .subcommand(graph_command(alloc)?)?
         .subcommand(run_command(alloc)?)?
         .subcommand(compare_command(alloc)?)?
+        .subcommand(cuts_command(alloc)?)?
+        .subcommand(import_command(alloc)?)?
         .subcommand(explain_command(alloc)?)?
         .bin_name("fabric")?;
     Ok(command.version("0.1.0").about(ABOUT).after_help(STATUSES))

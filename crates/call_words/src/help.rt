@@ -25,6 +25,12 @@ pub(crate) const ABOUT_RUN: &str = "Runs a script in a subnet, and prints what i
 pub(crate) const ABOUT_COMPARE: &str =
     "Tells whether two scripts agree for a port, and whether the same happens at it";
 
+pub(crate) const ABOUT_CUTS: &str =
+    "Tells what the loss of each cable between switches would do, before it is out";
+
+pub(crate) const ABOUT_IMPORT: &str =
+    "Makes a topology of what ibnetdiscover printed of a real fabric";
+
 pub(crate) const ABOUT_EXPLAIN: &str =
     "Tells what the code of a fault or a refusal means, or lists all codes";
 
@@ -69,7 +75,7 @@ pub(crate) const STATUSES: &str = with_statuses!(
 
 A fault is told as `fault CODE topology line L`, `fault CODE partitions line L`,
 `fault CODE partitions2 line L`, `fault CODE script line L`, `fault CODE script2 line L`,
-`fault CODE port`, `fault memory`, `fault read NAME` or `fault write`."
+`fault CODE netdiscover line L`, `fault CODE port`, `fault memory`, `fault read NAME` or `fault write`."
 );
 
 pub(crate) const NOT_TEXT: &str = "error: a word is not text\n";
@@ -82,6 +88,11 @@ For the list of all codes, try 'fabric explain'.
 pub(crate) const NO_SUCH_NUMBER: &str = "error: DLID or PKEY is no number of 16 bits
 
 For what they are, try 'fabric trace --help'.
+";
+
+pub(crate) const NO_SUCH_GUID: &str = "error: GUID is no number of 64 bits
+
+For what it is, try 'fabric import --help'.
 ";
 
 pub(crate) const LISTING: &str = with_statuses!(
@@ -200,6 +211,9 @@ Switches are boxes, by rank, the roots on top; channel adapters are ellipses wit
 ports, in the colours of their partitions, the default one aside. At the ends of cables stand the
 numbers of ports. The subnet manager's node has a double line.
 
+With --cuts the cables that the fabric cannot do without are red: those of which `fabric cuts` says
+that it stops.
+
 Four or more adapters of one port that hang on one switch and are in the same partitions stand in
 a list, which is one box: a line has the switch's port, the adapter and its LID.
 
@@ -237,12 +251,66 @@ behind `yes` is proved never to come.
     ""
 );
 
+pub(crate) const NO_SCRIPT_WITH_CUTS: &str =
+    "error: with --cuts the fabric is drawn as it is brought up, and no SCRIPT is taken
+
+For what they are, try 'fabric graph --help'.
+";
+
+pub(crate) const NO_SECOND_PORT: &str = "error: one PORT alone is the end of no cable
+
+For what they are, try 'fabric cuts --help'.
+";
+
+pub(crate) const CUTS: &str = with_statuses!(
+    "There is a line for each cable between two switches, in the order of the topology, and a last one
+with their numbers:
+  cut PORT PORT keeps N entries N masks N switches
+                              without it all end ports stay joined; so many entries of linear
+                              forwarding tables differ then, and masks of groups of partitions
+  cut PORT PORT stops CODE    the fabric could not be brought up without it: TF9, switches are apart;
+                              SW3, a cable is too far away; UR1 SWITCH PORT, a pair has no way
+  cables N keep N stop N
+
+With two ports there is the line of the cable between them, and behind it, where it keeps, one for
+each entry that differs, in the order of the tables; `none` is no port:
+  SWITCH lid LID port OUT becomes OUT
+
+Nothing is cut: only planned, over the fabric as it is brought up.
+
+",
+    "help",
+    ""
+);
+
+pub(crate) const IMPORT: &str = with_statuses!(
+    "The topology has the switches, the channel adapters' ports that have a cable, and the cables between
+them. Ports keep their GUIDs, since partition files name these: ports of consecutive GUIDs become one
+adapter, whose own GUID is one less. Names are spelt with the characters that a topology allows, and
+made different. A comment on each line tells which node, port and LID it was, and comments tell which
+routers were left out. The subnet manager is not marked in such a file: it is on the port of GUID,
+which `sminfo` prints, or else on the port at which ibnetdiscover ran, if a comment of it says so.
+
+For example, for a fabric of one's own and the partition file that it is to have:
+  ibnetdiscover >discovered
+  fabric import discovered >topology
+  fabric check topology partitions.conf
+
+A line that ibnetdiscover does not print is refused, and so is what contradicts itself, and a fabric
+that no topology describes.
+
+",
+    "help",
+    ""
+);
+
 pub(crate) const CODES: &str = with_statuses!(
     "A code stands behind `fault` where a call does not complete, and behind `refused` in a report:
   TF1 to TF12            a fault of the topology
   PF1 to PF9             a fault of a partition file
-  SF1 to SF7             a fault of a script, or of the PORT of `shares`, `trace` or `compare`
+  SF1 to SF7             a fault of a script, or of a PORT of `shares`, `trace`, `compare` or `cuts`
   AR1 to AR4             why a port refuses to send a packet
+  ND1 to ND7             a fault of what ibnetdiscover printed, in `import`
   SW1 to SW4, UR1, TP1 to TP3
                          why the fabric of a topology is not brought up
   memory, read, write    what the machine refuses

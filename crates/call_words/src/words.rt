@@ -1,22 +1,26 @@
 //! What the words of a call ask for.
 
-ghost use Rattle.std.specs.Prelude.{◌≡◌, Ok, Some, map, string_bytes, option_map, IfOk, IfErr};
+ghost use Rattle.std.specs.Prelude.{◌≡◌, ◌^◌, Ok, Some, map, string_bytes, option_map, IfOk, IfErr};
 ghost use Rattle.clap.specs.Words.{first_of, found_of, rows_of, subcommand_rows_of};
 ghost use Rattle.call_words.specs.Refusals.{IsOfGiven, IsOfWords, TellsAll};
-ghost use Rattle.call_words.specs.Words.{asked_in, asked_of, call_in, compare_by, diff_by, explain_by, file_in, given_items, in_subnet};
-ghost use Rattle.call_words.specs.Words.{inspect_by, named_call, named_found, named_inspection};
+ghost use Rattle.call_words.specs.Words.{asked_in, asked_of, call_in, compare_by, cuts_by, diff_by, explain_by, file_in, given_items, guid_by};
+ghost use Rattle.call_words.specs.Words.{import_by, in_subnet};
+ghost use Rattle.text_words.specs.Number.{if_under, number_in};
+ghost use Rattle.call_words.specs.Words.{graph_by, graph_with, inspect_by, is_given, named_call, named_found, named_inspection};
 ghost use Rattle.call_words.specs.Words.{named_work, run_by, subcommand_in, text_for, trace_by, u16_by};
 
-use crate::call::{Asked, Call, Inspection, Refused, Subcommand, Work};
+use crate::call::{Asked, Call, CutView, Inspection, Refused, Subcommand, Work};
 use crate::command_line::Parser;
-use crate::help::{NO_SUCH_CODE, NO_SUCH_NUMBER, NOT_TEXT};
+use crate::help::{
+    NO_SCRIPT_WITH_CUTS, NO_SECOND_PORT, NO_SUCH_CODE, NO_SUCH_GUID, NO_SUCH_NUMBER, NOT_TEXT,
+};
 use clap::ArgMatches;
 use code_texts::Code;
 use std::alloc::Global;
 use std::env::Args;
 use std::fmt::Display;
 use std::io;
-use text_words::u16_in;
+use text_words::{number_in, u16_in};
 
 /// The words that the program is given, its own name first: all of them. Words that are not text are refused.
 pub fn given_words(alloc: Global, given: io::Result<Args>) -> Result<Vec<String>, Refused<String>>
@@ -36,7 +40,7 @@ pub fn read_words<'a, P: Parser>(
     alloc: Global,
     parser: &P,
     words: &'a [String],
-) -> Result<Call<Asked<'a>>, Refused<String>>
+) -> Result<Call<Asked<'a>, &'a str>, Refused<String>>
     ensures asked { IfOk result (λ call. asked_of (P.shown parser.now) (map string_bytes words.entry.now) ≡ Ok (named_call call)) }
     ensures refused { IfErr result (IsOfWords (asked_of (P.shown parser.now) (map string_bytes words.entry.now))) }
 {
@@ -60,8 +64,8 @@ fn shown<E: Display>(alloc: Global, error: &E) -> Refused<String>
     }
 }
 
-/// What is asked for in what was found, or the text for a word that is no code or no number.
-fn call_in<'a>(matches: &ArgMatches<'a>) -> Result<Call<Asked<'a>>, &'static str>
+/// What is asked for in what was found, or the text for a word that is no code, no number or no GUID.
+fn call_in<'a>(matches: &ArgMatches<'a>) -> Result<Call<Asked<'a>, &'a str>, &'static str>
     ensures { named_found result ≡ asked_in (subcommand_rows_of matches.now) }
 {
     let Some((word, found)) = matches.subcommand() else {
@@ -90,6 +94,8 @@ fn subcommand_in(word: &str) -> Option<Subcommand>
         "graph" => Some(Subcommand::Graph),
         "run" => Some(Subcommand::Run),
         "compare" => Some(Subcommand::Compare),
+        "cuts" => Some(Subcommand::Cuts),
+        "import" => Some(Subcommand::Import),
         "explain" => Some(Subcommand::Explain),
         _ => None,
     }
@@ -101,12 +107,15 @@ fn text_for(command: Subcommand) -> &'static str
 {
     match command {
         Subcommand::Trace => NO_SUCH_NUMBER,
+        Subcommand::Import => NO_SUCH_GUID,
+        Subcommand::Cuts => NO_SECOND_PORT,
+        Subcommand::Graph => NO_SCRIPT_WITH_CUTS,
         _ => NO_SUCH_CODE,
     }
 }
 
-/// What a command with these arguments is for; nothing where a word for a code or a number is none.
-fn call_of<'a>(command: Subcommand, found: &ArgMatches<'a>) -> Option<Call<Asked<'a>>>
+/// What a command with these arguments is for; nothing where a word for a code, a number or a GUID is none.
+fn call_of<'a>(command: Subcommand, found: &ArgMatches<'a>) -> Option<Call<Asked<'a>, &'a str>>
     ensures { option_map named_call result ≡ call_in command (rows_of (found_of found.now)) }
 {
     match command {
@@ -116,9 +125,14 @@ fn call_of<'a>(command: Subcommand, found: &ArgMatches<'a>) -> Option<Call<Asked
         Subcommand::Tables => in_subnet(found, inspect_by(found, Some(Inspection::Tables))),
         Subcommand::Keys => in_subnet(found, inspect_by(found, Some(Inspection::Keys))),
         Subcommand::Trace => in_subnet(found, inspect_by(found, traced(found))),
-        Subcommand::Graph => in_subnet(found, inspect_by(found, Some(Inspection::Graph))),
+        Subcommand::Graph => in_subnet(found, graph_by(found)),
         Subcommand::Run => in_subnet(found, run_by(word_of(found, "SCRIPT"))),
         Subcommand::Compare => in_subnet(found, compared(found)),
+        Subcommand::Cuts => {
+            let ends = cuts_by(word_of(found, "PORT"), word_of(found, "PORT2"));
+            in_subnet(found, ends)
+        }
+        Subcommand::Import => import_by(word_of(found, "NETDISCOVER"), word_of(found, "SM")),
         Subcommand::Explain => explain_by(word_of(found, "CODE")),
     }
 }
@@ -134,7 +148,7 @@ fn word_of<'a>(found: &ArgMatches<'a>, name: &str) -> Option<&'a str>
 fn in_subnet<'a>(
     found: &ArgMatches<'a>,
     work: Option<Work<&'a str, &'a str>>,
-) -> Option<Call<Asked<'a>>>
+) -> Option<Call<Asked<'a>, &'a str>>
     ensures { option_map named_call result ≡ in_subnet (rows_of (found_of found.now)) (option_map named_work work.entry) }
 {
     Some(Call::Subnet(Asked {
@@ -157,6 +171,17 @@ fn diff_by(second: Option<&str>) -> Option<Work<&str, &str>>
     Some(Work::Diff(file_in(second?)))
 }
 
+/// The loss of all cables, or of the one that two words name; nothing where there is one word alone.
+fn cuts_by<'a>(first: Option<&'a str>, second: Option<&'a str>) -> Option<Work<&'a str, &'a str>>
+    ensures { option_map named_work result ≡ cuts_by (option_map (λ word. word.now) first.entry) (option_map (λ word. word.now) second.entry) }
+{
+    match (first, second) {
+        (None, None) => Some(Work::Cuts(CutView::All)),
+        (Some(first), Some(second)) => Some(Work::Cuts(CutView::One { first, second })),
+        _ => None,
+    }
+}
+
 fn run_by(script: Option<&str>) -> Option<Work<&str, &str>>
     ensures { option_map named_work result ≡ run_by (option_map (λ word. word.now) script.entry) }
 {
@@ -174,6 +199,36 @@ fn inspect_by<'a>(
         what: what?,
         script: word_of(found, "SCRIPT"),
     })
+}
+
+/// A picture; one that tells cables apart is of the fabric as it is brought up, and takes no script.
+fn graph_by<'a>(found: &ArgMatches<'a>) -> Option<Work<&'a str, &'a str>>
+    ensures { option_map named_work result ≡ graph_by (rows_of (found_of found.now)) }
+{
+    graph_with(is_given(found, "CUTS"), word_of(found, "SCRIPT"))
+}
+
+/// Whether a flag is given.
+fn is_given<'a>(found: &ArgMatches<'a>, name: &str) -> bool
+    ensures { result ≡ is_given (rows_of (found_of found.now)) name.now }
+{
+    match word_of(found, name) {
+        Some(value) => value == "true",
+        None => false,
+    }
+}
+
+fn graph_with(cuts: bool, script: Option<&str>) -> Option<Work<&str, &str>>
+    ensures { option_map named_work result ≡ graph_with cuts (option_map (λ word. word.now) script.entry) }
+{
+    match (cuts, script) {
+        (true, Some(_)) => None,
+        (true, None) => Some(Work::Cuts(CutView::Picture)),
+        (false, script) => Some(Work::Inspect {
+            what: Inspection::Graph,
+            script,
+        }),
+    }
 }
 
 /// Two scripts and a port.
@@ -203,8 +258,38 @@ fn u16_by(word: Option<&str>) -> Option<u16>
     u16_in(word?.as_bytes())
 }
 
+/// A topology of this file, if the word for the subnet manager's port is a GUID, or there is none.
+fn import_by<'a>(
+    netdiscover: Option<&'a str>,
+    manager: Option<&str>,
+) -> Option<Call<Asked<'a>, &'a str>>
+    ensures { option_map named_call result ≡ import_by (option_map (λ word. word.now) netdiscover.entry)
+        (guid_by (option_map (λ word. word.now) manager.entry)) }
+{
+    Some(Call::Import {
+        netdiscover: netdiscover?,
+        manager: guid_by(manager)?,
+    })
+}
+
+/// The GUID that a word spells, or none where there is no word.
+fn guid_by(word: Option<&str>) -> Option<Option<u64>>
+    ensures { result ≡ guid_by (option_map (λ word. word.now) word.entry) }
+{
+    match word {
+        Some(word) => Some(Some(guid_in(word)?)),
+        None => Some(None),
+    }
+}
+
+fn guid_in(word: &str) -> Option<u64>
+    ensures { result ≡ if_under (2 ^ 64) (number_in word.now) }
+{
+    u64::try_from(number_in(word.as_bytes())?).ok()
+}
+
 /// The code that a word spells, or none where there is no word.
-fn explain_by<'a>(word: Option<&str>) -> Option<Call<Asked<'a>>>
+fn explain_by<'a>(word: Option<&str>) -> Option<Call<Asked<'a>, &'a str>>
     ensures { option_map named_call result ≡ explain_by (option_map (λ word. word.now) word.entry) }
 {
     match word {

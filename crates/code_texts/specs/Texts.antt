@@ -6,9 +6,11 @@ use Rattle.code_texts.specs.declared.code.Code.{Code}
 use Rattle.code_texts.specs.declared.code.Code.TheVariants.{Tf1, Tf2, Tf3, Tf4, Tf5, Tf6, Tf7, Tf8, Tf9, Tf10, Tf11, Tf12}
 use Rattle.code_texts.specs.declared.code.Code.TheVariants.{Pf1, Pf2, Pf3, Pf4, Pf5, Pf6, Pf7, Pf8, Pf9}
 use Rattle.code_texts.specs.declared.code.Code.TheVariants.{Sf1, Sf2, Sf3, Sf4, Sf5, Sf6, Sf7, Ar1, Ar2, Ar3, Ar4}
+use Rattle.code_texts.specs.declared.code.Code.TheVariants.{Nd1, Nd2, Nd3, Nd4, Nd5, Nd6, Nd7}
 use Rattle.code_texts.specs.declared.code.Code.TheVariants.{Sw1, Sw2, Sw3, Sw4, Ur1, Tp1, Tp2, Tp3}
 use Rattle.code_texts.specs.declared.code.Code.TheVariants.{Memory, Read, Write}
 use Rattle.code_texts.specs.declared.code.TheConstants.{ALL}
+use Rattle.code_texts.specs.declared.discovery_texts.TheConstants.{ND1, ND2, ND3, ND4, ND5, ND6, ND7}
 use Rattle.code_texts.specs.declared.fabric_texts.TheConstants.{SW1, SW2, SW3, SW4, TP1, TP2, TP3, UR1}
 use Rattle.code_texts.specs.declared.machine_texts.TheConstants.{MEMORY, READ, WRITE}
 use Rattle.code_texts.specs.declared.partition_texts.TheConstants.{PF1, PF2, PF3, PF4, PF5, PF6, PF7, PF8, PF9}
@@ -52,6 +54,13 @@ text_of Ar1 = AR1.now
 text_of Ar2 = AR2.now
 text_of Ar3 = AR3.now
 text_of Ar4 = AR4.now
+text_of Nd1 = ND1.now
+text_of Nd2 = ND2.now
+text_of Nd3 = ND3.now
+text_of Nd4 = ND4.now
+text_of Nd5 = ND5.now
+text_of Nd6 = ND6.now
+text_of Nd7 = ND7.now
 text_of Sw1 = SW1.now
 text_of Sw2 = SW2.now
 text_of Sw3 = SW3.now

@@ -4,6 +4,7 @@ ghost use Rattle.std.specs.Prelude.{◌≡◌, ◌++◌, codes, true};
 ghost use Rattle.code_texts.specs.Codes.{code_of, spelling};
 ghost use Rattle.code_texts.specs.Texts.{begins_with, text_of};
 
+use crate::discovery_texts::{ND1, ND2, ND3, ND4, ND5, ND6, ND7};
 use crate::fabric_texts::{SW1, SW2, SW3, SW4, TP1, TP2, TP3, UR1};
 use crate::machine_texts::{MEMORY, READ, WRITE};
 use crate::partition_texts::{PF1, PF2, PF3, PF4, PF5, PF6, PF7, PF8, PF9};
@@ -78,6 +79,20 @@ pub enum Code {
     Ar3,
     /// A port that is not Active.
     Ar4,
+    /// A line that is none.
+    Nd1,
+    /// A port that the node does not have.
+    Nd2,
+    /// A GUID that is told already.
+    Nd3,
+    /// A cable that stands otherwise at its other end.
+    Nd4,
+    /// An adapter's GUID that is a switch's.
+    Nd5,
+    /// A subnet manager's port that is none.
+    Nd6,
+    /// A topology that is read as another.
+    Nd7,
     /// A request of a sweep without a reply.
     Sw1,
     /// A wrong reply to a sweep.
@@ -103,7 +118,7 @@ pub enum Code {
 }
 
 /// All codes, in the order in which they are listed.
-pub const ALL: [Code; 43] = [
+pub const ALL: [Code; 50] = [
     Code::Tf1,
     Code::Tf2,
     Code::Tf3,
@@ -136,6 +151,13 @@ pub const ALL: [Code; 43] = [
     Code::Ar2,
     Code::Ar3,
     Code::Ar4,
+    Code::Nd1,
+    Code::Nd2,
+    Code::Nd3,
+    Code::Nd4,
+    Code::Nd5,
+    Code::Nd6,
+    Code::Nd7,
     Code::Sw1,
     Code::Sw2,
     Code::Sw3,
@@ -187,6 +209,13 @@ impl Code {
             Code::Ar2 => "AR2",
             Code::Ar3 => "AR3",
             Code::Ar4 => "AR4",
+            Code::Nd1 => "ND1",
+            Code::Nd2 => "ND2",
+            Code::Nd3 => "ND3",
+            Code::Nd4 => "ND4",
+            Code::Nd5 => "ND5",
+            Code::Nd6 => "ND6",
+            Code::Nd7 => "ND7",
             Code::Sw1 => "SW1",
             Code::Sw2 => "SW2",
             Code::Sw3 => "SW3",
@@ -248,6 +277,13 @@ impl Code {
             Code::Ar2 => AR2,
             Code::Ar3 => AR3,
             Code::Ar4 => AR4,
+            Code::Nd1 => ND1,
+            Code::Nd2 => ND2,
+            Code::Nd3 => ND3,
+            Code::Nd4 => ND4,
+            Code::Nd5 => ND5,
+            Code::Nd6 => ND6,
+            Code::Nd7 => ND7,
             Code::Sw1 => SW1,
             Code::Sw2 => SW2,
             Code::Sw3 => SW3,

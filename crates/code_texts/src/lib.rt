@@ -6,6 +6,7 @@
 #![tactic(auto)]
 
 mod code;
+mod discovery_texts;
 mod fabric_texts;
 mod laws;
 mod lines;

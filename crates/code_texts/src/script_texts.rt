@@ -138,7 +138,8 @@ SF7: there is no such cable between two switches
 
 By `cut PORT PORT` a cable is cut, and by `mend PORT PORT` it is mended. Each PORT is `NAME/NUMBER`,
 and the topology has a switch NAME with a port NUMBER; a cable of the topology joins these two
-ports, whichever of them stands first. A cable to an adapter cannot be cut.
+ports, whichever of them stands first. A cable to an adapter cannot be cut. The same is asked of the
+two PORTs of `fabric cuts`.
 ",
     "fault SF7 script line 1",
     "cut A/1 h/1",

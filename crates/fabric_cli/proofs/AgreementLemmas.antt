@@ -4,12 +4,12 @@ use Rattle.std.specs.List.{All}
 use Rattle.std.specs.Option.{option_to_list}
 use Rattle.std.proofs.lemmas.List.Elements.{All-head, All-tail}
 use Rattle.call_words.specs.Words.{Names, work_names}
-use Rattle.call_words.specs.declared.call.Call.TheVariants.{Explain, Subnet}
+use Rattle.call_words.specs.declared.call.Call.TheVariants.{Explain, Import, Subnet}
 use Rattle.call_words.specs.declared.call.Work.{Work}
 use Rattle.call_words.specs.declared.call.Work.TheVariants as work
 use Rattle.fabric_cli.specs.Files.{Contents}
 use Rattle.fabric_cli.specs.Laws.{FilesThatAgreeAreJudgedAlike}
-use Rattle.fabric_cli.specs.Serving.{Ending, bytes_if_named, bytes_of, opened_bytes, texts_of, work_of}
+use Rattle.fabric_cli.specs.Serving.{Bytes, Ending, bytes_if_named, bytes_of, imported, opened_bytes, texts_of, work_of}
 use Rattle.result_words.specs.Steps.{◌>>=◌}
 
 module _ (file other : Contents) where
@@ -35,6 +35,7 @@ module _ (file other : Contents) where
   work_alike (work.Diff (Some name)) same = rw (bytes_alike name (All-head (λ one. file one ≡ other one) name [] same)) refl
   work_alike (work.Inspect what None) same = refl
   work_alike (work.Inspect what (Some name)) same = rw (bytes_alike name (All-head (λ one. file one ≡ other one) name [] same)) refl
+  work_alike (work.Cuts view) same = refl
   work_alike (work.Run name) same = rw (bytes_alike name (All-head (λ one. file one ≡ other one) name [] same)) refl
   work_alike (work.Compare first second port) same =
       let more = All-tail (λ one. file one ≡ other one) first (second ∷ []) same in
@@ -52,4 +53,7 @@ module _ (file other : Contents) where
 pub judged_alike : FilesThatAgreeAreJudgedAlike
 judged_alike file other (Err shown) same = refl
 judged_alike file other (Ok (Subnet names)) same = texts_alike file other names same
+judged_alike file other (Ok (Import netdiscover manager)) same =
+    ap (λ (read : Result (List ℕ) Ending). let judged : Result Bytes Ending = read >>= λ text. Err (imported manager text) in judged)
+    (bytes_alike file other netdiscover (All-head (λ name. file name ≡ other name) netdiscover [] same))
 judged_alike file other (Ok (Explain code)) same = refl

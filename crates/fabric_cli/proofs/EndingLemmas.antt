@@ -7,16 +7,16 @@ use Rattle.std.specs.declared.vec.IntoIter.{IntoIter}
 use Rattle.subnet_core.specs.declared.fault.RunFault.{RunFault}
 use Rattle.subnet_core.specs.declared.fault.RunFault.TheVariants as run
 use Rattle.fabric_cli.specs.declared.faults.Stop.{Stop}
-use Rattle.fabric_cli.specs.declared.faults.Stop.TheVariants.{Words, NoMemory, Unread, Unwritten, Run, Second}
+use Rattle.fabric_cli.specs.declared.faults.Stop.TheVariants.{Words, NoMemory, Unread, Unwritten, Run, Second, Foreign}
 use Rattle.fabric_cli.specs.Faults.{line_of, memory_line, run_line, run_status, status_of, stop_of, IsOfFiles, NamesUnread}
 use Rattle.fabric_cli.specs.Files.{Contents, OpensAll, OpensInOrder}
-use Rattle.fabric_cli.specs.Serving.{AppendsSome, Bytes, Ending, broken_off, complete, faulted, judged_for, left_in, output_in, refused, script_in, texts_in, texts_of}
+use Rattle.fabric_cli.specs.Serving.{AppendsSome, Bytes, Ending, broken_off, complete, faulted, imported, judged_for, left_in, output_in, refused, script_in, texts_in, texts_of}
 use Rattle.fabric_cli.specs.Serving.{Answers, BreaksOff, Ends, EndsAs, ForEnding, ForSomeBytes, GoesOut, GoesPartly, IsRefusal, IsRefused, IsToldStop, OfScript, RunStops, Stops, StopsBehind, TellsStop}
 use Rattle.fabric_cli.specs.declared.texts.Texts.{Texts}
 use Rattle.code_texts.specs.Texts.{explained}
 use Rattle.call_words.specs.Refusals.{IsOfGiven, IsOfWords}
 use Rattle.call_words.specs.Words.{Asking, Names, asked_by_given, given_items, given_texts, opened_for}
-use Rattle.call_words.specs.declared.call.Call.TheVariants.{Explain, Subnet}
+use Rattle.call_words.specs.declared.call.Call.TheVariants.{Explain, Import, Subnet}
 use Rattle.call_words.specs.declared.call.Refused.{Refused}
 use Rattle.call_words.specs.declared.call.Refused.TheVariants as refusal
 use Rattle.text_streams.specs.Writing.{AppendsPart, Writes}
@@ -77,6 +77,7 @@ stop_ends judged (Unread name) answer out out' err err' is same other told = abs
 stop_ends judged Unwritten answer out out' err err' is same other told = absurd is
 stop_ends judged (Run fault) answer out out' err err' is same other told = run_ends judged fault answer out out' err err' is same other told
 stop_ends judged (Second line cause) answer out out' err err' is same other told = fault_ends judged _ answer out out' err err' is same told.0 told.1
+stop_ends judged (Foreign line cause) answer out out' err err' is same other told = fault_ends judged _ answer out out' err err' is same told.0 told.1
 
 -- a stop behind what was told
 broken_ends : (stop : Stop) (answer : ℕ) (out out' err err' : Option (List ℕ)) → (answer ≡ status_of stop) × Appends err err' (line_of stop) → (ending : Ending)
@@ -104,6 +105,7 @@ answer_ends judged (Unread name) answer a out out' err err' is other told = absu
 answer_ends judged Unwritten answer a out out' err err' is other told = absurd (other told.0)
 answer_ends judged (Run fault) answer a out out' err err' is other told = either_ends judged (Run fault) answer out out' err err' is other told
 answer_ends judged (Second line cause) answer a out out' err err' is other told = either_ends judged (Second line cause) answer out out' err err' is other told
+answer_ends judged (Foreign line cause) answer a out out' err err' is other told = either_ends judged (Foreign line cause) answer out out' err err' is other told
 
 -- ---- what has gone out
 take_whole : (text : List ℕ) → take (length text) text ≡ text
@@ -152,6 +154,7 @@ module _ (judged : Result Bytes Ending) (out out' : Option (List ℕ)) where
   answer_some Unwritten a is = some_by (λ ending. GoesPartly ending out out') (partly_some out out') is.1
   answer_some (Run fault) a is = either_some (Run fault) is
   answer_some (Second line cause) a is = either_some (Second line cause) is
+  answer_some (Foreign line cause) a is = either_some (Foreign line cause) is
 
 -- a stop with nothing written
 pub stop_answers : (judged : Result Bytes Ending) (stop : Stop) (a : Bool) (out : Option (List ℕ)) → Stops judged stop → StopsBehind judged stop a out out
@@ -161,6 +164,7 @@ stop_answers judged (Unread name) a out is = inl (kept out)
 stop_answers judged Unwritten a out is = absurd is
 stop_answers judged (Run fault) a out is = inl (is, kept out)
 stop_answers judged (Second line cause) a out is = inl (is, kept out)
+stop_answers judged (Foreign line cause) a out is = inl (is, kept out)
 
 -- files that are not read
 pub files_stop : (judged : Result Bytes Ending) (stop : Stop) → IsOfFiles stop → Stops judged stop
@@ -170,6 +174,7 @@ files_stop judged (Unread name) is = tt
 files_stop judged Unwritten is = absurd is
 files_stop judged (Run fault) is = absurd is
 files_stop judged (Second line cause) is = absurd is
+files_stop judged (Foreign line cause) is = absurd is
 
 -- a text that is made, and goes out whole or in part
 pub made_goes_out : (judged : Result Bytes Ending) (text : List ℕ) (out out' : Option (List ℕ)) → ForEnding judged (λ ending. ending ≡ complete text)
@@ -190,6 +195,7 @@ is_told (Unread name) answer other is = absurd (other is)
 is_told Unwritten answer other is = absurd (other is)
 is_told (Run fault) answer other is = tt
 is_told (Second line cause) answer other is = tt
+is_told (Foreign line cause) answer other is = tt
 
 pub for_some_told : {A B : Contents → Type 0} (told : Option Contents) → ((file : Contents) → A file → B file) → IfSome told A → IfSome told B
 for_some_told None f a = tt
@@ -214,7 +220,15 @@ pub for_some_bytes : (asked : Asking) (P Q : Result Bytes Ending → Type 0) →
     → ForSomeBytes asked Q
 for_some_bytes (Err shown) P Q f some = f (Err (refused shown)) some
 for_some_bytes (Ok (Subnet names)) P Q f some = (some.0, some.1, f (Ok some.0) some.2)
+for_some_bytes (Ok (Import netdiscover manager)) P Q f some = (some.0, f (Err (imported manager some.0)) some.1)
 for_some_bytes (Ok (Explain code)) P Q f some = f (Err (complete (explained code))) some
+
+-- what is answered of a file that was read is what is answered of the files
+pub of_file : (X : Type 0) (told : Option Contents) (name bytes : List ℕ) (manager : Option ℕ) (result : Result X Stop) (a : Bool) (out out' : Option (List ℕ))
+    → IfSome told (λ file. file name ≡ Some bytes) → Answers (Err (imported manager bytes)) result a out out'
+    → IfSome told (λ file. Answers (judged_for file (Ok (Import name manager))) result a out out')
+of_file X None name bytes manager result a out out' is answers = tt
+of_file X (Some file) name bytes manager result a out out' is answers = rw is answers
 
 -- ---- of a call
 -- where the files say what they hold

@@ -23,9 +23,14 @@ use Rattle.data_packet.specs.Refusal.{code_of as refusal_code}
 use Rattle.data_packet.specs.declared.refusal.Refusal.{Refusal}
 use Rattle.data_packet.specs.declared.refusal.Refusal.TheVariants as refusal
 use Rattle.fabric_cli.specs.Explained.{IsExplained, NamesCode, TellsCode, told_word}
-use Rattle.fabric_cli.specs.Faults.{partitions_line, port_line, run_line, script_line, second_line, second_script_line, topology_line}
+use Rattle.netdiscover_file.specs.declared.fault.DiscoveryCause.{DiscoveryCause}
+use Rattle.netdiscover_file.specs.declared.fault.DiscoveryCause.TheVariants as discovery
+use Rattle.topology_import.specs.declared.fault.ImportCause.TheVariants as import
+use Rattle.fabric_cli.specs.declared.faults.ForeignCause.{ForeignCause}
+use Rattle.fabric_cli.specs.declared.faults.ForeignCause.TheVariants.{Discovery, Import}
+use Rattle.fabric_cli.specs.Faults.{foreign_line, partitions_line, port_line, run_line, script_line, second_line, second_script_line, topology_line}
 use Rattle.fabric_cli.specs.declared.faults.Stop.{Stop}
-use Rattle.fabric_cli.specs.declared.faults.Stop.TheVariants.{Words, NoMemory, Unread, Unwritten, Run, Second}
+use Rattle.fabric_cli.specs.declared.faults.Stop.TheVariants.{Words, NoMemory, Unread, Unwritten, Run, Second, Foreign}
 
 explained_as : (c : Code) → code_of (spelling c) ≡ Some c → IsExplained (spelling c)
 explained_as c read = record { code = c; read = read; begins = begins_with_code c }
@@ -109,6 +114,33 @@ push_told push.NoReply = told_as code.Tp1 _ refl refl refl
 push_told push.Refused = told_as code.Tp2 _ refl refl refl
 push_told push.NotAsSet = told_as code.Tp3 _ refl refl refl
 
+discovery_told : (cause : DiscoveryCause) (number : ℕ) → TellsCode (foreign_line (Discovery cause) number)
+discovery_told discovery.Malformed number = told_as code.Nd1 _ refl refl refl
+discovery_told discovery.NoSuchPort number = told_as code.Nd2 _ refl refl refl
+discovery_told discovery.DuplicateGuid number = told_as code.Nd3 _ refl refl refl
+discovery_told discovery.WrongFarEnd number = told_as code.Nd4 _ refl refl refl
+
+refused_told : (cause : TopologyCause) (number : ℕ) → TellsCode (foreign_line (Import (import.Refused cause)) number)
+refused_told topology.Malformed number = told_as code.Tf1 _ refl refl refl
+refused_told topology.DuplicateName number = told_as code.Tf2 _ refl refl refl
+refused_told topology.DuplicateGuid number = told_as code.Tf3 _ refl refl refl
+refused_told topology.UnknownNode number = told_as code.Tf4 _ refl refl refl
+refused_told topology.NoSuchPort number = told_as code.Tf5 _ refl refl refl
+refused_told topology.PortTaken number = told_as code.Tf6 _ refl refl refl
+refused_told topology.WrongCableEnds number = told_as code.Tf7 _ refl refl refl
+refused_told topology.WrongManager number = told_as code.Tf8 _ refl refl refl
+refused_told topology.Disconnected number = told_as code.Tf9 _ refl refl refl
+refused_told topology.OverLimit number = told_as code.Tf10 _ refl refl refl
+refused_told topology.ManagerUncabled number = told_as code.Tf11 _ refl refl refl
+refused_told topology.RootNotSwitch number = told_as code.Tf12 _ refl refl refl
+
+foreign_told : (cause : ForeignCause) (number : ℕ) → TellsCode (foreign_line cause number)
+foreign_told (Discovery cause) number = discovery_told cause number
+foreign_told (Import (import.GuidTaken port guid)) number = told_as code.Nd5 _ refl refl refl
+foreign_told (Import import.UnknownManager) number = told_as code.Nd6 _ refl refl refl
+foreign_told (Import import.Unlike) number = told_as code.Nd7 _ refl refl refl
+foreign_told (Import (import.Refused cause)) number = refused_told cause number
+
 pub stops_are_told : (stop : Stop) → NamesCode stop
 stops_are_told (Words text) = tt
 stops_are_told NoMemory = told_as code.Memory _ refl refl refl
@@ -126,6 +158,7 @@ stops_are_told (Run (run.SecondScript line cause)) = second_script_told cause li
 stops_are_told (Run run.Read) = told_as code.Read _ refl refl refl
 stops_are_told (Run run.Write) = told_as code.Write _ refl refl refl
 stops_are_told (Second line cause) = second_told cause line
+stops_are_told (Foreign line cause) = foreign_told cause line
 
 pub refusals_are_explained : (refusal : Refusal) → IsExplained (refusal_code refusal)
 refusals_are_explained refusal.KeyNotHeld = explained_as code.Ar1 refl

@@ -7,7 +7,7 @@ use Rattle.std.specs.Borrow.{Bor}
 use Rattle.std.specs.Option.{option_to_list}
 use Rattle.result_words.specs.Steps.{◌>>=◌}
 use Rattle.fabric_cli.specs.declared.faults.Stop.{Stop}
-use Rattle.fabric_cli.specs.declared.faults.Stop.TheVariants.{Words, NoMemory, Unread, Unwritten, Run, Second}
+use Rattle.fabric_cli.specs.declared.faults.Stop.TheVariants.{Words, NoMemory, Unread, Unwritten, Run, Second, Foreign}
 use Rattle.fabric_cli.specs.Faults.{LeavesUnread, NamesUnread}
 use Rattle.fabric_cli.specs.Files.{Contents, OpensAll, OpensInOrder, StopsAt, all_open}
 use Rattle.fabric_cli.specs.Serving.{Bytes, Ending, OfScript, bytes_if_named, bytes_of, left_in, opened_bytes, script_in, texts_in, texts_of}
@@ -69,6 +69,7 @@ unread_first (Some file) reads old new names more NoMemory unread = tt
 unread_first (Some file) reads old new names more Unwritten unread = tt
 unread_first (Some file) reads old new names more (Run fault) unread = tt
 unread_first (Some file) reads old new names more (Second line cause) unread = tt
+unread_first (Some file) reads old new names more (Foreign line cause) unread = tt
 
 -- where some names opened to bytes, reading stopped after them
 stops_after : (file : Contents) (reads : Bool) (first before after : Option (List (List ℕ))) (names more : List (List ℕ)) (name : List ℕ)
@@ -95,6 +96,7 @@ unread_after (Some file) now reads reading first before after names more NoMemor
 unread_after (Some file) now reads reading first before after names more Unwritten same stays opened read unread = tt
 unread_after (Some file) now reads reading first before after names more (Run fault) same stays opened read unread = tt
 unread_after (Some file) now reads reading first before after names more (Second line cause) same stays opened read unread = tt
+unread_after (Some file) now reads reading first before after names more (Foreign line cause) same stays opened read unread = tt
 
 -- a name with bytes behind it opens to them
 pub one_open : (told : Option Contents) (name bytes : List ℕ) → IfSome told (λ file. file name ≡ Some bytes)
@@ -199,6 +201,7 @@ named_unread (Some file) reads old new names Is NoMemory leaves last = tt
 named_unread (Some file) reads old new names Is Unwritten leaves last = tt
 named_unread (Some file) reads old new names Is (Run fault) leaves last = tt
 named_unread (Some file) reads old new names Is (Second line cause) leaves last = tt
+named_unread (Some file) reads old new names Is (Foreign line cause) leaves last = tt
 
 -- ---- what is judged of the texts of files
 script_known : (known : Option (List ℕ)) (Is : List ℕ → Type 0) → is_some known ≡ true → OfScript known Is → Is (unwrap_or known [])

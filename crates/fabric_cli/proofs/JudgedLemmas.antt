@@ -1,5 +1,5 @@
 -- What comes of texts and of their fabric.
-use Rattle.std.proofs.Common.{ℕ, ◌≡◌, false, List, [], Option, Some, None, Result, Ok, Err, Vec, Global, refl, sym, ◌∙◌, ap, subst}
+use Rattle.std.proofs.Common.{ℕ, ◌≡◌, false, List, [], Option, Some, None, Result, Ok, Err, Vec, Global, inl, inr, refl, sym, ◌∙◌, ap, subst}
 use Rattle.std.specs.Prelude.{IfErr, IfOk, IsErr}
 use Rattle.std.specs.declared.alloc.AllocError.{AllocError}
 use Rattle.result_words.specs.AtLine.{AtLine}
@@ -8,8 +8,8 @@ use Rattle.result_words.proofs.StepLemmas.{same_err}
 use Rattle.topo_file.specs.Topology.{TopologyState, topology_of}
 use Rattle.partition_file.specs.declared.partition.Partition.{Partition}
 use Rattle.fabric_parts.specs.declared.cable.PortRef.{PortRef}
-use Rattle.subnet_core.specs.After.{IsUpBy, TurnsAfter, left_from, script_read}
-use Rattle.subnet_core.specs.BringUp.{Becomes, FailsWith, Turns, WithFabric, stop_of, up_from}
+use Rattle.subnet_core.specs.After.{IsLeftBy, TurnsAfter, left_from, script_read}
+use Rattle.subnet_core.specs.BringUp.{Becomes, FailsWith, IsStarted, SubnetState, Turns, WithFabric, stop_of, up_from, up_in}
 use Rattle.subnet_core.specs.Listing.{listing_text}
 use Rattle.subnet_core.specs.Roster.{RosterState, fault_in, of_text, partitions_for, roster_of}
 use Rattle.subnet_core.specs.Comparison.{Compares, TwoRunsState, TwoScriptsState, of_port, two_runs_of, two_scripts_of}
@@ -22,11 +22,14 @@ use Rattle.subnet_core.specs.declared.fault.RunFault.TheVariants as run
 use Rattle.subnet_fabric.specs.BringUp.{BroughtUpState}
 use Rattle.subnet_model.specs.declared.command.Command.{Command}
 use Rattle.sweep.specs.declared.fault.SweepFault.TheVariants as sweep
-use Rattle.fabric_cli.specs.Faults.{run_line, run_status, IsOfRun}
-use Rattle.fabric_cli.specs.Serving.{Bytes, Comes, ComesTo, Ending, ForEnding, RunStops, Stops, comparison_text, complete, ending_over, faulted, inspected, looked_at, run_in, second_stop, shares_in, changes_in, texts_with}
+use Rattle.fabric_cli.specs.Faults.{port_line, run_line, run_status, IsOfRun}
+use Rattle.fabric_cli.specs.Serving.{Bytes, Comes, ComesTo, CutComes, CutsAreTold, Ending, Finding, ForEnding, NamesNoCable, RunStops, Stops, TellsCuts, cut_told, cuts_in, comparison_text, complete, ending_over, faulted, inspected, looked_at, run_in, second_stop, shares_in, changes_in, texts_with}
 use Rattle.call_words.specs.declared.call.Inspection.{Inspection}
 use Rattle.fabric_cli.specs.declared.faults.Stop.{Stop}
-use Rattle.fabric_cli.specs.declared.faults.Stop.TheVariants.{Words, NoMemory, Unread, Unwritten, Run, Second}
+use Rattle.fabric_cli.specs.declared.faults.Stop.TheVariants.{Words, NoMemory, Unread, Unwritten, Run, Second, Foreign}
+use Rattle.call_words.specs.declared.call.CutView.{CutView}
+use Rattle.script_lines.specs.ScriptCause.{code_of as script_code}
+use Rattle.subnet_core.proofs.BringUpLemmas.{same_roster}
 use Rattle.call_words.specs.declared.call.Work.{Work}
 use Rattle.call_words.specs.declared.call.Work.TheVariants as work
 
@@ -115,7 +118,7 @@ two_runs_at_one topology partitions first second port stop fault becomes is = by
 
 -- ---- one ending
 pub for_ending : (judged : Result Bytes Ending) (P Q : Ending → Type 0) → ((ending : Ending) → P ending → Q ending) → ForEnding judged P → ForEnding judged Q
-for_ending (Ok texts) P Q f so = record { outcome = so.outcome; comparison = so.comparison; comes = so.comes; is = f _ so.is }
+for_ending (Ok texts) P Q f so = record { outcome = so.outcome; finding = so.finding; comes = so.comes; is = f _ so.is }
 for_ending (Err ending) P Q f so = f ending so
 
 -- a text that is made comes as it is, unless memory for it is refused
@@ -162,9 +165,9 @@ nothing_up = record {
   fabric = record { nodes = []; cables = []; cut = []; manager = nothing_at };
 }
 
--- where nothing is compared
-abbrev none_compared : Comparison
-none_compared = record { scripts_agree = false; events_equal = false }
+-- where nothing is found over it
+abbrev nothing_found : Finding
+nothing_found = record { comparison = record { scripts_agree = false; events_equal = false }; cuts = [] }
 
 outcome_of : (given : Result RosterState RunFault) (stop : Option RunFault) → Becomes given stop
     → (outcome : Result BroughtUpState RunFault) × Turns given outcome × (stop_of outcome ≡ stop)
@@ -178,12 +181,12 @@ module _ (topology : List ℕ) (partitions : Option (List ℕ)) (asked : Work (L
   texts = texts_with topology partitions asked
 
   -- where this becomes of their fabric
-  module _ (outcome : Result BroughtUpState RunFault) (comes : Comes topology partitions asked outcome none_compared) where
+  module _ (outcome : Result BroughtUpState RunFault) (finding : Finding) (comes : Comes topology partitions asked outcome finding) where
     abbrev over : Result Bytes Ending
-    over = Err (ending_over topology partitions asked outcome none_compared)
+    over = Err (ending_over topology partitions asked outcome finding)
 
     for_over : (Is : Ending → Type 0) → ForEnding over Is → ForEnding texts Is
-    for_over Is is = record { outcome = outcome; comparison = none_compared; comes = comes; is = is }
+    for_over Is is = record { outcome = outcome; finding = finding; comes = comes; is = is }
 
     pub run_over : (fault : RunFault) → RunStops over fault → RunStops texts fault
     run_over run.NoMemory is = tt
@@ -205,6 +208,7 @@ module _ (topology : List ℕ) (partitions : Option (List ℕ)) (asked : Work (L
     stops_over Unwritten is = absurd is
     stops_over (Run fault) is = run_over fault is
     stops_over (Second line cause) is = for_over _ is
+    stops_over (Foreign line cause) is = for_over _ is
 
     pub comes_over : (result : Result (Vec ℕ Global) Stop) → ComesTo (λ text. text.items) over result → ComesTo (λ text. text.items) texts result
     comes_over (Ok text) is = for_over _ is
@@ -229,6 +233,17 @@ stop_turns (Ok roster) (Some script) None fault becomes is = by (commands_in ros
 stop_turns (Ok roster) script (Some other) fault becomes is = (Err fault, rw (same_err other fault is) at becomes, λ what. refl)
 stop_turns (Err other) script stop fault becomes is = (Err fault, tt, λ what. rw (same_err other fault is) refl)
 
+-- where the fabric is not brought up, nothing is told of its cables
+cuts_turn : (found : Result RosterState RunFault) (stop : Option RunFault) (fault : RunFault) (view : CutView (List ℕ)) → Becomes found stop
+    → up_from found stop ≡ Err fault
+    → (outcome : Result BroughtUpState RunFault) × Turns found outcome × CutsAreTold found outcome view []
+    × (cuts_in (up_from found (stop_of outcome)) view [] ≡ faulted (run_status fault) (run_line fault))
+unfolding up_from
+cuts_turn (Ok roster) None fault view becomes is = absurd cc
+cuts_turn (Ok roster) (Some other) fault view becomes is =
+    (Err fault, rw (same_err other fault is) at becomes, tt, refl)
+cuts_turn (Err other) stop fault view becomes is = (Err fault, tt, tt, rw (same_err other fault is) refl)
+
 module _ (topology : List ℕ) (partitions : Option (List ℕ)) where
   abbrev given : Result RosterState RunFault
   given = roster_of topology partitions
@@ -241,13 +256,13 @@ module _ (topology : List ℕ) (partitions : Option (List ℕ)) where
       let up : WithFabric given (λ stop. up_from given stop ≡ Err fault) = rw told at fails in
       let turns = outcome_of given up.stop up.becomes in
       let one : run_status fault ≡ 1 = up_at_one topology partitions up.stop fault up.becomes up.is in
-      (one, record { outcome = turns.0; comparison = none_compared; comes = turns.1; is = rw (turns.2, up.is, one) refl }))
+      (one, record { outcome = turns.0; finding = nothing_found; comes = turns.1; is = rw (turns.2, up.is, one) refl }))
 
   pub is_listed : (roster : RosterState) (text : List ℕ) → WithFabric given (λ stop. up_from given stop ≡ Ok roster) → text ≡ listing_text roster.configuration
       → ForEnding (texts_with topology partitions work.Check) (λ ending. ending ≡ complete text)
   is_listed roster text up told =
       let turns = outcome_of given up.stop up.becomes in
-      record { outcome = turns.0; comparison = none_compared; comes = turns.1; is = rw (turns.2, up.is, told) refl }
+      record { outcome = turns.0; finding = nothing_found; comes = turns.1; is = rw (turns.2, up.is, told) refl }
 
   -- ---- a run
   pub run_stops : (script : List ℕ) (fault : RunFault) → FailsWith given (fault_in fault) (up_from given)
@@ -257,14 +272,14 @@ module _ (topology : List ℕ) (partitions : Option (List ℕ)) where
       let up : WithFabric given (λ stop. up_from given stop ≡ Err fault) = rw told at fails in
       let turns = outcome_of given up.stop up.becomes in
       let one : run_status fault ≡ 1 = up_at_one topology partitions up.stop fault up.becomes up.is in
-      (one, record { outcome = turns.0; comparison = none_compared; comes = turns.1; is = rw (turns.2, up.is, one) refl }))
+      (one, record { outcome = turns.0; finding = nothing_found; comes = turns.1; is = rw (turns.2, up.is, one) refl }))
 
   pub run_ends_so : (script : List ℕ) (roster : RosterState) (Is : Ending → Type 0) → WithFabric given (λ stop. up_from given stop ≡ Ok roster)
       → Is (run_in (Ok roster) script) → ForEnding (texts_with topology partitions (work.Run script)) Is
   run_ends_so script roster Is up is =
       let turns = outcome_of given up.stop up.becomes in
       let comes : run_in (up_from given (stop_of turns.0)) script ≡ run_in (Ok roster) script = rw (turns.2, up.is) refl in
-      record { outcome = turns.0; comparison = none_compared; comes = turns.1; is = subst Is (sym comes) is }
+      record { outcome = turns.0; finding = nothing_found; comes = turns.1; is = subst Is (sym comes) is }
 
   -- ---- two scripts, compared
   pub comparison_stops : (first second port : List ℕ) (fault : RunFault) → FailsWith given (fault_in fault) (two_runs_of topology partitions first second port)
@@ -274,27 +289,82 @@ module _ (topology : List ℕ) (partitions : Option (List ℕ)) where
       let up : WithFabric given (λ stop. two_runs_of topology partitions first second port stop ≡ Err fault) = rw told at fails in
       let turns = outcome_of given up.stop up.becomes in
       let one : run_status fault ≡ 1 = two_runs_at_one topology partitions first second port up.stop fault up.becomes up.is in
-      (one, record { outcome = turns.0; comparison = none_compared; comes = (turns.1, rw (turns.2, up.is) tt); is = rw (turns.2, up.is, one) refl }))
+      (one, record { outcome = turns.0; finding = nothing_found; comes = (turns.1, rw (turns.2, up.is) tt); is = rw (turns.2, up.is, one) refl }))
 
   pub is_compared : (first second port : List ℕ) (comparison : Comparison) (text : List ℕ) (runs : TwoRunsState)
       → WithFabric given (λ stop. two_runs_of topology partitions first second port stop ≡ Ok runs) → Compares runs comparison → text ≡ comparison_text comparison
       → ForEnding (texts_with topology partitions (work.Compare first second port)) (λ ending. ending ≡ complete text)
   is_compared first second port comparison text runs up compares told =
       let turns = outcome_of given up.stop up.becomes in
-      record { outcome = turns.0; comparison = comparison; comes = (turns.1, rw (turns.2, up.is) compares); is = rw (turns.2, up.is, told) refl }
+      record {
+        outcome = turns.0;
+        finding = record { comparison = comparison; cuts = [] };
+        comes = (turns.1, rw (turns.2, up.is) compares);
+        is = rw (turns.2, up.is, told) refl;
+      }
+
+  -- ---- the loss of cables
+  pub cuts_stop : (view : CutView (List ℕ)) (fault : RunFault) → FailsWith given (fault_in fault) (up_from given)
+      → RunStops (texts_with topology partitions (work.Cuts view)) fault
+  cuts_stop view fault fails =
+      stopped_by (texts_with topology partitions (work.Cuts view)) fault (λ told.
+      let up : WithFabric given (λ stop. up_from given stop ≡ Err fault) = rw told at fails in
+      let turns = cuts_turn given up.stop fault view up.becomes up.is in
+      let one : run_status fault ≡ 1 = up_at_one topology partitions up.stop fault up.becomes up.is in (
+        one,
+        record {
+          outcome = turns.0;
+          finding = nothing_found;
+          comes = (turns.1, turns.2);
+          is = turns.3 ∙ ap (λ (status : ℕ). faulted status (run_line fault)) one;
+        },
+      ))
+
+  pub cuts_come : (view : CutView (List ℕ)) (subnet : SubnetState) (result : Result (Vec ℕ Global) Stop)
+      → WithFabric given (λ stop. up_from given stop ≡ Ok subnet.roster) → IsStarted subnet → CutComes subnet.roster (up_in subnet) view result
+      → ComesTo (λ text. text.items) (texts_with topology partitions (work.Cuts view)) result
+  unfolding up_from
+  cuts_come view subnet result up started comes = by result comes
+    where
+      is : given ≡ Ok subnet.roster
+      is = same_roster given up.stop subnet.roster up.is
+
+      finding : List ℕ → Finding
+      finding told = record { comparison = record { scripts_agree = false; events_equal = false }; cuts = told }
+
+      told_so : (told : List ℕ) → TellsCuts subnet.roster (up_in subnet) view told
+          → Comes topology partitions (work.Cuts view) (Ok (up_in subnet)) (finding told)
+      told_so told tells = (rw is started.up, rw is tells)
+
+      ends_so : (told : List ℕ) → ending_over topology partitions (work.Cuts view) (Ok (up_in subnet)) (finding told) ≡ cut_told subnet.roster.plan told view
+      ends_so told = rw is refl
+
+      by : (r : Result (Vec ℕ Global) Stop) → CutComes subnet.roster (up_in subnet) view r
+          → ComesTo (λ text. text.items) (texts_with topology partitions (work.Cuts view)) r
+      by (Ok text) told = record {
+        outcome = Ok (up_in subnet);
+        finding = finding text.items;
+        comes = told_so text.items told.0;
+        is = ends_so text.items ∙ told.1;
+      }
+      by (Err stop) (inl memory) = rw memory tt
+      by (Err stop) (inr none) =
+          let tells : TellsCuts subnet.roster (up_in subnet) view [] = rw (none.view_is, none.named) tt in
+          let ending : cut_told subnet.roster.plan [] view ≡ faulted 1 (port_line (script_code none.cause)) = rw (none.view_is, none.named) refl in
+          rw none.stop_is (refl, record { outcome = Ok (up_in subnet); finding = finding []; comes = told_so [] tells; is = ends_so [] ∙ ending })
 
   -- ---- what a fabric holds, after a script, if there is one
-  left_turns : (found : Result RosterState RunFault) (script : Option (List ℕ)) (roster : RosterState) (up : BroughtUpState) → found ≡ Ok roster → IsUpBy roster up script
-      → TurnsAfter found script (Ok up) × ((what : Inspection (List ℕ)) → inspected found what script (Ok up) ≡ looked_at roster up what)
-  left_turns found None roster up is by = (rw is by, λ what. rw is refl)
-  left_turns found (Some script) roster up is by = (rw (is, by.1) by.2, λ what. rw (is, by.1) refl)
+  left_turns : (found : Result RosterState RunFault) (script : Option (List ℕ)) (left : SubnetState) → found ≡ Ok left.roster → IsLeftBy script left
+      → TurnsAfter found script (Ok (up_in left)) × ((what : Inspection (List ℕ)) → inspected found what script (Ok (up_in left)) ≡ looked_at left.roster (up_in left) what)
+  left_turns found None left is by = (rw is by.up, λ what. rw is refl)
+  left_turns found (Some script) left is by = (rw (is, by.1) by.2.up, λ what. rw (is, by.1) refl)
 
-  pub is_inspected : (what : Inspection (List ℕ)) (script : Option (List ℕ)) (roster : RosterState) (up : BroughtUpState) (result : Result (Vec ℕ Global) Stop)
-      → given ≡ Ok roster → IsUpBy roster up script → ComesTo (λ text. text.items) (Err (looked_at roster up what)) result
+  pub is_inspected : (what : Inspection (List ℕ)) (script : Option (List ℕ)) (left : SubnetState) (result : Result (Vec ℕ Global) Stop)
+      → given ≡ Ok left.roster → IsLeftBy script left → ComesTo (λ text. text.items) (Err (looked_at left.roster (up_in left) what)) result
       → ComesTo (λ text. text.items) (texts_with topology partitions (work.Inspect what script)) result
-  is_inspected what script roster up result is by comes =
-      let turns = left_turns given script roster up is by in
-      comes_over topology partitions (work.Inspect what script) (Ok up) turns.0 result (rw (turns.1 what) comes)
+  is_inspected what script left result is by comes =
+      let turns = left_turns given script left is by in
+      comes_over topology partitions (work.Inspect what script) (Ok (up_in left)) nothing_found turns.0 result (rw (turns.1 what) comes)
 
   script_at_one : (plan : TopologyState) (script : Option (List ℕ)) (fault : RunFault) → script_read plan script ≡ Err fault → run_status fault ≡ 1
   script_at_one plan None fault is = absurd cc
@@ -316,7 +386,7 @@ module _ (topology : List ℕ) (partitions : Option (List ℕ)) where
       let up : WithFabric given (λ stop. left_from given script stop ≡ Err fault) = rw told at fails in
       let one : run_status fault ≡ 1 = left_at_one script up.stop fault up.becomes up.is in
       let turns = stop_turns given script up.stop fault up.becomes up.is in
-      (one, record { outcome = turns.0; comparison = none_compared; comes = turns.1; is = turns.2 what ∙ ap (λ (status : ℕ). faulted status (run_line fault)) one }))
+      (one, record { outcome = turns.0; finding = nothing_found; comes = turns.1; is = turns.2 what ∙ ap (λ (status : ℕ). faulted status (run_line fault)) one }))
 
   -- ---- shares and changes, which take no fabric
   pub roster_stops : (fault : RunFault) (ending : Ending) → Fails (fault_in fault) given → (given ≡ Err fault → ending ≡ faulted (run_status fault) (run_line fault))
@@ -329,22 +399,22 @@ module _ (topology : List ℕ) (partitions : Option (List ℕ)) where
 
   pub shares_stop : (port : Option (List ℕ)) (fault : RunFault) → Fails (fault_in fault) given → RunStops (texts_with topology partitions (work.Shares port)) fault
   shares_stop port fault fails =
-      run_over topology partitions (work.Shares port) (Err run.NoMemory) tt fault (roster_stops fault (shares_in given port) fails (λ at. rw at refl))
+      run_over topology partitions (work.Shares port) (Err run.NoMemory) nothing_found tt fault (roster_stops fault (shares_in given port) fails (λ at. rw at refl))
 
   pub shares_come : (port : Option (List ℕ)) (roster : RosterState) (result : Result (Vec ℕ Global) Stop) → given ≡ Ok roster
       → ComesTo (λ text. text.items) (Err (shares_in (Ok roster) port)) result
       → ComesTo (λ text. text.items) (texts_with topology partitions (work.Shares port)) result
-  shares_come port roster result is comes = comes_over topology partitions (work.Shares port) (Err run.NoMemory) tt result (rw is comes)
+  shares_come port roster result is comes = comes_over topology partitions (work.Shares port) (Err run.NoMemory) nothing_found tt result (rw is comes)
 
   pub changes_stop : (second : Option (List ℕ)) (fault : RunFault) → Fails (fault_in fault) given → RunStops (texts_with topology partitions (work.Diff second)) fault
   changes_stop second fault fails =
-      run_over topology partitions (work.Diff second) (Err run.NoMemory) tt fault
+      run_over topology partitions (work.Diff second) (Err run.NoMemory) nothing_found tt fault
       (roster_stops fault (changes_in given (roster_of topology second)) fails (λ at. rw at refl))
 
   pub changes_come : (second : Option (List ℕ)) (before : RosterState) (result : Result (Vec ℕ Global) Stop) → given ≡ Ok before
       → ComesTo (λ text. text.items) (Err (changes_in (Ok before) (roster_of topology second))) result
       → ComesTo (λ text. text.items) (texts_with topology partitions (work.Diff second)) result
-  changes_come second before result is comes = comes_over topology partitions (work.Diff second) (Err run.NoMemory) tt result (rw is comes)
+  changes_come second before result is comes = comes_over topology partitions (work.Diff second) (Err run.NoMemory) nothing_found tt result (rw is comes)
 
 -- the second partitions
 pub second_stops : (before : RosterState) (topology : List ℕ) (second : Option (List ℕ)) (fault : RunFault) → Fails (fault_in fault) (roster_of topology second)

@@ -4,7 +4,7 @@ use Rattle.std.specs.Io.KnownBytes.{Keeps}
 use Rattle.subnet_core.specs.declared.fault.RunFault.{RunFault}
 use Rattle.subnet_core.specs.declared.fault.RunFault.TheVariants as run
 use Rattle.fabric_cli.specs.declared.faults.Stop.{Stop}
-use Rattle.fabric_cli.specs.declared.faults.Stop.TheVariants.{Words, NoMemory, Unread, Unwritten, Run, Second}
+use Rattle.fabric_cli.specs.declared.faults.Stop.TheVariants.{Words, NoMemory, Unread, Unwritten, Run, Second, Foreign}
 use Rattle.fabric_cli.specs.Faults.{NamesUnread, line_of, memory_line, status_of, unwritten_line}
 use Rattle.fabric_cli.specs.Files.{Contents}
 use Rattle.fabric_cli.specs.Serving.{Bytes, Ending, broken_off, complete, faulted, refused, BreaksOff, ForEnding, GoesPartly, IsLineOf, IsRefusal, IsRefused, RunStops, Stops, StopsBehind, TellsStop}
@@ -89,6 +89,7 @@ module _ (file : Contents) (reads : Bool) (old new : Option (List (List ℕ))) (
   of_stop Unwritten is unread (inl part) = absurd is
   of_stop (Run fault) is unread (inl part) = of_run fault is part
   of_stop (Second line cause) is unread (inl part) = of_fault _ 1 refl is part.told part.status
+  of_stop (Foreign line cause) is unread (inl part) = of_fault _ 1 refl is part.told part.status
 
   -- a script's fault whose line does not go out
   broken_line : (stop : Stop) (out out' : Option (List ℕ)) → (b ≡ true → answer ≡ status_of stop) → (ending : Ending) → BreaksOff stop ending out out'
@@ -122,6 +123,7 @@ module _ (file : Contents) (reads : Bool) (old new : Option (List (List ℕ))) (
   of_answer Unwritten out out' is unread (inl part) = of_output file reads old new names judged answer a b out out' err err' is part
   of_answer (Run fault) out out' is unread (inl part) = of_either (Run fault) out out' is unread part
   of_answer (Second line cause) out out' is unread (inl part) = of_either (Second line cause) out out' is unread part
+  of_answer (Foreign line cause) out out' is unread (inl part) = of_either (Foreign line cause) out out' is unread part
 
 -- a call that stops
 pub stop_is_refused : (told : Option Contents) (reads : Bool) (old new : Option (List (List ℕ))) (names : List (List ℕ)) (judged : Contents → Result Bytes Ending) (stop : Stop) (answer : ℕ) (a b : Bool) (err err' : Option (List ℕ))

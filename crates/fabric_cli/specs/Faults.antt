@@ -15,8 +15,15 @@ use Rattle.table_push.specs.Fault.{code_of as push_code}
 use Rattle.subnet_core.specs.declared.fault.RunFault.{RunFault}
 use Rattle.subnet_core.specs.declared.fault.RunFault.TheVariants as run
 use Rattle.fabric_cli.specs.Files.{Contents, Opened, StopsAt}
+use Rattle.fabric_cli.specs.declared.faults.ForeignCause.{ForeignCause}
+use Rattle.fabric_cli.specs.declared.faults.ForeignCause.TheVariants.{Discovery, Import}
 use Rattle.fabric_cli.specs.declared.faults.Stop.{Stop}
-use Rattle.fabric_cli.specs.declared.faults.Stop.TheVariants.{Words, NoMemory, Unread, Unwritten, Run, Second}
+use Rattle.fabric_cli.specs.declared.faults.Stop.TheVariants.{Words, NoMemory, Unread, Unwritten, Run, Second, Foreign}
+use Rattle.line_parts.specs.Parts.{hex_text}
+use Rattle.netdiscover_file.specs.Fault.{code_of as discovery_code}
+use Rattle.topology_import.specs.Fault.{code_of as import_code}
+use Rattle.topology_import.specs.declared.fault.ImportCause.TheVariants.{GuidTaken}
+use Rattle.std.specs.Int.{w64, to_be_bytes}
 
 -- `fault CODE topology line L` and LF
 abbrev pub topology_line : List ℕ → ℕ → List ℕ
@@ -48,6 +55,22 @@ no_path_line switch node number =
 -- `fault CODE port`, of a word
 abbrev pub port_line : List ℕ → List ℕ
 port_line code = codes "fault " ++ (code ++ codes " port\n")
+
+-- `fault CODE netdiscover line L`
+abbrev pub netdiscover_line : List ℕ → ℕ → List ℕ
+netdiscover_line code number = codes "fault " ++ (code ++ (codes " netdiscover line " ++ (decimal number ++ codes "\n")))
+
+-- with the GUID of a port, and that which its adapter would have
+abbrev pub guid_word : ℕ → List ℕ
+guid_word guid = codes " " ++ hex_text (to_be_bytes w64 guid)
+
+abbrev pub guids_line : ℕ → (port guid : ℕ) → List ℕ
+guids_line number port guid = codes "fault ND5 netdiscover line " ++ (decimal number ++ (guid_word port ++ (guid_word guid ++ codes "\n")))
+
+abbrev pub foreign_line : ForeignCause → ℕ → List ℕ
+foreign_line (Discovery cause) number = netdiscover_line (discovery_code cause) number
+foreign_line (Import (GuidTaken port guid)) number = guids_line number port guid
+foreign_line (Import cause) number = netdiscover_line (import_code cause) number
 
 abbrev pub memory_line : List ℕ
 memory_line = codes "fault memory\n"
@@ -92,6 +115,7 @@ line_of (Unread name) = unread_line name.now
 line_of Unwritten = unwritten_line
 line_of (Run fault) = run_line fault
 line_of (Second line cause) = second_line (partitions_code cause) line
+line_of (Foreign line cause) = foreign_line cause line
 
 abbrev pub status_of : Stop → ℕ
 status_of (Words text) = 2
@@ -100,6 +124,7 @@ status_of (Unread name) = 3
 status_of Unwritten = 3
 status_of (Run fault) = run_status fault
 status_of (Second line cause) = 1
+status_of (Foreign line cause) = 1
 
 -- words that ask for nothing
 abbrev pub stop_of : Refused (String Global) → Stop
@@ -119,11 +144,12 @@ IsOfFiles NoMemory = Unit {0}
 IsOfFiles (Unread name) = Unit {0}
 IsOfFiles _ = ⊥
 
--- a run of texts that were read ends only in these
+-- what is made of texts that were read ends only in these
 abbrev pub IsOfRun : Stop → Type 0
 IsOfRun NoMemory = Unit {0}
 IsOfRun (Run fault) = Unit {0}
 IsOfRun (Second line cause) = Unit {0}
+IsOfRun (Foreign line cause) = Unit {0}
 IsOfRun _ = ⊥
 
 -- a stop for a file that is not read names the file at which reading stopped

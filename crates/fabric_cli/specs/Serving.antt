@@ -1,10 +1,17 @@
 -- What a call answers, from its words, the bytes of its files, and what becomes of the fabric that they describe.
-use Rattle.std.specs.Prelude.{ℕ, ◌≡◌, ◌≢◌, ◌⊎◌, Bool, true, List, [], Option, Some, None, is_some, option_map, unwrap_or}
+use Rattle.std.specs.Prelude.{ℕ, ◌≡◌, ◌≢◌, ◌⊎◌, Bool, true, List, [], Option, Some, None, is_some, option_map, unwrap_or, Vec}
 use Rattle.std.specs.Prelude.{codes, if◌then◌else◌, string_bytes, ◌++◌, IfOk, IfSome, Result, Ok, Err}
 use Rattle.std.specs.Io.KnownBytes.{Appends, Keeps}
 use Rattle.subnet_core.specs.declared.fault.RunFault.{RunFault}
 use Rattle.subnet_core.specs.declared.fault.RunFault.TheVariants as run
 use Rattle.port_shares.specs.Shares.{shares_text}
+use Rattle.cable_cuts.specs.Texts.{TellsAll, TellsOne}
+use Rattle.fabric_parts.specs.declared.cable.Cable.{Cable}
+use Rattle.script_lines.specs.SwitchCable.{named_cable}
+use Rattle.call_words.specs.declared.call.CutView.{CutView}
+use Rattle.call_words.specs.declared.call.CutView.TheVariants.{All, One, Picture}
+use Rattle.cable_cuts.specs.Needed.{AreNeeded}
+use Rattle.std.specs.Global.{Global}
 use Rattle.subnet_model.specs.declared.subnet_port.SubnetPort.{SubnetPort}
 use Rattle.script_lines.specs.declared.script_cause.ScriptCause.{ScriptCause}
 use Rattle.script_lines.specs.ScriptCause.{code_of as script_code}
@@ -39,16 +46,26 @@ use Rattle.fabric_cli.specs.declared.texts.Task.{Task}
 use Rattle.fabric_cli.specs.declared.texts.Task.TheVariants as task
 use Rattle.fabric_cli.specs.declared.texts.Texts.{Texts}
 use Rattle.code_texts.specs.Texts.{explained}
+use Rattle.call_words.specs.declared.call.Call.TheVariants as call
 use Rattle.call_words.specs.declared.call.Call.TheVariants.{Explain, Subnet}
 use Rattle.call_words.specs.declared.call.Inspection.{Inspection}
 use Rattle.call_words.specs.declared.call.Inspection.TheVariants.{Graph, Keys, Tables, Trace}
 use Rattle.call_words.specs.declared.call.Work.{Work}
 use Rattle.call_words.specs.declared.call.Work.TheVariants as work
-use Rattle.fabric_cli.specs.declared.faults.Stop.TheVariants.{Words, NoMemory, Unread, Unwritten, Run, Second}
-use Rattle.fabric_cli.specs.Faults.{line_of, status_of, memory_line, port_line, run_line, script_line, second_line, run_status}
+use Rattle.fabric_cli.specs.declared.faults.Stop.TheVariants.{Words, NoMemory, Unread, Unwritten, Run, Second, Foreign}
+use Rattle.fabric_cli.specs.declared.faults.ForeignCause.TheVariants.{Discovery, Import}
+use Rattle.netdiscover_file.specs.Discovery.{DiscoveryState, discovery_of}
+use Rattle.netdiscover_file.specs.declared.fault.DiscoveryCause.{DiscoveryCause}
+use Rattle.netdiscover_file.specs.declared.fault.DiscoveryFault.{DiscoveryFault}
+use Rattle.netdiscover_file.specs.declared.fault.DiscoveryFault.TheVariants as discovery
+use Rattle.topology_import.specs.declared.fault.ImportError.{ImportError}
+use Rattle.topology_import.specs.declared.fault.ImportError.TheVariants as import
+use Rattle.topology_import.specs.Import.{import_of}
+use Rattle.topology_import.specs.declared.fault.ImportCause.{ImportCause}
+use Rattle.fabric_cli.specs.Faults.{foreign_line, line_of, status_of, memory_line, port_line, run_line, script_line, second_line, run_status}
 use Rattle.fabric_cli.specs.Faults.{unread_line, unwritten_line}
 use Rattle.fabric_cli.specs.Files.{Contents, Opened, StopsAt}
-use Rattle.call_words.specs.Words.{Asking, Names, named_inspection, opened_for}
+use Rattle.call_words.specs.Words.{Asking, Names, named_inspection, named_view, opened_for}
 
 -- how a call ends: the words are refused, with this text where it is known; or a fault's status and line; or a whole output;
 -- or the line of a script's fault, behind what the lines before it tell
@@ -70,6 +87,7 @@ task_work script task.Check = work.Check
 task_work script (task.Shares port) = work.Shares (option_map (λ word. word.now) port)
 task_work script (task.Diff second) = work.Diff (option_map (λ bytes. bytes.items) second)
 task_work script (task.Inspect what before) = work.Inspect (named_inspection what) (option_map (λ bytes. bytes.items) before)
+task_work script (task.Cuts view) = work.Cuts (named_view view)
 task_work script (task.Run name input) = work.Run script
 task_work script (task.Compare first second port) = work.Compare first.items second.items port.now
 
@@ -115,6 +133,7 @@ work_of file work.Check = Ok work.Check
 work_of file (work.Shares port) = Ok (work.Shares port)
 work_of file (work.Diff name) = bytes_if_named file name >>= λ bytes. Ok (work.Diff bytes)
 work_of file (work.Inspect what script) = bytes_if_named file script >>= λ bytes. Ok (work.Inspect what bytes)
+work_of file (work.Cuts view) = Ok (work.Cuts view)
 work_of file (work.Run name) = bytes_of file name >>= λ bytes. Ok (work.Run bytes)
 work_of file (work.Compare first second port) = do
   bytes ← bytes_of file first
@@ -199,7 +218,7 @@ abbrev pub looked_at : RosterState → BroughtUpState → Inspection (List ℕ) 
 looked_at roster up Tables = complete (tables_text roster.plan.nodes roster.configuration.ports up.routes.graph.switches up.fabric)
 looked_at roster up Keys = complete (keys_text roster.plan.nodes roster.configuration.ports up.fabric)
 looked_at roster up (Trace port dlid p_key) = traced roster up dlid p_key (adapter_place roster.plan port)
-looked_at roster up Graph = complete (graph_text roster.plan roster.configuration up.routes up.fabric)
+looked_at roster up Graph = complete (graph_text roster.plan roster.configuration up.routes up.fabric [])
 
 -- what a script left of it, or the fault of that
 abbrev pub looked_after : RosterState → BroughtUpState → Inspection (List ℕ) → Result (List Command) (AtLine ScriptCause) → Ending
@@ -218,37 +237,91 @@ abbrev pub inspected : Result RosterState RunFault → Inspection (List ℕ) →
 inspected (Ok roster) what script outcome = looked_in roster what script outcome
 inspected (Err fault) what script outcome = faulted (run_status fault) (run_line fault)
 
+-- ---- a topology of what another program printed, which is of no subnet
+abbrev pub imported_as : Result (List ℕ) (AtLine ImportCause) → Ending
+imported_as (Ok text) = complete text
+imported_as (Err at) = faulted 1 (foreign_line (Import at.cause) at.line)
+
+abbrev pub imported_from : Option ℕ → Result DiscoveryState (AtLine DiscoveryCause) → Ending
+imported_from manager (Ok discovery) = imported_as (import_of discovery manager)
+imported_from manager (Err at) = faulted 1 (foreign_line (Discovery at.cause) at.line)
+
+abbrev pub imported : Option ℕ → List ℕ → Ending
+imported manager text = imported_from manager (discovery_of text)
+
+-- ---- what the loss of cables would do: the fabric is brought up before the words for one are judged
+-- of all cables, of the one that words name, or as a picture
+abbrev pub cut_judged : List ℕ → Result Cable ScriptCause → Ending
+cut_judged told (Ok cable) = complete told
+cut_judged told (Err cause) = faulted 1 (port_line (script_code cause))
+
+abbrev pub cut_told : TopologyState → List ℕ → CutView (List ℕ) → Ending
+cut_told plan told All = complete told
+cut_told plan told (One first second) = cut_judged told (named_cable plan first second)
+cut_told plan told Picture = complete told
+
+abbrev pub cuts_in : Result RosterState RunFault → CutView (List ℕ) → List ℕ → Ending
+cuts_in (Ok roster) view told = cut_told roster.plan told view
+cuts_in (Err fault) view told = faulted (run_status fault) (run_line fault)
+
+-- the picture, with the cables in red that the fabric can't do without
+pub record ShowsNeeded (roster : RosterState) (up : BroughtUpState) (told : List ℕ) : Type 0 where
+  pub needed : List Bool
+  pub are : AreNeeded roster.plan roster.plan.cables needed
+  pub is : told ≡ graph_text roster.plan roster.configuration up.routes up.fabric needed
+
+-- these routes brought the fabric up, and this is what is told of its cables
+abbrev pub TellsCuts : RosterState → BroughtUpState → CutView (List ℕ) → List ℕ → Type 0
+TellsCuts roster up All told = TellsAll roster.plan roster.configuration up.routes told
+TellsCuts roster up (One first second) told =
+    IfOk (named_cable roster.plan first second) (λ cable. TellsOne roster.plan roster.configuration up.routes cable told)
+TellsCuts roster up Picture told = ShowsNeeded roster up told
+
+-- where there is no fabric nothing is asked
+abbrev pub CutsAreTold : Result RosterState RunFault → Result BroughtUpState RunFault → CutView (List ℕ) → List ℕ → Type 0
+CutsAreTold (Ok roster) (Ok up) view told = TellsCuts roster up view told
+CutsAreTold _ _ view told = Unit {0}
+
 -- ---- all of it
--- by what becomes of the fabric: it is up, or this fault stops it; and by what two runs are compared as
-abbrev pub ending_over : List ℕ → Option (List ℕ) → Work (List ℕ) (List ℕ) → Result BroughtUpState RunFault → Comparison → Ending
-ending_over topology partitions work.Check outcome comparison = ending_by (listed topology partitions (stop_of outcome))
-ending_over topology partitions (work.Shares port) outcome comparison = shares_in (roster_of topology partitions) port
-ending_over topology partitions (work.Diff second) outcome comparison =
+-- what is found over a fabric, besides what it is: what two runs are compared as, and what is told of cables
+pub record Finding : Type 0 where
+  pub comparison : Comparison
+  pub cuts : List ℕ
+
+-- by what becomes of the fabric: it is up, or this fault stops it; and by what is found over it
+abbrev pub ending_over : List ℕ → Option (List ℕ) → Work (List ℕ) (List ℕ) → Result BroughtUpState RunFault → Finding → Ending
+ending_over topology partitions work.Check outcome finding = ending_by (listed topology partitions (stop_of outcome))
+ending_over topology partitions (work.Shares port) outcome finding = shares_in (roster_of topology partitions) port
+ending_over topology partitions (work.Diff second) outcome finding =
     changes_in (roster_of topology partitions) (roster_of topology second)
-ending_over topology partitions (work.Inspect what script) outcome comparison =
+ending_over topology partitions (work.Inspect what script) outcome finding =
     inspected (roster_of topology partitions) what script outcome
-ending_over topology partitions (work.Run script) outcome comparison =
+ending_over topology partitions (work.Cuts view) outcome finding =
+    cuts_in (up_from (roster_of topology partitions) (stop_of outcome)) view finding.cuts
+ending_over topology partitions (work.Run script) outcome finding =
     run_in (up_from (roster_of topology partitions) (stop_of outcome)) script
-ending_over topology partitions (work.Compare first second port) outcome comparison =
-    ending_by (compared (two_runs_of topology partitions first second port (stop_of outcome)) comparison)
+ending_over topology partitions (work.Compare first second port) outcome finding =
+    ending_by (compared (two_runs_of topology partitions first second port (stop_of outcome)) finding.comparison)
 
 -- shares and changes take no fabric
-abbrev pub Comes : List ℕ → Option (List ℕ) → Work (List ℕ) (List ℕ) → Result BroughtUpState RunFault → Comparison → Type 0
-Comes topology partitions work.Check outcome comparison = Turns (roster_of topology partitions) outcome
-Comes topology partitions (work.Shares port) outcome comparison = Unit {0}
-Comes topology partitions (work.Diff second) outcome comparison = Unit {0}
-Comes topology partitions (work.Inspect what script) outcome comparison = TurnsAfter (roster_of topology partitions) script outcome
-Comes topology partitions (work.Run script) outcome comparison = Turns (roster_of topology partitions) outcome
-Comes topology partitions (work.Compare first second port) outcome comparison =
+abbrev pub Comes : List ℕ → Option (List ℕ) → Work (List ℕ) (List ℕ) → Result BroughtUpState RunFault → Finding → Type 0
+Comes topology partitions work.Check outcome finding = Turns (roster_of topology partitions) outcome
+Comes topology partitions (work.Shares port) outcome finding = Unit {0}
+Comes topology partitions (work.Diff second) outcome finding = Unit {0}
+Comes topology partitions (work.Inspect what script) outcome finding = TurnsAfter (roster_of topology partitions) script outcome
+Comes topology partitions (work.Cuts view) outcome finding =
+    Turns (roster_of topology partitions) outcome × CutsAreTold (roster_of topology partitions) outcome view finding.cuts
+Comes topology partitions (work.Run script) outcome finding = Turns (roster_of topology partitions) outcome
+Comes topology partitions (work.Compare first second port) outcome finding =
     Turns (roster_of topology partitions) outcome
-    × IfOk (two_runs_of topology partitions first second port (stop_of outcome)) (λ runs. Compares runs comparison)
+    × IfOk (two_runs_of topology partitions first second port (stop_of outcome)) (λ runs. Compares runs finding.comparison)
 
 -- it is so of what comes of these texts and of their fabric
 pub record ForTexts (texts : Bytes) (Is : Ending → Type 0) : Type 0 where
   pub outcome : Result BroughtUpState RunFault
-  pub comparison : Comparison
-  pub comes : Comes texts.topology texts.partitions texts.work outcome comparison
-  pub is : Is (ending_over texts.topology texts.partitions texts.work outcome comparison)
+  pub finding : Finding
+  pub comes : Comes texts.topology texts.partitions texts.work outcome finding
+  pub is : Is (ending_over texts.topology texts.partitions texts.work outcome finding)
 
 -- it is so of how a call ends: over these texts, or in an ending that is known without them
 abbrev pub ForEnding : Result Bytes Ending → (Ending → Type 0) → Type 0
@@ -259,6 +332,7 @@ ForEnding (Err ending) Is = Is ending
 abbrev pub judged_for : Contents → Asking → Result Bytes Ending
 judged_for file (Err shown) = Err (refused shown)
 judged_for file (Ok (Subnet names)) = texts_of file names
+judged_for file (Ok (call.Import netdiscover manager)) = bytes_of file netdiscover >>= λ text. Err (imported manager text)
 judged_for file (Ok (Explain code)) = Err (complete (explained code))
 
 -- what is to be done, whatever stands in its files
@@ -267,6 +341,7 @@ without_files work.Check = work.Check
 without_files (work.Shares port) = work.Shares port
 without_files (work.Diff second) = work.Diff (option_map (λ file. tt) second)
 without_files (work.Inspect what script) = work.Inspect what (option_map (λ file. tt) script)
+without_files (work.Cuts view) = work.Cuts view
 without_files (work.Run script) = work.Run tt
 without_files (work.Compare first second port) = work.Compare tt tt port
 
@@ -278,6 +353,7 @@ AreFor names texts = (is_some texts.partitions ≡ is_some names.partitions) × 
 abbrev pub ForSomeBytes : Asking → (Result Bytes Ending → Type 0) → Type 0
 ForSomeBytes (Err shown) Is = Is (Err (refused shown))
 ForSomeBytes (Ok (Subnet names)) Is = (texts : Bytes) × AreFor names texts × Is (Ok texts)
+ForSomeBytes (Ok (call.Import netdiscover manager)) Is = (text : List ℕ) × Is (Err (imported manager text))
 ForSomeBytes (Ok (Explain code)) Is = Is (Err (complete (explained code)))
 
 -- the text is the one that is known
@@ -343,6 +419,15 @@ abbrev pub second_stop : RunFault → Stop
 second_stop (run.Partitions line cause) = Second line cause
 second_stop fault = Run fault
 
+-- a fault of what another program printed
+abbrev pub discovery_stop : DiscoveryFault → Stop
+discovery_stop discovery.NoMemory = NoMemory
+discovery_stop (discovery.At line cause) = Foreign line (Discovery cause)
+
+abbrev pub import_stop : ImportError → Stop
+import_stop import.NoMemory = NoMemory
+import_stop (import.At line cause) = Foreign line (Import cause)
+
 -- words are refused, with this text
 abbrev pub IsRefusal : Ending → List ℕ → Type 0
 IsRefusal (refused shown) text = IsKnown shown text
@@ -355,6 +440,7 @@ Stops judged (Unread name) = Unit {0}
 Stops judged Unwritten = ⊥
 Stops judged (Run fault) = RunStops judged fault
 Stops judged (Second line cause) = ForEnding judged (λ ending. ending ≡ faulted 1 (second_line (partitions_code cause) line))
+Stops judged (Foreign line cause) = ForEnding judged (λ ending. ending ≡ faulted 1 (foreign_line cause line))
 
 -- of a stop its line is printed, and with its status where the line can go out
 pub record TellsStop (stop : Stop) (answer : ℕ) (is_sure : Bool) (err err' : Option (List ℕ)) : Type 0 where
@@ -366,6 +452,7 @@ abbrev pub IsToldStop : Stop → Type 0
 IsToldStop (Words text) = Unit {0}
 IsToldStop (Run fault) = Unit {0}
 IsToldStop (Second line cause) = Unit {0}
+IsToldStop (Foreign line cause) = Unit {0}
 IsToldStop _ = ⊥
 
 abbrev pub IsTold : {X : Type 0} → Result X Stop → Type 0
@@ -376,6 +463,20 @@ IsTold (Err stop) = IsToldStop stop
 abbrev pub ComesTo : {X : Type 0} → (X → List ℕ) → Result Bytes Ending → Result X Stop → Type 0
 ComesTo view judged (Ok output) = ForEnding judged (λ ending. ending ≡ complete (view output))
 ComesTo view judged (Err stop) = Stops judged stop
+
+-- no cable is between the ports that words name, whatever would be told of one
+pub record NamesNoCable (plan : TopologyState) (view : CutView (List ℕ)) (stop : Stop) : Type 0 where
+  pub cause : ScriptCause
+  pub stop_is : stop ≡ Run (run.Port cause)
+  pub first : List ℕ
+  pub second : List ℕ
+  pub view_is : view ≡ One first second
+  pub named : named_cable plan first second ≡ Err cause
+
+-- over a fabric that is up its cables are told of, unless memory is refused or no cable is named
+abbrev pub CutComes : RosterState → BroughtUpState → CutView (List ℕ) → Result (Vec ℕ Global) Stop → Type 0
+CutComes roster up view (Ok text) = TellsCuts roster up view text.items × (cut_told roster.plan text.items view ≡ complete text.items)
+CutComes roster up view (Err stop) = (stop ≡ NoMemory) ⊎ NamesNoCable roster.plan view stop
 
 -- ---- and with the output written
 -- all of it has gone out

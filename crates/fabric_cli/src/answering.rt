@@ -8,7 +8,7 @@ ghost use Rattle.fabric_cli.specs.Serving.{left_in, texts_in, texts_with, Answer
 ghost use Rattle.text_streams.specs.Reading.{IsEndless};
 
 use crate::faults::Stop;
-use crate::outputs::{changed, compared, inspected, listed, shared};
+use crate::outputs::{changed, compared, cut, inspected, listed, shared};
 use crate::texts::{Task, Texts};
 use std::alloc::Global;
 use subnet_core::run_stream;
@@ -42,6 +42,7 @@ pub fn answered_of_texts<'a, I: Reader + Drop, O: Output>(
             let script = slice_of(&script);
             written(out, inspected(alloc, topology, partitions, &what, script))
         }
+        Task::Cuts(view) => written(out, cut(alloc, topology, partitions, view)),
         Task::Run { name, mut input } => {
             streamed(alloc, topology, partitions, name, &mut input, out)
         }

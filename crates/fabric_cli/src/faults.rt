@@ -1,7 +1,8 @@
 //! Why a call does not complete, and the line that says so.
 
-ghost use Rattle.std.specs.Prelude.{◌≡◌, IfOk, option_map};
+ghost use Rattle.std.specs.Prelude.{◌≡◌, ◌++◌, IfOk, OnOk, option_map};
 ghost use Rattle.std.specs.Option.{option_map_or};
+ghost use Rattle.fabric_cli.specs.Faults.{foreign_line, guid_word, guids_line, netdiscover_line};
 ghost use Rattle.fabric_cli.specs.Faults.{fabric_line, line_of, memory_line, no_path_line, port_line, run_line, run_status, unwritten_line};
 ghost use Rattle.fabric_cli.specs.Faults.{run_stop, second_line, status_of, stop_of, sweep_status};
 ghost use Rattle.fabric_cli.specs.declared.faults.Stop.TheVariants.{NoMemory};
@@ -9,10 +10,13 @@ ghost use Rattle.script_lines.specs.ScriptCause.{code_of as script_code};
 ghost use Rattle.partition_file.specs.Fault.{code_of as partitions_code};
 
 use call_words::Refused;
+use line_parts::push_hex;
+use netdiscover_file::DiscoveryCause;
 use partition_file::PartitionCause;
 use std::alloc::{AllocError, AllocFailed, Global};
 use subnet_core::{RunFault, ScriptCause};
 use sweep::SweepFault;
+use topology_import::ImportCause;
 
 /// The exit status of a call that completes.
 pub const COMPLETE: u8 = 0;
@@ -46,6 +50,22 @@ pub enum Stop<'a> {
         /// What is wrong there.
         cause: PartitionCause,
     },
+    /// What another program printed has a fault, or is of nothing that is printed here.
+    Foreign {
+        /// The line of the fault's place, counted from 1; 0 where it is of no line.
+        line: usize,
+        /// What is wrong there.
+        cause: ForeignCause,
+    },
+}
+
+/// What is wrong with a text that another program printed.
+#[derive(Clone, Copy)]
+pub enum ForeignCause {
+    /// With what `ibnetdiscover` printed.
+    Discovery(DiscoveryCause),
+    /// No topology is made of it.
+    Import(ImportCause),
 }
 
 impl<'a> Stop<'a> {
@@ -79,7 +99,7 @@ impl<'a> Stop<'a> {
             Stop::Words(_) => WORDS_REFUSED,
             Stop::NoMemory | Stop::Unread(_) | Stop::Unwritten => REFUSED,
             Stop::Run(fault) => run_status(fault),
-            Stop::Second { .. } => FAULT,
+            Stop::Second { .. } | Stop::Foreign { .. } => FAULT,
         }
     }
 
@@ -94,6 +114,7 @@ impl<'a> Stop<'a> {
             Stop::Unwritten => unwritten_line(alloc),
             Stop::Run(fault) => run_line(alloc, fault),
             Stop::Second { line, cause } => second_line(alloc, *line, *cause),
+            Stop::Foreign { line, cause } => foreign_line(alloc, *line, *cause),
         }
     }
 }
@@ -205,6 +226,43 @@ fn second_line(alloc: Global, line: usize, cause: PartitionCause) -> Result<Vec<
 {
     let code = cause.code();
     Ok(format!(in alloc; "fault {code} partitions2 line {line}\n")?.into_bytes())
+}
+
+fn foreign_line(alloc: Global, line: usize, cause: ForeignCause) -> Result<Vec<u8>, AllocError>
+    ensures { IfOk result (λ text. text.items ≡ foreign_line cause line) }
+{
+    match cause {
+        ForeignCause::Discovery(cause) => netdiscover_line(alloc, cause.code(), line),
+        ForeignCause::Import(ImportCause::GuidTaken { port, guid }) => {
+            guids_line(alloc, line, port, guid)
+        }
+        ForeignCause::Import(cause) => netdiscover_line(alloc, cause.code(), line),
+    }
+}
+
+fn netdiscover_line(alloc: Global, code: &str, line: usize) -> Result<Vec<u8>, AllocError>
+    ensures { IfOk result (λ text. text.items ≡ netdiscover_line code.now line) }
+{
+    Ok(format!(in alloc; "fault {code} netdiscover line {line}\n")?.into_bytes())
+}
+
+/// The line of a port's GUID and of that which its adapter would have.
+fn guids_line(alloc: Global, line: usize, port: u64, guid: u64) -> Result<Vec<u8>, AllocError>
+    ensures { IfOk result (λ text. text.items ≡ guids_line line port guid) }
+{
+    let mut text = format!(in alloc; "fault ND5 netdiscover line {line}")?.into_bytes();
+    push_guid(&mut text, port)?;
+    push_guid(&mut text, guid)?;
+    text.extend_from_slice(b"\n")?;
+    Ok(text)
+}
+
+/// Adds a blank and a GUID.
+fn push_guid(text: &mut Vec<u8>, guid: u64) -> Result<(), AllocError>
+    ensures { OnOk result (text.new.items ≡ text.old.items ++ guid_word guid) }
+{
+    text.extend_from_slice(b" ")?;
+    push_hex(text, &guid.to_be_bytes())
 }
 
 impl<'a> From<AllocError> for Stop<'a> {

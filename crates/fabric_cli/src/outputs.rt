@@ -1,28 +1,35 @@
 //! What is printed of texts that were read.
 
-ghost use Rattle.std.specs.Prelude.{◌≡◌, Err, Ok, option_copied, option_map, IfErr, IfOk, IsErr};
-ghost use Rattle.call_words.specs.Words.{named_inspection};
+ghost use Rattle.std.specs.Prelude.{◌≡◌, Err, Ok, Some, None, option_copied, option_map, IfErr, IfOk, IsErr};
+ghost use Rattle.cable_cuts.specs.Fate.{HaveBroughtUp};
+ghost use Rattle.call_words.specs.Words.{named_inspection, named_view};
+ghost use Rattle.call_words.specs.declared.call.CutView.TheVariants.{All as AllCuts, One as OneCut, Picture as CutPicture};
 ghost use Rattle.call_words.specs.declared.call.Inspection.TheVariants.{Graph as IsGraph, Keys as IsKeys, Tables as IsTables};
 ghost use Rattle.call_words.specs.declared.call.Work.TheVariants as work;
 ghost use Rattle.fabric_cli.specs.Faults.{IsOfRun};
 ghost use Rattle.fabric_cli.specs.Serving.{asked_port, changes_in, looked_at, second_stop, shares_in, texts_with, traced};
-ghost use Rattle.fabric_cli.specs.Serving.{ComesTo, comparison_text, yes_or_no};
+ghost use Rattle.fabric_cli.specs.Serving.{ComesTo, CutComes, comparison_text, discovery_stop, import_stop, imported, imported_as, yes_or_no};
+ghost use Rattle.topology_import.specs.Import.{import_of};
 ghost use Rattle.fabric_cli.specs.declared.faults.Stop.TheVariants.{NoMemory};
 ghost use Rattle.subnet_core.specs.BringUp.{up_in};
 ghost use Rattle.script_lines.specs.NamedPort.{adapter_place};
 ghost use Rattle.subnet_core.specs.Roster.{roster_of};
 
-use crate::faults::Stop;
-use call_words::Inspection;
+use crate::faults::{ForeignCause, Stop};
+use cable_cuts::{cut_text, cuts_text, needed};
+use call_words::{CutView, Inspection};
 use fabric_graph::graph_text;
 use fabric_tables::{keys_text, tables_text};
+use netdiscover_file::{Discovery, DiscoveryFault};
 use packet_trace::trace_text;
 use partition_changes::changes_text;
 use port_shares::shares_text;
+use script_lines::named_cable;
 use std::alloc::{AllocError, Global};
 use subnet_core::{
     Comparison, Roster, RunFault, ScriptCause, Subnet, bring_up, compare, left_by, read_roster,
 };
+use topology_import::{ImportError, topology_text};
 
 /// The listing of a subnet that is brought up.
 pub fn listed<'a>(
@@ -193,6 +200,7 @@ fn drawn<'a>(alloc: Global, subnet: &Subnet) -> Result<Vec<u8>, Stop<'a>>
         roster.configuration(),
         subnet.routes(),
         subnet.fabric(),
+        &[],
     ))
 }
 
@@ -222,6 +230,86 @@ fn traced<'a>(
     }
 }
 
+/// What the loss of cables between switches would do to the fabric of a subnet.
+pub fn cut<'a>(
+    alloc: Global,
+    topology: &[u8],
+    partitions: Option<&[u8]>,
+    view: CutView<&str>,
+) -> Result<Vec<u8>, Stop<'a>>
+    ensures exact { ComesTo (λ text. text.items)
+        (texts_with topology.now (option_copied partitions.entry) (work.Cuts (named_view view.entry))) result }
+    ensures fault { IfErr result IsOfRun }
+{
+    match bring_up(alloc, topology, partitions) {
+        Ok(subnet) => cuts_of(alloc, &subnet, view),
+        Err(fault) => Err(Stop::Run(fault)),
+    }
+}
+
+fn cuts_of<'a>(alloc: Global, subnet: &Subnet, view: CutView<&str>) -> Result<Vec<u8>, Stop<'a>>
+    requires { HaveBroughtUp subnet.now.roster.plan subnet.now.routes }
+    ensures exact { CutComes subnet.now.roster (up_in subnet.now) (named_view view.entry) result }
+    ensures fault { IfErr result IsOfRun }
+{
+    match view {
+        CutView::All => all_cuts_of(alloc, subnet),
+        CutView::One { first, second } => cut_of(alloc, subnet, first, second),
+        CutView::Picture => needed_drawn(alloc, subnet),
+    }
+}
+
+fn all_cuts_of<'a>(alloc: Global, subnet: &Subnet) -> Result<Vec<u8>, Stop<'a>>
+    requires { HaveBroughtUp subnet.now.roster.plan subnet.now.routes }
+    ensures exact { CutComes subnet.now.roster (up_in subnet.now) AllCuts result }
+    ensures fault { IfErr result IsOfRun }
+{
+    let roster = subnet.roster();
+    let (topology, configuration) = (roster.topology(), roster.configuration());
+    text_or_stop(cuts_text(alloc, topology, configuration, subnet.routes()))
+}
+
+fn cut_of<'a>(
+    alloc: Global,
+    subnet: &Subnet,
+    first: &str,
+    second: &str,
+) -> Result<Vec<u8>, Stop<'a>>
+    requires { HaveBroughtUp subnet.now.roster.plan subnet.now.routes }
+    ensures exact { CutComes subnet.now.roster (up_in subnet.now) (OneCut first.now second.now) result }
+    ensures fault { IfErr result IsOfRun }
+{
+    let roster = subnet.roster();
+    let topology = roster.topology();
+    match named_cable(topology, first.as_bytes(), second.as_bytes()) {
+        Ok(cable) => {
+            let configuration = roster.configuration();
+            text_or_stop(cut_text(alloc, topology, configuration, subnet.routes(), cable))
+        }
+        Err(cause) => Err(Stop::Run(RunFault::Port(cause))),
+    }
+}
+
+/// The picture with the cables in red that the fabric can't do without.
+fn needed_drawn<'a>(alloc: Global, subnet: &Subnet) -> Result<Vec<u8>, Stop<'a>>
+    requires { HaveBroughtUp subnet.now.roster.plan subnet.now.routes }
+    ensures exact { CutComes subnet.now.roster (up_in subnet.now) CutPicture result }
+    ensures fault { IfErr result IsOfRun }
+{
+    let roster = subnet.roster();
+    let (topology, configuration) = (roster.topology(), roster.configuration());
+    let (routes, fabric) = (subnet.routes(), subnet.fabric());
+    let needed = needed(alloc, topology, routes)?;
+    text_or_stop(graph_text(
+        alloc,
+        topology,
+        configuration,
+        routes,
+        fabric,
+        needed.as_slice(),
+    ))
+}
+
 /// What two scripts in a subnet have in common for the port that a word names.
 pub fn compared<'a>(
     alloc: Global,
@@ -238,6 +326,61 @@ pub fn compared<'a>(
     match compare(alloc, topology, partitions, first, second, port.as_bytes()) {
         Ok(comparison) => text_or_stop(comparison_text(alloc, comparison)),
         Err(fault) => Err(Stop::Run(fault)),
+    }
+}
+
+/// A topology of what `ibnetdiscover` printed, with the subnet manager on the port of that GUID, if one is given.
+pub fn imported<'a>(
+    alloc: Global,
+    netdiscover: &[u8],
+    manager: Option<u64>,
+) -> Result<Vec<u8>, Stop<'a>>
+    ensures exact { ComesTo (λ text. text.items) (Err (imported manager netdiscover.now)) result }
+    ensures fault { IfErr result IsOfRun }
+{
+    match netdiscover_file::read(alloc, netdiscover) {
+        Ok(discovery) => import_of(alloc, &discovery, manager),
+        Err(fault) => Err(discovery_stop(fault)),
+    }
+}
+
+fn import_of<'a>(
+    alloc: Global,
+    discovery: &Discovery,
+    manager: Option<u64>,
+) -> Result<Vec<u8>, Stop<'a>>
+    ensures exact { ComesTo (λ text. text.items) (Err (imported_as (import_of discovery.now manager))) result }
+    ensures fault { IfErr result IsOfRun }
+{
+    match topology_text(alloc, discovery, manager) {
+        Ok(text) => Ok(text),
+        Err(error) => Err(import_stop(error)),
+    }
+}
+
+fn discovery_stop<'a>(fault: DiscoveryFault) -> Stop<'a>
+    ensures told { result ≡ discovery_stop fault }
+    ensures fault { IsOfRun result }
+{
+    match fault {
+        DiscoveryFault::NoMemory => Stop::NoMemory,
+        DiscoveryFault::At { line, cause } => Stop::Foreign {
+            line,
+            cause: ForeignCause::Discovery(cause),
+        },
+    }
+}
+
+fn import_stop<'a>(error: ImportError) -> Stop<'a>
+    ensures told { result ≡ import_stop error }
+    ensures fault { IsOfRun result }
+{
+    match error {
+        ImportError::NoMemory => Stop::NoMemory,
+        ImportError::At { line, cause } => Stop::Foreign {
+            line,
+            cause: ForeignCause::Import(cause),
+        },
     }
 }
 

@@ -1,10 +1,10 @@
 //! The program's work, over any words, any files and any two writers.
 
-ghost use Rattle.std.specs.Prelude.{◌≡◌, ◌≢◌, ◌⊎◌, Ok, IfErr, IfSome};
+ghost use Rattle.std.specs.Prelude.{◌≡◌, ◌≢◌, ◌⊎◌, ◌∷◌, [], Ok, IfErr, IfSome};
 ghost use Rattle.std.specs.Io.KnownBytes.{Appends};
 ghost use Rattle.std.specs.Process.{exit_status};
 ghost use Rattle.call_words.specs.Words.{all_names, asked_by_given, asking, asking_by_clap, given_texts, names, opened_for};
-ghost use Rattle.call_words.specs.declared.call.Call.TheVariants.{Subnet as InSubnet};
+ghost use Rattle.call_words.specs.declared.call.Call.TheVariants.{Import as ToImport, Subnet as InSubnet};
 ghost use Rattle.fabric_cli.specs.Faults.{line_of, memory_line, status_of, NamesUnread};
 ghost use Rattle.fabric_cli.specs.Files.{OpensAll, OpensInOrder};
 ghost use Rattle.fabric_cli.specs.Serving.{judged_for, texts_of, Answers, AppendsSomeFor, EndsAs, EndsFor, ForSomeBytes};
@@ -14,7 +14,8 @@ ghost use Rattle.text_streams.specs.Writing.{Writes};
 use crate::answering::{answered_of_texts, written};
 use crate::faults::{COMPLETE, MEMORY_LINE, REFUSED, Stop};
 use crate::files::Files;
-use crate::outputs::text_or_stop;
+use crate::outputs::{imported, text_or_stop};
+use crate::reading::read_file;
 use crate::texts::read_texts;
 use call_words::{Asked, Call, Clap, Parser, given_words, read_words};
 use code_texts::explained;
@@ -146,8 +147,36 @@ fn answered<'a, P: Parser, F: Files, O: Output>(
 {
     match read_words(alloc, parser, words) {
         Ok(Call::Subnet(asked)) => answered_of_files(alloc, &asked, files, out),
+        Ok(
+            Call::Import {
+                netdiscover,
+                manager,
+            },
+        ) => answered_of_discovery(alloc, netdiscover, manager, files, out),
         Ok(Call::Explain(code)) => written(out, text_or_stop(explained(alloc, code))),
         Err(refused) => Err(Stop::of_words(refused)),
+    }
+}
+
+/// Writes the topology of what `ibnetdiscover` printed, which a file has.
+fn answered_of_discovery<'a, F: Files, O: Output>(
+    alloc: Global,
+    netdiscover: &'a str,
+    manager: Option<u64>,
+    files: &mut F,
+    out: &mut O,
+) -> Result<(), Stop<'a>>
+    ensures opened { OpensAll (F.opened files.old) (F.opened files.new) (netdiscover.entry.now ∷ []) }
+    ensures exact { IfSome (F.told files.old) (λ file. Answers (judged_for file (Ok (ToImport netdiscover.entry.now manager))) result
+        (O.is_sure out.old) (O.contents out.old) (O.contents out.new)) }
+    ensures any_files { IsTold result → ForSomeBytes (Ok (ToImport netdiscover.entry.now manager))
+        (λ judged. Answers judged result (O.is_sure out.old) (O.contents out.old) (O.contents out.new)) }
+    ensures unread { IfErr result (NamesUnread (F.told files.old) (F.reads files.old)
+        (F.opened files.old) (F.opened files.new) (netdiscover.entry.now ∷ [])) }
+{
+    match read_file(alloc, files, netdiscover) {
+        Ok(text) => written(out, imported(alloc, text.as_slice(), manager)),
+        Err(stop) => Err(stop),
     }
 }
 

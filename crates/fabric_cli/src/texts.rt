@@ -11,7 +11,7 @@ ghost use Rattle.fabric_cli.specs.Serving.{AreFor, IsOpenScript};
 use crate::faults::Stop;
 use crate::files::Files;
 use crate::reading::{open_file, read_file};
-use call_words::{Asked, Inspection, Work};
+use call_words::{Asked, CutView, Inspection, Work};
 use std::alloc::Global;
 
 /// What to do, with the bytes of the files that this takes.
@@ -30,6 +30,8 @@ pub enum Task<'a, I> {
         /// The script that is carried out before, if there is one.
         script: Option<Vec<u8>>,
     },
+    /// Tell what the loss of cables between switches would do.
+    Cuts(CutView<&'a str>),
     /// Run a script.
     Run {
         /// Its name.
@@ -151,6 +153,7 @@ fn task_of<'a, F: Files>(
             what: copy_of(what),
             script: read_if_named(alloc, files, *script)?,
         }),
+        Work::Cuts(view) => Ok(Task::Cuts(*view)),
         Work::Run(script) => Ok(Task::Run {
             name: *script,
             input: open_file(files, *script)?,

@@ -46,13 +46,19 @@ abbrev pub end_labels : Cable → List ℕ
 end_labels cable =
     end_label (codes "taillabel") cable.first.port ++ codes ", " ++ end_label (codes "headlabel") cable.second.port
 
--- a cable that is cut is drawn as a dashed line
+-- a cable that is cut is drawn as a dashed line, and one that is needed in red
 abbrev pub stroke : (cut : Bool) → List ℕ
 stroke cut = if cut then codes ", style=dashed" else []
 
-abbrev pub edge_line : List Node → (cut : Bool) → Cable → List ℕ
-edge_line nodes cut cable = codes "  " ++ ends nodes cable ++ codes " [" ++ end_labels cable ++ stroke cut ++ codes "];\n"
+abbrev pub shade : (needed : Bool) → List ℕ
+shade needed = if needed then codes ", color=red, penwidth=2" else []
+
+abbrev pub look : (cut needed : Bool) → List ℕ
+look cut needed = stroke cut ++ shade needed
+
+abbrev pub edge_line : List Node → (look : List ℕ) → Cable → List ℕ
+edge_line nodes look cable = codes "  " ++ ends nodes cable ++ codes " [" ++ end_labels cable ++ look ++ codes "];\n"
 
 -- as `"A" -- "h1" [taillabel="2", headlabel="1"];`, or, where it is cut, `"A" -- "B" [taillabel="3", headlabel="3", style=dashed];`
-abbrev pub cable_line : RoutesState → List Node → FabricState → Cable → List ℕ
-cable_line routes nodes fabric cable = edge_line nodes (is_cut fabric cable) (downward routes nodes cable)
+abbrev pub cable_line : RoutesState → List Node → FabricState → (needed : Bool) → Cable → List ℕ
+cable_line routes nodes fabric needed cable = edge_line nodes (look (is_cut fabric cable) needed) (downward routes nodes cable)

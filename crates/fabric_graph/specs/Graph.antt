@@ -1,5 +1,6 @@
 -- The fabric of a subnet as a text in DOT, the language of Graphviz.
-use Rattle.std.specs.Prelude.{ℕ, if◌then◌else◌, List, [], ◌++◌, codes, flat_map, length, Option}
+use Rattle.std.specs.Prelude.{ℕ, Bool, false, if◌then◌else◌, List, [], ◌++◌, codes, flat_map, get_or, length, slice_get, Option}
+use Rattle.std.specs.Option.{option_map_or}
 use Rattle.std.specs.List.{range_with_len}
 use Rattle.fabric_graph.specs.Cables.{cable_line}
 use Rattle.fabric_graph.specs.Lists.{SeatState, is_in_list, place_text, places, seats_of, spacing}
@@ -19,17 +20,22 @@ abbrev pub ranks_drawn : RoutesState → List ℕ
 ranks_drawn routes = range_with_len 0 (length routes.graph.switches)
 
 -- a cable that no list shows
-abbrev pub edge_of : TopologyState → RoutesState → FabricState → List (Option SeatState) → Cable → List ℕ
-edge_of plan routes fabric seats cable = if is_in_list seats cable then [] else cable_line routes plan.nodes fabric cable
+abbrev pub edge_of : TopologyState → RoutesState → FabricState → List (Option SeatState) → (needed : Bool) → Cable → List ℕ
+edge_of plan routes fabric seats needed cable = if is_in_list seats cable then [] else cable_line routes plan.nodes fabric needed cable
+
+-- the cable at that place of the topology; which are needed is told by places, and of those that no place tells it is not asked
+unfoldable pub edge_at : TopologyState → RoutesState → FabricState → List (Option SeatState) → (needed : List Bool) → ℕ → List ℕ
+edge_at plan routes fabric seats needed place =
+    option_map_or (edge_of plan routes fabric seats (get_or needed place false)) (slice_get plan.cables place) []
 
 -- each node, by itself or in a list; each rank; and each cable that no list shows, those that are cut in the fabric too
-unfoldable pub text_by : TopologyState → ConfigurationState → RoutesState → FabricState → List (Option SeatState) → List ℕ
-text_by plan subnet routes fabric seats =
+unfoldable pub text_by : TopologyState → ConfigurationState → RoutesState → FabricState → List (Option SeatState) → List Bool → List ℕ
+text_by plan subnet routes fabric seats needed =
     head ++ spacing seats
     ++ flat_map (place_text plan subnet seats) (places seats)
     ++ flat_map (rank_line routes plan.nodes) (ranks_drawn routes)
-    ++ flat_map (edge_of plan routes fabric seats) plan.cables
+    ++ flat_map (edge_at plan routes fabric seats needed) (range_with_len 0 (length plan.cables))
     ++ codes "}\n"
 
-abbrev pub graph_text : TopologyState → ConfigurationState → RoutesState → FabricState → List ℕ
-graph_text plan subnet routes fabric = text_by plan subnet routes fabric (seats_of plan subnet)
+abbrev pub graph_text : TopologyState → ConfigurationState → RoutesState → FabricState → List Bool → List ℕ
+graph_text plan subnet routes fabric needed = text_by plan subnet routes fabric (seats_of plan subnet) needed

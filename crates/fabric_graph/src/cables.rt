@@ -1,8 +1,8 @@
-//! The cables of a topology, as edges; those that are cut in the fabric are dashed.
+//! The cables of a topology, as edges; those that are cut in the fabric are dashed, and those that are needed are red.
 
 ghost use Rattle.std.specs.Prelude.{◌≡◌, ◌++◌, OnOk};
 ghost use Rattle.fabric_graph.specs.Cables.{cable_line, downward, edge_line, end_label, end_labels, ends, is_above, is_cut, rank_at};
-ghost use Rattle.fabric_graph.specs.Cables.{stroke};
+ghost use Rattle.fabric_graph.specs.Cables.{look};
 
 use crate::nodes::push_quoted;
 use crate::ranks::rank_of;
@@ -19,12 +19,13 @@ pub(crate) fn push_cable_line(
     routes: &Routes,
     nodes: &[Node],
     fabric: &Fabric,
+    needed: bool,
     cable: &Cable,
 ) -> Result<(), AllocError>
-    ensures { OnOk result (text.new.items ≡ text.old.items ++ cable_line routes.now nodes.now fabric.now cable.now) }
+    ensures { OnOk result (text.new.items ≡ text.old.items ++ cable_line routes.now nodes.now fabric.now needed cable.now) }
 {
-    let cut = is_cut(fabric, cable);
-    push_edge_line(text, nodes, cut, downward(routes, nodes, *cable))
+    let look = look(is_cut(fabric, cable), needed);
+    push_edge_line(text, nodes, look, downward(routes, nodes, *cable))
 }
 
 /// Whether nothing goes over this cable of the topology in the fabric.
@@ -71,24 +72,29 @@ fn is_above(one: Option<usize>, other: Option<usize>) -> bool
 fn push_edge_line(
     text: &mut Vec<u8>,
     nodes: &[Node],
-    cut: bool,
+    look: &[u8],
     cable: Cable,
 ) -> Result<(), AllocError>
-    ensures { OnOk result (text.new.items ≡ text.old.items ++ edge_line nodes.now cut cable) }
+    ensures { OnOk result (text.new.items ≡ text.old.items ++ edge_line nodes.now look.now cable) }
 {
     text.extend_from_slice(b"  ")?;
     push_ends(text, nodes, cable)?;
     text.extend_from_slice(b" [")?;
     push_end_labels(text, cable)?;
-    text.extend_from_slice(stroke(cut))?;
+    text.extend_from_slice(look)?;
     text.extend_from_slice(b"];\n")
 }
 
 /// How the edge of a cable is drawn.
-fn stroke(cut: bool) -> &'static [u8]
-    ensures { result.now ≡ stroke cut }
+fn look(cut: bool, needed: bool) -> &'static [u8]
+    ensures { result.now ≡ look cut needed }
 {
-    if cut { b", style=dashed" } else { b"" }
+    match (cut, needed) {
+        (true, true) => b", style=dashed, color=red, penwidth=2",
+        (true, false) => b", style=dashed",
+        (false, true) => b", color=red, penwidth=2",
+        (false, false) => b"",
+    }
 }
 
 fn push_ends(text: &mut Vec<u8>, nodes: &[Node], cable: Cable) -> Result<(), AllocError>

@@ -1,8 +1,8 @@
 //! The whole text.
 
-ghost use Rattle.std.specs.Prelude.{◌≡◌, ◌++◌, OnOk, IfOk, flat_map};
+ghost use Rattle.std.specs.Prelude.{◌≡◌, ◌++◌, false, OnOk, IfOk, flat_map, get_or, length};
 ghost use Rattle.std.specs.List.{range_with_len};
-ghost use Rattle.fabric_graph.specs.Graph.{edge_of, graph_text, head, ranks_drawn, text_by};
+ghost use Rattle.fabric_graph.specs.Graph.{edge_at, edge_of, graph_text, head, ranks_drawn, text_by};
 ghost use Rattle.fabric_graph.specs.Lists.{place_text, places, spacing};
 ghost use Rattle.fabric_graph.specs.Ranks.{rank_line};
 
@@ -22,15 +22,17 @@ use updn_routes::Routes;
 /// alone can be refused.
 ///
 /// Switches are boxes and channel adapters ellipses, with the LIDs of their ports, and adapters are coloured by the
-/// partitions other than the default one that they are in. Cables that are cut in the fabric are dashed.
+/// partitions other than the default one that they are in. Cables that are cut in the fabric are dashed, and those that are
+/// needed are red: of the cable at each place of the topology that is told, where it has that place.
 pub fn graph_text(
     alloc: Global,
     topology: &Topology,
     configuration: &Configuration,
     routes: &Routes,
     fabric: &Fabric,
+    needed: &[bool],
 ) -> Result<Vec<u8>, AllocError>
-    ensures { IfOk result (λ text. text.items ≡ graph_text topology.now configuration.now routes.now fabric.now) }
+    ensures { IfOk result (λ text. text.items ≡ graph_text topology.now configuration.now routes.now fabric.now needed.now) }
 {
     let seats = seats_of(alloc, topology, configuration)?;
     text_by(
@@ -40,6 +42,7 @@ pub fn graph_text(
         routes,
         fabric,
         seats.as_slice(),
+        needed,
     )
 }
 
@@ -51,15 +54,16 @@ fn text_by(
     routes: &Routes,
     fabric: &Fabric,
     seats: &[Option<Seat>],
+    needed: &[bool],
 ) -> Result<Vec<u8>, AllocError>
-    ensures { IfOk result (λ text. text.items ≡ text_by topology.now configuration.now routes.now fabric.now seats.now) }
+    ensures { IfOk result (λ text. text.items ≡ text_by topology.now configuration.now routes.now fabric.now seats.now needed.now) }
 {
     let mut text = Vec::new(alloc);
     text.extend_from_slice(head())?;
     text.extend_from_slice(spacing(seats))?;
     push_nodes(alloc, &mut text, topology, configuration, seats)?;
     push_ranks(&mut text, routes, topology.nodes())?;
-    push_cables(&mut text, topology, routes, fabric, seats)?;
+    push_cables(&mut text, topology, routes, fabric, seats, needed)?;
     text.extend_from_slice(b"}\n")?;
     Ok(text)
 }
@@ -116,14 +120,47 @@ fn push_cables(
     routes: &Routes,
     fabric: &Fabric,
     seats: &[Option<Seat>],
+    needed: &[bool],
 ) -> Result<(), AllocError>
-    ensures { OnOk result (text.new.items
-        ≡ text.old.items ++ flat_map (edge_of topology.now routes.now fabric.now seats.now) topology.now.cables) }
+    ensures { OnOk result (text.new.items ≡ text.old.items
+        ++ flat_map (edge_at topology.now routes.now fabric.now seats.now needed.now) (range_with_len 0 (length topology.now.cables))) }
 {
-    for cable in topology.cables() {
-        push_edge_of(text, topology, routes, fabric, seats, cable)?;
+    for place in 0..topology.cables().len() {
+        push_edge_at(text, topology, routes, fabric, seats, needed, place)?;
     }
     Ok(())
+}
+
+/// Adds the edge of the cable at that place, if there is one.
+#[tactic(auto, unfolding(crate::specs::Graph::edge_at))]
+fn push_edge_at(
+    text: &mut Vec<u8>,
+    topology: &Topology,
+    routes: &Routes,
+    fabric: &Fabric,
+    seats: &[Option<Seat>],
+    needed: &[bool],
+    place: usize,
+) -> Result<(), AllocError>
+    ensures { OnOk result (text.new.items ≡ text.old.items ++ edge_at topology.now routes.now fabric.now seats.now needed.now place) }
+{
+    match topology.cables().get(place) {
+        Some(cable) => {
+            let needed = is_needed(needed, place);
+            push_edge_of(text, topology, routes, fabric, seats, needed, cable)
+        }
+        None => Ok(()),
+    }
+}
+
+/// Whether the cable at that place is told as needed.
+fn is_needed(needed: &[bool], place: usize) -> bool
+    ensures { result ≡ get_or needed.now place false }
+{
+    match needed.get(place) {
+        Some(needed) => *needed,
+        None => false,
+    }
 }
 
 /// Adds the edge of a cable, unless a list shows it.
@@ -133,13 +170,15 @@ fn push_edge_of(
     routes: &Routes,
     fabric: &Fabric,
     seats: &[Option<Seat>],
+    needed: bool,
     cable: &Cable,
 ) -> Result<(), AllocError>
-    ensures { OnOk result (text.new.items ≡ text.old.items ++ edge_of topology.now routes.now fabric.now seats.now cable.now) }
+    ensures { OnOk result (text.new.items ≡ text.old.items
+        ++ edge_of topology.now routes.now fabric.now seats.now needed cable.now) }
 {
     if is_in_list(seats, cable) {
         Ok(())
     } else {
-        push_cable_line(text, routes, topology.nodes(), fabric, cable)
+        push_cable_line(text, routes, topology.nodes(), fabric, needed, cable)
     }
 }

@@ -1,5 +1,5 @@
 -- Each command of an accepted script names a port that may send, or a cable between switches.
-use Rattle.std.proofs.Common.{ℕ, ◌+◌, ◌^◌, ◌≡◌, ◌==◌, ◌&&◌, ◌++◌, ◌∙◌, ap, refl, subst, sym, Bool, true, false, not, nat_le, if◌then◌else◌, codes, List, [], ◌∷◌, Option, Some, None, Result, Ok, Err}
+use Rattle.std.proofs.Common.{ℕ, ◌+◌, ◌^◌, ◌≡◌, ◌==◌, ◌&&◌, ◌++◌, ◌∙◌, ap, refl, subst, sym, Bool, true, false, not, nat_le, if◌then◌else◌, codes, List, [], ◌∷◌, Option, Some, None, Result, Ok, Err, IfOk}
 use Rattle.std.specs.List.{All}
 use Rattle.std.specs.Option.{ok_or, option_eq, option_to_list}
 use Rattle.std.specs.Result.{result_ok}
@@ -29,7 +29,7 @@ use Rattle.script_lines.specs.Script.{command_in, command_of, with_line}
 use Rattle.script_lines.specs.Send.{field_of, fitting, payload_of, send_of, send_spelt, u16_field}
 use Rattle.script_lines.specs.Sender.{sender_at, sender_of}
 use Rattle.script_lines.specs.SpeltBytes.{written_in}
-use Rattle.script_lines.specs.SwitchCable.{cable_between, cable_of, cable_spelt, end_named, joins_switches}
+use Rattle.script_lines.specs.SwitchCable.{cable_between, cable_of, cable_spelt, end_named, joins_switches, named_cable}
 use Rattle.script_lines.specs.declared.script_cause.ScriptCause.{ScriptCause}
 use Rattle.script_lines.specs.declared.script_cause.ScriptCause.TheVariants.{Malformed, UnknownPort, ManagerPort, UncabledPort, UnknownCable}
 
@@ -147,15 +147,24 @@ ask_words_name plan (a ∷ b ∷ []) command is = absurd cc
 ask_words_name plan (a ∷ b ∷ c ∷ []) command is = absurd cc
 ask_words_name plan (a ∷ b ∷ c ∷ d ∷ fields) command is = ask_names plan a b c d fields command is
 
+named_joins : (plan : TopologyState) (one other : List ℕ) (cable : Cable) → named_cable plan one other ≡ Ok cable → IsSwitchCable plan cable
+unfolding named_cable
+named_joins plan one other cable is =
+    let here = bind_ok (end_named plan one) _ cable is in
+    let there = bind_ok (end_named plan other) _ cable here.2 in
+    joins plan here.0 there.0 cable (end_there plan one here.0 here.1) (end_there plan other there.0 there.1) there.2
+
+pub named_is_there : (plan : TopologyState) (one other : List ℕ) (found : Result Cable ScriptCause) → found ≡ named_cable plan one other
+    → IfOk found (IsSwitchCable plan)
+named_is_there plan one other (Ok cable) is = named_joins plan one other cable (sym is)
+named_is_there plan one other (Err cause) is = tt
+
 cable_names : (plan : TopologyState) (mended : Bool) (one other : List ℕ) (command : Command) → cable_spelt plan mended one other ≡ Ok command → NamesWhatIsThere plan command
 unfolding cable_spelt
 cable_names plan mended one other command is =
-    let here = bind_ok (end_named plan one) _ command is in
-    let there = bind_ok (end_named plan other) _ command here.2 in
-    let cable = bind_ok (cable_between plan here.0 there.0) _ command there.2 in
+    let cable = bind_ok (named_cable plan one other) _ command is in
     let made : Command = Command.Cable (record { cable = cable.0; up = mended }) in
-    subst (NamesWhatIsThere plan) (same_ok made command cable.2)
-    (joins plan here.0 there.0 cable.0 (end_there plan one here.0 here.1) (end_there plan other there.0 there.1) cable.1)
+    subst (NamesWhatIsThere plan) (same_ok made command cable.2) (named_joins plan one other cable.0 cable.1)
 
 cable_words_name : (plan : TopologyState) (mended : Bool) (words : List (List ℕ)) (command : Command) → cable_of plan mended words ≡ Ok command → NamesWhatIsThere plan command
 unfolding cable_of

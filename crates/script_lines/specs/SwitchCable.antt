@@ -27,12 +27,17 @@ joins_switches plan here there =
 abbrev pub cable_between : TopologyState → PortRef → PortRef → Result Cable ScriptCause
 cable_between plan here there = if joins_switches plan here there then Ok (record { first = here; second = there }) else Err UnknownCable
 
+-- that between the two ports that words name
+unfoldable pub named_cable : TopologyState → (one other : List ℕ) → Result Cable ScriptCause
+named_cable plan one other = do
+  here ← end_named plan one
+  there ← end_named plan other
+  cable_between plan here there
+
 -- ---- the line: the cable is mended by it, or else cut
 unfoldable pub cable_spelt : TopologyState → Bool → (one other : List ℕ) → Result Command ScriptCause
 cable_spelt plan mended one other = do
-  here ← end_named plan one
-  there ← end_named plan other
-  cable ← cable_between plan here there
+  cable ← named_cable plan one other
   Ok (Command.Cable (record { cable = cable; up = mended }))
 
 unfoldable pub cable_of : TopologyState → Bool → List (List ℕ) → Result Command ScriptCause

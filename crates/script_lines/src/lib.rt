@@ -3,7 +3,7 @@
 //! [`command_of`] gives the command of a line, as `specs/Script.antt` says: a packet that a port is to send
 //! (`specs/Send.antt`), a MAD by which it asks subnet administration (`specs/Ask.antt`), or a cable between two switches
 //! that is cut or mended (`specs/SwitchCable.antt`). Which end port a word names is asked by [`named_port`],
-//! [`adapter_place`] and [`named_adapter_port`], too (`specs/NamedPort.antt`).
+//! [`adapter_place`] and [`named_adapter_port`], too (`specs/NamedPort.antt`), and which cable two words name by [`named_cable`].
 #![tactic(auto)]
 
 mod ask;
@@ -21,3 +21,4 @@ pub use crate::laws::commands_name_what_is_there;
 pub use crate::naming::{adapter_place, named_adapter_port, named_port};
 pub use crate::script::command_of;
 pub use crate::script_cause::ScriptCause;
+pub use crate::switch_cable::named_cable;

@@ -1,7 +1,8 @@
 //! Lines by which a cable between two switches is cut, or mended.
 
-ghost use Rattle.std.specs.Prelude.{◌≡◌};
-ghost use Rattle.script_lines.specs.SwitchCable.{cable_between, cable_of, cable_spelt, end_named, joins_switches};
+ghost use Rattle.std.specs.Prelude.{◌≡◌, IfOk};
+ghost use Rattle.script_lines.specs.Laws.{IsSwitchCable};
+ghost use Rattle.script_lines.specs.SwitchCable.{cable_between, cable_of, cable_spelt, end_named, joins_switches, named_cable};
 
 use crate::naming::named_place;
 use crate::script_cause::ScriptCause;
@@ -35,10 +36,26 @@ fn cable_spelt(
 ) -> Result<Command, ScriptCause>
     ensures { result ≡ cable_spelt topology.now mended one.now other.now }
 {
+    let cable = named_cable(topology, one, other)?;
+    Ok(Command::Cable(CableCommand { cable, up: mended }))
+}
+
+/// The cable of a topology between the ports of two switches that words name, with its ends in the order of the words;
+/// `UnknownCable` where there is none.
+pub fn named_cable(topology: &Topology, one: &[u8], other: &[u8]) -> Result<Cable, ScriptCause>
+    ensures is { result ≡ named_cable topology.now one.now other.now }
+    ensures there { IfOk result (IsSwitchCable topology.now) }
+{
+    cable_named(topology, one, other)
+}
+
+#[tactic(auto, unfolding(crate::specs::SwitchCable::named_cable))]
+fn cable_named(topology: &Topology, one: &[u8], other: &[u8]) -> Result<Cable, ScriptCause>
+    ensures { result ≡ named_cable topology.now one.now other.now }
+{
     let here = end_named(topology, one)?;
     let there = end_named(topology, other)?;
-    let cable = cable_between(topology, here, there)?;
-    Ok(Command::Cable(CableCommand { cable, up: mended }))
+    cable_between(topology, here, there)
 }
 
 /// Where the port is that a word names.

@@ -1,6 +1,6 @@
 use Rattle.std.proofs.Common.{◌≡◌, ◌∙◌, true, ap, codes, refl}
 use Rattle.clap.specs.Words.{App, app_of, new_app, with_subcommand}
-use Rattle.call_words.specs.CommandLine.{check_command, compare_command, diff_command, explain_command, graph_command, keys_command, run_command, shares_command, tables_command, trace_command}
+use Rattle.call_words.specs.CommandLine.{check_command, compare_command, cuts_command, diff_command, explain_command, graph_command, import_command, keys_command, run_command, shares_command, tables_command, trace_command}
 use Rattle.call_words.proofs.CommandLemmas.{adds_shape}
 use Rattle.call_words.proofs.command_line.fabric_command.Goals as goal
 
@@ -38,6 +38,12 @@ with_run = with_subcommand with_graph run_command.top
 abbrev with_compare : App
 with_compare = with_subcommand with_run compare_command.top
 
+abbrev with_cuts : App
+with_cuts = with_subcommand with_compare cuts_command.top
+
+abbrev with_import : App
+with_import = with_subcommand with_cuts import_command.top
+
 pub returns-clause-words : goal.returns-clause-words
 returns-clause-words c =
     let top_is : app_of c.subcommand_required.result ≡ with_requirement (new_app (codes "fabric")) =
@@ -69,6 +75,12 @@ returns-clause-words c =
     let compares : app_of c.in_ok-subcommand-9.field-0 ≡ with_compare =
     adds_shape _ _ _ compare_command c.in_ok-subcommand-9.ensures c.in_ok-compare_command.ensures.words refl
     ∙ ap (λ (a : App). with_subcommand a compare_command.top) runs in
-    let explains = adds_shape _ _ _ explain_command c.in_ok-subcommand-10.ensures c.in_ok-explain_command.ensures.words refl
-    ∙ ap (λ (a : App). with_subcommand a explain_command.top) compares in
+    let cuts : app_of c.in_ok-subcommand-10.field-0 ≡ with_cuts =
+    adds_shape _ _ _ cuts_command c.in_ok-subcommand-10.ensures c.in_ok-cuts_command.ensures.words refl
+    ∙ ap (λ (a : App). with_subcommand a cuts_command.top) compares in
+    let imports : app_of c.in_ok-subcommand-11.field-0 ≡ with_import =
+    adds_shape _ _ _ import_command c.in_ok-subcommand-11.ensures c.in_ok-import_command.ensures.words refl
+    ∙ ap (λ (a : App). with_subcommand a import_command.top) cuts in
+    let explains = adds_shape _ _ _ explain_command c.in_ok-subcommand-12.ensures c.in_ok-explain_command.ensures.words refl
+    ∙ ap (λ (a : App). with_subcommand a explain_command.top) imports in
     rw (c.after_help.ensures, c.about.ensures, c.version.ensures, c.in_ok-command.ensures.0) (ap with_version explains)

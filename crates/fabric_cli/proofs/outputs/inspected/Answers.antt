@@ -1,13 +1,12 @@
 use Rattle.std.specs.Option.{option_copied}
-use Rattle.subnet_core.specs.BringUp.{up_in}
 use Rattle.call_words.specs.Words.{named_inspection}
 use Rattle.fabric_cli.proofs.JudgedLemmas.{inspection_stops, is_inspected}
 use Rattle.fabric_cli.proofs.outputs.inspected.Goals as goal
 
 pub returns-in-Ok-clause-exact : goal.returns-in-Ok-clause-exact
 returns-in-Ok-clause-exact c =
-    is_inspected c.args.topology.now (option_copied c.args.partitions) (named_inspection c.args.what.now) (option_copied c.args.script) c.in-Ok.subnet.roster
-    (up_in c.in-Ok.subnet) c.looked_at.result c.in-Ok.ensures.0 c.in-Ok.ensures.1 c.looked_at.ensures.exact
+    is_inspected c.args.topology.now (option_copied c.args.partitions) (named_inspection c.args.what.now) (option_copied c.args.script) c.in-Ok.subnet
+    c.looked_at.result c.in-Ok.ensures.0 c.in-Ok.ensures.1 c.looked_at.ensures.exact
 
 pub returns-in-Err-clause-exact : goal.returns-in-Err-clause-exact
 returns-in-Err-clause-exact c =

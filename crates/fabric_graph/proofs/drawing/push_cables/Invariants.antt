@@ -1,8 +1,8 @@
-use Rattle.std.proofs.Common.{◌≡◌, ◌++◌, take}
-use Rattle.std.specs.List.{flat_map}
-use Rattle.fabric_graph.specs.Graph.{edge_of}
+use Rattle.std.proofs.Common.{◌≡◌, ◌++◌}
+use Rattle.std.specs.List.{flat_map, range_with_len}
+use Rattle.fabric_graph.specs.Graph.{edge_at}
 use Rattle.fabric_graph.proofs.drawing.push_cables.Given as goal
 
-abbrev pub invariant-loop-cable : goal.invariant-loop-cable
-invariant-loop-cable l =
-    l.text.items ≡ l.fn.text.items ++ flat_map (edge_of l.fn.topology l.fn.routes l.fn.fabric l.fn.seats) (take l.cable-index l.fn.topology.cables)
+abbrev pub invariant-loop-place : goal.invariant-loop-place
+invariant-loop-place l =
+    l.text.items ≡ l.fn.text.items ++ flat_map (edge_at l.fn.topology l.fn.routes l.fn.fabric l.fn.seats l.fn.needed) (range_with_len 0 l.place)
