@@ -1,7 +1,7 @@
 -- Circles that are told are circles, and none is missed.
-use Rattle.std.proofs.Common.{◌≡◌, ◌∙◌, inl, inr, ap, ap₂, refl, subst, sym, ℕ, zero, suc, ◌+◌, ◌<◌, ◌≤◌, Bool, true, false, ◌==◌, ◌&&◌, ◌||◌, List, [], ◌∷◌, length, map, filter, find, get_or, arith}
+use Rattle.std.proofs.Common.{◌≡◌, ◌∙◌, inl, inr, ap, ap₂, refl, subst, sym, ℕ, zero, suc, ◌+◌, ◌<◌, ◌≤◌, nat_lt, Bool, true, false, ◌==◌, ◌&&◌, ◌||◌, List, [], ◌∷◌, length, map, filter, find, get_or, arith}
 use Rattle.std.proofs.Common.{Option, Some, None, option_map, if◌then◌else◌}
-use Rattle.std.specs.List.{enumerate_from, list_any, range_with_len}
+use Rattle.std.specs.List.{enumerate_from, list_all, list_any, range_with_len}
 use Rattle.std.specs.Option.{option_or}
 use Rattle.std.proofs.lemmas.Bool.{and_from, and_parts, cases_Bool, cases_lt, eq-eqb, false_from_ne_true, false≢true, or_right}
 use Rattle.std.proofs.lemmas.Bool.Decides.{nat_tests}
@@ -202,12 +202,48 @@ mapped_some : {X Y : Type 0} (f : X → Y) (o : Option X) (y : Y) → option_map
 mapped_some f (Some x) y is = (x, refl, same_Some (f x) y is)
 mapped_some f None y is = cc
 
+-- what waits for something has a place in the graph
+round_within : (graph : List (List ℕ)) (first a : ℕ) (rest : List ℕ) → num_round (waits_for graph) first (a ∷ rest) ≡ true
+    → list_all (λ i. nat_lt i (length graph)) (a ∷ rest) ≡ true
+round_within graph first a [] waits =
+    let within = within_graph (λ next. next == first) graph a waits in
+    let less : nat_lt a (length graph) ≡ true = grind (arith, nat_tests, within) in
+    rw less refl
+round_within graph first a (b ∷ rest) waits =
+    let parts = and_parts (waits_for graph a b) _ waits in
+    let within = within_graph (λ next. next == b) graph a parts.0 in
+    let less : nat_lt a (length graph) ≡ true = grind (arith, nat_tests, within) in
+    rw less (round_within graph first b rest parts.1)
+
+at_place : (xs : List PortRef) (i : ℕ) → i < length xs → list_any (is_same_port (get_or xs i (port 0 0))) xs ≡ true
+at_place [] i within = absurd (omega (arith, within))
+at_place (x ∷ xs) zero within =
+    let node : (x.node == x.node) ≡ true = eq-eqb x.node x.node refl in
+    let number : (x.port == x.port) ≡ true = eq-eqb x.port x.port refl in
+    rw (node, number) refl
+at_place (x ∷ xs) (suc i) within = or_right (is_same_port (get_or xs i (port 0 0)) x) _ (at_place xs i (omega (arith, within)))
+
+places_are_channels : (net : NetState) (places : List ℕ) → list_all (λ i. nat_lt i (length (channels net))) places ≡ true
+    → are_channels net (map (channel_at net) places) ≡ true
+places_are_channels net [] within = refl
+places_are_channels net (i ∷ places) within =
+    let parts = and_parts (nat_lt i (length (channels net))) _ within in
+    and_from (list_any (is_same_port (channel_at net i)) (channels net)) _ (at_place (channels net) i (grind (arith, nat_tests, parts.0)))
+    (places_are_channels net places parts.1)
+
 pub told_circles_wait : ToldCirclesWait
 told_circles_wait net lids ring told =
     let places = mapped_some (map (channel_at net)) (circle (dependencies net lids)) ring told in
     let found = first_is (dependencies net lids) (range_with_len 0 (length (dependencies net lids))) places.0 places.1 in
-    let round = round_waits net lids found.0 found.0 (way (dependencies net lids) found.1 found.0 found.0) (way_waits (dependencies net lids) found.1 found.0 found.0 found.2) in
-    subst (λ (r : List PortRef). is_circle (depends net lids) r ≡ true) (ap (map (channel_at net)) (sym found.3) ∙ places.2) round
+    let waits = way_waits (dependencies net lids) found.1 found.0 found.0 found.2 in
+    let rest = way (dependencies net lids) found.1 found.0 found.0 in
+    let within = round_within (dependencies net lids) found.0 found.0 rest waits in
+    let long : length (dependencies net lids) ≡ length (channels net) = length-map (channels net) (nexts net lids) in
+    let same : map (channel_at net) (found.0 ∷ rest) ≡ ring = ap (map (channel_at net)) (sym found.3) ∙ places.2 in (
+      subst (λ (r : List PortRef). are_channels net r ≡ true) same
+          (places_are_channels net (found.0 ∷ rest) (subst (λ (n : ℕ). list_all (λ i. nat_lt i n) (found.0 ∷ rest) ≡ true) long within)),
+      subst (λ (r : List PortRef). is_circle (depends net lids) r ≡ true) same (round_waits net lids found.0 found.0 rest waits),
+    )
 
 -- ---- a circle of channels is one of their places
 abbrev place_in : PortRef → List PortRef → ℕ

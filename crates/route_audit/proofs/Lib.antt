@@ -9,3 +9,4 @@ pub mod EndlessLemmas
 pub mod CircleLawLemmas
 pub mod WrongLemmas
 pub mod SafeLemmas
+pub mod ToldLemmas

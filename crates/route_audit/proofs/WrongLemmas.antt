@@ -1,22 +1,23 @@
 -- What wrong rules tell of two switches.
-use Rattle.std.proofs.Common.{◌≡◌, ◌∙◌, ◌==◌, ℕ, List, ap, lit<, refl, sym, [], ◌∷◌}
+use Rattle.std.proofs.Common.{◌≡◌, ◌∙◌, ◌==◌, ℕ, true, List, Some, ap, filter, lit<, map, refl, sym, [], ◌∷◌}
 use Rattle.std.proofs.lemmas.Bool.{false≢true}
 use Rattle.fabric_parts.specs.Cable.{port}
 use Rattle.route_audit.specs.declared.following.Turn.TheVariants as turns
 use Rattle.route_audit.specs.Laws.{IsWay}
-use Rattle.route_audit.specs.WrongRules.{LoopsBeginWhereTold, TablesAreNotEnough, OtherLidsDoNotCount, TheLastWaitsForTheFirst, TwoMakeACircle, WaysAreLonger, a_hole, two_switches}
+use Rattle.route_audit.specs.Lids.{aim_of, aims, all_lids, is_named}
+use Rattle.route_audit.specs.WrongRules.{LoopsBeginWhereTold, NamedLidsAreNotEnough, TablesAreNotEnough, OtherLidsDoNotCount, TheLastWaitsForTheFirst, TwoMakeACircle, WaysAreLonger, a_hole, named_are_reached, no_lids, two_switches}
 
 pub ways_are_longer : WaysAreLonger
 ways_are_longer law = let none = law (two_switches 1 0) 1 0 refl refl 2 in cc
 
 pub other_lids_do_not_count : OtherLidsDoNotCount
-other_lids_do_not_count law = false≢true (law (two_switches 1 1) [] (port 0 1 ∷ port 1 1 ∷ []) refl)
+other_lids_do_not_count law = false≢true (law (two_switches 1 1) [] (port 0 1 ∷ port 1 1 ∷ []) refl).1
 
 pub two_make_a_circle : TwoMakeACircle
 two_make_a_circle law = false≢true (sym (law (two_switches 1 1) (1 ∷ []) refl (port 0 1 ∷ port 1 1 ∷ []) refl))
 
 pub the_last_waits_for_the_first : TheLastWaitsForTheFirst
-the_last_waits_for_the_first law = false≢true (law (two_switches 1 1) (1 ∷ []) (port 0 1 ∷ []) refl)
+the_last_waits_for_the_first law = false≢true (law (two_switches 1 1) (1 ∷ []) (port 0 1 ∷ []) refl).1
 
 pub loops_begin_where_told : LoopsBeginWhereTold
 loops_begin_where_told law =
@@ -30,4 +31,19 @@ hole_ends [] is = let e : turns.Hole ≡ turns.Arrives (port 2 1) = is.0 in cc
 hole_ends (next ∷ way) is = let e : turns.Hole ≡ turns.Goes next = is.0 in cc
 
 pub tables_are_not_enough : TablesAreNotEnough
-tables_are_not_enough law = let way = law a_hole refl 1 1 (port 2 1) refl (lit< tt) refl refl in hole_ends way.0 way.1
+tables_are_not_enough law = let way = (law.safe a_hole refl).reached 1 1 (port 2 1) refl (lit< tt) refl refl in hole_ends way.0 way.1
+
+-- ---- of tables without rows
+none_named : (lids : List ℕ) → filter (is_named []) lids ≡ []
+none_named [] = refl
+none_named (lid ∷ lids) = none_named lids
+
+no_aims : aims no_lids ≡ []
+no_aims = ap (map (aim_of no_lids)) (none_named all_lids)
+
+pub named_lids_are_not_enough : NamedLidsAreNotEnough
+named_lids_are_not_enough law =
+    let told : named_are_reached no_lids ≡ true = rw no_aims refl in
+    let named = (law.safe no_lids told).named (port 2 1) (refl, refl) in
+    let is : (aim_of no_lids named.0).end ≡ Some (port 2 1) = named.2 in
+    cc

@@ -9,7 +9,7 @@ use Rattle.route_audit.specs.declared.following.Fate.TheVariants as fates
 use Rattle.route_audit.specs.declared.lids.Aim.{Aim}
 use Rattle.route_audit.specs.declared.pairs.Pair.{Pair}
 use Rattle.route_audit.specs.Channels.{deadlock}
-use Rattle.route_audit.specs.Lids.{aims, is_adapters, is_told}
+use Rattle.route_audit.specs.Lids.{aims, have_lids, is_adapters, is_told}
 use Rattle.route_audit.specs.Lines.{files_by, port_text, troubles_by}
 use Rattle.route_audit.specs.Net.{NetState, table_at}
 use Rattle.route_audit.specs.Pairs.{all_reached, count_of, pairs_by, to_adapters, to_switches}
@@ -44,9 +44,9 @@ ring_line net words None = []
 
 -- ---- counts
 -- `adapters: 196 pairs, 196 reached, 0 holes, 0 nowhere, 0 wrong, 0 loops, 0 unknown, no deadlock`
-abbrev pub deadlock_word : Bool → List ℕ
-deadlock_word true = codes "deadlock"
-deadlock_word false = codes "no deadlock"
+abbrev pub deadlock_words : Bool → List ℕ
+deadlock_words true = codes ", deadlock"
+deadlock_words false = codes ", no deadlock"
 
 unfoldable pub reached_part : List Pair → List ℕ
 reached_part pairs = decimal (length pairs) ++ codes " pairs, " ++ decimal (count_of fates.Reached pairs) ++ codes " reached, "
@@ -57,15 +57,15 @@ lost_part pairs =
     ++ decimal (count_of fates.Wrong pairs) ++ codes " wrong, "
 
 unfoldable pub other_part : List Pair → List ℕ
-other_part pairs = decimal (count_of fates.Loop pairs) ++ codes " loops, " ++ decimal (count_of fates.Unknown pairs) ++ codes " unknown, "
+other_part pairs = decimal (count_of fates.Loop pairs) ++ codes " loops, " ++ decimal (count_of fates.Unknown pairs) ++ codes " unknown"
 
-unfoldable pub count_line : List ℕ → List Pair → Bool → List ℕ
-count_line title pairs locks = title ++ reached_part pairs ++ lost_part pairs ++ other_part pairs ++ deadlock_word locks ++ 10 ∷ []
+unfoldable pub count_line : List ℕ → List Pair → List ℕ → List ℕ
+count_line title pairs words = title ++ reached_part pairs ++ lost_part pairs ++ other_part pairs ++ words ++ 10 ∷ []
 
 unfoldable pub counts_by : List Pair → Bool → Bool → List ℕ
 counts_by pairs adapters switches =
-    count_line (codes "adapters: ") (to_adapters pairs) adapters ++ count_line (codes "switches: ") (to_switches pairs) switches
-    ++ count_line (codes "audit: ") pairs (adapters || switches)
+    count_line (codes "adapters: ") (to_adapters pairs) (deadlock_words adapters) ++ count_line (codes "switches: ") (to_switches pairs) []
+    ++ count_line (codes "audit: ") pairs (deadlock_words (adapters || switches))
 
 -- ---- the whole
 unfoldable pub text_by : NetState → List Aim → Option (List PortRef) → Option (List PortRef) → List ℕ
@@ -73,14 +73,15 @@ text_by net all adapters switches =
     files_by net all ++ troubles_by net all ++ ring_line net (codes "deadlock") adapters ++ ring_line net (codes "deadlock switch-lids") switches
     ++ counts_by (pairs_by net all) (is_some adapters) (is_some switches)
 
--- ---- each switch has a table and there is one, all LIDs of adapter ports are reached from each, and along them no channels
--- wait for one another in a circle
+-- ---- each switch has a table and there is one, each adapter port that has a cable has a LID, all these are reached from each
+-- switch, and along them no channels wait for one another in a circle
 abbrev pub has_table : NetState → ℕ → Bool
 has_table net place = is_some (table_at net place)
 
 abbrev pub safe_by : NetState → List Aim → Option (List PortRef) → Bool
 safe_by net all adapters =
-    list_all (has_table net) (switches net.plan.nodes) && (not (length net.dump.tables == 0) && (all_reached (to_adapters (pairs_by net all)) && is_none adapters))
+    list_all (has_table net) (switches net.plan.nodes) && (not (length net.dump.tables == 0)
+    && (list_all (have_lids net all) net.plan.cables && (all_reached (to_adapters (pairs_by net all)) && is_none adapters)))
 
 unfoldable pub audit_of : NetState → AuditState
 audit_of net = record {

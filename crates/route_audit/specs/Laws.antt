@@ -1,15 +1,15 @@
 -- What is so of all fabrics and dumps: the statements of the laws of `src/laws.rt`.
-use Rattle.std.specs.Prelude.{ℕ, ◌≡◌, ◌<◌, Bool, true, false, ◌&&◌, List, [], ◌∷◌, Option, Some, None}
+use Rattle.std.specs.Prelude.{ℕ, ◌≡◌, ◌<◌, Bool, true, false, ◌&&◌, List, [], ◌∷◌, filter, Option, Some, None}
 use Rattle.std.specs.List.{list_all, list_any}
-use Rattle.fabric_parts.specs.Cable.{is_same_port}
+use Rattle.fabric_parts.specs.Cable.{is_cabled, is_same_port}
 use Rattle.fabric_parts.specs.declared.cable.PortRef.{PortRef}
 use Rattle.topo_file.specs.Node.{is_switch_at}
 use Rattle.route_audit.specs.declared.following.Turn.{Turn}
 use Rattle.route_audit.specs.declared.following.Turn.TheVariants as turns
-use Rattle.route_audit.specs.Audit.{audit_of}
+use Rattle.route_audit.specs.Audit.{audit_of, lids_of}
 use Rattle.route_audit.specs.Channels.{channels, deadlock, depends}
 use Rattle.route_audit.specs.Following.{end_from, end_within, loop_from, turn}
-use Rattle.route_audit.specs.Lids.{aim_of}
+use Rattle.route_audit.specs.Lids.{aim_of, aims, is_adapters}
 use Rattle.route_audit.specs.Net.{NetState}
 
 -- ---- following entries
@@ -69,7 +69,8 @@ are_channels net ring = list_all (λ at. list_any (is_same_port at) (channels ne
 -- what is told is a circle, of channels that wait for one another
 abbrev pub TellsCircles : (NetState → List ℕ → Option (List PortRef)) → Type 0
 TellsCircles tells =
-    (net : NetState) (lids : List ℕ) (ring : List PortRef) → tells net lids ≡ Some ring → is_circle (depends net lids) ring ≡ true
+    (net : NetState) (lids : List ℕ) (ring : List PortRef) → tells net lids ≡ Some ring
+    → (are_channels net ring ≡ true) × (is_circle (depends net lids) ring ≡ true)
 
 abbrev pub ToldCirclesWait : Type 0
 ToldCirclesWait = TellsCircles deadlock
@@ -88,14 +89,30 @@ NoCircleIsMissed = MissesNone deadlock
 abbrev pub end_port_of : NetState → ℕ → Option PortRef
 end_port_of net lid = (aim_of net lid).end
 
--- where this says so, from each switch a way leads to the adapter port of each LID
-abbrev pub TellsReached : (NetState → Bool) → Type 0
-TellsReached says =
-    (net : NetState) → says net ≡ true → (place lid : ℕ) (end : PortRef) → is_switch_at net.plan.nodes place ≡ true → lid < 65536
-    → end_port_of net lid ≡ Some end → is_switch_at net.plan.nodes end.node ≡ false → EndsBy net lid place (turns.Arrives end)
+-- the port of an adapter that has a cable
+abbrev pub IsAdaptersEnd : NetState → PortRef → Type 0
+IsAdaptersEnd net end = (is_switch_at net.plan.nodes end.node ≡ false) × (is_cabled net.plan.cables end ≡ true)
+
+-- the LIDs of adapter ports
+abbrev pub adapter_lids : NetState → List ℕ
+adapter_lids net = lids_of (filter (is_adapters net) (aims net))
+
+pub record AreSafe (net : NetState) : Type 0 where
+  -- each port of an adapter that has a cable has a LID
+  pub named : (end : PortRef) → IsAdaptersEnd net end → (lid : ℕ) × (lid < 65536) × (end_port_of net lid ≡ Some end)
+  -- from each switch a way leads to the adapter port of each LID
+  pub reached : (place lid : ℕ) (end : PortRef) → is_switch_at net.plan.nodes place ≡ true → lid < 65536 → end_port_of net lid ≡ Some end
+      → is_switch_at net.plan.nodes end.node ≡ false → EndsBy net lid place (turns.Arrives end)
+  -- and along these LIDs no channels wait for one another in a circle, however long
+  pub free : (ring : List PortRef) → are_channels net ring ≡ true → is_circle (depends net (adapter_lids net)) ring ≡ false
+
+-- this says so exactly where routes are safe, if some adapter's port has a cable, as the subnet manager's
+pub record TellsSafe (says : NetState → Bool) : Type 0 where
+  pub safe : (net : NetState) → says net ≡ true → AreSafe net
+  pub told : (net : NetState) (end : PortRef) → IsAdaptersEnd net end → AreSafe net → says net ≡ true
 
 abbrev pub says_safe : NetState → Bool
 says_safe net = (audit_of net).is_safe
 
-abbrev pub SafeRoutesReach : Type 0
-SafeRoutesReach = TellsReached says_safe
+abbrev pub SafeRoutesAreTold : Type 0
+SafeRoutesAreTold = TellsSafe says_safe

@@ -1,12 +1,13 @@
 -- The LIDs that a dump names, and the end ports of the topology that have them.
-use Rattle.std.specs.Prelude.{ℕ, ◌+◌, ◌-◌, ◌==◌, ◌&&◌, nat_le, nat_lt, Bool, false, not, List, [], ◌∷◌, map, flat_map, filter, if◌then◌else◌, Option, Some, None, option_map, is_some}
+use Rattle.std.specs.Prelude.{ℕ, ◌+◌, ◌-◌, ◌==◌, ◌&&◌, ◌||◌, nat_le, nat_lt, Bool, false, not, List, [], ◌∷◌, map, flat_map, filter, if◌then◌else◌, Option, Some, None, option_map, is_some}
 use Rattle.std.specs.List.{list_any, range_with_len}
 use Rattle.std.specs.Option.{option_and_then, option_map_or, option_or}
 use Rattle.dump_file.specs.declared.row.Row.{Row}
 use Rattle.dump_file.specs.Dump.{DumpState}
 use Rattle.dump_file.specs.Row.{end_of}
 use Rattle.dump_file.specs.Table.{rows_of}
-use Rattle.fabric_parts.specs.Cable.{port}
+use Rattle.fabric_parts.specs.Cable.{is_same_port, port}
+use Rattle.fabric_parts.specs.declared.cable.Cable.{Cable}
 use Rattle.fabric_parts.specs.declared.cable.PortRef.{PortRef}
 use Rattle.topo_file.specs.declared.node.Node.{Node}
 use Rattle.topo_file.specs.Node.{is_switch, is_switch_at}
@@ -61,3 +62,14 @@ is_told aim = is_some aim.end
 
 abbrev pub is_adapters : NetState → Aim → Bool
 is_adapters net aim = option_map_or (λ end. not (is_switch_at net.plan.nodes end.node)) aim.end false
+
+-- ---- an adapter's port that has a cable is to have a LID
+abbrev pub is_of : PortRef → Aim → Bool
+is_of port aim = option_map_or (λ end. is_same_port end port) aim.end false
+
+-- the port is a switch's, or one of these LIDs is its
+abbrev pub has_lid : NetState → List Aim → PortRef → Bool
+has_lid net all port = is_switch_at net.plan.nodes port.node || list_any (is_of port) all
+
+abbrev pub have_lids : NetState → List Aim → Cable → Bool
+have_lids net all cable = has_lid net all cable.first && has_lid net all cable.second

@@ -7,6 +7,7 @@ use Rattle.dump_file.specs.declared.destination.Destination.{Destination}
 use Rattle.dump_file.specs.declared.destination.Destination.TheVariants.{ChannelAdapter, Switch, Router, FurtherLid, Nobody, NotTold}
 use Rattle.dump_file.specs.declared.table.Table.{Table}
 use Rattle.fabric_parts.specs.Cable.{is_same_port}
+use Rattle.fabric_parts.specs.declared.cable.Cable.{Cable}
 use Rattle.fabric_parts.specs.declared.cable.PortRef.{PortRef}
 use Rattle.line_parts.specs.Parts.{hex_text}
 use Rattle.topo_file.specs.Connectivity.{switches}
@@ -16,7 +17,7 @@ use Rattle.route_audit.specs.declared.following.Turn.{Turn}
 use Rattle.route_audit.specs.declared.following.Turn.TheVariants as turns
 use Rattle.route_audit.specs.declared.lids.Aim.{Aim}
 use Rattle.route_audit.specs.Following.{loop_from, turn}
-use Rattle.route_audit.specs.Lids.{is_named}
+use Rattle.route_audit.specs.Lids.{has_lid, is_named}
 use Rattle.route_audit.specs.Net.{NetState, is_left_out, row_of, table_at}
 
 -- ---- words of lines
@@ -49,6 +50,13 @@ lacking_line lid None = []
 abbrev pub no_port_line : Aim → List ℕ
 no_port_line aim = if is_none aim.end then lacking_line aim.lid aim.guid else []
 
+-- `no-lid h1/1`: a port of an adapter that has a cable, and no LID by any row
+abbrev pub no_lid_line : NetState → List Aim → PortRef → List ℕ
+no_lid_line net all port = if has_lid net all port then [] else codes "no-lid " ++ port_text net port ++ 10 ∷ []
+
+abbrev pub no_lid_lines : NetState → List Aim → Cable → List ℕ
+no_lid_lines net all cable = no_lid_line net all cable.first ++ no_lid_line net all cable.second
+
 -- `untold 320`: the top of some table, a multiple of 64, of which that table has no row
 abbrev pub leaves_out : ℕ → Table → Bool
 leaves_out lid table = is_left_out table lid && not (is_named table.rows lid)
@@ -65,7 +73,7 @@ untold_lines tables = flat_map (untold_line tables) multiples
 unfoldable pub files_by : NetState → List Aim → List ℕ
 files_by net all =
     flat_map (no_table_line net) (switches net.plan.nodes) ++ flat_map (no_switch_line net) net.dump.tables
-    ++ flat_map no_port_line all ++ untold_lines net.dump.tables
+    ++ flat_map no_port_line all ++ flat_map (no_lid_lines net all) net.plan.cables ++ untold_lines net.dump.tables
 
 -- ---- what a switch does with a LID
 -- `hole A 24`, `nowhere D 3 port 4`, `wrong C 1 h2/1`

@@ -1,5 +1,5 @@
 -- Wrong rules for what is told, and the law that each breaks.
-use Rattle.std.specs.Prelude.{ℕ, nat_lt, Bool, List, [], ◌∷◌, codes, length, if◌then◌else◌, Option, Some, None, option_map}
+use Rattle.std.specs.Prelude.{ℕ, nat_lt, ◌&&◌, Bool, List, [], ◌∷◌, codes, is_none, length, if◌then◌else◌, Option, Some, None, option_map}
 use Rattle.dump_file.specs.declared.destination.Destination.TheVariants as destinations
 use Rattle.dump_file.specs.declared.table.Table.{Table}
 use Rattle.fabric_parts.specs.Cable.{port}
@@ -9,9 +9,11 @@ use Rattle.topo_file.specs.declared.node.Node.{Node}
 use Rattle.route_audit.specs.declared.following.Turn.{Turn}
 use Rattle.route_audit.specs.Channels.{deadlock}
 use Rattle.route_audit.specs.Following.{end_within, loop_from}
-use Rattle.route_audit.specs.Laws.{MissesNone, TellsCircles, TellsEndless, TellsLoops, TellsReached}
+use Rattle.route_audit.specs.Laws.{MissesNone, TellsCircles, TellsEndless, TellsLoops, TellsSafe}
 use Rattle.route_audit.specs.Net.{NetState}
-use Rattle.route_audit.specs.Audit.{has_table}
+use Rattle.route_audit.specs.Audit.{adapters_ring, has_table}
+use Rattle.route_audit.specs.Lids.{aims}
+use Rattle.route_audit.specs.Pairs.{all_reached, pairs_by, to_adapters}
 use Rattle.topo_file.specs.Connectivity.{switches}
 use Rattle.std.specs.List.{list_all}
 
@@ -91,7 +93,7 @@ abbrev pub have_tables : NetState → Bool
 have_tables net = list_all (has_table net) (switches net.plan.nodes)
 
 abbrev pub TablesAreNotEnough : Type 0
-TablesAreNotEnough = TellsReached have_tables → ⊥
+TablesAreNotEnough = TellsSafe have_tables → ⊥
 
 -- an adapter at the first of two switches; the second has no entry for its LID
 abbrev pub a_hole : NetState
@@ -104,3 +106,17 @@ a_hole = record {
   };
   dump = record { tables = a_table 16 1 ∷ a_table 32 255 ∷ [] };
 }
+
+-- ---- all LIDs that rows name are reached, and that is enough
+abbrev pub named_are_reached : NetState → Bool
+named_are_reached net = have_tables net && (all_reached (to_adapters (pairs_by net (aims net))) && is_none (adapters_ring net (aims net)))
+
+abbrev pub NamedLidsAreNotEnough : Type 0
+NamedLidsAreNotEnough = TellsSafe named_are_reached → ⊥
+
+-- the same fabric; no row names a LID
+abbrev pub no_rows : ℕ → Table
+no_rows guid = record { line = 1; guid = guid; top = 1; rows = [] }
+
+abbrev pub no_lids : NetState
+no_lids = record { plan = a_hole.plan; dump = record { tables = no_rows 16 ∷ no_rows 32 ∷ [] } }

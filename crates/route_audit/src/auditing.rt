@@ -2,9 +2,9 @@
 
 ghost use Rattle.std.specs.Prelude.{◌≡◌, ◌++◌, filter, flat_map, is_some, IfOk, OnOk, option_map};
 ghost use Rattle.std.specs.List.{list_all};
-ghost use Rattle.route_audit.specs.Audit.{adapters_ring, audit, audit_of, count_line, counts_by, deadlock_word, has_table, lost_part, other_part};
+ghost use Rattle.route_audit.specs.Audit.{adapters_ring, audit, audit_of, count_line, counts_by, deadlock_words, has_table, lost_part, other_part};
 ghost use Rattle.route_audit.specs.Audit.{lids_of, port_word, reached_part, ring_line, safe_by, switches_ring, text_by};
-ghost use Rattle.route_audit.specs.Lids.{is_adapters, is_told};
+ghost use Rattle.route_audit.specs.Lids.{have_lids, is_adapters, is_told};
 ghost use Rattle.route_audit.specs.Pairs.{pairs_by};
 ghost use Rattle.topo_file.specs.Connectivity.{switches};
 
@@ -34,10 +34,14 @@ fn told(alloc: Global, aims: &[Aim]) -> Result<Vec<Aim>, AllocError>
         .collect(alloc)
 }
 
-fn deadlock_word(locks: bool) -> &'static [u8]
-    ensures { result.now ≡ deadlock_word locks }
+fn deadlock_words(locks: bool) -> &'static [u8]
+    ensures { result.now ≡ deadlock_words locks }
 {
-    if locks { b"deadlock" } else { b"no deadlock" }
+    if locks {
+        b", deadlock"
+    } else {
+        b", no deadlock"
+    }
 }
 
 #[tactic(auto, unfolding(crate::specs::Audit::reached_part))]
@@ -69,7 +73,7 @@ fn push_others(text: &mut Vec<u8>, pairs: &[Pair]) -> Result<(), AllocError>
     push_decimal(text, count_of(Fate::Loop, pairs))?;
     text.extend_from_slice(b" loops, ")?;
     push_decimal(text, count_of(Fate::Unknown, pairs))?;
-    text.extend_from_slice(b" unknown, ")
+    text.extend_from_slice(b" unknown")
 }
 
 #[tactic(auto, unfolding(crate::specs::Audit::count_line))]
@@ -77,15 +81,15 @@ fn push_count_line(
     text: &mut Vec<u8>,
     title: &[u8],
     pairs: &[Pair],
-    locks: bool,
+    words: &[u8],
 ) -> Result<(), AllocError>
-    ensures { OnOk result (text.new.items ≡ text.old.items ++ count_line title.now pairs.now locks) }
+    ensures { OnOk result (text.new.items ≡ text.old.items ++ count_line title.now pairs.now words.now) }
 {
     text.extend_from_slice(title)?;
     push_reached(text, pairs)?;
     push_lost(text, pairs)?;
     push_others(text, pairs)?;
-    text.extend_from_slice(deadlock_word(locks))?;
+    text.extend_from_slice(words)?;
     text.push(b'\n')?;
     Ok(())
 }
@@ -101,10 +105,15 @@ fn push_counts(
     ensures { OnOk result (text.new.items ≡ text.old.items ++ counts_by pairs.now adapters switches) }
 {
     let some = to_adapters(alloc, pairs)?;
-    push_count_line(text, b"adapters: ", &some, adapters)?;
+    push_count_line(text, b"adapters: ", &some, deadlock_words(adapters))?;
     let others = to_switches(alloc, pairs)?;
-    push_count_line(text, b"switches: ", &others, switches)?;
-    push_count_line(text, b"audit: ", pairs, adapters || switches)
+    push_count_line(text, b"switches: ", &others, b"")?;
+    push_count_line(
+        text,
+        b"audit: ",
+        pairs,
+        deadlock_words(adapters || switches),
+    )
 }
 
 impl<'a> Net<'a> {
@@ -183,6 +192,14 @@ impl<'a> Net<'a> {
         Ok(())
     }
 
+    fn all_have_lids(&self, aims: &[Aim]) -> bool
+        ensures { result ≡ list_all (have_lids self.now aims.now) self.now.plan.cables }
+    {
+        self.cables()
+            .iter()
+            .all(|cable| self.have_lids(aims, *cable))
+    }
+
     fn have_tables(&self) -> bool
         ensures { result ≡ list_all (has_table self.now) (switches self.now.plan.nodes) }
     {
@@ -232,7 +249,8 @@ impl<'a> Net<'a> {
         let some = to_adapters(alloc, pairs)?;
         Ok(
             self.have_tables()
-                && (!self.dump().tables().is_empty() && (all_reached(&some) && adapters.is_none())),
+                && (!self.dump().tables().is_empty()
+                    && (self.all_have_lids(aims) && (all_reached(&some) && adapters.is_none()))),
         )
     }
 

@@ -1,6 +1,6 @@
 //! What is so of all audits. The functions do nothing; their clauses are the theorems.
 
-ghost use Rattle.route_audit.specs.Laws.{LoopsNeverEnd, NoCircleIsMissed, SafeRoutesReach, ToldCirclesWait, ToldLoopsGoRound, WaysAreFollowed};
+ghost use Rattle.route_audit.specs.Laws.{LoopsNeverEnd, NoCircleIsMissed, SafeRoutesAreTold, ToldCirclesWait, ToldLoopsGoRound, WaysAreFollowed};
 
 /// What does not end within as many switches as there are never ends.
 pub fn loops_never_end()
@@ -17,7 +17,7 @@ pub fn told_loops_go_round()
     ensures { ToldLoopsGoRound }
 {}
 
-/// A circle that is told is one.
+/// A circle that is told is one, of channels.
 pub fn told_circles_wait()
     ensures { ToldCirclesWait }
 {}
@@ -27,7 +27,8 @@ pub fn no_circle_is_missed()
     ensures { NoCircleIsMissed }
 {}
 
-/// Where routes are safe, from each switch a way along the entries leads to the adapter port of each LID.
-pub fn safe_routes_reach()
-    ensures { SafeRoutesReach }
+/// Routes are told to be safe exactly where each port of an adapter that has a cable has a LID, from each switch a way along
+/// the entries leads to the adapter port of each LID, and along these LIDs no channels wait for one another in a circle.
+pub fn safe_routes_are_told()
+    ensures { SafeRoutesAreTold }
 {}

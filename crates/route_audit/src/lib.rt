@@ -21,7 +21,7 @@ mod wrong_rules;
 
 pub use crate::auditing::audit;
 pub use crate::laws::{
-    loops_never_end, no_circle_is_missed, safe_routes_reach, told_circles_wait,
+    loops_never_end, no_circle_is_missed, safe_routes_are_told, told_circles_wait,
     told_loops_go_round, ways_are_followed,
 };
 pub use crate::outcome::Audit;

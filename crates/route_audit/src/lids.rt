@@ -1,15 +1,16 @@
 //! The LIDs that a dump names, and the end ports of the topology that have them.
 
 ghost use Rattle.std.specs.Prelude.{◌≡◌, ◌≤◌, ◌<◌, ◌||◌, ◌==◌, ◌++◌, ◌∷◌, [], true, false, if◌then◌else◌, length, IfOk, OnOk, ℕ};
+ghost use Rattle.std.specs.List.{list_any};
 ghost use Rattle.dump_file.specs.Row.{end_of};
 ghost use Rattle.dump_file.specs.Table.{rows_of};
-ghost use Rattle.route_audit.specs.Lids.{aim_of, aims, aims_below, is_named, number_in, port_of};
+ghost use Rattle.route_audit.specs.Lids.{aim_of, aims, aims_below, has_lid, have_lids, is_named, is_of, number_in, port_of};
 ghost use Rattle.route_audit.specs.Marks.{is_marked};
 
 use crate::circle::is_marked;
 use crate::net::Net;
 use dump_file::{Row, Table};
-use fabric_parts::PortRef;
+use fabric_parts::{Cable, PortRef};
 use std::alloc::{AllocError, Global};
 use topo_file::Node;
 
@@ -51,6 +52,21 @@ fn port_of(nodes: &[Node], guid: u64) -> Option<PortRef>
         }
     }
     None
+}
+
+fn is_of(port: PortRef, aim: &Aim) -> bool
+    ensures { result ≡ is_of port aim.now }
+{
+    match aim.end {
+        Some(end) => end == port,
+        None => false,
+    }
+}
+
+fn some_is_of(port: PortRef, aims: &[Aim]) -> bool
+    ensures { result ≡ list_any (is_of port) aims.now }
+{
+    aims.iter().any(|aim| is_of(port, aim))
 }
 
 fn mark(marks: &mut [bool], lid: u16)
@@ -127,6 +143,20 @@ impl<'a> Net<'a> {
             self.push_aim(&mut aims, marks, lid)?;
         }
         Ok(aims)
+    }
+
+    /// Whether the port is a switch's, or has one of these LIDs.
+    pub(crate) fn has_lid(&self, aims: &[Aim], port: PortRef) -> bool
+        ensures { result ≡ has_lid self.now aims.now port }
+    {
+        self.is_switch_at(port.node) || some_is_of(port, aims)
+    }
+
+    /// Whether that is so of both ends of a cable.
+    pub(crate) fn have_lids(&self, aims: &[Aim], cable: Cable) -> bool
+        ensures { result ≡ have_lids self.now aims.now cable }
+    {
+        self.has_lid(aims, cable.first) && self.has_lid(aims, cable.second)
     }
 
     /// What is known of each LID that a row names, as LIDs rise.

@@ -8,7 +8,7 @@ ghost use Rattle.route_audit.specs.Lids.{is_named};
 ghost use Rattle.route_audit.specs.Net.{table_at};
 ghost use Rattle.dump_file.specs.Sound.{is_rising};
 ghost use Rattle.route_audit.specs.Lines.{files_by, guid_text, has_switch, hole_line, is_least, is_nobodys, is_stray, lacking_line, leaves_out};
-ghost use Rattle.route_audit.specs.Lines.{line_by, loop_line, name_text, name_word, no_port_line, no_switch_line, no_table_line};
+ghost use Rattle.route_audit.specs.Lines.{line_by, loop_line, name_text, name_word, no_lid_line, no_lid_lines, no_port_line, no_switch_line, no_table_line};
 ghost use Rattle.route_audit.specs.Lines.{nowhere_line, port_text, stray_line, trouble_line, troubles_at, troubles_by, untold_line, untold_lines, wrong_line};
 ghost use Rattle.topo_file.specs.Connectivity.{switches};
 
@@ -16,7 +16,7 @@ use crate::following::Turn;
 use crate::lids::Aim;
 use crate::net::{Net, is_left_out, row_of};
 use dump_file::{Destination, Row, Table};
-use fabric_parts::PortRef;
+use fabric_parts::{Cable, PortRef};
 use line_parts::{push_decimal, push_hex};
 use std::alloc::{AllocError, Global};
 use topo_file::{Node, name_at};
@@ -165,6 +165,38 @@ impl<'a> Net<'a> {
         Ok(())
     }
 
+    fn push_no_lid(&self, text: &mut Vec<u8>, aims: &[Aim], port: PortRef) -> Result<(), AllocError>
+        ensures { OnOk result (text.new.items ≡ text.old.items ++ no_lid_line self.now aims.now port) }
+    {
+        if !self.has_lid(aims, port) {
+            text.extend_from_slice(b"no-lid ")?;
+            self.push_port(text, port)?;
+            text.push(b'\n')?;
+        }
+        Ok(())
+    }
+
+    fn push_no_lids_of(
+        &self,
+        text: &mut Vec<u8>,
+        aims: &[Aim],
+        cable: Cable,
+    ) -> Result<(), AllocError>
+        ensures { OnOk result (text.new.items ≡ text.old.items ++ no_lid_lines self.now aims.now cable) }
+    {
+        self.push_no_lid(text, aims, cable.first)?;
+        self.push_no_lid(text, aims, cable.second)
+    }
+
+    fn push_no_lids(&self, text: &mut Vec<u8>, aims: &[Aim]) -> Result<(), AllocError>
+        ensures { OnOk result (text.new.items ≡ text.old.items ++ flat_map (no_lid_lines self.now aims.now) self.now.plan.cables) }
+    {
+        for cable in self.cables() {
+            self.push_no_lids_of(text, aims, *cable)?;
+        }
+        Ok(())
+    }
+
     fn is_left_out_of_one(&self, lid: u16) -> bool
         ensures { result ≡ list_any (leaves_out lid) self.now.dump.tables }
     {
@@ -208,6 +240,7 @@ impl<'a> Net<'a> {
         self.push_no_tables(text)?;
         self.push_no_switches(text)?;
         push_no_ports(text, aims)?;
+        self.push_no_lids(text, aims)?;
         self.push_untold_lines(text)?;
         Ok(())
     }

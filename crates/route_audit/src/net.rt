@@ -71,6 +71,12 @@ impl<'a> Net<'a> {
         self.plan.nodes()
     }
 
+    pub(crate) fn cables(&self) -> &[Cable]
+        ensures { result.now ≡ self.now.plan.cables }
+    {
+        self.plan.cables()
+    }
+
     pub(crate) fn switches(&self) -> &[usize]
         ensures { result.now ≡ switches self.now.plan.nodes }
     {

@@ -27,8 +27,8 @@ impl Audit {
         self.text.as_slice()
     }
 
-    /// Whether each switch has a table and there is one, all LIDs of adapter ports are reached from each switch, and
-    /// along them no channels wait for one another in a circle.
+    /// Whether each switch has a table and there is one, each port of an adapter that has a cable has a LID, all these
+    /// are reached from each switch, and along them no channels wait for one another in a circle.
     pub fn is_safe(&self) -> bool
         ensures { result ≡ self.now.is_safe }
     {

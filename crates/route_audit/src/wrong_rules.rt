@@ -1,7 +1,7 @@
 //! Wrong rules for what is told, and the law that each breaks, so that a reader sees that the laws say something. Each
 //! function does nothing: its contract says that with this rule the law is false.
 
-ghost use Rattle.route_audit.specs.WrongRules.{LoopsBeginWhereTold, TablesAreNotEnough, OtherLidsDoNotCount, TheLastWaitsForTheFirst, TwoMakeACircle, WaysAreLonger};
+ghost use Rattle.route_audit.specs.WrongRules.{LoopsBeginWhereTold, NamedLidsAreNotEnough, TablesAreNotEnough, OtherLidsDoNotCount, TheLastWaitsForTheFirst, TwoMakeACircle, WaysAreLonger};
 
 /// Where what does not end at the first switch is told to be endless, it may end at the second.
 pub fn ways_are_longer()
@@ -31,4 +31,9 @@ pub fn the_last_waits_for_the_first()
 /// Where it is enough that each switch has a table, one may have a hole.
 pub fn tables_are_not_enough()
     ensures { TablesAreNotEnough }
+{}
+
+/// Where it is enough that all LIDs which rows name are reached, rows may name none, and a port of an adapter has none.
+pub fn named_lids_are_not_enough()
+    ensures { NamedLidsAreNotEnough }
 {}
