@@ -1,0 +1,15 @@
+pub mod GuidLemmas
+pub mod StandLemmas
+pub mod TurnLemmas
+pub mod HeldLemmas
+pub mod RingLemmas
+pub mod FreeLemmas
+pub mod EndLemmas
+pub mod WayLemmas
+pub mod ReachLemmas
+pub mod PassLemmas
+pub mod ShownLemmas
+pub mod DumpLemmas
+pub mod NameLemmas
+pub mod SafeLemmas
+pub mod WrongLemmas

@@ -1,0 +1,4 @@
+pub mod Shown
+pub mod OwnTables
+pub mod Laws
+pub mod WrongTables

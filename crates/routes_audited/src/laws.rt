@@ -1,0 +1,28 @@
+//! What the audit says of tables that our own bring-up writes. The functions do nothing; their clauses are the theorems.
+
+ghost use Rattle.routes_audited.specs.Laws.{ADumpShowsWhatIsHeld, ItNamesEachPort, OwnRoutesAreSafe, OwnRoutesPass, SomeSwitchCarriesAnAdapter};
+
+/// Each fabric that is brought up has a dump that shows what its switches hold.
+pub fn a_dump_shows_what_is_held()
+    ensures { ADumpShowsWhatIsHeld }
+{}
+
+/// By it each adapter port that has a cable has a LID.
+pub fn it_names_each_port()
+    ensures { ItNamesEachPort }
+{}
+
+/// The tables of each fabric that is brought up pass the audit, whatever dump shows them.
+pub fn own_routes_pass()
+    ensures { OwnRoutesPass }
+{}
+
+/// Some switch of each sound topology carries an adapter.
+pub fn some_switch_carries_an_adapter()
+    ensures { SomeSwitchCarriesAnAdapter }
+{}
+
+/// Where each switch carries an adapter, the audit says that they are safe.
+pub fn own_routes_are_safe()
+    ensures { OwnRoutesAreSafe }
+{}
