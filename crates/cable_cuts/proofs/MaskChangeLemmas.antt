@@ -1,5 +1,5 @@
 -- The masks that are counted are those in which the two fabrics differ.
-use Rattle.std.proofs.Common.{ℕ, suc, zero, ◌+◌, ◌*◌, ◌<◌, ◌≤◌, ◌≡◌, ◌&&◌, ◌||◌, ap, refl, sym, Bool, true, false, if◌then◌else◌, List, [], ◌∷◌, ◌++◌, length, arith}
+use Rattle.std.proofs.Common.{ℕ, suc, zero, ◌+◌, ◌<◌, ◌≤◌, ◌≡◌, ◌&&◌, ◌||◌, refl, Bool, if◌then◌else◌, List, [], ◌∷◌, ◌++◌, length, arith}
 use Rattle.std.specs.List.{enumerate_from, flat_map, list_any, range_with_len}
 use Rattle.std.specs.Option.{is_some}
 use Rattle.fabric_parts.specs.NodeType.{is_switch_type}
@@ -11,7 +11,6 @@ use Rattle.table_push.specs.Masks.{LiesInTable}
 use Rattle.cable_cuts.proofs.FateLemmas.{masks_are_the_fabrics}
 use Rattle.cable_cuts.specs.Laws.{MaskChangesAreTheFabrics, mask_pushed}
 use Rattle.cable_cuts.specs.Masks.{Masks, differs, is_other, mask_by, mask_change_at, mask_changes, mask_changes_at}
-use Rattle.cable_cuts.specs.declared.masks.MaskChange.{MaskChange}
 
 any_same : (p q : ℕ → Bool) (a n : ℕ) → ((k : ℕ) → k < a + n → p k ≡ q k) → list_any p (range_with_len a n) ≡ list_any q (range_with_len a n)
 any_same p q a zero same = refl

@@ -2,7 +2,6 @@
 use Rattle.std.specs.Prelude.{◌&&◌, Bool, List, filter}
 use Rattle.std.specs.List.{list_any}
 use Rattle.fabric_parts.specs.declared.cable.Cable.{Cable}
-use Rattle.fabric_parts.specs.declared.cable.PortRef.{PortRef}
 use Rattle.fabric_wire.specs.Cabling.{is_between, is_not_between}
 use Rattle.subnet_fabric.specs.Recabled.{with_cables}
 use Rattle.topo_file.specs.Node.{is_switch_at}
@@ -16,10 +15,6 @@ joins_switches nodes cable = is_switch_at nodes cable.first.node && is_switch_at
 -- those of a topology, in their order
 abbrev pub switch_cables : TopologyState → List Cable
 switch_cables plan = filter (joins_switches plan.nodes) plan.cables
-
--- it is one, and between these two ports
-abbrev pub is_switch_cable : List Node → PortRef → PortRef → Cable → Bool
-is_switch_cable nodes a b cable = joins_switches nodes cable && is_between a b cable
 
 -- the topology has one between the ends of this
 abbrev pub can_be_cut : TopologyState → Cable → Bool

@@ -63,7 +63,7 @@ abbrev pub mask_pushed : List SubnetPort → RoutesState → FabricState → Mas
 mask_pushed ports routes fabric number heading =
     mask_in (all_masks_pushed routes (receives_all ports heading.base (first_mlid number)) fabric) number heading
 
--- those of the first 32 partitions are the two fabrics' too, bit by bit
+-- those of all partitions are the two fabrics' too, bit by bit
 abbrev pub MasksAreTheFabrics : Type 0
 MasksAreTheFabrics =
     (plan : TopologyState) (ports : List SubnetPort) (cable : Cable) (keys other_keys : List (List ℕ)) (routes others : RoutesState)

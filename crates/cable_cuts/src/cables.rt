@@ -1,11 +1,11 @@
 //! The cables between switches.
 
-ghost use Rattle.std.specs.Prelude.{◌≡◌, true, filter, find, IfOk, IfSome};
+ghost use Rattle.std.specs.Prelude.{◌≡◌, filter, IfOk};
 ghost use Rattle.std.specs.List.{list_any};
-ghost use Rattle.cable_cuts.specs.Cables.{can_be_cut, is_switch_cable, joins_switches};
+ghost use Rattle.cable_cuts.specs.Cables.{can_be_cut, joins_switches};
 ghost use Rattle.fabric_wire.specs.Cabling.{is_between, is_not_between};
 
-use fabric_parts::{Cable, PortRef};
+use fabric_parts::Cable;
 use std::alloc::{AllocError, Global};
 use topo_file::Topology;
 
@@ -21,38 +21,6 @@ pub fn can_be_cut(topology: &Topology, cable: &Cable) -> bool
     ensures { result ≡ can_be_cut topology.now cable.now }
 {
     joins_switches(topology, cable) && is_there(topology.cables(), cable)
-}
-
-/// The cable between these two ports, with its ends as the topology has them, if there is one and both are ports of switches.
-pub fn cable_between(topology: &Topology, a: PortRef, b: PortRef) -> Option<Cable>
-    ensures value { result ≡ find (is_switch_cable topology.now.nodes a b) topology.now.cables }
-    ensures can { IfSome result (λ cable. can_be_cut topology.now cable ≡ true) }
-{
-    switch_cable(topology, topology.cables(), a, b)
-}
-
-/// The first of these cables that is between the two ports, if these are ports of switches.
-fn switch_cable(topology: &Topology, cables: &[Cable], a: PortRef, b: PortRef) -> Option<Cable>
-    ensures { result ≡ find (is_switch_cable topology.now.nodes a b) cables.now }
-{
-    cables
-        .iter()
-        .copied()
-        .find(|cable| is_switch_cable(topology, a, b, cable))
-}
-
-/// Whether the cable is between these two ports, which are ports of switches.
-fn is_switch_cable(topology: &Topology, a: PortRef, b: PortRef, cable: &Cable) -> bool
-    ensures { result ≡ is_switch_cable topology.now.nodes a b cable.now }
-{
-    joins_switches(topology, cable)
-        && is_between(
-            cable,
-            &Cable {
-                first: a,
-                second: b,
-            },
-        )
 }
 
 /// Whether there is a cable between the ends of this one.

@@ -21,7 +21,7 @@ mod outcome;
 mod texts;
 mod trees;
 
-pub use crate::cables::{cable_between, can_be_cut, joins_switches};
+pub use crate::cables::{can_be_cut, joins_switches};
 pub use crate::changes::Change;
 pub use crate::cutting::cut;
 pub use crate::fate::{Cut, Stop};
