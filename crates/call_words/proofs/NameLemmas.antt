@@ -9,7 +9,7 @@ use Rattle.clap.proofs.OnLiterals.{clap_on_literals}
 use Rattle.code_texts.specs.Codes.{code_of}
 use Rattle.code_texts.specs.declared.code.Code.{Code}
 use Rattle.call_words.specs.Laws.{FilesAreNamedAsGiven, IsWordOf, NamesKeepTheirBlanks}
-use Rattle.call_words.specs.Words.{Names, asked_by, asked_by_command, asked_of, asked_or, call_in, compare_by, cuts_by, diff_by, explain_by, file_in, graph_with, guid_by, import_by, is_given, in_subnet, inspect_by, opened_for, run_by, scripts_by}
+use Rattle.call_words.specs.Words.{Names, audit_by, asked_by, asked_by_command, asked_of, asked_or, call_in, compare_by, cuts_by, diff_by, explain_by, file_in, graph_with, guid_by, import_by, is_given, in_subnet, inspect_by, opened_for, run_by, scripts_by}
 use Rattle.call_words.specs.Words.{subcommand_in, text_for, trace_by, work_names}
 use Rattle.call_words.specs.declared.call.Call.{Call}
 use Rattle.call_words.specs.declared.call.CutView.TheVariants.{All as AllCuts, One, Picture}
@@ -129,6 +129,18 @@ import_given rows manager call is = by (first_of (codes "NETDISCOVER") rows) ref
     by (Some netdiscover) n None is = absurd cc
     by None n guid is = absurd cc
 
+audit_given : (rows : List Row) → IsGiven rows (audit_by (first_of (codes "TOPO") rows) (first_of (codes "DUMP") rows))
+audit_given rows call is = by (first_of (codes "TOPO") rows) refl (first_of (codes "DUMP") rows) refl is
+  where
+    by : (topology : Option Text) → first_of (codes "TOPO") rows ≡ topology → (dump : Option Text) → first_of (codes "DUMP") rows ≡ dump
+        → audit_by topology dump ≡ Some call → All (IsWordOf rows) (opened_for (Ok call))
+    by (Some topology) t (Some dump) d is =
+        subst (λ (asked : Call Names Text). All (IsWordOf rows) (opened_for (Ok asked))) (same_call _ call is)
+        (All-cons (IsWordOf rows) topology (dump ∷ []) (codes "TOPO", t)
+        (All-cons (IsWordOf rows) dump [] (codes "DUMP", d) (All-nil (IsWordOf rows))))
+    by (Some topology) t None d is = absurd cc
+    by None t dump d is = absurd cc
+
 explain_given : (rows : List Row) (code : Option Text) → IsGiven rows (explain_by code)
 explain_given rows None call e =
     subst (λ (asked : Call Names Text). All (IsWordOf rows) (opened_for (Ok asked))) (same_call _ call e) (All-nil (IsWordOf rows))
@@ -151,6 +163,7 @@ command_given command.Run rows = subnet_given rows _ (run_given rows)
 command_given command.Compare rows = subnet_given rows _ (compare_given rows)
 command_given command.Cuts rows = subnet_given rows _ (cuts_given rows (first_of (codes "PORT") rows) (first_of (codes "PORT2") rows))
 command_given command.Import rows = import_given rows (guid_by (first_of (codes "SM") rows))
+command_given command.Audit rows = audit_given rows
 command_given command.Explain rows = explain_given rows (first_of (codes "CODE") rows)
 
 pub files_are_given : FilesAreNamedAsGiven
@@ -169,4 +182,4 @@ files_are_given word rows call is = by (subcommand_in word) is
 
 pub blanks_are_kept : NamesKeepTheirBlanks
 unfolding clap_on_literals asked_of
-blanks_are_kept = record { plain = refl; before = refl; behind = refl; script = refl; looked = refl; dashes = refl; import = refl; dash = refl }
+blanks_are_kept = record { plain = refl; before = refl; behind = refl; script = refl; looked = refl; dashes = refl; traced = refl; compared = refl; import = refl; audit = refl; dash = refl }

@@ -61,6 +61,9 @@ manager_option = record (new_rule (codes "SM")) { long = Some (codes "sm"); acti
 abbrev pub import_command : App
 import_command = with_rule (with_rule (new_app (codes "import")) (wanted (codes "NETDISCOVER"))) manager_option
 
+abbrev pub audit_command : App
+audit_command = with_rule (with_rule (new_app (codes "audit")) (wanted (codes "TOPO"))) (wanted (codes "DUMP"))
+
 abbrev pub explain_command : App
 explain_command = with_rule (new_app (codes "explain")) (optional (codes "CODE"))
 
@@ -81,4 +84,5 @@ fabric_command =
     let compares = with_subcommand runs compare_command.top in
     let cuts = with_subcommand compares cuts_command.top in
     let imports = with_subcommand cuts import_command.top in
-    with_subcommand imports explain_command.top
+    let audits = with_subcommand imports audit_command.top in
+    with_subcommand audits explain_command.top

@@ -49,6 +49,9 @@ about_cuts = codes "Tells what the loss of each cable between switches would do,
 abbrev pub about_import : List ℕ
 about_import = codes "Makes a topology of what ibnetdiscover printed of a real fabric"
 
+abbrev pub about_audit : List ℕ
+about_audit = codes "Judges the routes that stand in the switches of a real fabric"
+
 abbrev pub about_explain : List ℕ
 about_explain = codes "Tells what the code of a fault or a refusal means, or lists all codes"
 
@@ -105,6 +108,9 @@ help_of_netdiscover = codes "What ibnetdiscover printed of the fabric"
 
 abbrev pub help_of_manager : List ℕ
 help_of_manager = codes "The GUID of the subnet manager's port: a number of 64 bits, as `0x101`"
+
+abbrev pub help_of_dump : List ℕ
+help_of_dump = codes "The linear forwarding tables, as dump_fts prints them"
 
 -- ---- for words that are refused by the program itself
 abbrev pub not_text_line : List ℕ

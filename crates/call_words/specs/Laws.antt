@@ -27,5 +27,8 @@ pub record NamesKeepTheirBlanks : Type 0 where
   pub script : opened_by (codes "run" ∷ codes "Net" ∷ codes "-" ∷ codes " sends " ∷ []) ≡ codes "Net" ∷ codes " sends " ∷ []
   pub looked : opened_by (codes "keys" ∷ codes "net" ∷ codes "-" ∷ codes "sends " ∷ []) ≡ codes "net" ∷ codes "sends " ∷ []
   pub dashes : opened_by (codes "graph" ∷ codes "net" ∷ codes "-" ∷ codes "-" ∷ []) ≡ codes "net" ∷ codes "-" ∷ []
+  pub traced : opened_by (codes "trace" ∷ codes "net" ∷ codes "-" ∷ codes "h1/1" ∷ codes "5" ∷ codes "7" ∷ codes "sends" ∷ []) ≡ codes "net" ∷ codes "sends" ∷ []
+  pub compared : opened_by (codes "compare" ∷ codes "net" ∷ codes "-" ∷ codes "one" ∷ codes "two" ∷ codes "h1/1" ∷ []) ≡ codes "net" ∷ codes "one" ∷ codes "two" ∷ []
   pub import : opened_by (codes "import" ∷ codes " net" ∷ codes "--sm" ∷ codes "7" ∷ []) ≡ codes " net" ∷ []
+  pub audit : opened_by (codes "audit" ∷ codes "net " ∷ codes "-" ∷ []) ≡ codes "net " ∷ codes "-" ∷ []
   pub dash : opened_by (codes "diff" ∷ codes "net" ∷ codes "-" ∷ codes " -" ∷ []) ≡ codes "net" ∷ codes " -" ∷ []

@@ -16,7 +16,7 @@ use Rattle.call_words.specs.declared.call.Asked.{Asked}
 use Rattle.call_words.specs.declared.call.Call.{Call}
 use Rattle.call_words.specs.declared.call.CutView.{CutView}
 use Rattle.call_words.specs.declared.call.CutView.TheVariants.{All, One, Picture}
-use Rattle.call_words.specs.declared.call.Call.TheVariants.{Explain, Import, Subnet}
+use Rattle.call_words.specs.declared.call.Call.TheVariants.{Audit, Explain, Import, Subnet}
 use Rattle.call_words.specs.declared.call.Work.{Work}
 use Rattle.call_words.specs.declared.call.Inspection.{Inspection}
 use Rattle.call_words.specs.declared.call.Inspection.TheVariants.{Graph, Keys, Tables, Trace}
@@ -62,6 +62,7 @@ names asked = record {
 abbrev pub named_call : Call Asked (Bor Text) → Call Names Text
 named_call (Subnet asked) = Subnet (names asked)
 named_call (Import netdiscover manager) = Import netdiscover.now manager
+named_call (Audit topology dump) = Audit topology.now dump.now
 named_call (Explain code) = Explain code
 
 -- what words ask for, or the text that they are refused with, where it is known
@@ -143,6 +144,11 @@ abbrev pub import_by : Option Text → Option (Option ℕ) → Option (Call Name
 import_by (Some netdiscover) (Some manager) = Some (Import netdiscover manager)
 import_by _ _ = None
 
+-- a topology and a dump
+abbrev pub audit_by : Option Text → Option Text → Option (Call Names Text)
+audit_by (Some topology) (Some dump) = Some (Audit topology dump)
+audit_by _ _ = None
+
 -- a word for a code that spells none asks for nothing
 abbrev pub explain_by : Option Text → Option (Call Names Text)
 explain_by None = Some (Explain None)
@@ -151,7 +157,7 @@ explain_by (Some word) = option_map (λ code. Explain (Some code)) (code_of word
 -- `check` takes no more words than its subnet's, `shares` takes a port, and `tables`, `keys`, `trace` and `graph` take a script,
 -- `cuts` two ports;
 -- `diff` needs other partitions, `trace` a packet, `run` a script, and `compare` two scripts and a port; `import` needs a file of
--- its own and takes a GUID, and `explain` takes a code
+-- its own and takes a GUID, `audit` needs a topology and a dump, and `explain` takes a code
 abbrev pub call_in : Subcommand → List Row → Option (Call Names Text)
 call_in command.Check rows = in_subnet rows (Some Check)
 call_in command.Shares rows = in_subnet rows (Some (Shares (first_of (codes "PORT") rows)))
@@ -164,6 +170,7 @@ call_in command.Run rows = in_subnet rows (run_by (first_of (codes "SCRIPT") row
 call_in command.Compare rows = in_subnet rows (compare_by rows)
 call_in command.Cuts rows = in_subnet rows (cuts_by (first_of (codes "PORT") rows) (first_of (codes "PORT2") rows))
 call_in command.Import rows = import_by (first_of (codes "NETDISCOVER") rows) (guid_by (first_of (codes "SM") rows))
+call_in command.Audit rows = audit_by (first_of (codes "TOPO") rows) (first_of (codes "DUMP") rows)
 call_in command.Explain rows = explain_by (first_of (codes "CODE") rows)
 
 -- ---- all words
@@ -180,6 +187,7 @@ subcommand_in word =
     else if bytes_eq word (codes "compare") then Some command.Compare
     else if bytes_eq word (codes "cuts") then Some command.Cuts
     else if bytes_eq word (codes "import") then Some command.Import
+    else if bytes_eq word (codes "audit") then Some command.Audit
     else if bytes_eq word (codes "explain") then Some command.Explain
     else None
 
@@ -256,4 +264,5 @@ abbrev pub opened_for : Asking → List Text
 opened_for (Err text) = []
 opened_for (Ok (Subnet asked)) = all_names asked
 opened_for (Ok (Import netdiscover manager)) = netdiscover ∷ []
+opened_for (Ok (Audit topology dump)) = topology ∷ dump ∷ []
 opened_for (Ok (Explain code)) = []

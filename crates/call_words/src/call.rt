@@ -31,6 +31,8 @@ pub enum Subcommand {
     Cuts,
     /// `import`, which makes a topology of a real fabric.
     Import,
+    /// `audit`, which judges the routes of a real fabric.
+    Audit,
     /// `explain`, which says what codes mean.
     Explain,
 }
@@ -106,6 +108,13 @@ pub enum Call<A, W> {
         netdiscover: W,
         /// The GUID of the subnet manager's port, if a word tells it.
         manager: Option<u64>,
+    },
+    /// Judge the routes that stand in the switches of a real fabric.
+    Audit {
+        /// Its topology.
+        topology: W,
+        /// The file that has its linear forwarding tables.
+        dump: W,
     },
     /// Say what a code means, or which codes there are.
     Explain(Option<Code>),

@@ -3,28 +3,29 @@
 ghost use Rattle.std.specs.Prelude.{◌≡◌, false, List, ℕ, Option, None, Some, codes, map, string_bytes, IfOk, IfErr, IsSomeAnd};
 ghost use Rattle.clap.specs.Words.{app_of, rule_of, subcommand_rows_of};
 ghost use Rattle.clap.specs.declared.builder.command.Command.TheViews.{out-Command as fields_of};
-ghost use Rattle.call_words.specs.CommandLine.{check_command, compare_command, diff_command, explain_command, fabric_command, graph_command};
+ghost use Rattle.call_words.specs.CommandLine.{audit_command, check_command, compare_command, diff_command, explain_command, fabric_command, graph_command};
 ghost use Rattle.call_words.specs.CommandLine.{cuts_command, cuts_flag, import_command, keys_command, manager_option, optional, run_command, shares_command};
 ghost use Rattle.call_words.specs.CommandLine.{subnet_command, tables_command, trace_command};
 ghost use Rattle.call_words.specs.CommandLine.{wanted};
-ghost use Rattle.call_words.specs.Help.{about_check, about_compare, about_cuts, about_diff, about_explain, about_graph, about_import, about_keys};
+ghost use Rattle.call_words.specs.Help.{about_audit, about_check, about_compare, about_cuts, about_diff, about_explain, about_graph, about_import, about_keys};
 ghost use Rattle.call_words.specs.Help.{about_program, about_run};
 ghost use Rattle.call_words.specs.Help.{about_shares, about_tables, about_trace, help_of_code, help_of_dlid, help_of_key};
 ghost use Rattle.call_words.specs.Help.{help_of_compared, help_of_first_script, help_of_partitions, help_of_second_script};
-ghost use Rattle.call_words.specs.Help.{help_of_cuts, help_of_first_end, help_of_second_end};
+ghost use Rattle.call_words.specs.Help.{help_of_cuts, help_of_dump, help_of_first_end, help_of_second_end};
 ghost use Rattle.call_words.specs.Help.{help_of_manager, help_of_netdiscover, help_of_port, help_of_script, help_of_script_before};
 ghost use Rattle.call_words.specs.Help.{help_of_second_partitions, help_of_sender, help_of_topology};
 ghost use Rattle.call_words.specs.Help.{program_name, program_version, text_in};
 ghost use Rattle.call_words.specs.Refusals.{IsShown};
 ghost use Rattle.call_words.specs.Words.{asked_in, asked_of};
-ghost use Rattle.call_words.specs.declared.help.TheConstants.{CHANGES, CODES, COMPARISON, CUTS, GRAPH, IMPORT, KEYS, LISTING, REPORT, SHARES, STATUSES, TABLES};
+ghost use Rattle.call_words.specs.declared.help.TheConstants.{AUDIT, CHANGES, CODES, COMPARISON, CUTS, GRAPH, IMPORT, KEYS, LISTING, REPORT, SHARES, STATUSES, TABLES};
 ghost use Rattle.call_words.specs.declared.help.TheConstants.{TRACE};
 
 use crate::call::Refused;
 use crate::help::{
-    ABOUT, ABOUT_CHECK, ABOUT_COMPARE, ABOUT_CUTS, ABOUT_DIFF, ABOUT_EXPLAIN, ABOUT_GRAPH,
-    ABOUT_IMPORT, ABOUT_KEYS, ABOUT_RUN, ABOUT_SHARES, ABOUT_TABLES, ABOUT_TRACE, CHANGES, CODES,
-    COMPARISON, CUTS, GRAPH, IMPORT, KEYS, LISTING, REPORT, SHARES, STATUSES, TABLES, TRACE,
+    ABOUT, ABOUT_AUDIT, ABOUT_CHECK, ABOUT_COMPARE, ABOUT_CUTS, ABOUT_DIFF, ABOUT_EXPLAIN,
+    ABOUT_GRAPH, ABOUT_IMPORT, ABOUT_KEYS, ABOUT_RUN, ABOUT_SHARES, ABOUT_TABLES, ABOUT_TRACE,
+    AUDIT, CHANGES, CODES, COMPARISON, CUTS, GRAPH, IMPORT, KEYS, LISTING, REPORT, SHARES,
+    STATUSES, TABLES, TRACE,
 };
 use clap::error::ErrorKind;
 use clap::{Arg, ArgAction, ArgMatches, Command, Error};
@@ -218,6 +219,18 @@ fn manager_option<'a>(alloc: Global) -> Arg<'a>
         .help("The GUID of the subnet manager's port: a number of 64 bits, as `0x101`")
 }
 
+fn wanted_dump<'a>(alloc: Global) -> Arg<'a>
+    ensures global { result.global ≡ false }
+    ensures rule { rule_of result ≡ wanted (codes "DUMP") }
+    ensures help { text_in result.help ≡ Some help_of_dump }
+{
+    wanted(
+        alloc,
+        "DUMP",
+        "The linear forwarding tables, as dump_fts prints them",
+    )
+}
+
 fn optional_code<'a>(alloc: Global) -> Arg<'a>
     ensures global { result.global ≡ false }
     ensures rule { rule_of result ≡ optional (codes "CODE") }
@@ -373,6 +386,18 @@ fn import_command<'a>(alloc: Global) -> Result<Command<'a>, AllocError>
     Ok(command.about(ABOUT_IMPORT).after_help(IMPORT))
 }
 
+/// The command that judges the routes of a real fabric.
+fn audit_command<'a>(alloc: Global) -> Result<Command<'a>, AllocError>
+    ensures words { IfOk result (λ command. app_of command ≡ audit_command) }
+    ensures about { IfOk result (λ command. text_in (fields_of command).about ≡ Some about_audit) }
+    ensures help { IfOk result (λ command. text_in (fields_of command).after_help ≡ Some AUDIT.now) }
+{
+    let command = Command::new(alloc, "audit")
+        .arg(wanted_topology(alloc))?
+        .arg(wanted_dump(alloc))?;
+    Ok(command.about(ABOUT_AUDIT).after_help(AUDIT))
+}
+
 /// The command that says what codes mean.
 fn explain_command<'a>(alloc: Global) -> Result<Command<'a>, AllocError>
     ensures words { IfOk result (λ command. app_of command ≡ explain_command) }
@@ -404,6 +429,7 @@ fn fabric_command<'a>(alloc: Global) -> Result<Command<'a>, AllocError>
         .subcommand(compare_command(alloc)?)?
         .subcommand(cuts_command(alloc)?)?
         .subcommand(import_command(alloc)?)?
+        .subcommand(audit_command(alloc)?)?
         .subcommand(explain_command(alloc)?)?
         .bin_name("fabric")?;
     Ok(command.version("0.1.0").about(ABOUT).after_help(STATUSES))

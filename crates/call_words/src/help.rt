@@ -31,6 +31,9 @@ pub(crate) const ABOUT_CUTS: &str =
 pub(crate) const ABOUT_IMPORT: &str =
     "Makes a topology of what ibnetdiscover printed of a real fabric";
 
+pub(crate) const ABOUT_AUDIT: &str =
+    "Judges the routes that stand in the switches of a real fabric";
+
 pub(crate) const ABOUT_EXPLAIN: &str =
     "Tells what the code of a fault or a refusal means, or lists all codes";
 
@@ -75,7 +78,8 @@ pub(crate) const STATUSES: &str = with_statuses!(
 
 A fault is told as `fault CODE topology line L`, `fault CODE partitions line L`,
 `fault CODE partitions2 line L`, `fault CODE script line L`, `fault CODE script2 line L`,
-`fault CODE netdiscover line L`, `fault CODE port`, `fault memory`, `fault read NAME` or `fault write`."
+`fault CODE netdiscover line L`, `fault CODE dump line L`, `fault CODE port`, `fault memory`,
+`fault read NAME` or `fault write`. An audit of routes that are not safe has the status 1 and no fault."
 );
 
 pub(crate) const NOT_TEXT: &str = "error: a word is not text\n";
@@ -304,6 +308,43 @@ that no topology describes.
     ""
 );
 
+pub(crate) const AUDIT: &str = with_statuses!(
+    "The tables are looked at as they stand, whichever subnet manager wrote them; nothing is brought up.
+Routes are safe, and the status is 0, where from each switch the LID of each adapter's port leads
+there, and along these LIDs no channels wait for one another in a circle; else it is 1, and nothing
+stands on standard error. What the two files lack of one another is told first:
+  no-table SWITCH             the dump has no table of this switch
+  no-switch GUID              the dump has a table of a switch that the topology lacks
+  no-port LID GUID            the LID is of a port that the topology lacks
+  no-lid PORT                 no row names a LID of this adapter's port, which has a cable
+  untold LID                  dump_fts leaves out the last LID, where it is a multiple of 64
+
+Then what each switch does wrong itself, for each LID of an end port:
+  hole SWITCH LID             it has no port for the LID
+  nowhere SWITCH LID port P   that port has no cable
+  wrong SWITCH LID PORT       it leads to another end port, PORT
+  loop LID SWITCH SWITCH ..   what goes round these switches never ends
+  stray SWITCH LID            it has a port for a LID that is nobody's
+
+Then, where channels can wait for one another in a circle, the ports of one such circle in turn:
+  deadlock PORT PORT ..              along LIDs of adapters' ports
+  deadlock switch-lids PORT PORT ..  along LIDs of switches, too, but not without them
+
+At last, for LIDs of adapters' ports, of switches, and of both, how many pairs of a switch and such a
+LID there are, and what a packet comes to that starts there:
+  adapters: N pairs, N reached, N holes, N nowhere, N wrong, N loops, N unknown, no deadlock
+
+For example, for a fabric of one's own:
+  ibnetdiscover >discovered
+  fabric import discovered >topology
+  dump_fts >tables
+  fabric audit topology tables
+
+",
+    "help",
+    ""
+);
+
 pub(crate) const CODES: &str = with_statuses!(
     "A code stands behind `fault` where a call does not complete, and behind `refused` in a report:
   TF1 to TF12            a fault of the topology
@@ -311,6 +352,7 @@ pub(crate) const CODES: &str = with_statuses!(
   SF1 to SF7             a fault of a script, or of a PORT of `shares`, `trace`, `compare` or `cuts`
   AR1 to AR4             why a port refuses to send a packet
   ND1 to ND7             a fault of what ibnetdiscover printed, in `import`
+  FT1 to FT7             a fault of dumped forwarding tables, in `audit`
   SW1 to SW4, UR1, TP1 to TP3
                          why the fabric of a topology is not brought up
   memory, read, write    what the machine refuses

@@ -3,7 +3,7 @@
 ghost use Rattle.std.specs.Prelude.{◌≡◌, ◌^◌, Ok, Some, map, string_bytes, option_map, IfOk, IfErr};
 ghost use Rattle.clap.specs.Words.{first_of, found_of, rows_of, subcommand_rows_of};
 ghost use Rattle.call_words.specs.Refusals.{IsOfGiven, IsOfWords, TellsAll};
-ghost use Rattle.call_words.specs.Words.{asked_in, asked_of, call_in, compare_by, cuts_by, diff_by, explain_by, file_in, given_items, guid_by};
+ghost use Rattle.call_words.specs.Words.{asked_in, asked_of, audit_by, call_in, compare_by, cuts_by, diff_by, explain_by, file_in, given_items, guid_by};
 ghost use Rattle.call_words.specs.Words.{import_by, in_subnet};
 ghost use Rattle.text_words.specs.Number.{if_under, number_in};
 ghost use Rattle.call_words.specs.Words.{graph_by, graph_with, inspect_by, is_given, named_call, named_found, named_inspection};
@@ -96,6 +96,7 @@ fn subcommand_in(word: &str) -> Option<Subcommand>
         "compare" => Some(Subcommand::Compare),
         "cuts" => Some(Subcommand::Cuts),
         "import" => Some(Subcommand::Import),
+        "audit" => Some(Subcommand::Audit),
         "explain" => Some(Subcommand::Explain),
         _ => None,
     }
@@ -133,6 +134,7 @@ fn call_of<'a>(command: Subcommand, found: &ArgMatches<'a>) -> Option<Call<Asked
             in_subnet(found, ends)
         }
         Subcommand::Import => import_by(word_of(found, "NETDISCOVER"), word_of(found, "SM")),
+        Subcommand::Audit => audit_by(word_of(found, "TOPO"), word_of(found, "DUMP")),
         Subcommand::Explain => explain_by(word_of(found, "CODE")),
     }
 }
@@ -286,6 +288,19 @@ fn guid_in(word: &str) -> Option<u64>
     ensures { result ≡ if_under (2 ^ 64) (number_in word.now) }
 {
     u64::try_from(number_in(word.as_bytes())?).ok()
+}
+
+/// The routes of a topology's fabric, by a dump of its tables.
+fn audit_by<'a>(
+    topology: Option<&'a str>,
+    dump: Option<&'a str>,
+) -> Option<Call<Asked<'a>, &'a str>>
+    ensures { option_map named_call result ≡ audit_by (option_map (λ word. word.now) topology.entry) (option_map (λ word. word.now) dump.entry) }
+{
+    Some(Call::Audit {
+        topology: topology?,
+        dump: dump?,
+    })
 }
 
 /// The code that a word spells, or none where there is no word.

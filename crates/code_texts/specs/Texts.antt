@@ -7,10 +7,12 @@ use Rattle.code_texts.specs.declared.code.Code.TheVariants.{Tf1, Tf2, Tf3, Tf4, 
 use Rattle.code_texts.specs.declared.code.Code.TheVariants.{Pf1, Pf2, Pf3, Pf4, Pf5, Pf6, Pf7, Pf8, Pf9}
 use Rattle.code_texts.specs.declared.code.Code.TheVariants.{Sf1, Sf2, Sf3, Sf4, Sf5, Sf6, Sf7, Ar1, Ar2, Ar3, Ar4}
 use Rattle.code_texts.specs.declared.code.Code.TheVariants.{Nd1, Nd2, Nd3, Nd4, Nd5, Nd6, Nd7}
+use Rattle.code_texts.specs.declared.code.Code.TheVariants.{Ft1, Ft2, Ft3, Ft4, Ft5, Ft6, Ft7}
 use Rattle.code_texts.specs.declared.code.Code.TheVariants.{Sw1, Sw2, Sw3, Sw4, Ur1, Tp1, Tp2, Tp3}
 use Rattle.code_texts.specs.declared.code.Code.TheVariants.{Memory, Read, Write}
 use Rattle.code_texts.specs.declared.code.TheConstants.{ALL}
 use Rattle.code_texts.specs.declared.discovery_texts.TheConstants.{ND1, ND2, ND3, ND4, ND5, ND6, ND7}
+use Rattle.code_texts.specs.declared.dump_texts.TheConstants.{FT1, FT2, FT3, FT4, FT5, FT6, FT7}
 use Rattle.code_texts.specs.declared.fabric_texts.TheConstants.{SW1, SW2, SW3, SW4, TP1, TP2, TP3, UR1}
 use Rattle.code_texts.specs.declared.machine_texts.TheConstants.{MEMORY, READ, WRITE}
 use Rattle.code_texts.specs.declared.partition_texts.TheConstants.{PF1, PF2, PF3, PF4, PF5, PF6, PF7, PF8, PF9}
@@ -61,6 +63,13 @@ text_of Nd4 = ND4.now
 text_of Nd5 = ND5.now
 text_of Nd6 = ND6.now
 text_of Nd7 = ND7.now
+text_of Ft1 = FT1.now
+text_of Ft2 = FT2.now
+text_of Ft3 = FT3.now
+text_of Ft4 = FT4.now
+text_of Ft5 = FT5.now
+text_of Ft6 = FT6.now
+text_of Ft7 = FT7.now
 text_of Sw1 = SW1.now
 text_of Sw2 = SW2.now
 text_of Sw3 = SW3.now

@@ -5,6 +5,7 @@ ghost use Rattle.code_texts.specs.Codes.{code_of, spelling};
 ghost use Rattle.code_texts.specs.Texts.{begins_with, text_of};
 
 use crate::discovery_texts::{ND1, ND2, ND3, ND4, ND5, ND6, ND7};
+use crate::dump_texts::{FT1, FT2, FT3, FT4, FT5, FT6, FT7};
 use crate::fabric_texts::{SW1, SW2, SW3, SW4, TP1, TP2, TP3, UR1};
 use crate::machine_texts::{MEMORY, READ, WRITE};
 use crate::partition_texts::{PF1, PF2, PF3, PF4, PF5, PF6, PF7, PF8, PF9};
@@ -93,6 +94,20 @@ pub enum Code {
     Nd6,
     /// A topology that is read as another.
     Nd7,
+    /// A line of dumped tables that is none.
+    Ft1,
+    /// A row that does not tell whose its LID is.
+    Ft2,
+    /// A table of a switch that has one already.
+    Ft3,
+    /// A LID that does not rise.
+    Ft4,
+    /// A table of another number of rows.
+    Ft5,
+    /// Dumped tables that end within one.
+    Ft6,
+    /// A LID that is another end port's.
+    Ft7,
     /// A request of a sweep without a reply.
     Sw1,
     /// A wrong reply to a sweep.
@@ -118,7 +133,7 @@ pub enum Code {
 }
 
 /// All codes, in the order in which they are listed.
-pub const ALL: [Code; 50] = [
+pub const ALL: [Code; 57] = [
     Code::Tf1,
     Code::Tf2,
     Code::Tf3,
@@ -158,6 +173,13 @@ pub const ALL: [Code; 50] = [
     Code::Nd5,
     Code::Nd6,
     Code::Nd7,
+    Code::Ft1,
+    Code::Ft2,
+    Code::Ft3,
+    Code::Ft4,
+    Code::Ft5,
+    Code::Ft6,
+    Code::Ft7,
     Code::Sw1,
     Code::Sw2,
     Code::Sw3,
@@ -216,6 +238,13 @@ impl Code {
             Code::Nd5 => "ND5",
             Code::Nd6 => "ND6",
             Code::Nd7 => "ND7",
+            Code::Ft1 => "FT1",
+            Code::Ft2 => "FT2",
+            Code::Ft3 => "FT3",
+            Code::Ft4 => "FT4",
+            Code::Ft5 => "FT5",
+            Code::Ft6 => "FT6",
+            Code::Ft7 => "FT7",
             Code::Sw1 => "SW1",
             Code::Sw2 => "SW2",
             Code::Sw3 => "SW3",
@@ -284,6 +313,13 @@ impl Code {
             Code::Nd5 => ND5,
             Code::Nd6 => ND6,
             Code::Nd7 => ND7,
+            Code::Ft1 => FT1,
+            Code::Ft2 => FT2,
+            Code::Ft3 => FT3,
+            Code::Ft4 => FT4,
+            Code::Ft5 => FT5,
+            Code::Ft6 => FT6,
+            Code::Ft7 => FT7,
             Code::Sw1 => SW1,
             Code::Sw2 => SW2,
             Code::Sw3 => SW3,

@@ -7,6 +7,7 @@
 
 mod code;
 mod discovery_texts;
+mod dump_texts;
 mod fabric_texts;
 mod laws;
 mod lines;

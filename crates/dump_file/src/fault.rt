@@ -1,6 +1,7 @@
 //! Why a text is refused.
 
 ghost use Rattle.std.specs.Prelude.{◌≡◌};
+ghost use Rattle.dump_file.specs.Fault.{code_of};
 
 use result_words::LineError;
 use std::alloc::AllocError;
@@ -30,6 +31,23 @@ pub enum DumpCause {
     /// The LID is said to be another end port's by a row before.
     #[error("the LID is another end port's by a row before")]
     TwoEndPorts,
+}
+
+impl DumpCause {
+    /// The code, as it is printed.
+    pub fn code(self) -> &'static str
+        ensures { result.now ≡ code_of self }
+    {
+        match self {
+            DumpCause::Malformed => "FT1",
+            DumpCause::EndNotTold => "FT2",
+            DumpCause::DuplicateTable => "FT3",
+            DumpCause::WrongLid => "FT4",
+            DumpCause::WrongCount => "FT5",
+            DumpCause::Unfinished => "FT6",
+            DumpCause::TwoEndPorts => "FT7",
+        }
+    }
 }
 
 /// Why a text was not read.

@@ -4,7 +4,7 @@ use Rattle.std.specs.List.{All}
 use Rattle.std.specs.Option.{option_to_list}
 use Rattle.std.proofs.lemmas.List.Elements.{All-head, All-tail}
 use Rattle.call_words.specs.Words.{Names, work_names}
-use Rattle.call_words.specs.declared.call.Call.TheVariants.{Explain, Import, Subnet}
+use Rattle.call_words.specs.declared.call.Call.TheVariants.{Audit, Explain, Import, Subnet}
 use Rattle.call_words.specs.declared.call.Work.{Work}
 use Rattle.call_words.specs.declared.call.Work.TheVariants as work
 use Rattle.fabric_cli.specs.Files.{Contents}
@@ -56,4 +56,10 @@ judged_alike file other (Ok (Subnet names)) same = texts_alike file other names 
 judged_alike file other (Ok (Import netdiscover manager)) same =
     ap (λ (read : Result (List ℕ) Ending). let judged : Result Bytes Ending = read >>= λ text. Err (imported manager text) in judged)
     (bytes_alike file other netdiscover (All-head (λ name. file name ≡ other name) netdiscover [] same))
+judged_alike file other (Ok (Audit topology dump)) same =
+    let more = All-tail (λ name. file name ≡ other name) topology (dump ∷ []) same in
+    rw (
+      bytes_alike file other topology (All-head (λ name. file name ≡ other name) topology (dump ∷ []) same),
+      bytes_alike file other dump (All-head (λ name. file name ≡ other name) dump [] more),
+    ) refl
 judged_alike file other (Ok (Explain code)) same = refl

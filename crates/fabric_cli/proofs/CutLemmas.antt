@@ -1,5 +1,5 @@
 -- What is told of the loss of cables.
-use Rattle.std.proofs.Common.{◌≡◌, ◌∙◌, inl, refl, cond, Bool, true, false, List, ℕ, [], ◌∷◌, Some, None, Result, Ok, Err, Vec, Global}
+use Rattle.std.proofs.Common.{◌≡◌, ◌∙◌, inl, refl, cond, Bool, true, false, List, ℕ, [], ◌∷◌, Some, Result, Ok, Err, Vec, Global}
 use Rattle.std.specs.List.{list_any}
 use Rattle.std.specs.Prelude.{IfErr, IfOk, IsErr}
 use Rattle.std.specs.declared.alloc.AllocError.{AllocError}

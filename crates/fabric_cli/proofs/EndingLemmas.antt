@@ -1,5 +1,5 @@
 -- How a call ends, from what was written to both streams.
-use Rattle.std.proofs.Common.{ℕ, ◌≡◌, ◌≢◌, ◌⊎◌, ◌∙◌, inl, inr, refl, sym, append-nil, ap, Bool, true, List, [], ◌∷◌, take, length, is_some, unwrap_or, Option, Some, None, IfSome}
+use Rattle.std.proofs.Common.{ℕ, ◌≡◌, ◌≢◌, ◌⊎◌, ◌∙◌, inl, inr, refl, sym, append-nil, ap, arith, Bool, List, [], ◌∷◌, take, length, Option, Some, None, IfSome}
 use Rattle.std.proofs.Common.{Result, Ok, Err, option_map, map, string_bytes, String, Global, subst}
 use Rattle.std.specs.Io.KnownBytes.{Appends, Keeps}
 use Rattle.std.specs.declared.io.Error.{Error}
@@ -10,13 +10,14 @@ use Rattle.fabric_cli.specs.declared.faults.Stop.{Stop}
 use Rattle.fabric_cli.specs.declared.faults.Stop.TheVariants.{Words, NoMemory, Unread, Unwritten, Run, Second, Foreign}
 use Rattle.fabric_cli.specs.Faults.{line_of, memory_line, run_line, run_status, status_of, stop_of, IsOfFiles, NamesUnread}
 use Rattle.fabric_cli.specs.Files.{Contents, OpensAll, OpensInOrder}
-use Rattle.fabric_cli.specs.Serving.{AppendsSome, Bytes, Ending, broken_off, complete, faulted, imported, judged_for, left_in, output_in, refused, script_in, texts_in, texts_of}
-use Rattle.fabric_cli.specs.Serving.{Answers, BreaksOff, Ends, EndsAs, ForEnding, ForSomeBytes, GoesOut, GoesPartly, IsRefusal, IsRefused, IsToldStop, OfScript, RunStops, Stops, StopsBehind, TellsStop}
-use Rattle.fabric_cli.specs.declared.texts.Texts.{Texts}
+use Rattle.fabric_cli.specs.declared.answering.Answer.{Answer}
+use Rattle.fabric_cli.specs.declared.answering.Answer.TheVariants.{Complete, Warned}
+use Rattle.fabric_cli.specs.Serving.{AppendsSome, Bytes, Ending, audited, broken_off, complete, ending_of, faulted, status_in, warned, imported, judged_for, output_in, refused}
+use Rattle.fabric_cli.specs.Serving.{Answers, BreaksOff, Ends, EndsAs, ForEnding, ForSomeBytes, GoesOut, GoesPartly, IsRefusal, IsRefused, IsToldStop, RunStops, Stops, StopsBehind, TellsStop}
 use Rattle.code_texts.specs.Texts.{explained}
 use Rattle.call_words.specs.Refusals.{IsOfGiven, IsOfWords}
-use Rattle.call_words.specs.Words.{Asking, Names, asked_by_given, given_items, given_texts, opened_for}
-use Rattle.call_words.specs.declared.call.Call.TheVariants.{Explain, Import, Subnet}
+use Rattle.call_words.specs.Words.{Asking, asked_by_given, given_items, given_texts, opened_for}
+use Rattle.call_words.specs.declared.call.Call.TheVariants.{Audit, Explain, Import, Subnet}
 use Rattle.call_words.specs.declared.call.Refused.{Refused}
 use Rattle.call_words.specs.declared.call.Refused.TheVariants as refusal
 use Rattle.text_streams.specs.Writing.{AppendsPart, Writes}
@@ -28,15 +29,27 @@ kept None = tt
 kept (Some xs) = refl
 
 -- a whole output
-goes_out_ends : (out out' err : Option (List ℕ)) (ending : Ending) → GoesOut ending out out' → Ends ending 0 out out' err err
-goes_out_ends out out' err (refused shown) is = absurd is
-goes_out_ends out out' err (faulted status line) is = absurd is
-goes_out_ends out out' err (complete output) is = (refl, is, kept err)
-goes_out_ends out out' err (broken_off line output) is = absurd is
+goes_out_ends : (answer : Answer) (out out' err : Option (List ℕ)) (ending : Ending) → GoesOut answer ending out out' → Ends ending (status_in answer) out out' err err
+goes_out_ends Complete out out' err (complete output) is = (refl, is, kept err)
+goes_out_ends Warned out out' err (warned output) is = (refl, is, kept err)
+goes_out_ends Complete out out' err (refused shown) is = absurd is
+goes_out_ends Complete out out' err (faulted status line) is = absurd is
+goes_out_ends Complete out out' err (warned output) is = absurd is
+goes_out_ends Complete out out' err (broken_off line output) is = absurd is
+goes_out_ends Warned out out' err (refused shown) is = absurd is
+goes_out_ends Warned out out' err (faulted status line) is = absurd is
+goes_out_ends Warned out out' err (complete output) is = absurd is
+goes_out_ends Warned out out' err (broken_off line output) is = absurd is
 
-pub done_ends : (judged : Result Bytes Ending) (out out' err : Option (List ℕ)) → ForEnding judged (λ ending. GoesOut ending out out') → EndsAs judged 0 out out' err err
-done_ends judged out out' err is =
-    for_ending judged (λ ending. GoesOut ending out out') (λ ending. Ends ending 0 out out' err err) (goes_out_ends out out' err) is
+-- what is answered has another status than the machine's refusal
+pub answered_below : (answer : Answer) → status_in answer ≢ 3
+answered_below Complete is = omega (arith, is)
+answered_below Warned is = omega (arith, is)
+
+pub done_ends : (judged : Result Bytes Ending) (answer : Answer) (out out' err : Option (List ℕ)) → ForEnding judged (λ ending. GoesOut answer ending out out')
+    → EndsAs judged (status_in answer) out out' err err
+done_ends judged answer out out' err is =
+    for_ending judged (λ ending. GoesOut answer ending out out') (λ ending. Ends ending (status_in answer) out out' err err) (goes_out_ends answer out out' err) is
 
 -- a fault that is printed, and is no refusal of the machine
 fault_ends : (judged : Result Bytes Ending) (line : List ℕ) (answer : ℕ) (out out' err err' : Option (List ℕ)) → ForEnding judged (λ ending. ending ≡ faulted 1 line)
@@ -64,6 +77,7 @@ refusal_ends : (text : List ℕ) (answer : ℕ) (out out' err err' : Option (Lis
 refusal_ends text answer out out' err err' same told (refused shown) is = (told.0, same, (text, is, told.1))
 refusal_ends text answer out out' err err' same told (faulted status line) is = absurd is
 refusal_ends text answer out out' err err' same told (complete output) is = absurd is
+refusal_ends text answer out out' err err' same told (warned output) is = absurd is
 refusal_ends text answer out out' err err' same told (broken_off line output) is = absurd is
 
 -- a stop
@@ -85,6 +99,7 @@ broken_ends : (stop : Stop) (answer : ℕ) (out out' err err' : Option (List ℕ
 broken_ends stop answer out out' err err' told (refused shown) is = absurd is
 broken_ends stop answer out out' err err' told (faulted status line) is = absurd is
 broken_ends stop answer out out' err err' told (complete output) is = absurd is
+broken_ends stop answer out out' err err' told (warned output) is = absurd is
 broken_ends stop answer out out' err err' told (broken_off line output) is = (told.0 ∙ is.1, is.2, subst (λ (text : List ℕ). Appends err err' text) is.0 told.1)
 
 module _ (judged : Result Bytes Ending) (stop : Stop) (answer : ℕ) (out out' err err' : Option (List ℕ)) where
@@ -115,22 +130,30 @@ take_whole (byte ∷ text) = ap (λ (rest : List ℕ). byte ∷ rest) (take_whol
 pub whole_part : (out out' : Option (List ℕ)) (text : List ℕ) → Appends out out' text → AppendsPart out out' text
 whole_part out out' text wrote = (length text, rw (take_whole text) wrote)
 
-out_some : (out out' : Option (List ℕ)) (ending : Ending) → GoesOut ending out out' → AppendsPart out out' (output_in ending)
-out_some out out' (refused shown) is = absurd is
-out_some out out' (faulted status line) is = absurd is
-out_some out out' (complete output) is = whole_part out out' output is
-out_some out out' (broken_off line output) is = absurd is
+out_some : (answer : Answer) (out out' : Option (List ℕ)) (ending : Ending) → GoesOut answer ending out out' → AppendsPart out out' (output_in ending)
+out_some Complete out out' (complete output) is = whole_part out out' output is
+out_some Warned out out' (warned output) is = whole_part out out' output is
+out_some Complete out out' (refused shown) is = absurd is
+out_some Complete out out' (faulted status line) is = absurd is
+out_some Complete out out' (warned output) is = absurd is
+out_some Complete out out' (broken_off line output) is = absurd is
+out_some Warned out out' (refused shown) is = absurd is
+out_some Warned out out' (faulted status line) is = absurd is
+out_some Warned out out' (complete output) is = absurd is
+out_some Warned out out' (broken_off line output) is = absurd is
 
 partly_some : (out out' : Option (List ℕ)) (ending : Ending) → GoesPartly ending out out' → AppendsPart out out' (output_in ending)
 partly_some out out' (refused shown) is = absurd is
 partly_some out out' (faulted status line) is = absurd is
 partly_some out out' (complete output) is = is
+partly_some out out' (warned output) is = is
 partly_some out out' (broken_off line output) is = is
 
 broken_some : (stop : Stop) (out out' : Option (List ℕ)) (ending : Ending) → BreaksOff stop ending out out' → AppendsPart out out' (output_in ending)
 broken_some stop out out' (refused shown) is = absurd is
 broken_some stop out out' (faulted status line) is = absurd is
 broken_some stop out out' (complete output) is = absurd is
+broken_some stop out out' (warned output) is = absurd is
 broken_some stop out out' (broken_off line output) is = whole_part out out' output is.2
 
 module _ (judged : Result Bytes Ending) (out out' : Option (List ℕ)) where
@@ -144,8 +167,8 @@ module _ (judged : Result Bytes Ending) (out out' : Option (List ℕ)) where
   either_some stop (inl is) = inl is.1
   either_some stop (inr is) = some_by (λ ending. BreaksOff stop ending out out') (broken_some stop out out') is
 
-  pub done_some : ForEnding judged (λ ending. GoesOut ending out out') → AppendsSome judged out out'
-  done_some is = some_by (λ ending. GoesOut ending out out') (out_some out out') is
+  pub done_some : (answer : Answer) → ForEnding judged (λ ending. GoesOut answer ending out out') → AppendsSome judged out out'
+  done_some answer is = some_by (λ ending. GoesOut answer ending out out') (out_some answer out out') is
 
   pub answer_some : (stop : Stop) (a : Bool) → StopsBehind judged stop a out out' → AppendsSome judged out out'
   answer_some (Words text) a is = either_some (Words text) is
@@ -177,15 +200,25 @@ files_stop judged (Second line cause) is = absurd is
 files_stop judged (Foreign line cause) is = absurd is
 
 -- a text that is made, and goes out whole or in part
-pub made_goes_out : (judged : Result Bytes Ending) (text : List ℕ) (out out' : Option (List ℕ)) → ForEnding judged (λ ending. ending ≡ complete text)
-    → Appends out out' text → ForEnding judged (λ ending. GoesOut ending out out')
-made_goes_out judged text out out' is wrote =
-    for_ending judged (λ ending. ending ≡ complete text) (λ ending. GoesOut ending out out') (λ ending same. rw same wrote) is
+out_so : (answer : Answer) (text : List ℕ) (out out' : Option (List ℕ)) → Appends out out' text → GoesOut answer (ending_of answer text) out out'
+out_so Complete text out out' wrote = wrote
+out_so Warned text out out' wrote = wrote
 
-pub made_goes_partly : (judged : Result Bytes Ending) (text : List ℕ) (out out' : Option (List ℕ)) → ForEnding judged (λ ending. ending ≡ complete text)
-    → AppendsPart out out' text → ForEnding judged (λ ending. GoesPartly ending out out')
-made_goes_partly judged text out out' is wrote =
-    for_ending judged (λ ending. ending ≡ complete text) (λ ending. GoesPartly ending out out') (λ ending same. rw same wrote) is
+pub made_goes_out : (judged : Result Bytes Ending) (answer : Answer) (text : List ℕ) (out out' : Option (List ℕ))
+    → ForEnding judged (λ ending. ending ≡ ending_of answer text) → Appends out out' text → ForEnding judged (λ ending. GoesOut answer ending out out')
+made_goes_out judged answer text out out' is wrote =
+    for_ending judged (λ ending. ending ≡ ending_of answer text) (λ ending. GoesOut answer ending out out')
+    (λ ending same. subst (λ (e : Ending). GoesOut answer e out out') (sym same) (out_so answer text out out' wrote)) is
+
+partly_so : (answer : Answer) (text : List ℕ) (out out' : Option (List ℕ)) → AppendsPart out out' text → GoesPartly (ending_of answer text) out out'
+partly_so Complete text out out' wrote = wrote
+partly_so Warned text out out' wrote = wrote
+
+pub made_goes_partly : (judged : Result Bytes Ending) (answer : Answer) (text : List ℕ) (out out' : Option (List ℕ))
+    → ForEnding judged (λ ending. ending ≡ ending_of answer text) → AppendsPart out out' text → ForEnding judged (λ ending. GoesPartly ending out out')
+made_goes_partly judged answer text out out' is wrote =
+    for_ending judged (λ ending. ending ≡ ending_of answer text) (λ ending. GoesPartly ending out out')
+    (λ ending same. subst (λ (e : Ending). GoesPartly e out out') (sym same) (partly_so answer text out out' wrote)) is
 
 -- it is said of files that were read
 pub is_told : (stop : Stop) (answer : ℕ) → answer ≢ 3 → answer ≡ status_of stop → IsToldStop stop
@@ -201,45 +234,38 @@ pub for_some_told : {A B : Contents → Type 0} (told : Option Contents) → ((f
 for_some_told None f a = tt
 for_some_told (Some file) f a = f file a
 
--- what is answered of texts that were read is what is answered of the files
-pub of_texts : (X I : Type 0) (told : Option Contents) (names : Names) (remaining : I → Option (List ℕ)) (texts : Texts I) (result : Result X Stop) (a : Bool) (out out' : Option (List ℕ))
-    → IfSome told (λ _. is_some (left_in remaining texts.task) ≡ true)
-    → IfSome told (λ file. texts_of file names ≡ Ok (texts_in (script_in remaining texts.task) texts))
-    → OfScript (left_in remaining texts.task) (λ script. Answers (Ok (texts_in script texts)) result a out out')
-    → IfSome told (λ file. Answers (texts_of file names) result a out out')
-of_texts X I None names remaining texts result a out out' known are some = tt
-of_texts X I (Some file) names remaining texts result a out out' known are some =
-    let same = known_script (left_in remaining texts.task) some.0 known some.1 in
-    rw (are, sym same) some.2
-  where
-    known_script : (left : Option (List ℕ)) (script : List ℕ) → is_some left ≡ true → IfSome left (λ all. script ≡ all) → script ≡ unwrap_or left []
-    known_script None script none is = absurd cc
-    known_script (Some all) script known is = is
-
 pub for_some_bytes : (asked : Asking) (P Q : Result Bytes Ending → Type 0) → ((judged : Result Bytes Ending) → P judged → Q judged) → ForSomeBytes asked P
     → ForSomeBytes asked Q
 for_some_bytes (Err shown) P Q f some = f (Err (refused shown)) some
 for_some_bytes (Ok (Subnet names)) P Q f some = (some.0, some.1, f (Ok some.0) some.2)
 for_some_bytes (Ok (Import netdiscover manager)) P Q f some = (some.0, f (Err (imported manager some.0)) some.1)
+for_some_bytes (Ok (Audit topology dump)) P Q f some = (some.0, some.1, f (Err (audited some.0 some.1)) some.2)
 for_some_bytes (Ok (Explain code)) P Q f some = f (Err (complete (explained code))) some
 
 -- what is answered of a file that was read is what is answered of the files
-pub of_file : (X : Type 0) (told : Option Contents) (name bytes : List ℕ) (manager : Option ℕ) (result : Result X Stop) (a : Bool) (out out' : Option (List ℕ))
+pub of_file : (told : Option Contents) (name bytes : List ℕ) (manager : Option ℕ) (result : Result Answer Stop) (a : Bool) (out out' : Option (List ℕ))
     → IfSome told (λ file. file name ≡ Some bytes) → Answers (Err (imported manager bytes)) result a out out'
     → IfSome told (λ file. Answers (judged_for file (Ok (Import name manager))) result a out out')
-of_file X None name bytes manager result a out out' is answers = tt
-of_file X (Some file) name bytes manager result a out out' is answers = rw is answers
+of_file None name bytes manager result a out out' is answers = tt
+of_file (Some file) name bytes manager result a out out' is answers = rw is answers
+
+-- and of two files
+pub of_two : (told : Option Contents) (first second one other : List ℕ) (result : Result Answer Stop) (a : Bool) (out out' : Option (List ℕ))
+    → IfSome told (λ file. (file first ≡ Some one) × (file second ≡ Some other)) → Answers (Err (audited one other)) result a out out'
+    → IfSome told (λ file. Answers (judged_for file (Ok (Audit first second))) result a out out')
+of_two None first second one other result a out out' is answers = tt
+of_two (Some file) first second one other result a out out' is answers = rw (is.0, is.1) answers
 
 -- ---- of a call
 -- where the files say what they hold
 module _ (told : Option Contents) (judged : Contents → Result Bytes Ending) where
-  pub told_done_ends : (out out' err : Option (List ℕ)) → IfSome told (λ file. ForEnding (judged file) (λ ending. GoesOut ending out out'))
-      → IfSome told (λ file. EndsAs (judged file) 0 out out' err err)
-  told_done_ends out out' err is = for_some_told told (λ file one. done_ends (judged file) out out' err one) is
+  pub told_done_ends : (answer : Answer) (out out' err : Option (List ℕ)) → IfSome told (λ file. ForEnding (judged file) (λ ending. GoesOut answer ending out out'))
+      → IfSome told (λ file. EndsAs (judged file) (status_in answer) out out' err err)
+  told_done_ends answer out out' err is = for_some_told told (λ file one. done_ends (judged file) answer out out' err one) is
 
-  pub told_done_some : (out out' : Option (List ℕ)) → IfSome told (λ file. ForEnding (judged file) (λ ending. GoesOut ending out out'))
+  pub told_done_some : (answer : Answer) (out out' : Option (List ℕ)) → IfSome told (λ file. ForEnding (judged file) (λ ending. GoesOut answer ending out out'))
       → IfSome told (λ file. AppendsSome (judged file) out out')
-  told_done_some out out' is = for_some_told told (λ file one. done_some (judged file) out out' one) is
+  told_done_some answer out out' is = for_some_told told (λ file one. done_some (judged file) out out' answer one) is
 
   pub told_ends : (stop : Stop) (answer : ℕ) (a : Bool) (out out' err err' : Option (List ℕ)) → IfSome told (λ file. StopsBehind (judged file) stop a out out') → answer ≢ 3
       → (answer ≡ status_of stop) × Appends err err' (line_of stop) → IfSome told (λ file. EndsAs (judged file) answer out out' err err')
@@ -253,11 +279,11 @@ module _ (told : Option Contents) (judged : Contents → Result Bytes Ending) wh
   told_stops stop a out is = for_some_told told (λ file one. stop_answers (judged file) stop a out one) is
 
 -- and where they do not
-pub any_done_ends : (asked : Asking) (out out' err : Option (List ℕ)) → ForSomeBytes asked (λ judged. ForEnding judged (λ ending. GoesOut ending out out'))
-    → ForSomeBytes asked (λ judged. EndsAs judged 0 out out' err err)
-any_done_ends asked out out' err is =
-    for_some_bytes asked (λ judged. ForEnding judged (λ ending. GoesOut ending out out')) (λ judged. EndsAs judged 0 out out' err err)
-    (λ judged one. done_ends judged out out' err one) is
+pub any_done_ends : (asked : Asking) (answer : Answer) (out out' err : Option (List ℕ)) → ForSomeBytes asked (λ judged. ForEnding judged (λ ending. GoesOut answer ending out out'))
+    → ForSomeBytes asked (λ judged. EndsAs judged (status_in answer) out out' err err)
+any_done_ends asked answer out out' err is =
+    for_some_bytes asked (λ judged. ForEnding judged (λ ending. GoesOut answer ending out out')) (λ judged. EndsAs judged (status_in answer) out out' err err)
+    (λ judged one. done_ends judged answer out out' err one) is
 
 pub any_ends : (asked : Asking) (stop : Stop) (answer : ℕ) (a : Bool) (out out' err err' : Option (List ℕ)) → ForSomeBytes asked (λ judged. StopsBehind judged stop a out out') → answer ≢ 3
     → (answer ≡ status_of stop) × Appends err err' (line_of stop) → ForSomeBytes asked (λ judged. EndsAs judged answer out out' err err')

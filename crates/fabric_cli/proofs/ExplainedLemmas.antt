@@ -23,11 +23,13 @@ use Rattle.data_packet.specs.Refusal.{code_of as refusal_code}
 use Rattle.data_packet.specs.declared.refusal.Refusal.{Refusal}
 use Rattle.data_packet.specs.declared.refusal.Refusal.TheVariants as refusal
 use Rattle.fabric_cli.specs.Explained.{IsExplained, NamesCode, TellsCode, told_word}
+use Rattle.dump_file.specs.declared.fault.DumpCause.{DumpCause}
+use Rattle.dump_file.specs.declared.fault.DumpCause.TheVariants as dump
 use Rattle.netdiscover_file.specs.declared.fault.DiscoveryCause.{DiscoveryCause}
 use Rattle.netdiscover_file.specs.declared.fault.DiscoveryCause.TheVariants as discovery
 use Rattle.topology_import.specs.declared.fault.ImportCause.TheVariants as import
 use Rattle.fabric_cli.specs.declared.faults.ForeignCause.{ForeignCause}
-use Rattle.fabric_cli.specs.declared.faults.ForeignCause.TheVariants.{Discovery, Import}
+use Rattle.fabric_cli.specs.declared.faults.ForeignCause.TheVariants.{Discovery, Dump, Import}
 use Rattle.fabric_cli.specs.Faults.{foreign_line, partitions_line, port_line, run_line, script_line, second_line, second_script_line, topology_line}
 use Rattle.fabric_cli.specs.declared.faults.Stop.{Stop}
 use Rattle.fabric_cli.specs.declared.faults.Stop.TheVariants.{Words, NoMemory, Unread, Unwritten, Run, Second, Foreign}
@@ -134,12 +136,22 @@ refused_told topology.OverLimit number = told_as code.Tf10 _ refl refl refl
 refused_told topology.ManagerUncabled number = told_as code.Tf11 _ refl refl refl
 refused_told topology.RootNotSwitch number = told_as code.Tf12 _ refl refl refl
 
+dump_told : (cause : DumpCause) (number : ℕ) → TellsCode (foreign_line (Dump cause) number)
+dump_told dump.Malformed number = told_as code.Ft1 _ refl refl refl
+dump_told dump.EndNotTold number = told_as code.Ft2 _ refl refl refl
+dump_told dump.DuplicateTable number = told_as code.Ft3 _ refl refl refl
+dump_told dump.WrongLid number = told_as code.Ft4 _ refl refl refl
+dump_told dump.WrongCount number = told_as code.Ft5 _ refl refl refl
+dump_told dump.Unfinished number = told_as code.Ft6 _ refl refl refl
+dump_told dump.TwoEndPorts number = told_as code.Ft7 _ refl refl refl
+
 foreign_told : (cause : ForeignCause) (number : ℕ) → TellsCode (foreign_line cause number)
 foreign_told (Discovery cause) number = discovery_told cause number
 foreign_told (Import (import.GuidTaken port guid)) number = told_as code.Nd5 _ refl refl refl
 foreign_told (Import import.UnknownManager) number = told_as code.Nd6 _ refl refl refl
 foreign_told (Import import.Unlike) number = told_as code.Nd7 _ refl refl refl
 foreign_told (Import (import.Refused cause)) number = refused_told cause number
+foreign_told (Dump cause) number = dump_told cause number
 
 pub stops_are_told : (stop : Stop) → NamesCode stop
 stops_are_told (Words text) = tt

@@ -23,7 +23,7 @@ use Rattle.subnet_fabric.specs.BringUp.{BroughtUpState}
 use Rattle.subnet_model.specs.declared.command.Command.{Command}
 use Rattle.sweep.specs.declared.fault.SweepFault.TheVariants as sweep
 use Rattle.fabric_cli.specs.Faults.{port_line, run_line, run_status, IsOfRun}
-use Rattle.fabric_cli.specs.Serving.{Bytes, Comes, ComesTo, CutComes, CutsAreTold, Ending, Finding, ForEnding, NamesNoCable, RunStops, Stops, TellsCuts, cut_told, cuts_in, comparison_text, complete, ending_over, faulted, inspected, looked_at, run_in, second_stop, shares_in, changes_in, texts_with}
+use Rattle.fabric_cli.specs.Serving.{Bytes, Comes, ComesTo, CutComes, CutsAreTold, Ending, Finding, ForEnding, RunStops, Stops, TellsCuts, cut_told, cuts_in, comparison_text, complete, ending_over, faulted, inspected, looked_at, run_in, second_stop, shares_in, changes_in, texts_with}
 use Rattle.call_words.specs.declared.call.Inspection.{Inspection}
 use Rattle.fabric_cli.specs.declared.faults.Stop.{Stop}
 use Rattle.fabric_cli.specs.declared.faults.Stop.TheVariants.{Words, NoMemory, Unread, Unwritten, Run, Second, Foreign}

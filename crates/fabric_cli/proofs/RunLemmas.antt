@@ -23,6 +23,8 @@ use Rattle.fabric_cli.specs.Faults.{run_stop, script_line}
 use Rattle.fabric_cli.specs.Laws.{RunsEndAsReports, without_told}
 use Rattle.fabric_cli.specs.Serving.{AppendsSome, Bytes, Ending, broken_off, complete, ending_by, output_in, reported, run_in, script_told, texts_with}
 use Rattle.fabric_cli.specs.Serving.{Answers, BreaksOff, ForEnding, GoesOut, GoesPartly, OfScript, RunStops, StopsBehind}
+use Rattle.fabric_cli.specs.declared.answering.Answer.{Answer}
+use Rattle.fabric_cli.specs.declared.answering.Answer.TheVariants.{Complete}
 use Rattle.fabric_cli.specs.declared.faults.Stop.{Stop}
 use Rattle.fabric_cli.specs.declared.faults.Stop.TheVariants.{Run}
 use Rattle.fabric_cli.proofs.EndingLemmas.{kept, whole_part}
@@ -86,10 +88,10 @@ module _ (topology : List ℕ) (partitions : Option (List ℕ)) (roster : Roster
       (script_partly (told_of_lines roster (lines script)) (judged_lines roster.plan (lines script)) old new (goes_on part))
 
   whole : (commands : List Command) → lines script ≡ taken → judged_lines roster.plan taken ≡ Ok commands → Appends old new (told_of_lines roster taken)
-      → ForEnding judged (λ ending. GoesOut ending old new)
+      → ForEnding judged (λ ending. GoesOut Complete ending old new)
   whole commands all sound wrote =
       let ends : run_in (Ok roster) script ≡ complete (told_of_lines roster taken) = rw (all, sound) refl in
-      so (λ ending. GoesOut ending old new) (rw ends wrote)
+      so (λ ending. GoesOut Complete ending old new) (rw ends wrote)
 
   broken : (line : ℕ) (cause : ScriptCause) → of_text run.Script (judged_lines roster.plan taken) ≡ Err (run.Script line cause) → Appends old new (told_of_lines roster taken)
       → ForEnding judged (λ ending. BreaksOff (Run (run.Script line cause)) ending old new)
@@ -99,10 +101,10 @@ module _ (topology : List ℕ) (partitions : Option (List ℕ)) (roster : Roster
       so (λ ending. BreaksOff (Run (run.Script line cause)) ending old new) (rw ends (refl, refl, wrote))
 
   module _ (X : Type 0) (name : Bor (List ℕ)) (sure : Bool) where
-    abbrev answers : Result X Stop → Type 0
+    abbrev answers : Result Answer Stop → Type 0
     answers result = Answers judged result sure old new
 
-    pub done_answers : (done : X) → EndsSo roster (let result : Result X RunFault = Ok done in result) read left taken old new → answers (Ok done)
+    pub done_answers : (done : X) → EndsSo roster (let result : Result X RunFault = Ok done in result) read left taken old new → answers (Ok Complete)
     done_answers done ends = whole _ (has.whole ends.0 ends.1) ends.2 ends.3
 
     pub fault_answers : (fault : RunFault) → EndsSo roster (let result : Result X RunFault = Err fault in result) read left taken old new
@@ -139,10 +141,10 @@ what_is_known None = tt
 what_is_known (Some all) = refl
 
 module _ (X : Type 0) (topology : List ℕ) (partitions : Option (List ℕ)) (name : Bor (List ℕ)) (known left old new : Option (List ℕ)) (sure : Bool) where
-  abbrev of_a_script : Result X Stop → Type 0
+  abbrev of_a_script : Result Answer Stop → Type 0
   of_a_script result = OfScript known (λ script. Answers (texts_with topology partitions (work.Run script)) result sure old new)
 
-  pub run_done : (done : X) → Streams (let result : Result X RunFault = Ok done in result) (roster_of topology partitions) known left old new → of_a_script (Ok done)
+  pub run_done : (done : X) → Streams (let result : Result X RunFault = Ok done in result) (roster_of topology partitions) known left old new → of_a_script (Ok Complete)
   run_done done (inl none) = absurd none.0
   run_done done (inr (roster, lids, up, carried)) =
       let script = has_taken known left carried.read carried.taken carried.consumed carried.are_lines in

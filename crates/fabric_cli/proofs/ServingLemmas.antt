@@ -7,7 +7,7 @@ use Rattle.fabric_cli.specs.declared.faults.Stop.{Stop}
 use Rattle.fabric_cli.specs.declared.faults.Stop.TheVariants.{Words, NoMemory, Unread, Unwritten, Run, Second, Foreign}
 use Rattle.fabric_cli.specs.Faults.{NamesUnread, line_of, memory_line, status_of, unwritten_line}
 use Rattle.fabric_cli.specs.Files.{Contents}
-use Rattle.fabric_cli.specs.Serving.{Bytes, Ending, broken_off, complete, faulted, refused, BreaksOff, ForEnding, GoesPartly, IsLineOf, IsRefusal, IsRefused, RunStops, Stops, StopsBehind, TellsStop}
+use Rattle.fabric_cli.specs.Serving.{Bytes, Ending, broken_off, complete, faulted, refused, warned, BreaksOff, ForEnding, GoesPartly, IsLineOf, IsRefusal, IsRefused, RunStops, Stops, StopsBehind, TellsStop}
 use Rattle.text_streams.specs.Writing.{Writes}
 use Rattle.fabric_cli.proofs.JudgedLemmas.{for_ending}
 
@@ -27,6 +27,7 @@ partly_line : (a b : Bool) (out out' : Option (List ℕ)) → a ≢ true → (en
 partly_line a b out out' may (refused shown) is = absurd is
 partly_line a b out out' may (faulted status line) is = absurd is
 partly_line a b out out' may (complete output) is = (refl, may)
+partly_line a b out out' may (warned output) is = (refl, may)
 partly_line a b out out' may (broken_off line output) is = inr (refl, may)
 
 of_output : (file : Contents) (reads : Bool) (old new : Option (List (List ℕ))) (names : List (List ℕ)) (judged : Result Bytes Ending) (answer : ℕ) (a b : Bool) (out out' err err' : Option (List ℕ))
@@ -58,6 +59,7 @@ module _ (file : Contents) (reads : Bool) (old new : Option (List (List ℕ))) (
   refusal_line text may (refused shown) is = (is, may)
   refusal_line text may (faulted status line) is = absurd is
   refusal_line text may (complete output) is = absurd is
+  refusal_line text may (warned output) is = absurd is
   refusal_line text may (broken_off line output) is = absurd is
 
   of_run : (fault : RunFault) → RunStops judged fault → TellsStop (Run fault) answer b err err' → IsRefused file reads old new names judged a b err err'
@@ -97,6 +99,7 @@ module _ (file : Contents) (reads : Bool) (old new : Option (List (List ℕ))) (
   broken_line stop out out' sure (refused shown) is = absurd is
   broken_line stop out out' sure (faulted status line) is = absurd is
   broken_line stop out out' sure (complete output) is = absurd is
+  broken_line stop out out' sure (warned output) is = absurd is
   broken_line stop out out' sure (broken_off line output) is =
       let one : status_of stop ≡ 1 = is.1 in
       inl (is.0, other_status (status_of stop) answer b three sure (λ e. omega (arith, e, one)))

@@ -16,9 +16,10 @@ use Rattle.subnet_core.specs.declared.fault.RunFault.{RunFault}
 use Rattle.subnet_core.specs.declared.fault.RunFault.TheVariants as run
 use Rattle.fabric_cli.specs.Files.{Contents, Opened, StopsAt}
 use Rattle.fabric_cli.specs.declared.faults.ForeignCause.{ForeignCause}
-use Rattle.fabric_cli.specs.declared.faults.ForeignCause.TheVariants.{Discovery, Import}
+use Rattle.fabric_cli.specs.declared.faults.ForeignCause.TheVariants.{Discovery, Dump, Import}
 use Rattle.fabric_cli.specs.declared.faults.Stop.{Stop}
 use Rattle.fabric_cli.specs.declared.faults.Stop.TheVariants.{Words, NoMemory, Unread, Unwritten, Run, Second, Foreign}
+use Rattle.dump_file.specs.Fault.{code_of as dump_code}
 use Rattle.line_parts.specs.Parts.{hex_text}
 use Rattle.netdiscover_file.specs.Fault.{code_of as discovery_code}
 use Rattle.topology_import.specs.Fault.{code_of as import_code}
@@ -60,6 +61,10 @@ port_line code = codes "fault " ++ (code ++ codes " port\n")
 abbrev pub netdiscover_line : List ℕ → ℕ → List ℕ
 netdiscover_line code number = codes "fault " ++ (code ++ (codes " netdiscover line " ++ (decimal number ++ codes "\n")))
 
+-- `fault CODE dump line L`
+abbrev pub dump_line : List ℕ → ℕ → List ℕ
+dump_line code number = codes "fault " ++ (code ++ (codes " dump line " ++ (decimal number ++ codes "\n")))
+
 -- with the GUID of a port, and that which its adapter would have
 abbrev pub guid_word : ℕ → List ℕ
 guid_word guid = codes " " ++ hex_text (to_be_bytes w64 guid)
@@ -71,6 +76,7 @@ abbrev pub foreign_line : ForeignCause → ℕ → List ℕ
 foreign_line (Discovery cause) number = netdiscover_line (discovery_code cause) number
 foreign_line (Import (GuidTaken port guid)) number = guids_line number port guid
 foreign_line (Import cause) number = netdiscover_line (import_code cause) number
+foreign_line (Dump cause) number = dump_line (dump_code cause) number
 
 abbrev pub memory_line : List ℕ
 memory_line = codes "fault memory\n"

@@ -37,7 +37,7 @@ use Rattle.subnet_model.specs.declared.command.Command.{Command}
 use Rattle.text_streams.specs.Reading.{IsEndless}
 use Rattle.text_streams.specs.Writing.{AppendsPart, Writes}
 use Rattle.text_words.specs.Lines.{lines}
-use Rattle.topo_file.specs.Topology.{TopologyState}
+use Rattle.topo_file.specs.Topology.{TopologyState, topology_of}
 use Rattle.result_words.specs.AtLine.{AtLine}
 use Rattle.result_words.specs.Steps.{◌>>=◌}
 use Rattle.subnet_core.specs.EventLines.{report_text}
@@ -53,7 +53,18 @@ use Rattle.call_words.specs.declared.call.Inspection.TheVariants.{Graph, Keys, T
 use Rattle.call_words.specs.declared.call.Work.{Work}
 use Rattle.call_words.specs.declared.call.Work.TheVariants as work
 use Rattle.fabric_cli.specs.declared.faults.Stop.TheVariants.{Words, NoMemory, Unread, Unwritten, Run, Second, Foreign}
-use Rattle.fabric_cli.specs.declared.faults.ForeignCause.TheVariants.{Discovery, Import}
+use Rattle.fabric_cli.specs.declared.faults.ForeignCause.TheVariants.{Discovery, Dump, Import}
+use Rattle.fabric_cli.specs.declared.answering.Answer.{Answer}
+use Rattle.fabric_cli.specs.declared.answering.Answer.TheVariants.{Complete, Warned}
+use Rattle.dump_file.specs.Dump.{DumpState, dump_of}
+use Rattle.dump_file.specs.declared.fault.DumpCause.{DumpCause}
+use Rattle.dump_file.specs.declared.fault.DumpFault.{DumpFault}
+use Rattle.dump_file.specs.declared.fault.DumpFault.TheVariants as dump
+use Rattle.route_audit.specs.Audit.{AuditState, audit}
+use Rattle.topo_file.specs.Fault.{code_of as topology_code}
+use Rattle.topo_file.specs.declared.fault.TopologyCause.{TopologyCause}
+use Rattle.topo_file.specs.declared.fault.TopoFault.{TopoFault}
+use Rattle.topo_file.specs.declared.fault.TopoFault.TheVariants as topology
 use Rattle.netdiscover_file.specs.Discovery.{DiscoveryState, discovery_of}
 use Rattle.netdiscover_file.specs.declared.fault.DiscoveryCause.{DiscoveryCause}
 use Rattle.netdiscover_file.specs.declared.fault.DiscoveryFault.{DiscoveryFault}
@@ -62,17 +73,18 @@ use Rattle.topology_import.specs.declared.fault.ImportError.{ImportError}
 use Rattle.topology_import.specs.declared.fault.ImportError.TheVariants as import
 use Rattle.topology_import.specs.Import.{import_of}
 use Rattle.topology_import.specs.declared.fault.ImportCause.{ImportCause}
-use Rattle.fabric_cli.specs.Faults.{foreign_line, line_of, status_of, memory_line, port_line, run_line, script_line, second_line, run_status}
+use Rattle.fabric_cli.specs.Faults.{foreign_line, line_of, status_of, memory_line, port_line, run_line, script_line, second_line, run_status, topology_line}
 use Rattle.fabric_cli.specs.Faults.{unread_line, unwritten_line}
 use Rattle.fabric_cli.specs.Files.{Contents, Opened, StopsAt}
 use Rattle.call_words.specs.Words.{Asking, Names, named_inspection, named_view, opened_for}
 
 -- how a call ends: the words are refused, with this text where it is known; or a fault's status and line; or a whole output;
--- or the line of a script's fault, behind what the lines before it tell
+-- or a whole output that tells of what is not as it should be; or the line of a script's fault, behind what the lines before it tell
 pub data Ending : Type 0 where
   refused : Option (List ℕ) → Ending
   faulted : ℕ → List ℕ → Ending
   complete : List ℕ → Ending
+  warned : List ℕ → Ending
   broken_off : (line output : List ℕ) → Ending
 
 -- the bytes of the files, as lists
@@ -249,6 +261,22 @@ imported_from manager (Err at) = faulted 1 (foreign_line (Discovery at.cause) at
 abbrev pub imported : Option ℕ → List ℕ → Ending
 imported manager text = imported_from manager (discovery_of text)
 
+-- ---- the routes that stand in the switches of a topology's fabric, which is not brought up
+abbrev pub audit_ending : AuditState → Ending
+audit_ending found = if found.is_safe then complete found.text else warned found.text
+
+abbrev pub audited_by : TopologyState → Result DumpState (AtLine DumpCause) → Ending
+audited_by plan (Ok dump) = audit_ending (audit plan dump)
+audited_by plan (Err at) = faulted 1 (foreign_line (Dump at.cause) at.line)
+
+-- the topology is judged before the dump
+abbrev pub audited_over : Result TopologyState (AtLine TopologyCause) → List ℕ → Ending
+audited_over (Ok plan) dump = audited_by plan (dump_of dump)
+audited_over (Err at) dump = faulted 1 (topology_line (topology_code at.cause) at.line)
+
+abbrev pub audited : List ℕ → List ℕ → Ending
+audited topology dump = audited_over (topology_of topology) dump
+
 -- ---- what the loss of cables would do: the fabric is brought up before the words for one are judged
 -- of all cables, of the one that words name, or as a picture
 abbrev pub cut_judged : List ℕ → Result Cable ScriptCause → Ending
@@ -333,6 +361,10 @@ abbrev pub judged_for : Contents → Asking → Result Bytes Ending
 judged_for file (Err shown) = Err (refused shown)
 judged_for file (Ok (Subnet names)) = texts_of file names
 judged_for file (Ok (call.Import netdiscover manager)) = bytes_of file netdiscover >>= λ text. Err (imported manager text)
+judged_for file (Ok (call.Audit topology dump)) = do
+  plan ← bytes_of file topology
+  tables ← bytes_of file dump
+  Err (audited plan tables)
 judged_for file (Ok (Explain code)) = Err (complete (explained code))
 
 -- what is to be done, whatever stands in its files
@@ -354,6 +386,7 @@ abbrev pub ForSomeBytes : Asking → (Result Bytes Ending → Type 0) → Type 0
 ForSomeBytes (Err shown) Is = Is (Err (refused shown))
 ForSomeBytes (Ok (Subnet names)) Is = (texts : Bytes) × AreFor names texts × Is (Ok texts)
 ForSomeBytes (Ok (call.Import netdiscover manager)) Is = (text : List ℕ) × Is (Err (imported manager text))
+ForSomeBytes (Ok (call.Audit topology dump)) Is = (plan tables : List ℕ) × Is (Err (audited plan tables))
 ForSomeBytes (Ok (Explain code)) Is = Is (Err (complete (explained code)))
 
 -- the text is the one that is known
@@ -369,6 +402,7 @@ abbrev pub Ends : Ending → ℕ → Option (List ℕ) → Option (List ℕ) →
 Ends (refused shown) status out out' err err' = (status ≡ 2) × Keeps out out' × AppendsKnown shown err err'
 Ends (faulted fault line) status out out' err err' = (status ≡ fault) × Keeps out out' × Appends err err' line
 Ends (complete output) status out out' err err' = (status ≡ 0) × Appends out out' output × Keeps err err'
+Ends (warned output) status out out' err err' = (status ≡ 1) × Appends out out' output × Keeps err err'
 Ends (broken_off fault output) status out out' err err' = (status ≡ 1) × Appends out out' output × Appends err err' fault
 
 -- so a call ends in which this is judged
@@ -380,6 +414,7 @@ abbrev pub output_in : Ending → List ℕ
 output_in (refused shown) = []
 output_in (faulted fault line) = []
 output_in (complete output) = output
+output_in (warned output) = output
 output_in (broken_off fault output) = output
 
 -- and this has gone out, whatever was refused: nothing, or a beginning of the output
@@ -393,6 +428,7 @@ abbrev pub IsLineOf : (out_is_sure err_is_sure : Bool) → Ending → List ℕ �
 IsLineOf out_is_sure err_is_sure (refused shown) line = IsKnown shown line × (err_is_sure ≢ true)
 IsLineOf out_is_sure err_is_sure (faulted status fault) line = (line ≡ fault) × (err_is_sure ≢ true)
 IsLineOf out_is_sure err_is_sure (complete output) line = (line ≡ unwritten_line) × (out_is_sure ≢ true)
+IsLineOf out_is_sure err_is_sure (warned output) line = (line ≡ unwritten_line) × (out_is_sure ≢ true)
 IsLineOf out_is_sure err_is_sure (broken_off fault output) line =
     ((line ≡ fault) × (err_is_sure ≢ true)) ⊎ ((line ≡ unwritten_line) × (out_is_sure ≢ true))
 
@@ -428,6 +464,15 @@ abbrev pub import_stop : ImportError → Stop
 import_stop import.NoMemory = NoMemory
 import_stop (import.At line cause) = Foreign line (Import cause)
 
+-- a fault of a topology whose fabric is not brought up
+abbrev pub topology_stop : TopoFault → Stop
+topology_stop topology.NoMemory = NoMemory
+topology_stop (topology.At line cause) = Run (run.Topology line cause)
+
+abbrev pub dump_stop : DumpFault → Stop
+dump_stop dump.NoMemory = NoMemory
+dump_stop (dump.At line cause) = Foreign line (Dump cause)
+
 -- words are refused, with this text
 abbrev pub IsRefusal : Ending → List ℕ → Type 0
 IsRefusal (refused shown) text = IsKnown shown text
@@ -459,10 +504,14 @@ abbrev pub IsTold : {X : Type 0} → Result X Stop → Type 0
 IsTold (Ok output) = Unit {0}
 IsTold (Err stop) = IsToldStop stop
 
--- an output comes as it is, and a stop by its line
+-- what is made comes as this ending, and a stop by its line
+abbrev pub EndsIn : {X : Type 0} → (X → Ending) → Result Bytes Ending → Result X Stop → Type 0
+EndsIn view judged (Ok made) = ForEnding judged (λ ending. ending ≡ view made)
+EndsIn view judged (Err stop) = Stops judged stop
+
+-- an output comes as it is
 abbrev pub ComesTo : {X : Type 0} → (X → List ℕ) → Result Bytes Ending → Result X Stop → Type 0
-ComesTo view judged (Ok output) = ForEnding judged (λ ending. ending ≡ complete (view output))
-ComesTo view judged (Err stop) = Stops judged stop
+ComesTo view judged result = EndsIn (λ output. complete (view output)) judged result
 
 -- no cable is between the ports that words name, whatever would be told of one
 pub record NamesNoCable (plan : TopologyState) (view : CutView (List ℕ)) (stop : Stop) : Type 0 where
@@ -479,14 +528,25 @@ CutComes roster up view (Ok text) = TellsCuts roster up view text.items × (cut_
 CutComes roster up view (Err stop) = (stop ≡ NoMemory) ⊎ NamesNoCable roster.plan view stop
 
 -- ---- and with the output written
--- all of it has gone out
-abbrev pub GoesOut : Ending → (out out' : Option (List ℕ)) → Type 0
-GoesOut (complete output) out out' = Appends out out' output
-GoesOut _ out out' = ⊥
+-- a whole output, by how it is answered
+abbrev pub ending_of : Answer → List ℕ → Ending
+ending_of Complete output = complete output
+ending_of Warned output = warned output
+
+abbrev pub status_in : Answer → ℕ
+status_in Complete = 0
+status_in Warned = 1
+
+-- all of it has gone out, and is answered so
+abbrev pub GoesOut : Answer → Ending → (out out' : Option (List ℕ)) → Type 0
+GoesOut Complete (complete output) out out' = Appends out out' output
+GoesOut Warned (warned output) out out' = Appends out out' output
+GoesOut _ _ out out' = ⊥
 
 -- a beginning of it has
 abbrev pub GoesPartly : Ending → (out out' : Option (List ℕ)) → Type 0
 GoesPartly (complete output) out out' = AppendsPart out out' output
+GoesPartly (warned output) out out' = AppendsPart out out' output
 GoesPartly (broken_off fault output) out out' = AppendsPart out out' output
 GoesPartly _ out out' = ⊥
 
@@ -504,8 +564,8 @@ StopsBehind judged stop out_is_sure out out' =
     (Stops judged stop × Keeps out out') ⊎ ForEnding judged (λ ending. BreaksOff stop ending out out')
 
 -- it is answered so, with the output written: all of it, or as far as it went
-abbrev pub Answers : {X : Type 0} → Result Bytes Ending → Result X Stop → (out_is_sure : Bool) → (out out' : Option (List ℕ)) → Type 0
-Answers judged (Ok done) out_is_sure out out' = ForEnding judged (λ ending. GoesOut ending out out')
+abbrev pub Answers : Result Bytes Ending → Result Answer Stop → (out_is_sure : Bool) → (out out' : Option (List ℕ)) → Type 0
+Answers judged (Ok answer) out_is_sure out out' = ForEnding judged (λ ending. GoesOut answer ending out out')
 Answers judged (Err stop) out_is_sure out out' = StopsBehind judged stop out_is_sure out out'
 
 -- it is so of some script, and of this one where its bytes are known

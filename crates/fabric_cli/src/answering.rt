@@ -1,25 +1,48 @@
 //! What is answered of texts: an output that is made whole and then written, or the report of a script, which is written
 //! while the script is read.
 
-ghost use Rattle.std.specs.Prelude.{◌≡◌, true, Ok, Result, option_copied, option_map, IfErr};
+ghost use Rattle.std.specs.Prelude.{◌≡◌, true, Ok, Result, List, ℕ, option_copied, option_map, IfErr};
 ghost use Rattle.call_words.specs.declared.call.Work.TheVariants as work;
 ghost use Rattle.fabric_cli.specs.Faults.{IsOfRun, LeavesUnread};
-ghost use Rattle.fabric_cli.specs.Serving.{left_in, texts_in, texts_with, Answers, Bytes, ComesTo, Ending, IsOpenScript, OfScript};
+ghost use Rattle.fabric_cli.specs.Serving.{audit_ending, ending_of, left_in, status_in, texts_in, texts_with, Answers, Bytes, ComesTo, Ending, EndsIn};
+ghost use Rattle.fabric_cli.specs.Serving.{ForEnding, IsOpenScript, OfScript};
 ghost use Rattle.text_streams.specs.Reading.{IsEndless};
 
-use crate::faults::Stop;
+use crate::faults::{COMPLETE, FAULT, Stop};
 use crate::outputs::{changed, compared, cut, inspected, listed, shared};
 use crate::texts::{Task, Texts};
+use route_audit::Audit;
 use std::alloc::Global;
 use subnet_core::run_stream;
 use text_streams::{Output, Reader, write_whole};
+
+/// How a call is answered whose output is written.
+#[derive(Clone, Copy)]
+pub enum Answer {
+    /// The output says all.
+    Complete,
+    /// What was judged is not as it should be, as the output tells.
+    Warned,
+}
+
+impl Answer {
+    /// The exit status.
+    pub fn status(self) -> u8
+        ensures { result ≡ status_in self }
+    {
+        match self {
+            Answer::Complete => COMPLETE,
+            Answer::Warned => FAULT,
+        }
+    }
+}
 
 /// Writes what is asked for of these texts.
 pub fn answered_of_texts<'a, I: Reader + Drop, O: Output>(
     alloc: Global,
     texts: Texts<'a, I>,
     out: &mut O,
-) -> Result<(), Stop<'a>>
+) -> Result<Answer, Stop<'a>>
     ensures exact { OfScript (left_in I.remaining texts.entry.task) (λ script.
         Answers (Ok (texts_in script texts.entry)) result (O.is_sure out.old) (O.contents out.old) (O.contents out.new)) }
     ensures unread { IfErr result (LeavesUnread (IsOpenScript I.remaining I.is_sure texts.entry.task)) }
@@ -61,20 +84,55 @@ pub fn answered_of_texts<'a, I: Reader + Drop, O: Output>(
 }
 
 /// Writes an output that is made.
-pub fn written<'a, O: Output>(out: &mut O, made: Result<Vec<u8>, Stop<'a>>) -> Result<(), Stop<'a>>
+pub fn written<'a, O: Output>(
+    out: &mut O,
+    made: Result<Vec<u8>, Stop<'a>>,
+) -> Result<Answer, Stop<'a>>
     ensures exact { (judged : Result Bytes Ending) → ComesTo (λ text. text.items) judged made.entry
         → Answers judged result (O.is_sure out.old) (O.contents out.old) (O.contents out.new) }
     ensures unread { IfErr made.entry IsOfRun → IfErr result (LeavesUnread (λ _. ⊥)) }
 {
     match made {
-        Ok(text) => {
-            if write_whole(out, text.as_slice()) {
-                Ok(())
-            } else {
-                Err(Stop::Unwritten)
-            }
-        }
+        Ok(text) => written_as(out, text.as_slice(), Answer::Complete),
         Err(stop) => Err(stop),
+    }
+}
+
+/// Writes an audit that is made.
+pub fn written_audit<'a, O: Output>(
+    out: &mut O,
+    made: Result<Audit, Stop<'a>>,
+) -> Result<Answer, Stop<'a>>
+    ensures exact { (judged : Result Bytes Ending) → EndsIn audit_ending judged made.entry
+        → Answers judged result (O.is_sure out.old) (O.contents out.old) (O.contents out.new) }
+    ensures unread { IfErr made.entry IsOfRun → IfErr result (LeavesUnread (λ _. ⊥)) }
+{
+    match made {
+        Ok(audit) => written_as(out, audit.text(), answer_of(&audit)),
+        Err(stop) => Err(stop),
+    }
+}
+
+fn answer_of(audit: &Audit) -> Answer
+    ensures { (text : List ℕ) → ending_of result text ≡ audit_ending (record audit.now { text = text }) }
+{
+    if audit.is_safe() {
+        Answer::Complete
+    } else {
+        Answer::Warned
+    }
+}
+
+/// Writes an output that is answered so.
+fn written_as<'a, O: Output>(out: &mut O, text: &[u8], answer: Answer) -> Result<Answer, Stop<'a>>
+    ensures exact { (judged : Result Bytes Ending) → ForEnding judged (λ ending. ending ≡ ending_of answer text.now)
+        → Answers judged result (O.is_sure out.old) (O.contents out.old) (O.contents out.new) }
+    ensures unread { IfErr result (LeavesUnread (λ _. ⊥)) }
+{
+    if write_whole(out, text) {
+        Ok(answer)
+    } else {
+        Err(Stop::Unwritten)
     }
 }
 
@@ -86,7 +144,7 @@ fn streamed<'a, R: Reader, O: Output>(
     name: &'a str,
     input: &mut R,
     out: &mut O,
-) -> Result<(), Stop<'a>>
+) -> Result<Answer, Stop<'a>>
     ensures exact { OfScript (R.remaining input.old) (λ script.
         Answers (texts_with topology.now (option_copied partitions.entry) (work.Run script)) result
         (O.is_sure out.old) (O.contents out.old) (O.contents out.new)) }
@@ -94,7 +152,7 @@ fn streamed<'a, R: Reader, O: Output>(
         (word ≡ name.entry.now) × (R.is_sure input.old ≡ true → IsEndless (R.remaining input.old)))) }
 {
     match run_stream(alloc, topology, partitions, input, out) {
-        Ok(()) => Ok(()),
+        Ok(()) => Ok(Answer::Complete),
         Err(fault) => Err(Stop::of_run(name, fault)),
     }
 }

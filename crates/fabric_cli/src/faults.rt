@@ -2,7 +2,7 @@
 
 ghost use Rattle.std.specs.Prelude.{◌≡◌, ◌++◌, IfOk, OnOk, option_map};
 ghost use Rattle.std.specs.Option.{option_map_or};
-ghost use Rattle.fabric_cli.specs.Faults.{foreign_line, guid_word, guids_line, netdiscover_line};
+ghost use Rattle.fabric_cli.specs.Faults.{dump_line, foreign_line, guid_word, guids_line, netdiscover_line};
 ghost use Rattle.fabric_cli.specs.Faults.{fabric_line, line_of, memory_line, no_path_line, port_line, run_line, run_status, unwritten_line};
 ghost use Rattle.fabric_cli.specs.Faults.{run_stop, second_line, status_of, stop_of, sweep_status};
 ghost use Rattle.fabric_cli.specs.declared.faults.Stop.TheVariants.{NoMemory};
@@ -10,6 +10,7 @@ ghost use Rattle.script_lines.specs.ScriptCause.{code_of as script_code};
 ghost use Rattle.partition_file.specs.Fault.{code_of as partitions_code};
 
 use call_words::Refused;
+use dump_file::DumpCause;
 use line_parts::push_hex;
 use netdiscover_file::DiscoveryCause;
 use partition_file::PartitionCause;
@@ -20,7 +21,7 @@ use topology_import::ImportCause;
 
 /// The exit status of a call that completes.
 pub const COMPLETE: u8 = 0;
-/// The exit status of a fault in a file.
+/// The exit status of a fault in a file, and of an output that tells of what is not as it should be.
 pub const FAULT: u8 = 1;
 /// The exit status where the words are refused.
 pub const WORDS_REFUSED: u8 = 2;
@@ -66,6 +67,8 @@ pub enum ForeignCause {
     Discovery(DiscoveryCause),
     /// No topology is made of it.
     Import(ImportCause),
+    /// With linear forwarding tables as they were dumped.
+    Dump(DumpCause),
 }
 
 impl<'a> Stop<'a> {
@@ -237,6 +240,7 @@ fn foreign_line(alloc: Global, line: usize, cause: ForeignCause) -> Result<Vec<u
             guids_line(alloc, line, port, guid)
         }
         ForeignCause::Import(cause) => netdiscover_line(alloc, cause.code(), line),
+        ForeignCause::Dump(cause) => dump_line(alloc, cause.code(), line),
     }
 }
 
@@ -244,6 +248,12 @@ fn netdiscover_line(alloc: Global, code: &str, line: usize) -> Result<Vec<u8>, A
     ensures { IfOk result (λ text. text.items ≡ netdiscover_line code.now line) }
 {
     Ok(format!(in alloc; "fault {code} netdiscover line {line}\n")?.into_bytes())
+}
+
+fn dump_line(alloc: Global, code: &str, line: usize) -> Result<Vec<u8>, AllocError>
+    ensures { IfOk result (λ text. text.items ≡ dump_line code.now line) }
+{
+    Ok(format!(in alloc; "fault {code} dump line {line}\n")?.into_bytes())
 }
 
 /// The line of a port's GUID and of that which its adapter would have.

@@ -8,7 +8,9 @@ ghost use Rattle.call_words.specs.declared.call.Inspection.TheVariants.{Graph as
 ghost use Rattle.call_words.specs.declared.call.Work.TheVariants as work;
 ghost use Rattle.fabric_cli.specs.Faults.{IsOfRun};
 ghost use Rattle.fabric_cli.specs.Serving.{asked_port, changes_in, looked_at, second_stop, shares_in, texts_with, traced};
-ghost use Rattle.fabric_cli.specs.Serving.{ComesTo, CutComes, comparison_text, discovery_stop, import_stop, imported, imported_as, yes_or_no};
+ghost use Rattle.fabric_cli.specs.Serving.{ComesTo, CutComes, EndsIn, audit_ending, audited, audited_by, audited_over, comparison_text, discovery_stop, dump_stop};
+ghost use Rattle.fabric_cli.specs.Serving.{import_stop, imported, imported_as, topology_stop, yes_or_no};
+ghost use Rattle.dump_file.specs.Dump.{dump_of};
 ghost use Rattle.topology_import.specs.Import.{import_of};
 ghost use Rattle.fabric_cli.specs.declared.faults.Stop.TheVariants.{NoMemory};
 ghost use Rattle.subnet_core.specs.BringUp.{up_in};
@@ -18,17 +20,20 @@ ghost use Rattle.subnet_core.specs.Roster.{roster_of};
 use crate::faults::{ForeignCause, Stop};
 use cable_cuts::{cut_text, cuts_text, needed};
 use call_words::{CutView, Inspection};
+use dump_file::DumpFault;
 use fabric_graph::graph_text;
 use fabric_tables::{keys_text, tables_text};
 use netdiscover_file::{Discovery, DiscoveryFault};
 use packet_trace::trace_text;
 use partition_changes::changes_text;
 use port_shares::shares_text;
+use route_audit::{Audit, audit};
 use script_lines::named_cable;
 use std::alloc::{AllocError, Global};
 use subnet_core::{
     Comparison, Roster, RunFault, ScriptCause, Subnet, bring_up, compare, left_by, read_roster,
 };
+use topo_file::{TopoFault, Topology};
 use topology_import::{ImportError, topology_text};
 
 /// The listing of a subnet that is brought up.
@@ -380,6 +385,50 @@ fn import_stop<'a>(error: ImportError) -> Stop<'a>
         ImportError::At { line, cause } => Stop::Foreign {
             line,
             cause: ForeignCause::Import(cause),
+        },
+    }
+}
+
+/// What an audit finds of the tables that a dump shows over a topology.
+pub fn audited<'a>(alloc: Global, topology: &[u8], dump: &[u8]) -> Result<Audit, Stop<'a>>
+    ensures exact { EndsIn audit_ending (Err (audited topology.now dump.now)) result }
+    ensures fault { IfErr result IsOfRun }
+{
+    match topo_file::read(alloc, topology) {
+        Ok(plan) => audited_over(alloc, &plan, dump),
+        Err(fault) => Err(topology_stop(fault)),
+    }
+}
+
+fn audited_over<'a>(alloc: Global, plan: &Topology, dump: &[u8]) -> Result<Audit, Stop<'a>>
+    ensures exact { EndsIn audit_ending (Err (audited_by plan.now (dump_of dump.now))) result }
+    ensures fault { IfErr result IsOfRun }
+{
+    match dump_file::read(alloc, dump) {
+        Ok(dump) => Ok(audit(alloc, plan, &dump)?),
+        Err(fault) => Err(dump_stop(fault)),
+    }
+}
+
+fn topology_stop<'a>(fault: TopoFault) -> Stop<'a>
+    ensures told { result ≡ topology_stop fault }
+    ensures fault { IsOfRun result }
+{
+    match fault {
+        TopoFault::NoMemory => Stop::NoMemory,
+        TopoFault::At { line, cause } => Stop::Run(RunFault::Topology { line, cause }),
+    }
+}
+
+fn dump_stop<'a>(fault: DumpFault) -> Stop<'a>
+    ensures told { result ≡ dump_stop fault }
+    ensures fault { IsOfRun result }
+{
+    match fault {
+        DumpFault::NoMemory => Stop::NoMemory,
+        DumpFault::At { line, cause } => Stop::Foreign {
+            line,
+            cause: ForeignCause::Dump(cause),
         },
     }
 }

@@ -1,7 +1,7 @@
 //! Files opened, and read to their end.
 
-ghost use Rattle.std.specs.Prelude.{ℕ, ◌≡◌, true, List, [], ◌∷◌, Option, Some, IfOk, IfErr, IfSome, option_map};
-ghost use Rattle.fabric_cli.specs.Files.{OpensAll};
+ghost use Rattle.std.specs.Prelude.{ℕ, ◌≡◌, true, List, [], ◌∷◌, Option, Some, IfOk, IfErr, IfSome, OnOk, option_map};
+ghost use Rattle.fabric_cli.specs.Files.{OpensAll, OpensInOrder};
 ghost use Rattle.fabric_cli.specs.Faults.{IsOfFiles, NamesUnread};
 
 use crate::faults::Stop;
@@ -25,6 +25,26 @@ pub fn open_file<'a, F: Files>(files: &mut F, name: &'a str) -> Result<F::Input,
         Some(input) => Ok(input),
         None => Err(Stop::Unread(name)),
     }
+}
+
+/// The bytes of two named files, each opened once.
+pub fn read_two<'a, F: Files>(
+    alloc: Global,
+    files: &mut F,
+    first: &'a str,
+    second: &'a str,
+) -> Result<(Vec<u8>, Vec<u8>), Stop<'a>>
+    ensures order { OpensInOrder (F.opened files.old) (F.opened files.new) (first.entry.now ∷ second.entry.now ∷ []) }
+    ensures all { OnOk result (OpensAll (F.opened files.old) (F.opened files.new) (first.entry.now ∷ second.entry.now ∷ [])) }
+    ensures bytes { IfOk result (λ read. IfSome (F.told files.old)
+        (λ file. (file first.entry.now ≡ Some read.0.items) × (file second.entry.now ≡ Some read.1.items))) }
+    ensures fault { IfErr result IsOfFiles }
+    ensures unread { IfErr result (NamesUnread (F.told files.old) (F.reads files.old)
+        (F.opened files.old) (F.opened files.new) (first.entry.now ∷ second.entry.now ∷ [])) }
+{
+    let one = read_file(alloc, files, first)?;
+    let other = read_file(alloc, files, second)?;
+    Ok((one, other))
 }
 
 /// The bytes of a named file, which is opened once.

@@ -4,18 +4,18 @@ ghost use Rattle.std.specs.Prelude.{◌≡◌, ◌≢◌, ◌⊎◌, ◌∷◌, 
 ghost use Rattle.std.specs.Io.KnownBytes.{Appends};
 ghost use Rattle.std.specs.Process.{exit_status};
 ghost use Rattle.call_words.specs.Words.{all_names, asked_by_given, asking, asking_by_clap, given_texts, names, opened_for};
-ghost use Rattle.call_words.specs.declared.call.Call.TheVariants.{Import as ToImport, Subnet as InSubnet};
+ghost use Rattle.call_words.specs.declared.call.Call.TheVariants.{Audit as ToAudit, Import as ToImport, Subnet as InSubnet};
 ghost use Rattle.fabric_cli.specs.Faults.{line_of, memory_line, status_of, NamesUnread};
 ghost use Rattle.fabric_cli.specs.Files.{OpensAll, OpensInOrder};
 ghost use Rattle.fabric_cli.specs.Serving.{judged_for, texts_of, Answers, AppendsSomeFor, EndsAs, EndsFor, ForSomeBytes};
 ghost use Rattle.fabric_cli.specs.Serving.{IsRefusedFor, IsTold, TellsStop};
 ghost use Rattle.text_streams.specs.Writing.{Writes};
 
-use crate::answering::{answered_of_texts, written};
-use crate::faults::{COMPLETE, MEMORY_LINE, REFUSED, Stop};
+use crate::answering::{Answer, answered_of_texts, written, written_audit};
+use crate::faults::{MEMORY_LINE, REFUSED, Stop};
 use crate::files::Files;
-use crate::outputs::{imported, text_or_stop};
-use crate::reading::read_file;
+use crate::outputs::{audited, imported, text_or_stop};
+use crate::reading::{read_file, read_two};
 use crate::texts::read_texts;
 use call_words::{Asked, Call, Clap, Parser, given_words, read_words};
 use code_texts::explained;
@@ -98,7 +98,7 @@ pub fn serve_by<P: Parser, F: Files, O: Output, E: Output>(
     ensures short { AppendsSomeFor (asking (P.shown parser.now) words.now) (F.told files.old) (O.contents out.old) (O.contents out.new) }
 {
     match answered(alloc, parser, words, files, out) {
-        Ok(()) => COMPLETE,
+        Ok(answer) => answer.status(),
         Err(stop) => told_stop(alloc, &stop, err),
     }
 }
@@ -133,7 +133,7 @@ fn answered<'a, P: Parser, F: Files, O: Output>(
     words: &'a [String],
     files: &mut F,
     out: &mut O,
-) -> Result<(), Stop<'a>>
+) -> Result<Answer, Stop<'a>>
     ensures order { OpensInOrder (F.opened files.old) (F.opened files.new)
         (opened_for (asking (P.shown parser.now) words.entry.now)) }
     ensures all { IsTold result → OpensAll (F.opened files.old) (F.opened files.new)
@@ -153,6 +153,9 @@ fn answered<'a, P: Parser, F: Files, O: Output>(
                 manager,
             },
         ) => answered_of_discovery(alloc, netdiscover, manager, files, out),
+        Ok(Call::Audit { topology, dump }) => {
+            answered_of_dump(alloc, topology, dump, files, out)
+        }
         Ok(Call::Explain(code)) => written(out, text_or_stop(explained(alloc, code))),
         Err(refused) => Err(Stop::of_words(refused)),
     }
@@ -165,7 +168,7 @@ fn answered_of_discovery<'a, F: Files, O: Output>(
     manager: Option<u64>,
     files: &mut F,
     out: &mut O,
-) -> Result<(), Stop<'a>>
+) -> Result<Answer, Stop<'a>>
     ensures opened { OpensAll (F.opened files.old) (F.opened files.new) (netdiscover.entry.now ∷ []) }
     ensures exact { IfSome (F.told files.old) (λ file. Answers (judged_for file (Ok (ToImport netdiscover.entry.now manager))) result
         (O.is_sure out.old) (O.contents out.old) (O.contents out.new)) }
@@ -180,13 +183,39 @@ fn answered_of_discovery<'a, F: Files, O: Output>(
     }
 }
 
+/// Writes what an audit of a topology and a dump finds, which two files have.
+fn answered_of_dump<'a, F: Files, O: Output>(
+    alloc: Global,
+    topology: &'a str,
+    dump: &'a str,
+    files: &mut F,
+    out: &mut O,
+) -> Result<Answer, Stop<'a>>
+    ensures order { OpensInOrder (F.opened files.old) (F.opened files.new) (topology.entry.now ∷ dump.entry.now ∷ []) }
+    ensures all { IsTold result → OpensAll (F.opened files.old) (F.opened files.new) (topology.entry.now ∷ dump.entry.now ∷ []) }
+    ensures exact { IfSome (F.told files.old) (λ file. Answers (judged_for file (Ok (ToAudit topology.entry.now dump.entry.now))) result
+        (O.is_sure out.old) (O.contents out.old) (O.contents out.new)) }
+    ensures any_files { IsTold result → ForSomeBytes (Ok (ToAudit topology.entry.now dump.entry.now))
+        (λ judged. Answers judged result (O.is_sure out.old) (O.contents out.old) (O.contents out.new)) }
+    ensures unread { IfErr result (NamesUnread (F.told files.old) (F.reads files.old)
+        (F.opened files.old) (F.opened files.new) (topology.entry.now ∷ dump.entry.now ∷ [])) }
+{
+    match read_two(alloc, files, topology, dump) {
+        Ok((plan, tables)) => {
+            let found = audited(alloc, plan.as_slice(), tables.as_slice());
+            written_audit(out, found)
+        }
+        Err(stop) => Err(stop),
+    }
+}
+
 /// Writes what is asked for of these files, which are all opened, and but for a script that is run read, before any is judged.
 fn answered_of_files<'a, F: Files, O: Output>(
     alloc: Global,
     asked: &Asked<'a>,
     files: &mut F,
     out: &mut O,
-) -> Result<(), Stop<'a>>
+) -> Result<Answer, Stop<'a>>
     ensures order { OpensInOrder (F.opened files.old) (F.opened files.new) (all_names (names asked.now)) }
     ensures all { IsTold result → OpensAll (F.opened files.old) (F.opened files.new) (all_names (names asked.now)) }
     ensures exact { IfSome (F.told files.old) (λ file. Answers (texts_of file (names asked.now)) result

@@ -1,6 +1,6 @@
 use Rattle.std.proofs.Common.{◌≡◌, ◌∙◌, true, ap, codes, refl}
 use Rattle.clap.specs.Words.{App, app_of, new_app, with_subcommand}
-use Rattle.call_words.specs.CommandLine.{check_command, compare_command, cuts_command, diff_command, explain_command, graph_command, import_command, keys_command, run_command, shares_command, tables_command, trace_command}
+use Rattle.call_words.specs.CommandLine.{audit_command, check_command, compare_command, cuts_command, diff_command, explain_command, graph_command, import_command, keys_command, run_command, shares_command, tables_command, trace_command}
 use Rattle.call_words.proofs.CommandLemmas.{adds_shape}
 use Rattle.call_words.proofs.command_line.fabric_command.Goals as goal
 
@@ -44,6 +44,9 @@ with_cuts = with_subcommand with_compare cuts_command.top
 abbrev with_import : App
 with_import = with_subcommand with_cuts import_command.top
 
+abbrev with_audit : App
+with_audit = with_subcommand with_import audit_command.top
+
 pub returns-clause-words : goal.returns-clause-words
 returns-clause-words c =
     let top_is : app_of c.subcommand_required.result ≡ with_requirement (new_app (codes "fabric")) =
@@ -81,6 +84,9 @@ returns-clause-words c =
     let imports : app_of c.in_ok-subcommand-11.field-0 ≡ with_import =
     adds_shape _ _ _ import_command c.in_ok-subcommand-11.ensures c.in_ok-import_command.ensures.words refl
     ∙ ap (λ (a : App). with_subcommand a import_command.top) cuts in
-    let explains = adds_shape _ _ _ explain_command c.in_ok-subcommand-12.ensures c.in_ok-explain_command.ensures.words refl
-    ∙ ap (λ (a : App). with_subcommand a explain_command.top) imports in
+    let audits : app_of c.in_ok-subcommand-12.field-0 ≡ with_audit =
+    adds_shape _ _ _ audit_command c.in_ok-subcommand-12.ensures c.in_ok-audit_command.ensures.words refl
+    ∙ ap (λ (a : App). with_subcommand a audit_command.top) imports in
+    let explains = adds_shape _ _ _ explain_command c.in_ok-subcommand-13.ensures c.in_ok-explain_command.ensures.words refl
+    ∙ ap (λ (a : App). with_subcommand a explain_command.top) audits in
     rw (c.after_help.ensures, c.about.ensures, c.version.ensures, c.in_ok-command.ensures.0) (ap with_version explains)

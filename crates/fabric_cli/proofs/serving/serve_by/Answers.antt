@@ -1,20 +1,26 @@
 use Rattle.fabric_cli.specs.Serving.{judged_for}
 use Rattle.call_words.specs.Words.{asking}
-use Rattle.fabric_cli.proofs.EndingLemmas.{any_done_ends, any_ends, is_told, told_done_ends, told_done_some, told_ends, told_some}
+use Rattle.std.proofs.Common.{◌∙◌, sym}
+use Rattle.fabric_cli.proofs.EndingLemmas.{answered_below, any_done_ends, any_ends, is_told, told_done_ends, told_done_some, told_ends, told_some}
 use Rattle.fabric_cli.proofs.ServingLemmas.{answer_is_refused}
 use Rattle.fabric_cli.proofs.serving.serve_by.Goals as goal
 
 pub returns-in-Ok-clause-exact : goal.returns-in-Ok-clause-exact
 returns-in-Ok-clause-exact g c other =
-    told_done_ends _ (λ file. judged_for file (asking (g.P.Parser.shown c.args.parser.now) c.args.words.now)) _ _ _ c.in-Ok.ensures.exact
+    rw c.status.ensures
+    (told_done_ends _ (λ file. judged_for file (asking (g.P.Parser.shown c.args.parser.now) c.args.words.now)) c.in-Ok.answer _ _ _ c.in-Ok.ensures.exact)
 
 pub returns-in-Ok-clause-any_files : goal.returns-in-Ok-clause-any_files
 returns-in-Ok-clause-any_files g c other =
-    any_done_ends (asking (g.P.Parser.shown c.args.parser.now) c.args.words.now) _ _ _ (c.in-Ok.ensures.any_files tt)
+    rw c.status.ensures
+    (any_done_ends (asking (g.P.Parser.shown c.args.parser.now) c.args.words.now) c.in-Ok.answer _ _ _ (c.in-Ok.ensures.any_files tt))
+
+pub returns-in-Ok-clause-refused : goal.returns-in-Ok-clause-refused
+returns-in-Ok-clause-refused g c three = absurd (answered_below c.in-Ok.answer (sym c.status.ensures ∙ three))
 
 pub returns-in-Ok-clause-short : goal.returns-in-Ok-clause-short
 returns-in-Ok-clause-short g c =
-    told_done_some _ (λ file. judged_for file (asking (g.P.Parser.shown c.args.parser.now) c.args.words.now)) _ _ c.in-Ok.ensures.exact
+    told_done_some _ (λ file. judged_for file (asking (g.P.Parser.shown c.args.parser.now) c.args.words.now)) c.in-Ok.answer _ _ c.in-Ok.ensures.exact
 
 pub returns-in-Err-clause-exact : goal.returns-in-Err-clause-exact
 returns-in-Err-clause-exact g c other =

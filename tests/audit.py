@@ -1,0 +1,191 @@
+#!/usr/bin/env python3
+"""Works out anew what `fabric audit` has to print of a topology and a dump, and its status:
+    tests/audit.py TOPOLOGY DUMP
+It knows nothing of the program: it reads lines by patterns, follows each LID with a set of switches seen, and looks for
+circles by a search from each channel.
+"""
+import collections
+import re
+import sys
+
+Node = collections.namedtuple("Node", "is_switch name guid ports")
+Row = collections.namedtuple("Row", "port guid is_nobodys")
+
+
+def read_topology(file):
+    nodes, cables, places = [], [], {}
+    for line in open(file):
+        words = line.split("#")[0].split()
+        if words and words[0] in ("switch", "adapter"):
+            places[words[1]] = len(nodes)
+            nodes.append(Node(words[0] == "switch", words[1], int(words[2], 0), int(words[3], 0)))
+        elif words and words[0] == "cable":
+            ends = [word.split("/") for word in words[1:3]]
+            cables.append([(places[name], int(number, 0)) for name, number in ends])
+    return nodes, cables
+
+
+def read_dump(file):
+    """Of each switch, by its GUID, the top of its table and its rows by LID."""
+    tables, rows = {}, None
+    for line in open(file):
+        heading = re.match(r"Unicast lids \[0x0-(0x[0-9a-f]+)\] of switch .* guid (0x[0-9a-f]+) \(", line)
+        row = re.match(r"(0x[0-9a-f]+) (\d+) : \((.*)\)\s*$", line)
+        if heading:
+            rows = {}
+            tables[int(heading[2], 16)] = int(heading[1], 16), rows
+        elif row and rows is not None:
+            guid = re.search(r"portguid (0x[0-9a-f]+)", row[3])
+            rows[int(row[1], 16)] = Row(int(row[2]), int(guid[1], 16) if guid else None, "not available" in row[3])
+    return tables
+
+
+class Net:
+    def __init__(self, topology, dump):
+        self.nodes, self.cables = read_topology(topology)
+        self.tables = read_dump(dump)
+        self.far = {here: there for a, b in self.cables for here, there in ((a, b), (b, a))}
+        self.switches = [place for place, node in enumerate(self.nodes) if node.is_switch]
+        ports = {}
+        for place, node in enumerate(self.nodes):
+            for number in [0] if node.is_switch else range(1, node.ports + 1):
+                ports.setdefault(node.guid + number, (place, number))
+        self.lids = sorted({lid for _, rows in self.tables.values() for lid in rows})
+        self.guids = {}
+        for _, rows in self.tables.values():
+            for lid, row in rows.items():
+                if row.guid is not None:
+                    self.guids.setdefault(lid, row.guid)
+        self.ends = {lid: ports[guid] for lid, guid in self.guids.items() if guid in ports}
+
+    def port(self, at):
+        return f"{self.nodes[at[0]].name}/{at[1]}"
+
+    def name(self, place):
+        return self.nodes[place].name
+
+    def entry(self, place, lid):
+        """A port, `None`, or 'unknown'."""
+        if self.nodes[place].guid not in self.tables:
+            return "unknown"
+        top, rows = self.tables[self.nodes[place].guid]
+        if lid not in rows:
+            return "unknown" if lid == top and top % 64 == 0 else None
+        return None if rows[lid].port == 255 else rows[lid].port
+
+    def turn(self, place, lid):
+        entry = self.entry(place, lid)
+        if entry in (None, "unknown"):
+            return ("hole" if entry is None else "unknown"), None
+        if entry == 0:
+            return "arrives", (place, 0)
+        there = self.far.get((place, entry))
+        if there is None:
+            return "nowhere", entry
+        return ("goes", there[0]) if self.nodes[there[0]].is_switch else ("arrives", there)
+
+    def fate(self, place, lid):
+        seen = set()
+        while place not in seen:
+            seen.add(place)
+            kind, what = self.turn(place, lid)
+            if kind == "arrives":
+                return "reached" if what == self.ends[lid] else "wrong"
+            if kind != "goes":
+                return kind
+            place = what
+        return "loop"
+
+    def loop(self, place, lid):
+        """The switches of a loop through this one, if there is one."""
+        ring, at = [place], self.turn(place, lid)
+        while at[0] == "goes" and at[1] not in ring:
+            ring.append(at[1])
+            at = self.turn(at[1], lid)
+        return ring if at == ("goes", place) else None
+
+    def files(self):
+        for place in self.switches:
+            if self.nodes[place].guid not in self.tables:
+                yield f"no-table {self.name(place)}"
+        for guid in self.tables:
+            if guid not in [self.nodes[place].guid for place in self.switches]:
+                yield f"no-switch 0x{guid:016x}"
+        for lid in self.lids:
+            if lid in self.guids and lid not in self.ends:
+                yield f"no-port {lid} 0x{self.guids[lid]:016x}"
+        for cable in self.cables:
+            for end in cable:
+                if not self.nodes[end[0]].is_switch and end not in self.ends.values():
+                    yield f"no-lid {self.port(end)}"
+        for top in sorted({top for top, rows in self.tables.values() if top % 64 == 0 and top not in rows}):
+            yield f"untold {top}"
+
+    def trouble(self, place, lid):
+        if lid not in self.ends:
+            _, rows = self.tables.get(self.nodes[place].guid, (0, {}))
+            row = rows.get(lid)
+            return f"stray {self.name(place)} {lid}" if lid not in self.guids and row and row.is_nobodys and row.port != 255 else None
+        kind, what = self.turn(place, lid)
+        if kind == "hole":
+            return f"hole {self.name(place)} {lid}"
+        if kind == "nowhere":
+            return f"nowhere {self.name(place)} {lid} port {what}"
+        if kind == "arrives" and what != self.ends[lid]:
+            return f"wrong {self.name(place)} {lid} {self.port(what)}"
+        ring = self.loop(place, lid) if kind == "goes" else None
+        return f"loop {lid} {' '.join(map(self.name, ring))}" if ring and min(ring) == place else None
+
+    def circle(self, lids):
+        """The shortest circle through the least channel that is on one, by the least channel at each step."""
+        ports = [(place, number) for place in self.switches for number in range(1, self.nodes[place].ports + 1)]
+        channels = {at for at in ports if at in self.far and self.nodes[self.far[at][0]].is_switch}
+        nexts = {at: set() for at in channels}
+        for at in channels:
+            there = self.far[at][0]
+            for lid in lids:
+                after = (there, self.entry(there, lid))
+                if self.entry(at[0], lid) == at[1] and after in channels:
+                    nexts[at].add(after)
+        for home in sorted(channels):
+            # how many steps lead home from each
+            steps, front = {}, {home}
+            while front:
+                count = len(front) and max(steps.values(), default=0) + 1
+                front = {at for at in channels if at not in steps and nexts[at] & front}
+                steps.update({at: count for at in front})
+            if home in steps:
+                ring = [home]
+                while len(ring) < steps[home]:
+                    ring.append(min(at for at in nexts[ring[-1]] if steps.get(at) == steps[home] - len(ring)))
+                return ring
+        return None
+
+    def audit(self):
+        """The lines, and the status."""
+        lines = list(self.files())
+        unnamed = any(line.startswith("no-lid") for line in lines)
+        troubles = [self.trouble(place, lid) for place in self.switches for lid in self.lids]
+        adapters = [lid for lid in self.lids if lid in self.ends and not self.nodes[self.ends[lid][0]].is_switch]
+        known = [lid for lid in self.lids if lid in self.ends]
+        ring = self.circle(adapters)
+        other = None if ring else self.circle(known)
+        lines += [line for line in troubles if line]
+        lines += [f"deadlock {' '.join(map(self.port, ring))}"] if ring else []
+        lines += [f"deadlock switch-lids {' '.join(map(self.port, other))}"] if other else []
+        rest = [lid for lid in known if lid not in adapters]
+        for title, lids, waits in ("adapters", adapters, ring), ("switches", rest, None), ("audit", known, ring or other):
+            fates = collections.Counter(self.fate(place, lid) for place in self.switches for lid in lids)
+            kinds = [("reached", "reached"), ("hole", "holes"), ("nowhere", "nowhere"), ("wrong", "wrong"), ("loop", "loops"), ("unknown", "unknown")]
+            told = ", ".join(f"{fates[kind]} {word}" for kind, word in kinds)
+            words = "" if title == "switches" else ", deadlock" if waits else ", no deadlock"
+            lines.append(f"{title}: {len(self.switches) * len(lids)} pairs, {told}{words}")
+        reached = all(self.fate(place, lid) == "reached" for place in self.switches for lid in adapters)
+        whole = self.tables and all(self.nodes[place].guid in self.tables for place in self.switches)
+        return lines, 0 if whole and reached and not unnamed and not ring else 1
+
+
+if __name__ == "__main__":
+    lines, status = Net(*sys.argv[1:]).audit()
+    print("\n".join(lines))
+    sys.exit(status)
