@@ -4,5 +4,6 @@ pub mod SoundLemmas
 pub mod AgreementLemmas
 pub mod OtherEndLemmas
 pub mod LawLemmas
+pub mod ToldLemmas
 pub mod WrongLemmas
 pub mod ExampleLemmas

@@ -25,10 +25,10 @@ use Rattle.netdiscover_file.specs.Ends.{is_same_node}
 use Rattle.netdiscover_file.proofs.AgreementLemmas.{other_end}
 use Rattle.netdiscover_file.proofs.SoundLemmas.{lines_turned}
 
-same_numbers : (a b : ℕ) → (a == b) ≡ true → a ≡ b
+pub same_numbers : (a b : ℕ) → (a == b) ≡ true → a ≡ b
 same_numbers a b h = grind (arith, nat_tests)
 
-same_tested : (a b : ℕ) → a ≡ b → (a == b) ≡ true
+pub same_tested : (a b : ℕ) → a ≡ b → (a == b) ≡ true
 same_tested a b h = grind (arith, nat_tests)
 
 -- of different elements two that are the same stand at one place

@@ -44,7 +44,7 @@ differs_among guid (x ∷ xs) ys all new =
     and_from (not (list_any (nat_eq x) (xs ++ guid ∷ ys))) _ (not_from_false _ still) (differs_among guid xs ys parts.1 apart.1)
 
 -- what is not noted is none of what is
-fresh : (guid : ℕ) (noted guids : List ℕ) → list_all (λ other. is_told other noted) guids ≡ true → is_told guid noted ≡ false → is_told guid guids ≡ false
+pub fresh : (guid : ℕ) (noted guids : List ℕ) → list_all (λ other. is_told other noted) guids ≡ true → is_told guid noted ≡ false → is_told guid guids ≡ false
 fresh guid noted guids all new =
     none_passes (λ other. is_told other noted) (λ other. guid == other)
     (λ other told. false_from_ne_true (guid == other) (λ same. let e : guid ≡ other = grind (arith, nat_tests) in let both : true ≡ false = sym told ∙ ap (λ (n : ℕ). is_told n noted) (sym e) ∙ new in cc))
@@ -109,7 +109,7 @@ own_still nodes node (line ∷ ports) are have =
     and_from (has_own (nodes ++ node ∷ []) line) _ (rw (kind_still nodes node line.port.node line.port.port is.0) has.0) (own_still nodes node ports is.1 has.1)
 
 -- ---- one more node
-guids_with_node : (nodes : List Node) (node : Node) (ports : List PortLine) → port_guids (nodes ++ node ∷ []) ports
+pub guids_with_node : (nodes : List Node) (node : Node) (ports : List PortLine) → port_guids (nodes ++ node ∷ []) ports
     ≡ flat_map (λ n. option_to_list n.port_guid) nodes ++ (option_to_list node.port_guid ++ flat_map (λ line. option_to_list line.guid) ports)
 guids_with_node nodes node ports =
     ap (λ (front : List ℕ). front ++ flat_map (λ line. option_to_list line.guid) ports) (sym (flat_map_more (λ n. option_to_list n.port_guid) [] nodes node))
@@ -134,7 +134,7 @@ sound_with_node nodes ports noted node sound new own =
     }
 
 -- ---- one more line
-guids_with_line : (nodes : List Node) (ports : List PortLine) (line : PortLine) → port_guids nodes (ports ++ line ∷ []) ≡ port_guids nodes ports ++ (option_to_list line.guid ++ [])
+pub guids_with_line : (nodes : List Node) (ports : List PortLine) (line : PortLine) → port_guids nodes (ports ++ line ∷ []) ≡ port_guids nodes ports ++ (option_to_list line.guid ++ [])
 guids_with_line nodes ports line =
     let front = flat_map (λ (n : Node). option_to_list n.port_guid) nodes in
     let back = flat_map (λ (l : PortLine). option_to_list l.guid) ports in

@@ -1,15 +1,17 @@
 -- What wrong rules let pass.
-use Rattle.std.proofs.Common.{◌≡◌, refl, ℕ, true, false, nat_eq, arith, List, [], ◌∷◌, Some, None}
-use Rattle.std.proofs.lemmas.Bool.{false≢true}
+use Rattle.std.proofs.Common.{◌≡◌, refl, ℕ, true, false, nat_eq, arith, List, [], ◌∷◌, Option, Some, None}
+use Rattle.std.proofs.lemmas.Bool.{false≢true, true≢false}
 use Rattle.fabric_parts.specs.Cable.{port}
 use Rattle.result_words.proofs.DistinctLemmas.{differ, distinct}
 use Rattle.result_words.proofs.ListLemmas.{IsDistinct-nil}
+use Rattle.netdiscover_file.specs.declared.assignment.SwitchGuids.{SwitchGuids}
 use Rattle.netdiscover_file.specs.declared.kind.NodeKind.TheVariants.{ChannelAdapter, Switch}
 use Rattle.netdiscover_file.specs.declared.node.Node.{Node}
 use Rattle.netdiscover_file.specs.declared.port.PortLine.{PortLine}
 use Rattle.netdiscover_file.specs.Discovery.{DraftState}
-use Rattle.netdiscover_file.specs.Sound.{shares_guid, shares_port, AreSound, IsSoundSoFar}
-use Rattle.netdiscover_file.specs.WrongRules.{ANodeMayBeJoinedToItself, FarEndsAloneAreNotEnough, NodesAloneAreNotEnough, NumbersAloneAreNotEnough, OtherEndsAloneMayBeTwo, PortsAloneAreNotEnough}
+use Rattle.netdiscover_file.specs.Laws.{IsToldSoFar}
+use Rattle.netdiscover_file.specs.Sound.{shares_guid, shares_port, AreSound}
+use Rattle.netdiscover_file.specs.WrongRules.{ANodeMayBeJoinedToItself, FarEndsAloneAreNotEnough, NodesAloneAreNotEnough, NumbersAloneAreNotEnough, OtherEndsAloneMayBeTwo, OtherSwitchesAreWanted, PortsAloneAreNotEnough, SomeGuidsAreFree}
 
 -- a switch of two ports, with this GUID and that of its port 0
 abbrev switch : ℕ → ℕ → Node
@@ -27,32 +29,57 @@ far_ends_alone_are_not_enough law =
     false≢true told
 
 -- one switch stands already
-abbrev one_switch : DraftState
-one_switch = record { nodes = switch 1 1 ∷ []; ports = []; port_guids = 1 ∷ []; switch_guids = None; initiator = None }
+abbrev one_switch : Option SwitchGuids → DraftState
+one_switch told = record { nodes = switch 1 1 ∷ []; ports = []; port_guids = 1 ∷ []; switch_guids = told; initiator = None }
 
-one_sound : IsSoundSoFar (switch 1 1 ∷ []) [] (1 ∷ [])
-one_sound = record {
-  lines = record {
-    own_nodes = distinct shares_guid (switch 1 1 ∷ []) refl;
-    own_lines = IsDistinct-nil shares_port;
-    own_guids = distinct nat_eq (1 ∷ []) refl;
-    are_ports = refl;
-    have_own = refl;
+one_told : (told : Option SwitchGuids) → IsToldSoFar (one_switch told)
+one_told told = record {
+  sound = record {
+    lines = record {
+      own_nodes = distinct shares_guid (switch 1 1 ∷ []) refl;
+      own_lines = IsDistinct-nil shares_port;
+      own_guids = distinct nat_eq (1 ∷ []) refl;
+      are_ports = refl;
+      have_own = refl;
+    };
+    all_noted = refl;
   };
-  all_noted = refl;
+  noted_alone = refl;
 }
 
 -- another, whose port 0 has the GUID of the first one's
 pub nodes_alone_are_not_enough : NodesAloneAreNotEnough
 nodes_alone_are_not_enough law =
-    let told : false ≡ true = differ nat_eq (1 ∷ 1 ∷ []) (law one_switch (switch 2 1) one_sound refl).own_guids in
+    let told : false ≡ true = differ nat_eq (1 ∷ 1 ∷ []) ((law (one_switch None) (switch 2 1) (one_told None)).0 refl).apart.own_guids in
     false≢true told
 
 -- another of the same GUID
 pub ports_alone_are_not_enough : PortsAloneAreNotEnough
 ports_alone_are_not_enough law =
-    let told : false ≡ true = differ shares_guid (switch 1 1 ∷ switch 1 2 ∷ []) (law one_switch (switch 1 2) one_sound refl).own_nodes in
+    let told : false ≡ true = differ shares_guid (switch 1 1 ∷ switch 1 2 ∷ []) ((law (one_switch None) (switch 1 2) (one_told None)).0 refl).apart.own_nodes in
     false≢true told
+
+-- another, where the line before told the GUIDs of a third
+pub other_switches_are_wanted : OtherSwitchesAreWanted
+other_switches_are_wanted law =
+    let third : SwitchGuids = record { node = 3; port = 2 } in
+    let same : ◌≡◌ {A = ℕ} 2 3 = (((law (one_switch (Some third)) (switch 2 2) (one_told (Some third))).0 refl).meant third refl).1 in
+    omega (arith, same)
+
+-- another, whose GUIDs are all new
+pub some_guids_are_free : SomeGuidsAreFree
+some_guids_are_free law =
+    let told : true ≡ false = (law (one_switch None) (switch 2 2) (one_told None)).1 (record {
+      apart = record {
+        own_nodes = distinct shares_guid (switch 1 1 ∷ switch 2 2 ∷ []) refl;
+        own_lines = IsDistinct-nil shares_port;
+        own_guids = distinct nat_eq (1 ∷ 2 ∷ []) refl;
+        are_ports = refl;
+        have_own = refl;
+      };
+      meant = λ guids is. absurd cc;
+    }) in
+    true≢false told
 
 -- two adapters, whose ports have the GUIDs 5 and 7; the line of the one tells 9 of the other
 abbrev adapter : ℕ → Node

@@ -1,11 +1,14 @@
 -- What is so of all discoveries: the statements of the laws of `src/laws.rt`.
-use Rattle.std.specs.Prelude.{ℕ, Bool, ◌≡◌, true, false, not, find, List, ◌∷◌, ◌++◌, [], slice_get, Some, None}
+use Rattle.std.specs.Prelude.{ℕ, Bool, ◌≡◌, ◌↔◌, true, false, not, find, List, ◌∷◌, ◌++◌, [], slice_get, Some, None, Ok}
 use Rattle.std.specs.List.{list_all}
+use Rattle.netdiscover_file.specs.declared.assignment.SwitchGuids.{SwitchGuids}
+use Rattle.netdiscover_file.specs.declared.kind.NodeKind.TheVariants.{Switch}
 use Rattle.netdiscover_file.specs.declared.node.Node.{Node}
 use Rattle.netdiscover_file.specs.declared.port.PortLine.{PortLine}
 use Rattle.netdiscover_file.specs.Agreement.{is_one_cable, stands_at_both_ends}
-use Rattle.netdiscover_file.specs.Discovery.{DiscoveryState, DraftState, has_taken_guid}
-use Rattle.netdiscover_file.specs.Sound.{has_other_end, AreSound, IsSound, IsSoundSoFar}
+use Rattle.netdiscover_file.specs.Discovery.{DiscoveryState, DraftState, has_taken_guid, told_by}
+use Rattle.netdiscover_file.specs.Port.{is_told}
+use Rattle.netdiscover_file.specs.Sound.{has_other_end, port_guids, AreSound, IsSound, IsSoundSoFar}
 
 -- a cable stands once at its other end: the lines that lead back to a line are one, in every discovery of which this is so
 abbrev pub OneOtherEndWhere : (DiscoveryState → Type 0) → Type 0
@@ -35,11 +38,22 @@ TellsOnlyMissingEnds test =
 abbrev pub OnlyMissingEndsAreTold : Type 0
 OnlyMissingEndsAreTold = TellsOnlyMissingEnds stands_at_both_ends
 
--- a node of which this test does not tell that a GUID of it is taken leaves all GUIDs apart
+-- what is so after each line: all is sound, and the GUIDs that are noted are those of the ports
+pub record IsToldSoFar (so_far : DraftState) : Type 0 where
+  pub sound : IsSoundSoFar so_far.nodes so_far.ports so_far.port_guids
+  pub noted_alone : list_all (λ guid. is_told guid (port_guids so_far.nodes so_far.ports)) so_far.port_guids ≡ true
+
+abbrev pub LinesTellSo : Type 0
+LinesTellSo = (text : List ℕ) (so_far : DraftState) → told_by text ≡ Ok so_far → IsToldSoFar so_far
+
+-- with this node all GUIDs stay apart, and where the line before told those of a switch, it is that switch
+pub record HasOwnGuids (so_far : DraftState) (node : Node) : Type 0 where
+  pub apart : AreSound (so_far.nodes ++ node ∷ []) so_far.ports
+  pub meant : (guids : SwitchGuids) → so_far.switch_guids ≡ Some guids → (node.id.kind ≡ Switch) × (node.id.guid ≡ guids.node)
+
+-- this test tells that a GUID of a node is taken exactly where the node has none of its own
 abbrev pub TellsTakenGuids : (DraftState → Node → Bool) → Type 0
-TellsTakenGuids test =
-    (so_far : DraftState) (node : Node) → IsSoundSoFar so_far.nodes so_far.ports so_far.port_guids → test so_far node ≡ false
-    → AreSound (so_far.nodes ++ node ∷ []) so_far.ports
+TellsTakenGuids test = (so_far : DraftState) (node : Node) → IsToldSoFar so_far → (test so_far node ≡ false) ↔ HasOwnGuids so_far node
 
 abbrev pub TakenGuidsAreTold : Type 0
 TakenGuidsAreTold = TellsTakenGuids has_taken_guid

@@ -1,5 +1,5 @@
 -- Wrong rules for what agrees, and the law that each breaks.
-use Rattle.std.specs.Prelude.{Bool, ◌≡◌, true, false, not, ◌==◌, ◌&&◌, List, is_some}
+use Rattle.std.specs.Prelude.{Bool, ◌≡◌, true, false, not, ◌==◌, ◌&&◌, ◌||◌, List, is_some}
 use Rattle.std.specs.List.{list_all}
 use Rattle.std.specs.Option.{option_map_or}
 use Rattle.netdiscover_file.specs.declared.ends.FarEnd.{FarEnd}
@@ -57,3 +57,14 @@ has_taken_port_guid so_far node = is_told_already node.port_guid so_far.port_gui
 
 abbrev pub PortsAloneAreNotEnough : Type 0
 PortsAloneAreNotEnough = TellsTakenGuids has_taken_port_guid → ⊥
+
+-- both are new, whichever switch the line before told
+abbrev pub has_taken_either : DraftState → Node → Bool
+has_taken_either so_far node = has_taken_node_guid so_far node || has_taken_port_guid so_far node
+
+abbrev pub OtherSwitchesAreWanted : Type 0
+OtherSwitchesAreWanted = TellsTakenGuids has_taken_either → ⊥
+
+-- every node has a GUID that is taken
+abbrev pub SomeGuidsAreFree : Type 0
+SomeGuidsAreFree = TellsTakenGuids (λ so_far node. true) → ⊥

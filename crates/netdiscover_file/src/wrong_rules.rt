@@ -2,7 +2,8 @@
 //! function does nothing: its contract says that with this rule the law is false.
 
 ghost use Rattle.netdiscover_file.specs.WrongRules.{ANodeMayBeJoinedToItself, FarEndsAloneAreNotEnough, NodesAloneAreNotEnough};
-ghost use Rattle.netdiscover_file.specs.WrongRules.{NumbersAloneAreNotEnough, OtherEndsAloneMayBeTwo, PortsAloneAreNotEnough};
+ghost use Rattle.netdiscover_file.specs.WrongRules.{NumbersAloneAreNotEnough, OtherEndsAloneMayBeTwo, OtherSwitchesAreWanted};
+ghost use Rattle.netdiscover_file.specs.WrongRules.{PortsAloneAreNotEnough, SomeGuidsAreFree};
 
 /// Where a far end need only be there, a line may have none that leads back.
 pub fn far_ends_alone_are_not_enough()
@@ -32,4 +33,14 @@ pub fn nodes_alone_are_not_enough()
 /// Where the port of a new node need only have a GUID of its own, two nodes may share one.
 pub fn ports_alone_are_not_enough()
     ensures { PortsAloneAreNotEnough }
+{}
+
+/// Where GUIDs need only be new, those that the line before told may be another switch's.
+pub fn other_switches_are_wanted()
+    ensures { OtherSwitchesAreWanted }
+{}
+
+/// Where a GUID of every node is taken, one is told of a node that has its own.
+pub fn some_guids_are_free()
+    ensures { SomeGuidsAreFree }
 {}

@@ -29,7 +29,7 @@ use Rattle.topo_file.specs.Node.{is_switch, port_guid}
 use Rattle.topo_file.specs.Topology.{TopologyState, topology_of}
 use Rattle.topology_import.specs.declared.cables.CableMeant.{CableMeant}
 use Rattle.topology_import.specs.declared.planned.Planned.{Planned}
-use Rattle.topology_import.specs.Agreement.{agrees, are_as_planned, has_cable, has_ends, is_between, is_cable_of, is_port_of, is_told}
+use Rattle.topology_import.specs.Agreement.{agrees, are_as_planned, has_cable, has_ends, is_between, is_cable_of, is_end_port, is_port_of, is_told}
 use Rattle.topology_import.specs.Cables.{cables_meant}
 use Rattle.topology_import.specs.Ends.{counted, counts, ends, firsts, guid_of, is_above, is_end, is_port_guid}
 use Rattle.topology_import.specs.Import.{asked_for, if_end_port, import_of, judged, manager_of, text_read}
@@ -197,12 +197,18 @@ cable_of discovery plan line all among =
       leads = leads discovery.nodes discovery.ports line.far (is_between discovery plan.nodes found.x line) found.passes;
     }
 
+-- ---- roots
+none_named : (roots : List ℕ) → (length roots == 0) ≡ true → roots ≡ []
+none_named [] h = refl
+none_named (root ∷ roots) h = absurd (let none : suc (length roots) ≡ 0 = eqb-true (suc (length roots)) 0 h in cc)
+
 pub others_are_told : OthersAreTold
 others_are_told discovery planned manager plan sound passes =
     let first = and_parts (are_as_planned planned plan.nodes) _ passes in
     let own = and_parts (list_all (has_ends (ends discovery)) plan.nodes) _ first.1 in
     let second = and_parts (list_all (has_cable discovery plan) (counted discovery)) _ own.1 in
     let third = and_parts (list_all (is_told discovery plan) plan.cables) _ second.1 in
+    let last = and_parts (is_end_port plan.nodes plan.sm manager) _ third.1 in
     record {
       end_ports = λ line guid among has.
           let it = cable_of discovery plan line second.0 among in
@@ -217,7 +223,8 @@ others_are_told discovery planned manager plan sound passes =
           (all_there (is_told discovery plan) plan.cables among.0 cable third.0 among.1) in
           let it = leads discovery.nodes discovery.ports found.x.far (is_between discovery plan.nodes cable found.x) found.passes in
           (found.x, it.other, leads_back discovery sound found.x it.other found.among it.is, it.passes);
-      manager_port = third.1;
+      manager_port = last.0;
+      no_roots = none_named plan.roots last.1;
     }
 
 -- ---- a text that is given

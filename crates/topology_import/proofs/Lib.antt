@@ -4,3 +4,4 @@ pub mod NameLemmas
 pub mod TextLemmas
 pub mod LawLemmas
 pub mod WrongLemmas
+pub mod ExampleLemmas

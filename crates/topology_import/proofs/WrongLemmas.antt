@@ -19,7 +19,7 @@ use Rattle.topology_import.specs.declared.planned.Planned.{Planned}
 use Rattle.topology_import.specs.Agreement.{is_between}
 use Rattle.topology_import.specs.Ends.{counted}
 use Rattle.topology_import.specs.Laws.{Among, LeadToOneAnother}
-use Rattle.topology_import.specs.WrongRules.{CablesAreWanted, EndsAreWanted, LinesAreWanted, NearEndsAloneAreNotEnough, TheManagerIsWanted}
+use Rattle.topology_import.specs.WrongRules.{CablesAreWanted, EndsAreWanted, LinesAreWanted, NearEndsAloneAreNotEnough, NoRootsAreWanted, TheManagerIsWanted}
 
 -- ---- nothing was discovered
 abbrev nothing : DiscoveryState
@@ -145,6 +145,13 @@ cables_are_wanted law =
     it.2.there.0 it.1 it.2.there.1 it.3 in
     let told : false ≡ true = any_passes_from_place joins_some (counted star) it.2.counts.0 it.0 it.2.counts.1 one in
     false≢true told
+
+-- the switch is a root
+pub no_roots_are_wanted : NoRootsAreWanted
+no_roots_are_wanted law =
+    let with_root : TopologyState = record { nodes = nodes; cables = cable 1 1 ∷ cable 2 2 ∷ []; roots = 0 ∷ []; sm = port 1 1 } in
+    let told : ◌≡◌ {A = List ℕ} (0 ∷ []) [] = (law star planned 17 with_root star_sound refl).no_roots in
+    absurd cc
 
 -- the adapters have changed places
 abbrev crossed : List Cable

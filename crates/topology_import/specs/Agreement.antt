@@ -64,11 +64,15 @@ has_cable discovery plan line = list_any (is_cable_of discovery plan.nodes line)
 abbrev pub is_told : DiscoveryState → TopologyState → Cable → Bool
 is_told discovery plan cable = list_any (λ line. is_cable_of discovery plan.nodes line cable) (counted discovery)
 
+-- no switch is named as a root
+abbrev pub has_no_roots : TopologyState → Bool
+has_no_roots plan = length plan.roots == 0
+
 -- ---- the nodes are as they were meant, adapters have the ports of the discovery alone, each line that counts has its cable,
--- each cable is that of such a line, and the subnet manager is on the port of this GUID
+-- each cable is that of such a line, the subnet manager is on the port of this GUID, and there are no roots
 abbrev pub agrees : DiscoveryState → List PortLine → List Planned → ℕ → TopologyState → Bool
 agrees discovery ends planned manager plan =
     are_as_planned planned plan.nodes
     && (list_all (has_ends ends) plan.nodes
     && (list_all (has_cable discovery plan) (counted discovery)
-    && (list_all (is_told discovery plan) plan.cables && is_end_port plan.nodes plan.sm manager)))
+    && (list_all (is_told discovery plan) plan.cables && (is_end_port plan.nodes plan.sm manager && has_no_roots plan))))

@@ -1,5 +1,5 @@
 -- What is so of every topology that is given, in the words of the discovery.
-use Rattle.std.specs.Prelude.{ℕ, Bool, ◌≡◌, ◌≤◌, true, false, List, slice_get, Option, Some, Ok}
+use Rattle.std.specs.Prelude.{ℕ, Bool, ◌≡◌, ◌≤◌, true, false, List, [], slice_get, Option, Some, Ok}
 use Rattle.fabric_parts.specs.declared.cable.Cable.{Cable}
 use Rattle.fabric_parts.specs.declared.cable.PortRef.{PortRef}
 use Rattle.fabric_parts.specs.Cable.{is_cabled}
@@ -44,8 +44,8 @@ IsOfTwoLines discovery plan cable =
     (line : PortLine) × (other : PortLine) × LeadToOneAnother discovery line other × (is_between discovery plan.nodes cable line other ≡ true)
 
 -- the topology is that of the discovery: each port of a channel adapter that counts is there under its own GUID, with a
--- cable, and adapters have no other ports; ports are joined where their lines lead to one another, and nowhere else; and
--- the subnet manager is on the port of that GUID
+-- cable, and adapters have no other ports; ports are joined where their lines lead to one another, and nowhere else; the
+-- subnet manager is on the port of that GUID; and no switch is named as a root
 pub record IsTopologyOf (discovery : DiscoveryState) (manager : ℕ) (plan : TopologyState) : Type 0 where
   pub end_ports : (line : PortLine) (guid : ℕ) → Among (counted discovery) line → line.guid ≡ Some guid → HasEndPort plan guid
   pub only_ends : (place number : ℕ) (node : Node) → slice_get plan.nodes place ≡ Some node → is_switch node ≡ false
@@ -53,6 +53,7 @@ pub record IsTopologyOf (discovery : DiscoveryState) (manager : ℕ) (plan : Top
   pub joined : (line other : PortLine) → LeadToOneAnother discovery line other → AreJoined discovery plan line other
   pub no_others : (cable : Cable) → Among plan.cables cable → IsOfTwoLines discovery plan cable
   pub manager_port : is_end_port plan.nodes plan.sm manager ≡ true
+  pub no_roots : plan.roots ≡ []
 
 -- a text that is given is read as such a topology, with the nodes that were meant
 pub record IsGiven (discovery : DiscoveryState) (manager : Option ℕ) (text : List ℕ) : Type 0 where

@@ -6,7 +6,7 @@ use Rattle.netdiscover_file.specs.declared.port.PortLine.{PortLine}
 use Rattle.netdiscover_file.specs.Discovery.{DiscoveryState}
 use Rattle.topo_file.specs.Topology.{TopologyState}
 use Rattle.topology_import.specs.declared.planned.Planned.{Planned}
-use Rattle.topology_import.specs.Agreement.{are_as_planned, has_cable, has_ends, is_end_port, is_port_of, is_told}
+use Rattle.topology_import.specs.Agreement.{are_as_planned, has_cable, has_ends, has_no_roots, is_end_port, is_port_of, is_told}
 use Rattle.topology_import.specs.Ends.{counted, ends}
 use Rattle.topology_import.specs.Laws.{TellsOthers}
 
@@ -15,7 +15,7 @@ abbrev pub agrees_without_ends : DiscoveryState → List Planned → ℕ → Top
 agrees_without_ends discovery planned manager plan =
     are_as_planned planned plan.nodes
     && (list_all (has_cable discovery plan) (counted discovery)
-    && (list_all (is_told discovery plan) plan.cables && is_end_port plan.nodes plan.sm manager))
+    && (list_all (is_told discovery plan) plan.cables && (is_end_port plan.nodes plan.sm manager && has_no_roots plan)))
 
 abbrev pub EndsAreWanted : Type 0
 EndsAreWanted = TellsOthers agrees_without_ends → ⊥
@@ -24,7 +24,8 @@ EndsAreWanted = TellsOthers agrees_without_ends → ⊥
 abbrev pub agrees_without_lines : DiscoveryState → List Planned → ℕ → TopologyState → Bool
 agrees_without_lines discovery planned manager plan =
     are_as_planned planned plan.nodes
-    && (list_all (has_ends (ends discovery)) plan.nodes && (list_all (is_told discovery plan) plan.cables && is_end_port plan.nodes plan.sm manager))
+    && (list_all (has_ends (ends discovery)) plan.nodes
+    && (list_all (is_told discovery plan) plan.cables && (is_end_port plan.nodes plan.sm manager && has_no_roots plan)))
 
 abbrev pub LinesAreWanted : Type 0
 LinesAreWanted = TellsOthers agrees_without_lines → ⊥
@@ -34,7 +35,7 @@ abbrev pub agrees_without_cables : DiscoveryState → List Planned → ℕ → T
 agrees_without_cables discovery planned manager plan =
     are_as_planned planned plan.nodes
     && (list_all (has_ends (ends discovery)) plan.nodes
-    && (list_all (has_cable discovery plan) (counted discovery) && is_end_port plan.nodes plan.sm manager))
+    && (list_all (has_cable discovery plan) (counted discovery) && (is_end_port plan.nodes plan.sm manager && has_no_roots plan)))
 
 abbrev pub CablesAreWanted : Type 0
 CablesAreWanted = TellsOthers agrees_without_cables → ⊥
@@ -44,10 +45,21 @@ abbrev pub agrees_without_manager : DiscoveryState → List Planned → ℕ → 
 agrees_without_manager discovery planned manager plan =
     are_as_planned planned plan.nodes
     && (list_all (has_ends (ends discovery)) plan.nodes
-    && (list_all (has_cable discovery plan) (counted discovery) && list_all (is_told discovery plan) plan.cables))
+    && (list_all (has_cable discovery plan) (counted discovery) && (list_all (is_told discovery plan) plan.cables && has_no_roots plan)))
 
 abbrev pub TheManagerIsWanted : Type 0
 TheManagerIsWanted = TellsOthers agrees_without_manager → ⊥
+
+-- any switches may be named as roots
+abbrev pub agrees_without_roots : DiscoveryState → List Planned → ℕ → TopologyState → Bool
+agrees_without_roots discovery planned manager plan =
+    are_as_planned planned plan.nodes
+    && (list_all (has_ends (ends discovery)) plan.nodes
+    && (list_all (has_cable discovery plan) (counted discovery)
+    && (list_all (is_told discovery plan) plan.cables && is_end_port plan.nodes plan.sm manager)))
+
+abbrev pub NoRootsAreWanted : Type 0
+NoRootsAreWanted = TellsOthers agrees_without_roots → ⊥
 
 -- a cable is that of each line at whose port it ends, wherever it leads
 abbrev pub ends_at_line : DiscoveryState → TopologyState → PortLine → Cable → Bool
@@ -59,7 +71,7 @@ agrees_at_near_ends discovery planned manager plan =
     && (list_all (has_ends (ends discovery)) plan.nodes
     && (list_all (λ line. list_any (ends_at_line discovery plan line) plan.cables) (counted discovery)
     && (list_all (λ cable. list_any (λ line. ends_at_line discovery plan line cable) (counted discovery)) plan.cables
-    && is_end_port plan.nodes plan.sm manager)))
+    && (is_end_port plan.nodes plan.sm manager && has_no_roots plan))))
 
 abbrev pub NearEndsAloneAreNotEnough : Type 0
 NearEndsAloneAreNotEnough = TellsOthers agrees_at_near_ends → ⊥

@@ -187,7 +187,7 @@ fn all_are_told(discovery: &Discovery, plan: &Topology) -> bool
 }
 
 /// Whether the topology has the planned nodes, adapters with the end ports of the discovery alone, the cables of the lines that
-/// count and no others, and the subnet manager on the end port of this GUID.
+/// count and no others, the subnet manager on the end port of this GUID, and no roots.
 pub(crate) fn agrees(
     discovery: &Discovery,
     ends: &EndList,
@@ -201,5 +201,5 @@ pub(crate) fn agrees(
         && (all_have_ends(ends, plan.nodes())
             && (all_have_cables(discovery, plan)
                 && (all_are_told(discovery, plan)
-                    && is_end_port(plan.nodes(), plan.sm(), manager))))
+                    && (is_end_port(plan.nodes(), plan.sm(), manager) && plan.roots().is_empty()))))
 }

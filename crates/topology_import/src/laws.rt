@@ -2,7 +2,7 @@
 //! are the theorems.
 
 ghost use Rattle.topology_import.specs.Laws.{OthersAreTold};
-ghost use Rattle.topology_import.specs.WrongRules.{CablesAreWanted, EndsAreWanted, LinesAreWanted, NearEndsAloneAreNotEnough, TheManagerIsWanted};
+ghost use Rattle.topology_import.specs.WrongRules.{CablesAreWanted, EndsAreWanted, LinesAreWanted, NearEndsAloneAreNotEnough, NoRootsAreWanted, TheManagerIsWanted};
 
 /// A topology that passes the test of this crate is that of the discovery.
 pub fn others_are_told()
@@ -27,6 +27,11 @@ pub fn cables_are_wanted()
 /// Where the subnet manager may be anywhere, it may be on no port at all.
 pub fn the_manager_is_wanted()
     ensures { TheManagerIsWanted }
+{}
+
+/// Where no one looks at roots, a switch may be named as one.
+pub fn no_roots_are_wanted()
+    ensures { NoRootsAreWanted }
 {}
 
 /// Where a cable need only end at the port of a line, two adapters may have changed places.

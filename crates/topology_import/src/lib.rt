@@ -9,6 +9,7 @@
 mod agreement;
 mod cables;
 mod ends;
+mod examples;
 mod fault;
 mod import;
 mod index;

@@ -1,0 +1,49 @@
+-- The text of a topology, computed.
+use Rattle.std.proofs.Common.{◌≡◌, refl, ℕ, true, codes, List, [], ◌∷◌, Ok}
+use Rattle.fabric_parts.specs.Cable.{port}
+use Rattle.fabric_parts.specs.declared.cable.Cable.{Cable}
+use Rattle.fabric_parts.specs.declared.node_type.NodeType.TheVariants.{ChannelAdapter, Switch}
+use Rattle.std.specs.Fmt.{digits}
+use Rattle.hex.specs.Hex.{encode_with}
+use Rattle.result_words.specs.AtLine.{after_lines}
+use Rattle.topo_file.specs.declared.node.Node.{Node}
+use Rattle.topo_file.specs.Topology.{TopologyState, after_line, after_words, cable_of, cable_spelt, manager_of, manager_spelt, node_of, node_spelt, topology_of, whole}
+use Rattle.topology_import.specs.Agreement.{agrees}
+use Rattle.topology_import.specs.Ends.{ends}
+use Rattle.topology_import.specs.Examples.{two_hosts, two_hosts_text, TwoHostsAreImported}
+use Rattle.topology_import.specs.Import.{import_of, text_read}
+use Rattle.topology_import.specs.Names.{named}
+use Rattle.topology_import.specs.Text.{planned_nodes, text_of, text_with}
+
+adapter : List ℕ → ℕ → Node
+adapter name guid = record { name = name; node_type = ChannelAdapter; guid = guid; ports = 1 }
+
+cable : ℕ → ℕ → Cable
+cable number place = record { first = port 0 number; second = port place 1 }
+
+plan : TopologyState
+plan = record {
+  nodes = (record { name = codes "leaf__1"; node_type = Switch; guid = 17; ports = 4 }) ∷ adapter (codes "host") 32 ∷ adapter (codes "host-2") 48 ∷ [];
+  cables = cable 1 1 ∷ cable 2 2 ∷ [];
+  roots = [];
+  sm = port 1 1;
+}
+
+told : text_of two_hosts 33 ≡ two_hosts_text
+unfolding digits encode_with named text_with
+told = refl
+
+read : topology_of two_hosts_text ≡ Ok plan
+unfolding adapter after_line after_lines after_words cable cable_of cable_spelt manager_of manager_spelt node_of node_spelt plan topology_of whole
+read = refl
+
+agreed : agrees two_hosts (ends two_hosts) (planned_nodes two_hosts) 33 plan ≡ true
+unfolding adapter cable digits named plan
+agreed = refl
+
+given : text_read two_hosts 33 ≡ Ok two_hosts_text
+given = rw (told, read, agreed) refl
+
+pub two_hosts_are_imported : TwoHostsAreImported
+unfolding import_of
+two_hosts_are_imported = given
