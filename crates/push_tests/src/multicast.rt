@@ -78,31 +78,37 @@ fn push<W: SmpWire>(
     Ok(())
 }
 
+fn masks_lead_to_two(rt: &impl Abort, fabric: &mut Fabric, routes: &Routes) -> Result<(), Fail> {
+    push(fabric, routes, 1, &TWO)?;
+    masks_stand(rt, fabric, &[1], 1, [0x000c, 0, 0])?;
+    masks_stand(rt, fabric, &[1, 3], 1, [0x000a, 0, 0])
+}
+
 /// With h1 and h2 in its group A sends what is for it by ports 2 and 3, and B by 1 and 3.
 #[test]
 fn masks_lead_to_receivers_along_the_tree(rt: HostRuntime) -> Result<(), Fail> {
     let (mut fabric, routes) = found(rt.alloc())?;
-    push(&mut fabric, &routes, 1, &TWO)?;
-    masks_stand(&rt, &mut fabric, &[1], 1, [0x000c, 0, 0])?;
-    masks_stand(&rt, &mut fabric, &[1, 3], 1, [0x000a, 0, 0])
+    masks_lead_to_two(&rt, &mut fabric, &routes)
+}
+
+/// A receiver of a LID of partition 2.
+const FOREIGN: [GroupReceiver; 1] = [GroupReceiver {
+    mlid: 0xc040,
+    lid: 4,
+}];
+
+fn masks_are_gone(rt: &impl Abort, fabric: &mut Fabric, routes: &Routes) -> Result<(), Fail> {
+    push(fabric, routes, 1, &TWO)?;
+    push(fabric, routes, 1, &FOREIGN)?;
+    masks_stand(rt, fabric, &[1], 1, [0; 3])?;
+    masks_stand(rt, fabric, &[1, 3], 1, [0; 3])
 }
 
 /// Where the group has ended, or its receivers are of another partition's LIDs, no mask of the slice is left.
 #[test]
 fn masks_of_an_ended_group_are_gone(rt: HostRuntime) -> Result<(), Fail> {
     let (mut fabric, routes) = found(rt.alloc())?;
-    push(&mut fabric, &routes, 1, &TWO)?;
-    push(
-        &mut fabric,
-        &routes,
-        1,
-        &[GroupReceiver {
-            mlid: 0xc040,
-            lid: 4,
-        }],
-    )?;
-    masks_stand(&rt, &mut fabric, &[1], 1, [0; 3])?;
-    masks_stand(&rt, &mut fabric, &[1, 3], 1, [0; 3])
+    masks_are_gone(&rt, &mut fabric, &routes)
 }
 
 /// Fills the blocks beside that of partition 1, and that one too.
@@ -128,15 +134,19 @@ fn others_stay<W: SmpWire>(rt: &impl Abort, wire: &mut W, path: &[u8]) -> Result
     Ok(())
 }
 
+fn slices_stay(rt: &impl Abort, fabric: &mut Fabric, routes: &Routes) -> Result<(), Fail> {
+    fill(fabric, &[1])?;
+    fill(fabric, &[1, 3])?;
+    push(fabric, routes, 1, &TWO)?;
+    others_stay(rt, fabric, &[1])?;
+    others_stay(rt, fabric, &[1, 3])?;
+    masks_stand(rt, fabric, &[1], 1, [0x000c, 0, 0])
+}
+
 #[test]
 fn slices_of_other_partitions_stay(rt: HostRuntime) -> Result<(), Fail> {
     let (mut fabric, routes) = found(rt.alloc())?;
-    fill(&mut fabric, &[1])?;
-    fill(&mut fabric, &[1, 3])?;
-    push(&mut fabric, &routes, 1, &TWO)?;
-    others_stay(&rt, &mut fabric, &[1])?;
-    others_stay(&rt, &mut fabric, &[1, 3])?;
-    masks_stand(&rt, &mut fabric, &[1], 1, [0x000c, 0, 0])
+    slices_stay(&rt, &mut fabric, &routes)
 }
 
 /// A switch of 36 ports, with adapters on ports 1, 20 and 36. The LIDs are 1 of h0, 2 of the switch, 3 of h1 and 4 of h2.
@@ -158,16 +168,24 @@ fn routed(alloc: Global, text: &[u8], roots: &[u64]) -> Result<(Fabric, Routes),
     Ok((fabric, routes))
 }
 
+fn positions_are_as_pushed(
+    rt: &impl Abort,
+    fabric: &mut Fabric,
+    routes: &Routes,
+) -> Result<(), Fail> {
+    let second = [GroupReceiver { mlid: MLID, lid: 3 }];
+    push(fabric, routes, 1, &second)?;
+    masks_stand(rt, fabric, &[1], 1, [0, 0x0010, 0])?;
+    let all = [1, 3, 4].map(|lid| GroupReceiver { mlid: MLID, lid });
+    push(fabric, routes, 1, &all)?;
+    masks_stand(rt, fabric, &[1], 1, [0x0002, 0x0010, 0x0010])
+}
+
 /// Each position has the ports whose bits it has.
 #[test]
 fn masks_stand_at_all_positions(rt: HostRuntime) -> Result<(), Fail> {
     let (mut fabric, routes) = routed(rt.alloc(), WIDE, &[])?;
-    let second = [GroupReceiver { mlid: MLID, lid: 3 }];
-    push(&mut fabric, &routes, 1, &second)?;
-    masks_stand(&rt, &mut fabric, &[1], 1, [0, 0x0010, 0])?;
-    let all = [1, 3, 4].map(|lid| GroupReceiver { mlid: MLID, lid });
-    push(&mut fabric, &routes, 1, &all)?;
-    masks_stand(&rt, &mut fabric, &[1], 1, [0x0002, 0x0010, 0x0010])
+    positions_are_as_pushed(&rt, &mut fabric, &routes)
 }
 
 /// Three switches in a ring, with an adapter on port 3 of each; a is the root. The LIDs are 1 of ha, 2 to 4 of the switches, and
@@ -188,13 +206,17 @@ cable c/3 hc/1
 sm ha/1
 ";
 
+fn masks_lead_around(rt: &impl Abort, fabric: &mut Fabric, routes: &Routes) -> Result<(), Fail> {
+    let outer = [5, 6].map(|lid| GroupReceiver { mlid: 0xc000, lid });
+    push(fabric, routes, 0, &outer)?;
+    masks_stand(rt, fabric, &[1], 0, [0x0006, 0, 0])?;
+    masks_stand(rt, fabric, &[1, 1], 0, [0x000c, 0, 0])?;
+    masks_stand(rt, fabric, &[1, 2], 0, [0x000a, 0, 0])
+}
+
 /// The cable between b and c is none of the tree.
 #[test]
 fn masks_lead_by_cables_of_the_tree_alone(rt: HostRuntime) -> Result<(), Fail> {
     let (mut fabric, routes) = routed(rt.alloc(), RING, &[0x10])?;
-    let outer = [5, 6].map(|lid| GroupReceiver { mlid: 0xc000, lid });
-    push(&mut fabric, &routes, 0, &outer)?;
-    masks_stand(&rt, &mut fabric, &[1], 0, [0x0006, 0, 0])?;
-    masks_stand(&rt, &mut fabric, &[1, 1], 0, [0x000c, 0, 0])?;
-    masks_stand(&rt, &mut fabric, &[1, 2], 0, [0x000a, 0, 0])
+    masks_lead_around(&rt, &mut fabric, &routes)
 }

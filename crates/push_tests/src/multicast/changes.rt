@@ -60,17 +60,23 @@ const CHANGES: [(&[GroupReceiver], &[GroupReceiver], u32); 4] = [
     (&TWO, &[], 2),
 ];
 
+fn counts_are_told(
+    rt: &impl Abort,
+    alloc: Global,
+    wire: &mut CountingWire<Fabric>,
+    routes: &Routes,
+) -> Result<(), Fail> {
+    for (before, after, count) in CHANGES {
+        assert_eq!(rt; change(rt, alloc, wire, routes, before, after)?, count);
+    }
+    Ok(())
+}
+
 #[test]
 fn blocks_of_the_switches_that_change_are_set(rt: HostRuntime) -> Result<(), Fail> {
     let (wire, routes) = found(rt.alloc())?;
     let mut counting = CountingWire { wire, count: 0 };
-    for (before, after, count) in CHANGES {
-        assert_eq!(rt;
-            change(&rt, rt.alloc(), &mut counting, &routes, before, after)?,
-            count
-        );
-    }
-    Ok(())
+    counts_are_told(&rt, rt.alloc(), &mut counting, &routes)
 }
 
 /// A receiver of one of three groups.
@@ -126,21 +132,53 @@ fn blocks_pushed(
     blocks(alloc, &mut fabric, routes)
 }
 
+/// The masks over these routes are those that one push of the receivers leaves on the fabric of the text.
+fn are_as_pushed(
+    rt: &impl Abort,
+    alloc: Global,
+    wire: &mut CountingWire<Fabric>,
+    text: &[u8],
+    routes: &Routes,
+    receivers: &[GroupReceiver],
+) -> Result<(), Fail> {
+    let changed = blocks(alloc, wire, routes)?;
+    let pushed = blocks_pushed(alloc, text, routes, receivers)?;
+    assert_eq!(rt; changed, pushed);
+    Ok(())
+}
+
+fn over_routes(
+    rt: &impl Abort,
+    alloc: Global,
+    wire: &mut CountingWire<Fabric>,
+    text: &[u8],
+    routes: &Routes,
+    chance: &mut Chance,
+) -> Result<(), Fail> {
+    let receivers = change_200_times(rt, alloc, wire, routes, chance)?;
+    are_as_pushed(rt, alloc, wire, text, routes, &receivers)
+}
+
+fn over_wire(
+    rt: &impl Abort,
+    alloc: Global,
+    wire: &mut CountingWire<Fabric>,
+    text: &[u8],
+    chance: &mut Chance,
+) -> Result<(), Fail> {
+    let routes = routes_over(alloc, wire, &[])?;
+    over_routes(rt, alloc, wire, text, &routes, chance)
+}
+
 fn masks_are_as_pushed(
     rt: &impl Abort,
     alloc: Global,
     text: &[u8],
     chance: &mut Chance,
 ) -> Result<(), Fail> {
-    let mut counting = CountingWire {
-        wire: fabric_of(alloc, text)?,
-        count: 0,
-    };
-    let routes = routes_over(alloc, &mut counting, &[])?;
-    let receivers = change_200_times(rt, alloc, &mut counting, &routes, chance)?;
-    let changed = blocks(alloc, &mut counting, &routes)?;
-    assert_eq!(rt; changed, blocks_pushed(alloc, text, &routes, &receivers)?);
-    Ok(())
+    let wire = fabric_of(alloc, text)?;
+    let mut counting = CountingWire { wire, count: 0 };
+    over_wire(rt, alloc, &mut counting, text, chance)
 }
 
 #[test]
@@ -153,26 +191,51 @@ fn by_chance_changes_come_to_what_a_whole_push_leaves(rt: HostRuntime) -> Result
     Ok(())
 }
 
-/// Groups of all adapters of eight leaves end, so few that masks are made switch by switch, or so many that they are made
-/// for all switches at once: each of the 16 switches had a mask.
-#[test]
-fn groups_on_eight_switches_end(rt: HostRuntime) -> Result<(), Fail> {
-    let mut counting = CountingWire {
-        wire: fat_tree_of(rt.alloc(), 8)?,
-        count: 0,
-    };
-    let routes = routes_over(rt.alloc(), &mut counting, &[])?;
-    let lids = adapter_lids(rt.alloc(), &routes)?;
+/// All adapters join so many groups and leave them, and each of the 16 switches has a mask in between.
+fn groups_end(
+    rt: &impl Abort,
+    alloc: Global,
+    wire: &mut CountingWire<Fabric>,
+    routes: &Routes,
+    receivers: &[GroupReceiver],
+) -> Result<(), Fail> {
+    let begun = change(rt, alloc, wire, routes, &[], receivers)?;
+    assert!(rt; begun >= 16);
+    assert_eq!(rt; change(rt, alloc, wire, routes, receivers, &[])?, begun);
+    Ok(())
+}
+
+fn groups_of_all_end(
+    rt: &impl Abort,
+    alloc: Global,
+    wire: &mut CountingWire<Fabric>,
+    routes: &Routes,
+    groups: u8,
+) -> Result<(), Fail> {
+    let lids = adapter_lids(alloc, routes)?;
+    let receivers = of_all(alloc, &lids, groups)?;
+    groups_end(rt, alloc, wire, routes, &receivers)
+}
+
+fn few_and_many_end(
+    rt: &impl Abort,
+    alloc: Global,
+    wire: &mut CountingWire<Fabric>,
+) -> Result<(), Fail> {
+    let routes = routes_over(alloc, wire, &[])?;
     for groups in [1u8, 32] {
-        let receivers = of_all(rt.alloc(), &lids, groups)?;
-        let begun = change(&rt, rt.alloc(), &mut counting, &routes, &[], &receivers)?;
-        assert!(rt; begun >= 16);
-        assert_eq!(rt;
-            change(&rt, rt.alloc(), &mut counting, &routes, &receivers, &[])?,
-            begun
-        );
+        groups_of_all_end(rt, alloc, wire, &routes, groups)?;
     }
     Ok(())
+}
+
+/// Groups of all adapters of eight leaves end, so few that masks are made switch by switch, or so many that they are made
+/// for all switches at once.
+#[test]
+fn groups_on_eight_switches_end(rt: HostRuntime) -> Result<(), Fail> {
+    let wire = fat_tree_of(rt.alloc(), 8)?;
+    let mut counting = CountingWire { wire, count: 0 };
+    few_and_many_end(&rt, rt.alloc(), &mut counting)
 }
 
 /// All of them receive of so many groups.
