@@ -6,3 +6,4 @@ pub mod MemberLemmas
 pub mod SameLemmas
 pub mod ShareToldLemmas
 pub mod ToldLemmas
+pub mod WrongLemmas

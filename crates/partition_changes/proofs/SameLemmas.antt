@@ -1,7 +1,8 @@
 -- Nothing is printed exactly where both files say the same.
-use Rattle.std.proofs.Common.{◌≡◌, ◌↔◌, ℕ, Bool, true, false, not, ◌==◌, ◌&&◌, ◌||◌, if◌then◌else◌, List, [], ◌∷◌, ◌++◌, Option, Some, None, is_some, refl, sym, ap, ◌∙◌, inl, inr}
+use Rattle.std.proofs.Common.{◌≡◌, ◌↔◌, ℕ, ◌+◌, Bool, true, false, not, ◌==◌, ◌&&◌, ◌||◌, if◌then◌else◌, List, [], ◌∷◌, ◌++◌, Option, Some, None, is_some, refl, sym, ap, ◌∙◌, inl, inr, arith}
 use Rattle.std.specs.List.{AllByRecursion, flat_map, list_any, zip}
 use Rattle.std.proofs.lemmas.Bool.{and_from, and_parts, cases_Bool, eq-eqb, false≢true, or_left, or_right}
+use Rattle.std.proofs.lemmas.List.Sums.{sum_by-cons}
 use Rattle.std.specs.Cmp.{both_ways}
 use Rattle.partition_file.specs.declared.broadcast_group.BroadcastGroup.{BroadcastGroup}
 use Rattle.partition_file.specs.declared.heading.Heading.{Heading}
@@ -10,7 +11,7 @@ use Rattle.port_shares.specs.Laws.{is_of_both}
 use Rattle.port_shares.specs.Shares.{Share, share_line, shares}
 use Rattle.subnet_model.specs.declared.subnet_port.SubnetPort.{SubnetPort}
 use Rattle.partition_changes.specs.Changes.{Change, bases_named, change_of_member_line, changes_of, changes_text, coming, going, group_changes, group_changes_at, group_line, grouped, member_changes, partition_changes, partition_line, same_group, same_groups, same_member, same_partition, same_share, share_changes, sign}
-use Rattle.partition_changes.specs.Laws.{NearStaysWhereNoShareIsTold, NothingIsToldOfTheSame, TellWhatChanges, comes, goes, has_group, has_member, has_partition, has_share, is_of}
+use Rattle.partition_changes.specs.Laws.{NearStaysWhereNoShareIsTold, NothingIsToldOfTheSame, TellWhatChanges, comings, goings, has_group, has_member, has_partition, has_share, is_of, one_if}
 use Rattle.partition_changes.proofs.KindLemmas.{fields_if, groups_are_told, partitions_are_told, same_if}
 use Rattle.partition_changes.proofs.MemberLemmas.{members_are_told}
 use Rattle.partition_changes.proofs.ShareToldLemmas.{alike, shares_are_told}
@@ -24,16 +25,22 @@ own_always : {X : Type 0} (same : X → X → Bool) → ((x : X) → same x x �
 own_always same own [] = tt
 own_always same own (change ∷ changes) = (own change.what, own_always same own changes)
 
-some_told : (is_new is_same gone come : Bool) → is_same ≡ true → ((not is_new && is_same) || gone) ≡ false → ((is_new && is_same) || come) ≡ false → false ≡ true
-some_told true true gone come e f g = sym g
-some_told false true gone come e f g = sym f
-some_told is_new false gone come e f g = e
+none_if : (so : Bool) → one_if so ≡ 0 → so ≡ false
+none_if true e = absurd (omega (arith, e))
+none_if false e = refl
+
+some_told : (is_new is_same : Bool) (gone come : ℕ) → is_same ≡ true → one_if (not is_new && is_same) + gone ≡ 0 → one_if (is_new && is_same) + come ≡ 0 → ⊥
+some_told true true gone come e f g = omega (arith, g)
+some_told false true gone come e f g = omega (arith, f)
+some_told is_new false gone come e f g = false≢true e
 
 none_told : {X : Type 0} (same : X → X → Bool) (changes : List (Change X)) → AllByRecursion (IsOwn same) changes
-    → ((x : X) → goes same x changes ≡ false) → ((x : X) → comes same x changes ≡ false) → changes ≡ []
+    → ((x : X) → goings same x changes ≡ 0) → ((x : X) → comings same x changes ≡ 0) → changes ≡ []
 none_told same [] own gone come = refl
 none_told same (change ∷ changes) own gone come =
-    absurd (false≢true (some_told change.comes (same change.what change.what) (goes same change.what changes) (comes same change.what changes) own.0 (gone change.what) (come change.what)))
+    absurd (some_told change.comes (same change.what change.what) (goings same change.what changes) (comings same change.what changes) own.0
+    (sym (sum_by-cons (λ c. one_if (not c.comes && same change.what c.what)) change changes) ∙ gone change.what)
+    (sym (sum_by-cons (λ c. one_if (c.comes && same change.what c.what)) change changes) ∙ come change.what))
 
 unchanged : (a b : Bool) → a ≡ b → (a && not b) ≡ false
 unchanged true true e = refl
@@ -50,8 +57,10 @@ equal false false e f = refl
 kind : {X : Type 0} (same : X → X → Bool) (was becomes : X → Bool) (changes : List (Change X)) → TellWhatChanges same was becomes changes → AllByRecursion (IsOwn same) changes
     → changes ≡ [] ↔ ((x : X) → was x ≡ becomes x)
 kind same was becomes changes told own = (
-  (λ none x. equal (was x) (becomes x) (sym (told.gone x) ∙ ap (goes same x) none) (sym (told.come x) ∙ ap (comes same x) none)),
-  (λ all. none_told same changes own (λ x. told.gone x ∙ unchanged (was x) (becomes x) (all x)) (λ x. told.come x ∙ unchanged (becomes x) (was x) (sym (all x)))),
+  (λ none x. equal (was x) (becomes x) (none_if (was x && not (becomes x)) (sym (told.gone x) ∙ ap (goings same x) none))
+      (none_if (becomes x && not (was x)) (sym (told.come x) ∙ ap (comings same x) none))),
+  (λ all. none_told same changes own (λ x. told.gone x ∙ ap one_if (unchanged (was x) (becomes x) (all x)))
+      (λ x. told.come x ∙ ap one_if (unchanged (becomes x) (was x) (sym (all x))))),
 )
 
 -- ---- what is found is the same as itself

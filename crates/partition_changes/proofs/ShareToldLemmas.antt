@@ -1,19 +1,19 @@
 -- Shares that go or come are printed, where the ports are the same.
-use Rattle.std.proofs.Common.{◌≡◌, ℕ, Bool, true, false, not, ◌==◌, ◌&&◌, ◌||◌, if◌then◌else◌, List, [], ◌∷◌, Some, None, filter, map, refl, sym, ap, ◌∙◌, inl, inr, subst}
+use Rattle.std.proofs.Common.{◌≡◌, ℕ, ◌+◌, Bool, true, false, not, ◌==◌, ◌&&◌, ◌||◌, if◌then◌else◌, List, [], ◌∷◌, Some, None, filter, map, refl, sym, ap, ◌∙◌, inl, inr, subst}
 use Rattle.std.specs.List.{AllByRecursion, IsDistinct, flat_map, list_any, range_with_len, zip}
 use Rattle.std.proofs.lemmas.Bool.{and_from, and_parts, cases_Bool, eq-eqb, eqb-true}
 use Rattle.std.proofs.lemmas.List.Folds.{list_any-append}
+use Rattle.std.proofs.lemmas.List.Sums.{sum_by-append}
 use Rattle.result_words.proofs.RisingLemmas.{Rises, rises}
 use Rattle.pkey_rules.specs.KeyTable.{shares_base}
-use Rattle.port_shares.proofs.NearLemmas.{same_any}
 use Rattle.port_shares.proofs.ShareLemmas.{range_rises}
 use Rattle.port_shares.specs.Found.{share_of as share_between}
 use Rattle.port_shares.specs.Shares.{Share, pair_shares, shared_bases, shares}
 use Rattle.subnet_model.specs.declared.subnet_port.SubnetPort.{SubnetPort}
 use Rattle.partition_changes.specs.Changes.{pair_changes, same_share, share_changes, share_changes_at, share_of}
-use Rattle.partition_changes.specs.Laws.{SharesAreTold, comes, goes, has_share, same_guid, says}
+use Rattle.partition_changes.specs.Laws.{SharesAreTold, comings, goings, has_share, one_if, same_guid, says}
 use Rattle.partition_changes.proofs.MemberLemmas.{any_first, any_second, first_same, guids, none_after, own}
-use Rattle.partition_changes.proofs.ToldLemmas.{Apart, alone, apart_by_base, one_comes, one_goes, told_apart, weaker_none}
+use Rattle.partition_changes.proofs.ToldLemmas.{Apart, alone, apart_by_base, count_flat, none_more, one_comes, one_goes, same_sum, told_apart, weaker_none}
 use Rattle.result_words.proofs.ListLemmas.{any_flat}
 
 abbrev pub Alike : Share → Share → Type 0
@@ -73,27 +73,27 @@ base_of_said x p q base h = eq-eqb base x.base (sym (said_of x p q base h).1.1)
 all_rise : Rises (range_with_len 1 32767)
 all_rise = rises (range_with_len 1 32767) (range_rises 1 32767)
 
-pair_goes : (x : Share) (p q : SubnetPort × SubnetPort) → goes same_share x (pair_changes p q) ≡ (have x p.0 q.0 && not (have x p.1 q.1))
+pair_goes : (x : Share) (p q : SubnetPort × SubnetPort) → goings same_share x (pair_changes p q) ≡ one_if (have x p.0 q.0 && not (have x p.1 q.1))
 unfolding pair_changes
 pair_goes x p q =
-    any_flat (λ change. not change.comes && same_share x change.what) (share_changes_at p q) (range_with_len 1 32767)
-    ∙ same_any (λ base. goes same_share x (share_changes_at p q base)) (λ base. says same_share x (share_of p.0 q.0 base) && not (says same_share x (share_of p.1 q.1 base)))
+    count_flat (λ change. not change.comes && same_share x change.what) (share_changes_at p q) (range_with_len 1 32767)
+    ∙ same_sum (λ base. goings same_share x (share_changes_at p q base)) (λ base. one_if (says same_share x (share_of p.0 q.0 base) && not (says same_share x (share_of p.1 q.1 base))))
     (λ base. one_goes same_share share_alike share_joined x (share_of p.0 q.0 base) (share_of p.1 q.1 base)) (range_with_len 1 32767)
     ∙ told_apart (λ base. base == x.base) (λ base. says same_share x (share_of p.0 q.0 base)) (λ base. says same_share x (share_of p.1 q.1 base)) (range_with_len 1 32767)
     (apart_by_base (λ base. says same_share x (share_of p.0 q.0 base)) (λ base. says same_share x (share_of p.1 q.1 base)) x.base (range_with_len 1 32767) all_rise (base_of_said x p.0 q.0) (base_of_said x p.1 q.1))
-    ∙ ap (λ b. b && not (list_any (λ base. says same_share x (share_of p.1 q.1 base)) (range_with_len 1 32767))) (said_is x p.0 q.0)
-    ∙ ap (λ b. have x p.0 q.0 && not b) (said_is x p.1 q.1)
+    ∙ ap (λ b. one_if (b && not (list_any (λ base. says same_share x (share_of p.1 q.1 base)) (range_with_len 1 32767)))) (said_is x p.0 q.0)
+    ∙ ap (λ b. one_if (have x p.0 q.0 && not b)) (said_is x p.1 q.1)
 
-pair_comes : (x : Share) (p q : SubnetPort × SubnetPort) → comes same_share x (pair_changes p q) ≡ (have x p.1 q.1 && not (have x p.0 q.0))
+pair_comes : (x : Share) (p q : SubnetPort × SubnetPort) → comings same_share x (pair_changes p q) ≡ one_if (have x p.1 q.1 && not (have x p.0 q.0))
 unfolding pair_changes
 pair_comes x p q =
-    any_flat (λ change. change.comes && same_share x change.what) (share_changes_at p q) (range_with_len 1 32767)
-    ∙ same_any (λ base. comes same_share x (share_changes_at p q base)) (λ base. says same_share x (share_of p.1 q.1 base) && not (says same_share x (share_of p.0 q.0 base)))
+    count_flat (λ change. change.comes && same_share x change.what) (share_changes_at p q) (range_with_len 1 32767)
+    ∙ same_sum (λ base. comings same_share x (share_changes_at p q base)) (λ base. one_if (says same_share x (share_of p.1 q.1 base) && not (says same_share x (share_of p.0 q.0 base))))
     (λ base. one_comes same_share share_alike share_joined x (share_of p.0 q.0 base) (share_of p.1 q.1 base)) (range_with_len 1 32767)
     ∙ told_apart (λ base. base == x.base) (λ base. says same_share x (share_of p.1 q.1 base)) (λ base. says same_share x (share_of p.0 q.0 base)) (range_with_len 1 32767)
     (apart_by_base (λ base. says same_share x (share_of p.1 q.1 base)) (λ base. says same_share x (share_of p.0 q.0 base)) x.base (range_with_len 1 32767) all_rise (base_of_said x p.1 q.1) (base_of_said x p.0 q.0))
-    ∙ ap (λ b. b && not (list_any (λ base. says same_share x (share_of p.0 q.0 base)) (range_with_len 1 32767))) (said_is x p.1 q.1)
-    ∙ ap (λ b. have x p.1 q.1 && not b) (said_is x p.0 q.0)
+    ∙ ap (λ b. one_if (b && not (list_any (λ base. says same_share x (share_of p.0 q.0 base)) (range_with_len 1 32767)))) (said_is x p.1 q.1)
+    ∙ ap (λ b. one_if (have x p.1 q.1 && not b)) (said_is x p.0 q.0)
 
 -- a share of two ports names them
 named_by : (x : Share) (p q : SubnetPort) (bases : List ℕ) → list_any (same_share x) (map (share_between p q) bases) ≡ true
@@ -146,22 +146,22 @@ row_becomes : (x : Share) (p : SubnetPort) (before after : List SubnetPort) → 
 row_becomes x p before after same = any_second (have x p) before after same ∙ sym (any_flat (same_share x) (pair_shares p) after)
 
 row_goes : (x : Share) (p p' : SubnetPort) (before after : List SubnetPort) → guids before ≡ guids after → IsDistinct same_guid before
-    → goes same_share x (flat_map (pair_changes (p, p')) (zip before after)) ≡ (row x p before && not (row x p' after))
+    → goings same_share x (flat_map (pair_changes (p, p')) (zip before after)) ≡ one_if (row x p before && not (row x p' after))
 row_goes x p p' before after same distinct =
-    any_flat (λ change. not change.comes && same_share x change.what) (pair_changes (p, p')) (zip before after)
-    ∙ same_any (λ q. goes same_share x (pair_changes (p, p') q)) (λ q. have x p q.0 && not (have x p' q.1)) (λ q. pair_goes x (p, p') q) (zip before after)
+    count_flat (λ change. not change.comes && same_share x change.what) (pair_changes (p, p')) (zip before after)
+    ∙ same_sum (λ q. goings same_share x (pair_changes (p, p') q)) (λ q. one_if (have x p q.0 && not (have x p' q.1))) (λ q. pair_goes x (p, p') q) (zip before after)
     ∙ told_apart (own x.second.guid) (λ q. have x p q.0) (λ q. have x p' q.1) (zip before after) (apart_row x p p' before after same distinct)
-    ∙ ap (λ b. b && not (list_any (λ q. have x p' q.1) (zip before after))) (row_was x p before after same)
-    ∙ ap (λ b. row x p before && not b) (row_becomes x p' before after same)
+    ∙ ap (λ b. one_if (b && not (list_any (λ q. have x p' q.1) (zip before after)))) (row_was x p before after same)
+    ∙ ap (λ b. one_if (row x p before && not b)) (row_becomes x p' before after same)
 
 row_comes : (x : Share) (p p' : SubnetPort) (before after : List SubnetPort) → guids before ≡ guids after → IsDistinct same_guid before
-    → comes same_share x (flat_map (pair_changes (p, p')) (zip before after)) ≡ (row x p' after && not (row x p before))
+    → comings same_share x (flat_map (pair_changes (p, p')) (zip before after)) ≡ one_if (row x p' after && not (row x p before))
 row_comes x p p' before after same distinct =
-    any_flat (λ change. change.comes && same_share x change.what) (pair_changes (p, p')) (zip before after)
-    ∙ same_any (λ q. comes same_share x (pair_changes (p, p') q)) (λ q. have x p' q.1 && not (have x p q.0)) (λ q. pair_comes x (p, p') q) (zip before after)
+    count_flat (λ change. change.comes && same_share x change.what) (pair_changes (p, p')) (zip before after)
+    ∙ same_sum (λ q. comings same_share x (pair_changes (p, p') q)) (λ q. one_if (have x p' q.1 && not (have x p q.0))) (λ q. pair_comes x (p, p') q) (zip before after)
     ∙ told_apart (own x.second.guid) (λ q. have x p' q.1) (λ q. have x p q.0) (zip before after) (apart_back x p p' before after same distinct)
-    ∙ ap (λ b. b && not (list_any (λ q. have x p q.0) (zip before after))) (row_becomes x p' before after same)
-    ∙ ap (λ b. row x p' after && not b) (row_was x p before after same)
+    ∙ ap (λ b. one_if (b && not (list_any (λ q. have x p q.0) (zip before after)))) (row_becomes x p' before after same)
+    ∙ ap (λ b. one_if (row x p' after && not b)) (row_was x p before after same)
 
 -- ---- all ports
 row_named : (x : Share) (p : SubnetPort) (ports : List SubnetPort) → row x p ports ≡ true → x.first.guid ≡ p.guid
@@ -194,56 +194,56 @@ split : (x : Share) (p : SubnetPort) (ports : List SubnetPort) → has_share (p 
 split x p ports = list_any-append (same_share x) (flat_map (pair_shares p) ports) (shares ports)
 
 pub all_go : (x : Share) (before after : List SubnetPort) → guids before ≡ guids after → IsDistinct same_guid before
-    → goes same_share x (share_changes (zip before after)) ≡ (has_share before x && not (has_share after x))
+    → goings same_share x (share_changes (zip before after)) ≡ one_if (has_share before x && not (has_share after x))
 unfolding IsDistinct
 all_go x [] [] same distinct = refl
 all_go x [] (q ∷ after) same distinct = absurd (cc)
 all_go x (p ∷ before) [] same distinct = absurd (cc)
 all_go x (p ∷ before) (q ∷ after) same distinct =
     let parts = first_same p.guid q.guid (guids before) (guids after) same in
-    list_any-append (λ change. not change.comes && same_share x change.what) (flat_map (pair_changes (p, q)) (zip before after)) (share_changes (zip before after))
-    ∙ ap (λ b. b || goes same_share x (share_changes (zip before after))) (row_goes x p q before after parts.1 distinct.1)
-    ∙ ap (λ b. (row x p before && not (row x q after)) || b) (all_go x before after parts.1 distinct.1)
+    sum_by-append (λ change. one_if (not change.comes && same_share x change.what)) (flat_map (pair_changes (p, q)) (zip before after)) (share_changes (zip before after))
+    ∙ ap (λ n. n + goings same_share x (share_changes (zip before after))) (row_goes x p q before after parts.1 distinct.1)
+    ∙ ap (λ n. one_if (row x p before && not (row x q after)) + n) (all_go x before after parts.1 distinct.1)
     ∙ by (row x p before) (row x q after) (has_share before x) (has_share after x) (x.first.guid == p.guid) refl
     (λ h. eq-eqb x.first.guid p.guid (row_named x p before h)) (λ h. eq-eqb x.first.guid p.guid (row_named x q after h ∙ sym parts.0))
     (λ e. none_behind x before (moved (eqb-true x.first.guid p.guid e)))
     (λ e. none_behind x after (as_guids x.first.guid before after parts.1 (moved (eqb-true x.first.guid p.guid e))))
-    ∙ sym (ap (λ b. b && not (has_share (q ∷ after) x)) (split x p before) ∙ ap (λ b. (row x p before || has_share before x) && not b) (split x q after))
+    ∙ sym (ap (λ b. one_if (b && not (has_share (q ∷ after) x))) (split x p before) ∙ ap (λ b. one_if ((row x p before || has_share before x) && not b)) (split x q after))
   where
     moved : x.first.guid ≡ p.guid → AllByRecursion (λ port. (x.first.guid == port.guid) ≡ false) before
     moved e = subst (λ (n : ℕ). AllByRecursion (λ port. (n == port.guid) ≡ false) before) (sym e) distinct.0
 
     by : (a a' b b' own : Bool) → (x.first.guid == p.guid) ≡ own → (a ≡ true → (x.first.guid == p.guid) ≡ true) → (a' ≡ true → (x.first.guid == p.guid) ≡ true)
         → ((x.first.guid == p.guid) ≡ true → b ≡ false) → ((x.first.guid == p.guid) ≡ true → b' ≡ false)
-        → ((a && not a') || (b && not b')) ≡ ((a || b) && not (a' || b'))
+        → one_if (a && not a') + one_if (b && not b') ≡ one_if ((a || b) && not (a' || b'))
     by a a' b b' true e f f' g g' = rw (g e, g' e) (alone a a')
-    by a a' b b' false e f f' g g' = let one = weaker_none a (x.first.guid == p.guid) f e in let two = weaker_none a' (x.first.guid == p.guid) f' e in rw (one, two) refl
+    by a a' b b' false e f f' g g' = let one = weaker_none a (x.first.guid == p.guid) f e in let two = weaker_none a' (x.first.guid == p.guid) f' e in rw (one, two) (none_more (one_if (b && not b')))
 
 pub all_come : (x : Share) (before after : List SubnetPort) → guids before ≡ guids after → IsDistinct same_guid before
-    → comes same_share x (share_changes (zip before after)) ≡ (has_share after x && not (has_share before x))
+    → comings same_share x (share_changes (zip before after)) ≡ one_if (has_share after x && not (has_share before x))
 unfolding IsDistinct
 all_come x [] [] same distinct = refl
 all_come x [] (q ∷ after) same distinct = absurd (cc)
 all_come x (p ∷ before) [] same distinct = absurd (cc)
 all_come x (p ∷ before) (q ∷ after) same distinct =
     let parts = first_same p.guid q.guid (guids before) (guids after) same in
-    list_any-append (λ change. change.comes && same_share x change.what) (flat_map (pair_changes (p, q)) (zip before after)) (share_changes (zip before after))
-    ∙ ap (λ b. b || comes same_share x (share_changes (zip before after))) (row_comes x p q before after parts.1 distinct.1)
-    ∙ ap (λ b. (row x q after && not (row x p before)) || b) (all_come x before after parts.1 distinct.1)
+    sum_by-append (λ change. one_if (change.comes && same_share x change.what)) (flat_map (pair_changes (p, q)) (zip before after)) (share_changes (zip before after))
+    ∙ ap (λ n. n + comings same_share x (share_changes (zip before after))) (row_comes x p q before after parts.1 distinct.1)
+    ∙ ap (λ n. one_if (row x q after && not (row x p before)) + n) (all_come x before after parts.1 distinct.1)
     ∙ by (row x q after) (row x p before) (has_share after x) (has_share before x) (x.first.guid == p.guid) refl
     (λ h. eq-eqb x.first.guid p.guid (row_named x q after h ∙ sym parts.0)) (λ h. eq-eqb x.first.guid p.guid (row_named x p before h))
     (λ e. none_behind x after (as_guids x.first.guid before after parts.1 (moved (eqb-true x.first.guid p.guid e))))
     (λ e. none_behind x before (moved (eqb-true x.first.guid p.guid e)))
-    ∙ sym (ap (λ b. b && not (has_share (p ∷ before) x)) (split x q after) ∙ ap (λ b. (row x q after || has_share after x) && not b) (split x p before))
+    ∙ sym (ap (λ b. one_if (b && not (has_share (p ∷ before) x))) (split x q after) ∙ ap (λ b. one_if ((row x q after || has_share after x) && not b)) (split x p before))
   where
     moved : x.first.guid ≡ p.guid → AllByRecursion (λ port. (x.first.guid == port.guid) ≡ false) before
     moved e = subst (λ (n : ℕ). AllByRecursion (λ port. (n == port.guid) ≡ false) before) (sym e) distinct.0
 
     by : (a a' b b' own : Bool) → (x.first.guid == p.guid) ≡ own → (a ≡ true → (x.first.guid == p.guid) ≡ true) → (a' ≡ true → (x.first.guid == p.guid) ≡ true)
         → ((x.first.guid == p.guid) ≡ true → b ≡ false) → ((x.first.guid == p.guid) ≡ true → b' ≡ false)
-        → ((a && not a') || (b && not b')) ≡ ((a || b) && not (a' || b'))
+        → one_if (a && not a') + one_if (b && not b') ≡ one_if ((a || b) && not (a' || b'))
     by a a' b b' true e f f' g g' = rw (g e, g' e) (alone a a')
-    by a a' b b' false e f f' g g' = let one = weaker_none a (x.first.guid == p.guid) f e in let two = weaker_none a' (x.first.guid == p.guid) f' e in rw (one, two) refl
+    by a a' b b' false e f f' g g' = let one = weaker_none a (x.first.guid == p.guid) f e in let two = weaker_none a' (x.first.guid == p.guid) f' e in rw (one, two) (none_more (one_if (b && not b')))
 
 pub shares_are_told : SharesAreTold
 shares_are_told before after are = record {

@@ -1,68 +1,72 @@
 -- Changes say what one file has and the other has not.
-use Rattle.std.proofs.Common.{◌≡◌, ℕ, ◌<◌, Bool, true, false, not, ◌==◌, ◌&&◌, ◌||◌, if◌then◌else◌, List, [], ◌∷◌, ◌++◌, Option, Some, None, refl, sym, ◌∙◌, inl, inr, subst, arith}
-use Rattle.std.specs.List.{AllByRecursion, flat_map, list_any}
+use Rattle.std.proofs.Common.{◌≡◌, ℕ, ◌+◌, ◌<◌, Bool, true, false, not, ◌==◌, ◌&&◌, ◌||◌, if◌then◌else◌, List, [], ◌∷◌, ◌++◌, Option, Some, None, refl, sym, ap, ◌∙◌, inl, inr, subst, arith}
+use Rattle.std.specs.List.{AllByRecursion, count_by, flat_map, list_any, sum_by}
 use Rattle.std.proofs.lemmas.Bool.{cases_Bool, eqb-true, false≢true}
 use Rattle.std.proofs.lemmas.Bool.Decides.{nat_tests}
 use Rattle.result_words.proofs.RisingLemmas.{Rises}
 use Rattle.partition_changes.specs.Changes.{changes_of, coming, going}
-use Rattle.partition_changes.specs.Laws.{TellWhatChanges, comes, goes, says}
-use Rattle.port_shares.proofs.NearLemmas.{same_any}
-use Rattle.result_words.proofs.ListLemmas.{any_flat}
+use Rattle.partition_changes.specs.Laws.{TellWhatChanges, comings, goings, one_if, says}
+use Rattle.std.proofs.lemmas.List.Sums.{sum_by-append, sum_by-cons}
+
+-- ---- counts
+pub count_flat : {X Y : Type 0} (p : Y → Bool) (f : X → List Y) (xs : List X) → count_by p (flat_map f xs) ≡ sum_by (λ x. count_by p (f x)) xs
+count_flat p f [] = refl
+count_flat p f (x ∷ xs) =
+    sum_by-append (λ y. one_if (p y)) (f x) (flat_map f xs) ∙ ap (λ n. count_by p (f x) + n) (count_flat p f xs) ∙ sym (sum_by-cons (λ x. count_by p (f x)) x xs)
+
+pub same_sum : {X : Type 0} (f g : X → ℕ) → ((x : X) → f x ≡ g x) → (xs : List X) → sum_by f xs ≡ sum_by g xs
+same_sum f g same [] = refl
+same_sum f g same (x ∷ xs) =
+    sum_by-cons f x xs ∙ ap (λ n. n + sum_by f xs) (same x) ∙ ap (λ n. g x + n) (same_sum f g same xs) ∙ sym (sum_by-cons g x xs)
 
 -- ---- one thing
+-- both are it, or neither
+none_told : (a b : Bool) → a ≡ b → 0 ≡ one_if (a && not b)
+none_told true true e = refl
+none_told false false e = refl
+none_told true false e = absurd (false≢true (sym e))
+none_told false true e = absurd (false≢true e)
 
 -- what goes of one thing
 pub one_goes : {X : Type 0} (same : X → X → Bool) → ((v w x : X) → same v w ≡ true → same x v ≡ same x w) → ((v w x : X) → same x v ≡ true → same x w ≡ true → same v w ≡ true)
-    → (x : X) (before after : Option X) → goes same x (changes_of same before after) ≡ (says same x before && not (says same x after))
+    → (x : X) (before after : Option X) → goings same x (changes_of same before after) ≡ one_if (says same x before && not (says same x after))
 one_goes same alike joined x None None = refl
 one_goes same alike joined x None (Some w) = refl
 one_goes same alike joined x (Some v) None = by (same x v)
   where
-    by : (b : Bool) → (b || false) ≡ (b && true)
+    by : (b : Bool) → 0 + one_if b ≡ one_if (b && true)
     by true = refl
     by false = refl
 one_goes same alike joined x (Some v) (Some w) = by (same v w) refl
   where
-    none : (a b : Bool) → a ≡ b → false ≡ (a && not b)
-    none true true e = refl
-    none false false e = refl
-    none true false e = absurd (cc)
-    none false true e = absurd (cc)
-
-    some : (a b : Bool) → (a ≡ true → b ≡ true → false ≡ true) → (a || (false || false)) ≡ (a && not b)
+    some : (a b : Bool) → (a ≡ true → b ≡ true → false ≡ true) → (0 + one_if a) + one_if false ≡ one_if (a && not b)
     some true true never = absurd (false≢true (never refl refl))
     some true false never = refl
     some false b never = refl
 
-    by : (kept : Bool) → same v w ≡ kept → goes same x (if kept then [] else going (Some v) ++ coming (Some w)) ≡ (same x v && not (same x w))
-    by true e = none (same x v) (same x w) (alike v w x e)
+    by : (kept : Bool) → same v w ≡ kept → goings same x (if kept then [] else going (Some v) ++ coming (Some w)) ≡ one_if (same x v && not (same x w))
+    by true e = none_told (same x v) (same x w) (alike v w x e)
     by false e = some (same x v) (same x w) (λ a b. sym e ∙ joined v w x a b)
 
 pub one_comes : {X : Type 0} (same : X → X → Bool) → ((v w x : X) → same v w ≡ true → same x v ≡ same x w) → ((v w x : X) → same x v ≡ true → same x w ≡ true → same v w ≡ true)
-    → (x : X) (before after : Option X) → comes same x (changes_of same before after) ≡ (says same x after && not (says same x before))
+    → (x : X) (before after : Option X) → comings same x (changes_of same before after) ≡ one_if (says same x after && not (says same x before))
 one_comes same alike joined x None None = refl
 one_comes same alike joined x (Some v) None = refl
 one_comes same alike joined x None (Some w) = by (same x w)
   where
-    by : (b : Bool) → (b || false) ≡ (b && true)
+    by : (b : Bool) → 0 + one_if b ≡ one_if (b && true)
     by true = refl
     by false = refl
 one_comes same alike joined x (Some v) (Some w) = by (same v w) refl
   where
-    none : (a b : Bool) → a ≡ b → false ≡ (b && not a)
-    none true true e = refl
-    none false false e = refl
-    none true false e = absurd (cc)
-    none false true e = absurd (cc)
-
-    some : (a b : Bool) → (a ≡ true → b ≡ true → false ≡ true) → (false || (b || false)) ≡ (b && not a)
+    some : (a b : Bool) → (a ≡ true → b ≡ true → false ≡ true) → (0 + one_if false) + one_if b ≡ one_if (b && not a)
     some true true never = absurd (false≢true (never refl refl))
     some false true never = refl
     some true false never = refl
     some false false never = refl
 
-    by : (kept : Bool) → same v w ≡ kept → comes same x (if kept then [] else going (Some v) ++ coming (Some w)) ≡ (same x w && not (same x v))
-    by true e = none (same x v) (same x w) (alike v w x e)
+    by : (kept : Bool) → same v w ≡ kept → comings same x (if kept then [] else going (Some v) ++ coming (Some w)) ≡ one_if (same x w && not (same x v))
+    by true e = none_told (same x w) (same x v) (sym (alike v w x e))
     by false e = some (same x v) (same x w) (λ a b. sym e ∙ joined v w x a b)
 
 -- ---- many things, of which what is said is of one
@@ -90,24 +94,33 @@ none_of own P Q (z ∷ zs) are none =
     let second : Q z ≡ false = weaker_none (Q z) (own z) are.0.1.1 parts.0 in
     (rw (first, rest.0) refl, rw (second, rest.1) refl)
 
-pub alone : (a b : Bool) → ((a && not b) || (false && not false)) ≡ ((a || false) && not (b || false))
+pub alone : (a b : Bool) → one_if (a && not b) + one_if (false && not false) ≡ one_if ((a || false) && not (b || false))
 alone true true = refl
 alone true false = refl
 alone false b = refl
 
-pub told_apart : {Z : Type 0} (own P Q : Z → Bool) (zs : List Z) → Apart own P Q zs
-    → list_any (λ z. P z && not (Q z)) zs ≡ (list_any P zs && not (list_any Q zs))
+pub none_more : (n : ℕ) → one_if (false && not false) + n ≡ n
+none_more n = omega arith
+
+one_apart : {Z : Type 0} (own P Q : Z → Bool) (z : Z) (zs : List Z) → Apart own P Q (z ∷ zs)
+    → one_if (P z && not (Q z)) + one_if (list_any P zs && not (list_any Q zs)) ≡ one_if ((P z || list_any P zs) && not (Q z || list_any Q zs))
 unfolding Apart
-told_apart own P Q [] are = refl
-told_apart own P Q (z ∷ zs) are = elim (cases_Bool (own z)) [
+one_apart own P Q z zs are = elim (cases_Bool (own z)) [
   | inl here ↦
       let rest = none_of own P Q zs are.1 (are.0.0 here) in
-      rw (told_apart own P Q zs are.1, rest.0, rest.1) (alone (P z) (Q z))
+      rw (rest.0, rest.1) (alone (P z) (Q z))
   | inr other ↦
       let first : P z ≡ false = weaker_none (P z) (own z) are.0.1.0 other in
       let second : Q z ≡ false = weaker_none (Q z) (own z) are.0.1.1 other in
-      rw (first, second) (told_apart own P Q zs are.1)
+      rw (first, second) (none_more (one_if (list_any P zs && not (list_any Q zs))))
 ]
+
+pub told_apart : {Z : Type 0} (own P Q : Z → Bool) (zs : List Z) → Apart own P Q zs
+    → sum_by (λ z. one_if (P z && not (Q z))) zs ≡ one_if (list_any P zs && not (list_any Q zs))
+unfolding Apart
+told_apart own P Q [] are = refl
+told_apart own P Q (z ∷ zs) are =
+    sum_by-cons (λ z. one_if (P z && not (Q z))) z zs ∙ ap (λ n. one_if (P z && not (Q z)) + n) (told_apart own P Q zs are.1) ∙ one_apart own P Q z zs are
 
 -- ---- by bases
 none_above : (n : ℕ) (bases : List ℕ) → AllByRecursion (λ y. n < y) bases → list_any (λ base. base == n) bases ≡ false
@@ -153,14 +166,14 @@ pub by_bases : {X : Type 0} (same : X → X → Bool) → ((v w x : X) → same 
     → TellWhatChanges same (λ x. says same x (was (base_in x))) (λ x. says same x (becomes (base_in x))) (flat_map (λ base. changes_of same (was base) (becomes base)) bases)
 by_bases same alike joined base_in was becomes bases rising p q there here = record {
   gone = λ x.
-      any_flat (λ change. not change.comes && same x change.what) (λ base. changes_of same (was base) (becomes base)) bases
-      ∙ same_any (λ base. goes same x (changes_of same (was base) (becomes base))) (λ base. says same x (was base) && not (says same x (becomes base))) (λ base. one_goes same alike joined x (was base) (becomes base)) bases
+      count_flat (λ change. not change.comes && same x change.what) (λ base. changes_of same (was base) (becomes base)) bases
+      ∙ same_sum (λ base. goings same x (changes_of same (was base) (becomes base))) (λ base. one_if (says same x (was base) && not (says same x (becomes base)))) (λ base. one_goes same alike joined x (was base) (becomes base)) bases
       ∙ told_apart (λ base. base == base_in x) (λ base. says same x (was base)) (λ base. says same x (becomes base)) bases
       (apart_by_base (λ base. says same x (was base)) (λ base. says same x (becomes base)) (base_in x) bases rising (λ k. p k x) (λ k. q k x))
       ∙ rw (only_one (λ base. says same x (was base)) (base_in x) bases (λ k. p k x), only_one (λ base. says same x (becomes base)) (base_in x) bases (λ k. q k x), implied (list_any (λ base. base == base_in x) bases) (says same x (was (base_in x))) (there x), implied (list_any (λ base. base == base_in x) bases) (says same x (becomes (base_in x))) (here x)) refl;
   come = λ x.
-      any_flat (λ change. change.comes && same x change.what) (λ base. changes_of same (was base) (becomes base)) bases
-      ∙ same_any (λ base. comes same x (changes_of same (was base) (becomes base))) (λ base. says same x (becomes base) && not (says same x (was base))) (λ base. one_comes same alike joined x (was base) (becomes base)) bases
+      count_flat (λ change. change.comes && same x change.what) (λ base. changes_of same (was base) (becomes base)) bases
+      ∙ same_sum (λ base. comings same x (changes_of same (was base) (becomes base))) (λ base. one_if (says same x (becomes base) && not (says same x (was base)))) (λ base. one_comes same alike joined x (was base) (becomes base)) bases
       ∙ told_apart (λ base. base == base_in x) (λ base. says same x (becomes base)) (λ base. says same x (was base)) bases
       (apart_by_base (λ base. says same x (becomes base)) (λ base. says same x (was base)) (base_in x) bases rising (λ k. q k x) (λ k. p k x))
       ∙ rw (only_one (λ base. says same x (was base)) (base_in x) bases (λ k. p k x), only_one (λ base. says same x (becomes base)) (base_in x) bases (λ k. q k x), implied (list_any (λ base. base == base_in x) bases) (says same x (was (base_in x))) (there x), implied (list_any (λ base. base == base_in x) bases) (says same x (becomes (base_in x))) (here x)) refl;

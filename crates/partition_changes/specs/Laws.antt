@@ -1,6 +1,6 @@
 -- What goes is what was said and is said no more; what comes is what was not said before.
-use Rattle.std.specs.Prelude.{ℕ, ◌≡◌, ◌↔◌, Bool, true, false, not, ◌==◌, ◌&&◌, List, [], ◌∷◌, ◌++◌, Option, Some, None, map}
-use Rattle.std.specs.List.{IsDistinct, list_any, zip}
+use Rattle.std.specs.Prelude.{ℕ, ◌≡◌, ◌↔◌, Bool, true, false, not, ◌==◌, ◌&&◌, if◌then◌else◌, List, [], ◌∷◌, ◌++◌, Option, Some, None, map}
+use Rattle.std.specs.List.{IsDistinct, count_by, list_any, zip}
 use Rattle.std.specs.Option.{option_map_or}
 use Rattle.partition_changes.specs.Changes.{Change, bases_named, change_of_member_line, changes_text, group_changes, group_line, grouped, member_changes, member_of, partition_changes, partition_line, partition_of, same_group, same_member, same_partition, same_share, share_changes, text_of_changes}
 use Rattle.partition_file.specs.declared.broadcast_group.BroadcastGroup.{BroadcastGroup}
@@ -15,17 +15,21 @@ use Rattle.subnet_model.specs.declared.subnet_port.SubnetPort.{SubnetPort}
 abbrev pub says : {X : Type 0} → (X → X → Bool) → X → Option X → Bool
 says same x said = option_map_or (same x) said false
 
--- it goes, or it comes, by these changes
-abbrev pub goes : {X : Type 0} → (X → X → Bool) → X → List (Change X) → Bool
-goes same x changes = list_any (λ change. not change.comes && same x change.what) changes
+-- how many of these changes say that it goes, or that it comes
+abbrev pub goings : {X : Type 0} → (X → X → Bool) → X → List (Change X) → ℕ
+goings same x changes = count_by (λ change. not change.comes && same x change.what) changes
 
-abbrev pub comes : {X : Type 0} → (X → X → Bool) → X → List (Change X) → Bool
-comes same x changes = list_any (λ change. change.comes && same x change.what) changes
+abbrev pub comings : {X : Type 0} → (X → X → Bool) → X → List (Change X) → ℕ
+comings same x changes = count_by (λ change. change.comes && same x change.what) changes
 
--- changes say exactly what of two files one has and the other has not
+-- one where it is so, else none
+abbrev pub one_if : Bool → ℕ
+one_if so = if so then 1 else 0
+
+-- changes say exactly what of two files one has and the other has not, each of it once
 pub record TellWhatChanges {X : Type 0} (same : X → X → Bool) (before after : X → Bool) (changes : List (Change X)) : Type 0 where
-  pub gone : (x : X) → goes same x changes ≡ (before x && not (after x))
-  pub come : (x : X) → comes same x changes ≡ (after x && not (before x))
+  pub gone : (x : X) → goings same x changes ≡ one_if (before x && not (after x))
+  pub come : (x : X) → comings same x changes ≡ one_if (after x && not (before x))
 
 -- ---- partitions, by base, number and name
 abbrev pub has_partition : List Heading → ℕ × Heading → Bool

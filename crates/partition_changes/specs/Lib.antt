@@ -1,3 +1,4 @@
 pub mod Changes
 pub mod Found
 pub mod Laws
+pub mod WrongRules

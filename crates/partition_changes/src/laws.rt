@@ -2,8 +2,8 @@
 
 ghost use Rattle.partition_changes.specs.Laws.{GroupsAreTold, LinesAreSigned, MembersAreTold, NearStaysWhereNoShareIsTold, NothingIsToldOfTheSame, PartitionsAreTold, SameIsWhatIsCompared, SharesAreTold};
 
-/// A partition with its number and name goes exactly where it was there before and is not after, and comes the other way
-/// round.
+/// A partition with its number and name goes once where it was there before and is not after, and else not at all; it comes
+/// the other way round.
 pub fn partitions_are_told()
     ensures { PartitionsAreTold }
 {}

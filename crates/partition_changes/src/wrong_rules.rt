@@ -1,0 +1,9 @@
+//! A wrong rule for changes, and the laws that it breaks, so that a reader sees that they say something. The function does
+//! nothing: its contract says that with this rule the laws are false.
+
+ghost use Rattle.partition_changes.specs.WrongRules.{TwiceIsNotOnce};
+
+/// Where each change is told twice, no law of what is told holds.
+pub fn twice_is_not_once()
+    ensures { TwiceIsNotOnce }
+{}
