@@ -60,7 +60,7 @@ by_node cables packet here (Some (Switch held)) =
 by_node cables packet here (Some (Adapter ports)) = no_turn cables packet here (adapter_port ports here.port)
 
 -- what a step says leads where the packet goes
-turns_lead : (fabric : FabricState) (packet : Packet) (here : PortRef)
+pub turns_lead : (fabric : FabricState) (packet : Packet) (here : PortRef)
     → next_after fabric.cables here (turn_at fabric packet here) ≡ next_port fabric.nodes fabric.cables packet here
 unfolding turn_at
 turns_lead fabric packet here = by_node fabric.cables packet here (slice_get fabric.nodes here.node)
@@ -146,7 +146,7 @@ module _ (fabric : FabricState) (packet : Packet) (unicast : is_multicast packet
       let same = rw was at turn in
       record { way = []; goes = sym there; accepts = ap (turn_at fabric packet) there ∙ sym same }
 
-  leads_on : (before : List Step) (here next : PortRef) (again : Bool) → list_any (λ one. is_same_port one.at here) before ≡ again
+  pub leads_on : (before : List Step) (here next : PortRef) (again : Bool) → list_any (λ one. is_same_port one.at here) before ≡ again
       → next_after fabric.cables here (turn_after fabric packet before here) ≡ Some next → Passes fabric.nodes fabric.cables packet here next
   leads_on before here next true was leads = let none = rw was at leads in absurd (cc)
   leads_on before here next false was leads =

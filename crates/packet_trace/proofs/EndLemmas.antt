@@ -71,24 +71,34 @@ out_after : (fabric : FabricState) (packet : Packet) (before : List Step) (here 
 out_after fabric packet before here out true was told stops = let no = rw was at told in cc
 out_after fabric packet before here out false was told stops = out_at fabric packet here out (rw was at told) (rw was at stops)
 
--- ---- ends of cables
-module _ (cables : List Cable) where
-  abbrev IsEnd : PortRef → Type 0
-  IsEnd here = (p : PortRef) → is_same_port p here ≡ true → list_any (is_same_port p) (flat_map ends_of cables) ≡ true
+-- ---- among some ports
+module _ (ports : List PortRef) where
+  abbrev pub IsAmong : PortRef → Type 0
+  IsAmong here = (p : PortRef) → is_same_port p here ≡ true → list_any (is_same_port p) ports ≡ true
 
-  abbrev AreEnds : List PortRef → Type 0
-  AreEnds seen = (p : PortRef) → list_any (is_same_port p) seen ≡ true → list_any (is_same_port p) (flat_map ends_of cables) ≡ true
+  abbrev pub AreAmong : List PortRef → Type 0
+  AreAmong seen = (p : PortRef) → list_any (is_same_port p) seen ≡ true → list_any (is_same_port p) ports ≡ true
 
-  one_more_end : (here : PortRef) (seen : List PortRef) → IsEnd here → AreEnds seen → AreEnds (here ∷ seen)
-  one_more_end here seen is are p among = by (is_same_port p here) refl among
+  pub one_more_among : (here : PortRef) (seen : List PortRef) → IsAmong here → AreAmong seen → AreAmong (here ∷ seen)
+  one_more_among here seen is are p among = by (is_same_port p here) refl among
     where
-      by : (b : Bool) → is_same_port p here ≡ b → (b || list_any (is_same_port p) seen) ≡ true
-          → list_any (is_same_port p) (flat_map ends_of cables) ≡ true
+      by : (b : Bool) → is_same_port p here ≡ b → (b || list_any (is_same_port p) seen) ≡ true → list_any (is_same_port p) ports ≡ true
       by true same among = is p same
       by false other among = are p among
 
+  pub few_among : (seen : List PortRef) → all_differ is_same_port seen ≡ true → AreAmong seen → length seen ≤ length ports
+  few_among seen differ are = length-le_from_is_member ports_equiv seen ports (distinct is_same_port seen differ) are
+
+-- ---- ends of cables
+module _ (cables : List Cable) where
+  abbrev pub IsEnd : PortRef → Type 0
+  IsEnd here = IsAmong (flat_map ends_of cables) here
+
+  abbrev AreEnds : List PortRef → Type 0
+  AreEnds seen = AreAmong (flat_map ends_of cables) seen
+
   -- where it goes on it comes to an end of a cable
-  comes_to_an_end : (here there : PortRef) (turn : Turn) → next_after cables here turn ≡ Some there → IsEnd there
+  pub comes_to_an_end : (here there : PortRef) (turn : Turn) → next_after cables here turn ≡ Some there → IsEnd there
   comes_to_an_end here there (GoesOut out) leads p same = far_is_end cables (record { node = here.node; port = out }) there p same leads
   comes_to_an_end here there Again leads p same = absurd (cc)
   comes_to_an_end here there DropsInbound leads p same = absurd (cc)
@@ -102,15 +112,12 @@ module _ (cables : List Cable) where
   comes_to_an_end here there Accepts leads p same = absurd (cc)
   comes_to_an_end here there DropsKey leads p same = absurd (cc)
 
-  few_ends : (seen : List PortRef) → all_differ is_same_port seen ≡ true → AreEnds seen → length seen ≤ length (flat_map ends_of cables)
-  few_ends seen differ are = length-le_from_is_member ports_equiv seen (flat_map ends_of cables) (distinct is_same_port seen differ) are
-
   few : (seen : List PortRef) → all_differ is_same_port seen ≡ true → AreEnds seen → length seen ≤ 2 * length cables
-  few seen differ are = rw (count_ends cables) at few_ends seen differ are
+  few seen differ are = rw (count_ends cables) at (few_among (flat_map ends_of cables) seen differ are)
 
 -- ---- the ports to which it came
 -- the ports of these steps are those
-abbrev AreAt : List Step → List PortRef → Type 0
+abbrev pub AreAt : List Step → List PortRef → Type 0
 AreAt before seen = (p : PortRef) → list_any (λ one. is_same_port one.at p) before ≡ list_any (is_same_port p) seen
 
 any_more : (before : List Step) (now : Step) (p : PortRef)
@@ -120,7 +127,7 @@ any_more (one ∷ before) now p =
     ap (λ (b : Bool). is_same_port one.at p || b) (any_more before now p)
     ∙ or_turned (is_same_port one.at p) (is_same_port p now.at) (list_any (λ one. is_same_port one.at p) before)
 
-at_more : (before : List Step) (seen : List PortRef) (now : Step) → AreAt before seen → AreAt (before ++ now ∷ []) (now.at ∷ seen)
+pub at_more : (before : List Step) (seen : List PortRef) (now : Step) → AreAt before seen → AreAt (before ++ now ∷ []) (now.at ∷ seen)
 at_more before seen now are p = any_more before now p ∙ ap (λ (b : Bool). is_same_port p now.at || b) (are p)
 
 -- ---- its end
@@ -129,7 +136,7 @@ module _ (fabric : FabricState) (packet : Packet) where
   now_at before here = step here (turn_after fabric packet before here)
 
   -- it goes on where it did not come in before alone
-  is_new : (before : List Step) (here there : PortRef) (again : Bool) → list_any (λ one. is_same_port one.at here) before ≡ again
+  pub is_new : (before : List Step) (here there : PortRef) (again : Bool) → list_any (λ one. is_same_port one.at here) before ≡ again
       → next_after fabric.cables here (turn_after fabric packet before here) ≡ Some there → again ≡ false
   is_new before here there true was leads = let no = rw was at leads in absurd (cc)
   is_new before here there false was leads = refl
@@ -168,7 +175,7 @@ module _ (fabric : FabricState) (packet : Packet) where
       has_end more (before ++ now_at before here ∷ []) (here ∷ seen) there
       (at_more before seen (now_at before here) same)
       (and_from (not (list_any (is_same_port here) seen)) (all_differ is_same_port seen) (not_from_false _ new) differ)
-      (one_more_end fabric.cables here seen is are)
+      (one_more_among (flat_map ends_of fabric.cables) here seen is are)
       (comes_to_an_end fabric.cables here there (turn_after fabric packet before here) leads)
       (omega (arith, count)))
 

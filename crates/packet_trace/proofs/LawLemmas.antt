@@ -10,6 +10,7 @@ use Rattle.fabric_parts.specs.Lid.{is_multicast}
 use Rattle.fabric_parts.specs.declared.cable.PortRef.{PortRef}
 use Rattle.packet_trace.proofs.DeliveryLemmas.{adapter_of, delivered_of, told_of}
 use Rattle.packet_trace.proofs.EndLemmas.{way_has_an_end}
+use Rattle.packet_trace.proofs.ShownLemmas.{way_shows}
 use Rattle.packet_trace.proofs.SpreadLemmas.{spread_tells_all}
 use Rattle.packet_trace.specs.Laws.{AdaptersAccept, HasEnd, TracesHaveAnEnd, TracesShowAllWays, TracesTellDeliveries}
 use Rattle.packet_trace.specs.Spread.{spread_of}
@@ -93,6 +94,11 @@ traces_have_an_end fabric packet from first unicast cable =
     subst (λ (steps : List Step). HasEnd steps) (sym (by_way fabric packet first unicast)) (way_has_an_end fabric packet from first cable)
 
 pub traces_show_all_ways : TracesShowAllWays
-traces_show_all_ways fabric packet first at multicast =
-    subst (λ (steps : List Step). ((turn : Turn) × Contains steps (step at turn)) ↔ ((way : List PortRef) × Goes fabric.nodes fabric.cables packet first way at))
-    (sym (by_spread fabric packet first multicast)) (shows fabric packet first at multicast)
+traces_show_all_ways fabric packet first at = elim (cases_Bool (is_multicast packet.dlid)) [
+  | inl multicast ↦
+      subst (λ (steps : List Step). ((turn : Turn) × Contains steps (step at turn)) ↔ ((way : List PortRef) × Goes fabric.nodes fabric.cables packet first way at))
+      (sym (by_spread fabric packet first multicast)) (shows fabric packet first at multicast)
+  | inr unicast ↦
+      subst (λ (steps : List Step). ((turn : Turn) × Contains steps (step at turn)) ↔ ((way : List PortRef) × Goes fabric.nodes fabric.cables packet first way at))
+      (sym (by_way fabric packet first unicast)) (way_shows fabric packet unicast first at)
+]

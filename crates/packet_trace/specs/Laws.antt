@@ -1,5 +1,5 @@
 -- What holds of all traces: the statements of the laws of `src/laws.rt`.
-use Rattle.std.specs.Prelude.{ℕ, ◌≡◌, ◌↔◌, true, false, List, [], ◌∷◌, ◌++◌, Some}
+use Rattle.std.specs.Prelude.{ℕ, ◌≡◌, ◌↔◌, false, List, [], ◌∷◌, ◌++◌, Some}
 use Rattle.std.specs.List.{Contains}
 use Rattle.data_packet.specs.declared.packet.Packet.{Packet}
 use Rattle.fabric_parts.specs.Cable.{far_end}
@@ -41,10 +41,13 @@ TracesHaveAnEnd =
     (fabric : FabricState) (packet : Packet) (from first : PortRef)
     → is_multicast packet.dlid ≡ false → far_end fabric.cables from ≡ Some first → HasEnd (steps_of fabric packet first)
 
--- a packet to a multicast LID that comes in first at that port has a step at a port exactly where it comes in there, some way
--- or other
-abbrev pub TracesShowAllWays : Type 0
-TracesShowAllWays =
-    (fabric : FabricState) (packet : Packet) (first at : PortRef) → is_multicast packet.dlid ≡ true
-    → ((turn : Turn) × Contains (steps_of fabric packet first) (step at turn))
+-- traces told by this rule have a step at a port exactly where the packet, which comes in first at that port, comes in there,
+-- some way or other
+abbrev pub ShowAllWays : (FabricState → Packet → PortRef → List Step) → Type 0
+ShowAllWays steps =
+    (fabric : FabricState) (packet : Packet) (first at : PortRef)
+    → ((turn : Turn) × Contains (steps fabric packet first) (step at turn))
     ↔ ((way : List PortRef) × Goes fabric.nodes fabric.cables packet first way at)
+
+abbrev pub TracesShowAllWays : Type 0
+TracesShowAllWays = ShowAllWays steps_of

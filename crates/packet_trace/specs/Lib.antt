@@ -4,3 +4,4 @@ pub mod Steps
 pub mod Lines
 pub mod Laws
 pub mod Whole
+pub mod WrongRules

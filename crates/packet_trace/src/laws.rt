@@ -23,8 +23,8 @@ pub fn traces_have_an_end()
     ensures { TracesHaveAnEnd }
 {}
 
-/// The trace of a packet to a multicast LID has a step at each port where the packet comes in, and at no other. So no way is
-/// cut, nor left out where ways meet.
+/// The trace of a packet has a step at each port where the packet comes in, and at no other. So no way is cut, no port on it
+/// left out, nor a way left out where ways meet.
 pub fn traces_show_all_ways()
     ensures { TracesShowAllWays }
 {}

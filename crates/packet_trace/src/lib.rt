@@ -12,6 +12,7 @@ mod lines;
 mod spread;
 mod trace;
 mod turn;
+mod wrong_rules;
 
 pub use crate::following::steps;
 pub use crate::laws::{
