@@ -8,7 +8,7 @@ use Rattle.clap.specs.Words.{Row, Text, first_of}
 use Rattle.clap.proofs.OnLiterals.{clap_on_literals}
 use Rattle.code_texts.specs.Codes.{code_of}
 use Rattle.code_texts.specs.declared.code.Code.{Code}
-use Rattle.call_words.specs.Laws.{FilesAreNamedAsGiven, IsWordOf, NamesKeepTheirBlanks}
+use Rattle.call_words.specs.Laws.{FilesAreNamedAsGiven, FilesStandInOrder, IsWordOf, NamesKeepTheirBlanks}
 use Rattle.call_words.specs.Words.{Names, audit_by, asked_by, asked_by_command, asked_of, asked_or, call_in, compare_by, cuts_by, diff_by, explain_by, file_in, graph_with, guid_by, import_by, is_given, in_subnet, inspect_by, opened_for, run_by, scripts_by}
 use Rattle.call_words.specs.Words.{subcommand_in, text_for, trace_by, work_names}
 use Rattle.call_words.specs.declared.call.Call.{Call}
@@ -183,3 +183,20 @@ files_are_given word rows call is = by (subcommand_in word) is
 pub blanks_are_kept : NamesKeepTheirBlanks
 unfolding clap_on_literals asked_of
 blanks_are_kept = record { plain = refl; before = refl; behind = refl; script = refl; looked = refl; dashes = refl; traced = refl; compared = refl; import = refl; audit = refl; dash = refl }
+
+pub files_stand_in_order : FilesStandInOrder
+unfolding clap_on_literals asked_of
+files_stand_in_order = record {
+  check = refl;
+  shares = refl;
+  diff = refl;
+  tables = refl;
+  keys = refl;
+  trace = refl;
+  graph = refl;
+  picture = refl;
+  run = refl;
+  compare = refl;
+  cuts = refl;
+  audit = refl;
+}

@@ -32,3 +32,20 @@ pub record NamesKeepTheirBlanks : Type 0 where
   pub import : opened_by (codes "import" ∷ codes " net" ∷ codes "--sm" ∷ codes "7" ∷ []) ≡ codes " net" ∷ []
   pub audit : opened_by (codes "audit" ∷ codes "net " ∷ codes "-" ∷ []) ≡ codes "net " ∷ codes "-" ∷ []
   pub dash : opened_by (codes "diff" ∷ codes "net" ∷ codes "-" ∷ codes " -" ∷ []) ≡ codes "net" ∷ codes " -" ∷ []
+
+-- of each command the file that its first word names is opened first, then the one that its second word names, and then scripts
+pub record FilesStandInOrder : Type 0 where
+  pub check : opened_by (codes "check" ∷ codes "net" ∷ codes "parts" ∷ []) ≡ codes "net" ∷ codes "parts" ∷ []
+  pub shares : opened_by (codes "shares" ∷ codes "net" ∷ codes "parts" ∷ codes "h1/1" ∷ []) ≡ codes "net" ∷ codes "parts" ∷ []
+  pub diff : opened_by (codes "diff" ∷ codes "net" ∷ codes "parts" ∷ codes "others" ∷ []) ≡ codes "net" ∷ codes "parts" ∷ codes "others" ∷ []
+  pub tables : opened_by (codes "tables" ∷ codes "net" ∷ codes "parts" ∷ codes "sends" ∷ []) ≡ codes "net" ∷ codes "parts" ∷ codes "sends" ∷ []
+  pub keys : opened_by (codes "keys" ∷ codes "net" ∷ codes "parts" ∷ codes "sends" ∷ []) ≡ codes "net" ∷ codes "parts" ∷ codes "sends" ∷ []
+  pub trace : opened_by (codes "trace" ∷ codes "net" ∷ codes "parts" ∷ codes "h1/1" ∷ codes "5" ∷ codes "7" ∷ codes "sends" ∷ [])
+      ≡ codes "net" ∷ codes "parts" ∷ codes "sends" ∷ []
+  pub graph : opened_by (codes "graph" ∷ codes "net" ∷ codes "parts" ∷ codes "sends" ∷ []) ≡ codes "net" ∷ codes "parts" ∷ codes "sends" ∷ []
+  pub picture : opened_by (codes "graph" ∷ codes "net" ∷ codes "parts" ∷ codes "--cuts" ∷ []) ≡ codes "net" ∷ codes "parts" ∷ []
+  pub run : opened_by (codes "run" ∷ codes "net" ∷ codes "parts" ∷ codes "sends" ∷ []) ≡ codes "net" ∷ codes "parts" ∷ codes "sends" ∷ []
+  pub compare : opened_by (codes "compare" ∷ codes "net" ∷ codes "parts" ∷ codes "one" ∷ codes "two" ∷ codes "h1/1" ∷ [])
+      ≡ codes "net" ∷ codes "parts" ∷ codes "one" ∷ codes "two" ∷ []
+  pub cuts : opened_by (codes "cuts" ∷ codes "net" ∷ codes "parts" ∷ codes "h1/1" ∷ codes "h2/1" ∷ []) ≡ codes "net" ∷ codes "parts" ∷ []
+  pub audit : opened_by (codes "audit" ∷ codes "net" ∷ codes "dump" ∷ []) ≡ codes "net" ∷ codes "dump" ∷ []
