@@ -10,26 +10,26 @@ use Rattle.cable_cuts.specs.Laws.{ChangesAreWhatDiffers, IsDifference}
 use Rattle.cable_cuts.specs.declared.changes.Change.{Change}
 
 -- ---- lists
-none_in : {X : Type 0} (x : X) → Contains [] x → ⊥
+pub none_in : {X : Type 0} (x : X) → Contains [] x → ⊥
 none_in x there = let less = there.1 in omega (arith, less)
 
-first_in : {X : Type 0} (x : X) (xs : List X) → Contains (x ∷ xs) x
+pub first_in : {X : Type 0} (x : X) (xs : List X) → Contains (x ∷ xs) x
 first_in x xs = (0, omega arith, refl)
 
-later_in : {X : Type 0} (y : X) (xs : List X) (x : X) → Contains xs x → Contains (y ∷ xs) x
+pub later_in : {X : Type 0} (y : X) (xs : List X) (x : X) → Contains xs x → Contains (y ∷ xs) x
 later_in y xs x there = let less = there.1 in (suc there.0, omega (arith, less), there.2)
 
-only_in : {X : Type 0} (x y : X) → Contains (x ∷ []) y → y ≡ x
+pub only_in : {X : Type 0} (x y : X) → Contains (x ∷ []) y → y ≡ x
 only_in x y (zero, less, is) = sym is
 only_in x y (suc k, less, is) = absurd (omega (arith, less))
 
 -- what one of a list gives is in what all give, and the other way round
-record IsGiven {X Y : Type 0} (f : X → List Y) (xs : List X) (y : Y) : Type 0 where
-  one : X
-  listed : Contains xs one
-  gives : Contains (f one) y
+pub record IsGiven {X Y : Type 0} (f : X → List Y) (xs : List X) (y : Y) : Type 0 where
+  pub one : X
+  pub listed : Contains xs one
+  pub gives : Contains (f one) y
 
-given : {X Y : Type 0} (f : X → List Y) (xs : List X) (y : Y) → Contains (flat_map f xs) y → IsGiven f xs y
+pub given : {X Y : Type 0} (f : X → List Y) (xs : List X) (y : Y) → Contains (flat_map f xs) y → IsGiven f xs y
 given f [] y there = absurd (none_in y there)
 given f (x ∷ xs) y there = by (Contains-append_cases (f x) (flat_map f xs) y there) (λ later. given f xs y later)
   where
@@ -38,7 +38,7 @@ given f (x ∷ xs) y there = by (Contains-append_cases (f x) (flat_map f xs) y t
     by (inr later) more =
         let rest = more later in record { one = rest.one; listed = later_in x xs rest.one rest.listed; gives = rest.gives }
 
-gives_all : {X Y : Type 0} (f : X → List Y) (xs : List X) (x : X) (y : Y) → Contains xs x → Contains (f x) y → Contains (flat_map f xs) y
+pub gives_all : {X Y : Type 0} (f : X → List Y) (xs : List X) (x : X) (y : Y) → Contains xs x → Contains (f x) y → Contains (flat_map f xs) y
 gives_all f [] x y there is = absurd (none_in x there)
 gives_all f (z ∷ xs) x y (zero, less, same) is =
     Contains-append_left (f z) (flat_map f xs) y (subst (λ one. Contains (f one) y) (sym same) is)

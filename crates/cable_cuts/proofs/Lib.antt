@@ -15,3 +15,6 @@ pub mod PlacedLemmas
 pub mod MaskMeetLemmas
 pub mod LidLemmas
 pub mod MaskChangeLemmas
+pub mod MaskToldLemmas
+pub mod OnceLemmas
+pub mod WrongLemmas

@@ -1,6 +1,6 @@
 -- What the answers say of fabrics: the statements of the laws of `src/laws.rt`.
-use Rattle.std.specs.Prelude.{ℕ, ◌≡◌, ◌≢◌, ◌<◌, ◌≤◌, ◌↔◌, true, List, length}
-use Rattle.std.specs.List.{Contains}
+use Rattle.std.specs.Prelude.{ℕ, ◌≡◌, ◌≢◌, ◌<◌, ◌≤◌, ◌↔◌, ◌==◌, ◌&&◌, Bool, true, is_some, List, length, slice_get, Some}
+use Rattle.std.specs.List.{Contains, IsDistinct}
 use Rattle.fabric_parts.specs.NodeType.{is_switch_type}
 use Rattle.fabric_parts.specs.declared.cable.Cable.{Cable}
 use Rattle.partition_file.specs.declared.heading.Heading.{Heading}
@@ -19,11 +19,13 @@ use Rattle.cable_cuts.specs.Changes.{Tables, changes, entry_by, entry_in}
 use Rattle.cable_cuts.specs.Fate.{ArePlannedFor, HaveBroughtUp, IsFate}
 use Rattle.cable_cuts.specs.Masks.{Masks, mask_by, mask_changes, mask_in, receives_all}
 use Rattle.sa_groups.specs.Groups.{first_mlid}
-use Rattle.cable_cuts.specs.Outcomes.{IsOutcome}
+use Rattle.cable_cuts.specs.Outcomes.{IsOutcome, difference_by}
 use Rattle.cable_cuts.specs.Texts.{TellsAll, TellsOne, keeps}
 use Rattle.cable_cuts.specs.declared.changes.Change.{Change}
 use Rattle.cable_cuts.specs.declared.fate.Cut.{Cut}
 use Rattle.cable_cuts.specs.declared.fate.Cut.TheVariants.{Keeps, Stops}
+use Rattle.cable_cuts.specs.declared.masks.MaskChange.{MaskChange}
+use Rattle.cable_cuts.specs.declared.outcome.Difference.{Difference}
 use Rattle.cable_cuts.specs.declared.outcome.Outcome.{Outcome}
 
 -- ---- whether it comes up
@@ -57,7 +59,81 @@ ChangesAreTheFabrics =
     → ArePlannedFor (without_cable cable plan) others → IsBroughtUpOf (without_cable cable plan) other_keys left
     → changes ports (entry_by routes) (entry_by others) ≡ changes ports (entry_in fabric) (entry_in left)
 
+-- of these, entries of one switch for one LID are the same
+abbrev pub same_entry : Change → Change → Bool
+same_entry a b = (a.switch == b.switch) && (a.lid == b.lid)
+
+abbrev pub have_same_lid : SubnetPort → SubnetPort → Bool
+have_same_lid a b = a.lid == b.lid
+
+-- where each end port has a LID of its own, a rule for what differs tells each entry once
+abbrev pub EntriesAreToldOnceBy : (List SubnetPort → Tables → Tables → List Change) → Type 0
+EntriesAreToldOnceBy rule =
+    (ports : List SubnetPort) (one other : Tables) → IsDistinct have_same_lid ports → IsDistinct same_entry (rule ports one other)
+
+abbrev pub EntriesAreToldOnce : Type 0
+EntriesAreToldOnce = EntriesAreToldOnceBy changes
+
 -- ---- masks
+-- a mask is counted exactly where in these some port has different bits: of a switch among the end ports, for the group of a
+-- partition
+pub record IsMaskDifference (configuration : ConfigurationState) (one other : Masks) (change : MaskChange) : Type 0 where
+  pub switch : SubnetPort
+  pub switch_listed : Contains configuration.ports switch
+  pub is_switch : is_switch_type switch.node_type ≡ true
+  pub number : ℕ
+  pub heading : Heading
+  pub partition : slice_get configuration.partitions number ≡ Some heading
+  pub group : is_some heading.group ≡ true
+  pub port : ℕ
+  pub port_low : port < 48
+  pub differ : one number heading switch.guid port ≢ other number heading switch.guid port
+  pub change_is : change ≡ record { switch = switch.lid; partition = number }
+
+abbrev pub MaskRule : Type 0
+MaskRule = ConfigurationState → Masks → Masks → List MaskChange
+
+abbrev pub MasksAreWhatDiffersBy : MaskRule → Type 0
+MasksAreWhatDiffersBy rule =
+    (configuration : ConfigurationState) (one other : Masks) (change : MaskChange)
+    → Contains (rule configuration one other) change ↔ IsMaskDifference configuration one other change
+
+abbrev pub MaskChangesAreWhatDiffers : Type 0
+MaskChangesAreWhatDiffers = MasksAreWhatDiffersBy mask_changes
+
+-- and once, as entries are
+abbrev pub same_mask : MaskChange → MaskChange → Bool
+same_mask a b = (a.switch == b.switch) && (a.partition == b.partition)
+
+abbrev pub MasksAreToldOnceBy : MaskRule → Type 0
+MasksAreToldOnceBy rule =
+    (configuration : ConfigurationState) (one other : Masks) → IsDistinct have_same_lid configuration.ports
+    → IsDistinct same_mask (rule configuration one other)
+
+abbrev pub MasksAreToldOnce : Type 0
+MasksAreToldOnce = MasksAreToldOnceBy mask_changes
+
+-- ---- their numbers
+-- how many entries and how many masks differ, each of them once
+pub record AreNumbersOf (configuration : ConfigurationState) (one other : Tables) (was becomes : Masks) (numbers : Difference) : Type 0 where
+  pub all : List Change
+  pub once : IsDistinct same_entry all
+  pub each : (change : Change) → Contains all change ↔ IsDifference configuration.ports one other change
+  pub entries_are : numbers.entries ≡ length all
+  pub all_masks : List MaskChange
+  pub masks_once : IsDistinct same_mask all_masks
+  pub each_mask : (change : MaskChange) → Contains all_masks change ↔ IsMaskDifference configuration was becomes change
+  pub masks_are : numbers.masks ≡ length all_masks
+
+abbrev pub NumbersAreOfWhatDiffersBy : (ConfigurationState → Tables → Tables → Masks → Masks → Difference) → Type 0
+NumbersAreOfWhatDiffersBy rule =
+    (configuration : ConfigurationState) (one other : Tables) (was becomes : Masks) → IsDistinct have_same_lid configuration.ports
+    → AreNumbersOf configuration one other was becomes (rule configuration one other was becomes)
+
+abbrev pub NumbersAreOfWhatDiffers : Type 0
+NumbersAreOfWhatDiffers = NumbersAreOfWhatDiffersBy difference_by
+
+-- ---- masks of fabrics
 -- that a fabric holds once those of a partition's group are pushed by its routes, for all members
 abbrev pub mask_pushed : List SubnetPort → RoutesState → FabricState → Masks
 mask_pushed ports routes fabric number heading =

@@ -7,3 +7,4 @@ pub mod Needed
 pub mod Laws
 pub mod Masks
 pub mod Whole
+pub mod WrongRules

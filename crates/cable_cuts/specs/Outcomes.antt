@@ -8,9 +8,9 @@ use Rattle.subnet_model.specs.declared.subnet_port.SubnetPort.{SubnetPort}
 use Rattle.topo_file.specs.Topology.{TopologyState}
 use Rattle.updn_routes.specs.Subnet.{RoutesState}
 use Rattle.cable_cuts.specs.Cables.{switch_cables, without_cable}
-use Rattle.cable_cuts.specs.Changes.{changes, entry_by}
+use Rattle.cable_cuts.specs.Changes.{Tables, changes, entry_by}
 use Rattle.cable_cuts.specs.Fate.{IsFate}
-use Rattle.cable_cuts.specs.Masks.{mask_by, mask_changes}
+use Rattle.cable_cuts.specs.Masks.{Masks, mask_by, mask_changes}
 use Rattle.cable_cuts.specs.declared.changes.Change.{Change}
 use Rattle.cable_cuts.specs.declared.fate.Cut.{Cut}
 use Rattle.cable_cuts.specs.declared.fate.Cut.TheVariants as cut
@@ -33,11 +33,15 @@ abbrev pub difference_of : List SubnetPort → List Change → List MaskChange �
 difference_of ports changes masks =
     record { entries = length changes; masks = length masks; switches = length (filter (has_changes changes masks) ports) }
 
+-- of what differs between these tables and between these masks
+abbrev pub difference_by : ConfigurationState → Tables → Tables → Masks → Masks → Difference
+difference_by configuration one other was becomes =
+    difference_of configuration.ports (changes configuration.ports one other) (mask_changes configuration was becomes)
+
 -- what becomes of the fabric that these routes brought up
 abbrev pub outcome_of : ConfigurationState → RoutesState → Cut → Outcome
 outcome_of configuration routes (cut.Keeps others) =
-    Keeps (difference_of configuration.ports (changes configuration.ports (entry_by routes) (entry_by others))
-    (mask_changes configuration (mask_by configuration.ports routes) (mask_by configuration.ports others)))
+    Keeps (difference_by configuration (entry_by routes) (entry_by others) (mask_by configuration.ports routes) (mask_by configuration.ports others))
 outcome_of configuration routes (cut.Stops stop) = Stops stop
 
 -- ---- each cable

@@ -1,6 +1,6 @@
 //! What the answers say of fabrics. Each function's contract is its law; it does nothing.
 
-ghost use Rattle.cable_cuts.specs.Laws.{ChangesAreTheFabrics, ChangesAreWhatDiffers, KeptIsWhatComesUp, MaskChangesAreTheFabrics, MasksAreTheFabrics, OneFateIsTold, OneTextIsTold};
+ghost use Rattle.cable_cuts.specs.Laws.{ChangesAreTheFabrics, ChangesAreWhatDiffers, EntriesAreToldOnce, KeptIsWhatComesUp, MaskChangesAreTheFabrics, MaskChangesAreWhatDiffers, MasksAreTheFabrics, MasksAreToldOnce, NumbersAreOfWhatDiffers, OneFateIsTold, OneTextIsTold};
 ghost use Rattle.cable_cuts.specs.Whole.{LinesAreWhole};
 
 /// A cable is told as one that the fabric keeps without exactly where the fabric of the topology without it comes up.
@@ -24,9 +24,29 @@ pub fn masks_are_the_fabrics()
     ensures { MasksAreTheFabrics }
 {}
 
+/// A mask is counted exactly where some port has different bits in two masks of a switch, for the group of a partition.
+pub fn mask_changes_are_what_differs()
+    ensures { MaskChangesAreWhatDiffers }
+{}
+
 /// So the masks that are counted are those in which the two fabrics differ.
 pub fn mask_changes_are_the_fabrics()
     ensures { MaskChangesAreTheFabrics }
+{}
+
+/// Each entry is told once, where each end port has a LID of its own.
+pub fn entries_are_told_once()
+    ensures { EntriesAreToldOnce }
+{}
+
+/// So is each mask counted once.
+pub fn masks_are_told_once()
+    ensures { MasksAreToldOnce }
+{}
+
+/// So as many entries and masks are counted as differ.
+pub fn numbers_are_of_what_differs()
+    ensures { NumbersAreOfWhatDiffers }
 {}
 
 /// One thing becomes of the fabric of a sound topology without one of its cables, whatever layout of it routes are computed over.

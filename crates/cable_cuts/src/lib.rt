@@ -20,6 +20,7 @@ mod masks;
 mod outcome;
 mod texts;
 mod trees;
+mod wrong_rules;
 
 pub use crate::cables::{can_be_cut, joins_switches};
 pub use crate::changes::Change;
@@ -27,8 +28,10 @@ pub use crate::cutting::cut;
 pub use crate::fate::{Cut, Stop};
 pub use crate::keeping::needed;
 pub use crate::laws::{
-    changes_are_the_fabrics, changes_are_what_differs, kept_is_what_comes_up, lines_are_whole,
-    mask_changes_are_the_fabrics, masks_are_the_fabrics, one_fate_is_told, one_text_is_told,
+    changes_are_the_fabrics, changes_are_what_differs, entries_are_told_once,
+    kept_is_what_comes_up, lines_are_whole, mask_changes_are_the_fabrics,
+    mask_changes_are_what_differs, masks_are_the_fabrics, masks_are_told_once,
+    numbers_are_of_what_differs, one_fate_is_told, one_text_is_told,
 };
 pub use crate::loss::{Loss, losses};
 pub use crate::masks::MaskChange;

@@ -1,0 +1,24 @@
+//! Wrong rules for what differs, and the law that each breaks, so that a reader sees that the laws say something. Each function
+//! does nothing: its contract says that with this rule the law is false.
+
+ghost use Rattle.cable_cuts.specs.WrongRules.{CountedTwiceIsMore, EntriesTwiceAreMore, MasksTwiceAreMore, NoMasksAreLess};
+
+/// Where no mask is counted, one that differs is missed.
+pub fn no_masks_are_less()
+    ensures { NoMasksAreLess }
+{}
+
+/// Where each entry is told twice, it is not told once.
+pub fn entries_twice_are_more()
+    ensures { EntriesTwiceAreMore }
+{}
+
+/// Where each mask is told twice, it is not told once.
+pub fn masks_twice_are_more()
+    ensures { MasksTwiceAreMore }
+{}
+
+/// Where entries that are told twice are counted twice, there are more than differ.
+pub fn counted_twice_is_more()
+    ensures { CountedTwiceIsMore }
+{}
