@@ -1,14 +1,17 @@
 -- What lines say, computed.
-use Rattle.std.proofs.Common.{refl}
+use Rattle.std.proofs.Common.{refl, sym}
+use Rattle.std.specs.List.{IsDistinct}
+use Rattle.std.proofs.lemmas.Bool.{false≢true}
+use Rattle.result_words.specs.AtLine.{after_lines}
 use Rattle.dump_file.specs.Destination.{further_in, named_in, path_in}
-use Rattle.dump_file.specs.Dump.{count_told}
-use Rattle.dump_file.specs.Examples.{HeadingsAreRead, RowsAreRead}
+use Rattle.dump_file.specs.Dump.{after_line, count_told, dump_of, heading_told, row_told, whole}
+use Rattle.dump_file.specs.Examples.{HeadingsAreRead, RowsAreRead, TextsAreRead, UnsoundAreTold}
 use Rattle.dump_file.specs.Heading.{guid_behind_way, heading_in}
 use Rattle.dump_file.specs.Row.{row_in}
 
 pub headings_are_read : HeadingsAreRead
 unfolding guid_behind_way heading_in
-headings_are_read = record { by_path = refl; by_lid = refl; by_any_name = refl; of_a_part = refl; by_opensm = refl }
+headings_are_read = record { by_path = refl; by_lid = refl; by_any_name = refl; by_no_way = refl; without_end = refl; of_a_part = refl; by_opensm = refl }
 
 pub rows_are_read : RowsAreRead
 unfolding count_told further_in named_in path_in row_in
@@ -20,12 +23,26 @@ rows_are_read = record {
   nobody = refl;
   illegal = refl;
   illegal_path = refl;
+  last_port = refl;
   without_end = refl;
   top_follows = refl;
   same_does_not = refl;
   past_the_top_does_not = refl;
   two_ends = refl;
   further_of_one = refl;
+  of_router = refl;
+  of_nobody = refl;
   counted = refl;
   miscounted = refl;
+  valid_counted = refl;
+  all_counted = refl;
 }
+
+pub texts_are_read : TextsAreRead
+unfolding after_line after_lines count_told dump_of further_in guid_behind_way heading_in heading_told named_in path_in row_in row_told whole
+texts_are_read = record { whole = refl; before_a_comment = refl; unfinished = refl; of_one_switch = refl }
+
+pub unsound_are_told : UnsoundAreTold
+unfolding IsDistinct
+unsound_are_told = record { of_one_switch = λ distinct. false≢true (sym distinct.0.0); twice = refl; falling = refl; past_the_top = refl; of_two_ends = refl }
+

@@ -1,12 +1,15 @@
--- Lines as they are printed, and what they say.
-use Rattle.std.specs.Prelude.{◌≡◌, true, false, [], ◌∷◌, codes, Ok, Err}
+-- Lines as they are printed, what they say, and which dumps are not sound.
+use Rattle.std.specs.Prelude.{ℕ, ◌≡◌, true, false, List, [], ◌∷◌, ◌++◌, codes, Ok, Err}
+use Rattle.std.specs.List.{IsDistinct}
 use Rattle.dump_file.specs.declared.destination.Destination.TheVariants.{ChannelAdapter, Switch, Router, FurtherLid, Nobody, NotTold}
-use Rattle.dump_file.specs.declared.fault.DumpCause.TheVariants.{EndNotTold, Malformed, WrongCount}
+use Rattle.dump_file.specs.declared.fault.DumpCause.TheVariants.{DuplicateTable, EndNotTold, Malformed, Unfinished, WrongCount}
 use Rattle.dump_file.specs.declared.row.Row.{Row}
-use Rattle.dump_file.specs.Dump.{count_told}
+use Rattle.dump_file.specs.declared.table.Table.{Table}
+use Rattle.dump_file.specs.Dump.{count_told, dump_of}
 use Rattle.dump_file.specs.Heading.{heading_in}
 use Rattle.dump_file.specs.Parts.{trimmed}
 use Rattle.dump_file.specs.Row.{is_said_otherwise, may_follow, row_in}
+use Rattle.dump_file.specs.Sound.{have_one_end, is_rising, shares_switch}
 
 -- the first line of a table
 pub record HeadingsAreRead : Type 0 where
@@ -15,12 +18,22 @@ pub record HeadingsAreRead : Type 0 where
   pub by_lid : heading_in 7 (codes "Unicast lids [0x0-0x6] of switch Lid 4 guid 0x0000000000000020 (B):") ≡ Ok (record { line = 7; guid = 0x20; top = 6 })
   -- a name may look like the end of the line
   pub by_any_name : heading_in 1 (codes "Unicast lids [0x0-0x6] of switch Lid 4 guid 0x0000000000000020 (left (old): guid 0x7):") ≡ Ok (record { line = 1; guid = 0x20; top = 6 })
+  -- a way that is none, and a line without its end
+  pub by_no_way : heading_in 1 (codes "Unicast lids [0x0-0x6] of switch 4 guid 0x0000000000000020 (B):") ≡ Err Malformed
+  pub without_end : heading_in 1 (codes "Unicast lids [0x0-0x6] of switch Lid 4 guid 0x0000000000000020 (B)") ≡ Err Malformed
   -- a part of a table, and the file that OpenSM writes of itself
   pub of_a_part : heading_in 1 (codes "Unicast lids [0x3-0x6] of switch Lid 4 guid 0x0000000000000020 (B):") ≡ Err Malformed
   pub by_opensm : heading_in 1 (codes "Unicast lids [0-6] of switch Lid 2 guid 0x0000000000000010 ('R1'):") ≡ Err Malformed
 
 abbrev one_row : Row
 one_row = record { line = 4; lid = 3; port = 3; destination = ChannelAdapter 0x111 }
+
+-- an entry of 255, of which nothing is told, and one of 254, whose end port has the greatest GUID
+abbrev closed_row : Row
+closed_row = record { line = 5; lid = 4; port = 255; destination = NotTold }
+
+abbrev last_port_row : Row
+last_port_row = record { line = 6; lid = 5; port = 254; destination = Router 0xffffffffffffffff }
 
 -- a row, and whether it may stand behind another; the last line
 pub record RowsAreRead : Type 0 where
@@ -31,11 +44,51 @@ pub record RowsAreRead : Type 0 where
   pub nobody : row_in 5 (codes "0x0015 002 : (node info not available fabric scan)") ≡ Ok (record { line = 5; lid = 21; port = 2; destination = Nobody })
   pub illegal : row_in 5 (codes "0x0001 255 : (illegal port)") ≡ Ok (record { line = 5; lid = 1; port = 255; destination = NotTold })
   pub illegal_path : row_in 4 (codes "0x0000 255 : (path #0 - illegal port)") ≡ Ok (record { line = 4; lid = 0; port = 255; destination = NotTold })
+  pub last_port : row_in 6 (codes "0x0005 254 : (Router portguid 0xffffffffffffffff: '')") ≡ Ok last_port_row
   pub without_end : row_in 4 (codes "0x0003 003") ≡ Err EndNotTold
   pub top_follows : may_follow 4 (one_row ∷ []) 4 ≡ true
   pub same_does_not : may_follow 4 (one_row ∷ []) 3 ≡ false
   pub past_the_top_does_not : may_follow 4 (one_row ∷ []) 5 ≡ false
   pub two_ends : is_said_otherwise (one_row ∷ []) (record one_row { destination = Switch 0x20 }) ≡ true
   pub further_of_one : is_said_otherwise (one_row ∷ []) (record one_row { destination = FurtherLid 0x111 }) ≡ false
+  pub of_router : is_said_otherwise (last_port_row ∷ []) (record last_port_row { destination = Switch 0x20 }) ≡ true
+  pub of_nobody : is_said_otherwise (one_row ∷ []) (record one_row { destination = Nobody }) ≡ false
   pub counted : count_told (one_row ∷ []) (trimmed (codes "1 valid lids dumped \r\n")) ≡ Ok 1
   pub miscounted : count_told (one_row ∷ []) (codes "2 lids dumped") ≡ Err WrongCount
+  -- entries of 255 are counted where all are, and those of 254 always
+  pub valid_counted : count_told (closed_row ∷ one_row ∷ last_port_row ∷ last_port_row ∷ []) (codes "3 valid lids dumped") ≡ Ok 3
+  pub all_counted : count_told (one_row ∷ closed_row ∷ last_port_row ∷ []) (codes "3 lids dumped") ≡ Ok 3
+
+-- ---- a whole text: comments, lines with nothing on them, multicast tables and a warning are passed over, and a table may
+-- have no rows
+abbrev heading_text : List ℕ
+heading_text = codes "Unicast lids [0x0-0x5] of switch Lid 2 guid 0x0000000000000010 (A):\n  Lid  Out   Destination\n       Port     Info \n"
+
+abbrev rows_text : List ℕ
+rows_text = codes "0x0003 003 : (Channel Adapter portguid 0x0000000000000111: 'h1')\n\n0x0004 255 : (illegal port)\n"
+
+abbrev two_tables : List ℕ
+two_tables =
+    codes "# of two switches\n \t\r\n" ++ heading_text ++ rows_text ++ codes "2 lids dumped\n"
+    ++ codes "Multicast mlids [0xc000-0xc3ff] of switch Lid 2 guid 0x0000000000000010 (A):\n     Ports: 0\n0xc000 x\n1 mlids dumped\n"
+    ++ codes "Multicast mlids [0xc000-0xc3ff] of switch Lid 4 guid 0x0000000000000020 (B):\n0 valid mlids dumped\n"
+    ++ codes "Unicast lids [0x0-0x0] of switch Lid 4 guid 0x0000000000000020 (B):\n  Lid  Out   Destination\n       Port     Info \n0 valid lids dumped\n"
+    ++ codes "*** WARNING ***: AM_KEY not set\n"
+
+abbrev first_table : Table
+first_table = record { line = 3; guid = 0x10; top = 5; rows = record one_row { line = 6 } ∷ record closed_row { line = 8 } ∷ [] }
+
+pub record TextsAreRead : Type 0 where
+  pub whole : dump_of two_tables ≡ Ok (record { tables = first_table ∷ record { line = 16; guid = 0x20; top = 0; rows = [] } ∷ [] })
+  -- words before a `#`, a table that has no end, and a switch that has two
+  pub before_a_comment : dump_of (codes "2 tables # of two switches\n") ≡ Err (record { line = 1; cause = Malformed })
+  pub unfinished : dump_of (heading_text ++ rows_text) ≡ Err (record { line = 0; cause = Unfinished })
+  pub of_one_switch : dump_of (heading_text ++ codes "0 lids dumped\n" ++ heading_text) ≡ Err (record { line = 5; cause = DuplicateTable })
+
+-- ---- dumps that are not sound
+pub record UnsoundAreTold : Type 0 where
+  pub of_one_switch : IsDistinct shares_switch (first_table ∷ record first_table { line = 17 } ∷ []) → ⊥
+  pub twice : is_rising (record first_table { rows = one_row ∷ one_row ∷ [] }) ≡ false
+  pub falling : is_rising (record first_table { rows = closed_row ∷ one_row ∷ [] }) ≡ false
+  pub past_the_top : is_rising (record first_table { top = 2 }) ≡ false
+  pub of_two_ends : have_one_end (one_row ∷ record one_row { destination = Switch 0x20 } ∷ []) ≡ false

@@ -1,7 +1,7 @@
-//! What the definitions give for lines as they are printed. Each function does nothing: its contract is the
+//! What the definitions give for lines and texts as they are printed. Each function does nothing: its contract is the
 //! example.
 
-ghost use Rattle.dump_file.specs.Examples.{HeadingsAreRead, RowsAreRead};
+ghost use Rattle.dump_file.specs.Examples.{HeadingsAreRead, RowsAreRead, TextsAreRead, UnsoundAreTold};
 
 /// The first line of a table.
 pub fn headings_are_read()
@@ -11,4 +11,14 @@ pub fn headings_are_read()
 /// The rows of a table, and its last line.
 pub fn rows_are_read()
     ensures { RowsAreRead }
+{}
+
+/// A whole text, and such as are refused.
+pub fn texts_are_read()
+    ensures { TextsAreRead }
+{}
+
+/// What is so of every dump that was read is not so of all.
+pub fn unsound_are_told()
+    ensures { UnsoundAreTold }
 {}
