@@ -1,12 +1,18 @@
--- Lines as they are printed, and what they say.
-use Rattle.std.specs.Prelude.{◌≡◌, [], ◌∷◌, codes, Some, None, Ok, Err}
-use Rattle.netdiscover_file.specs.declared.fault.DiscoveryCause.TheVariants.{Malformed}
+-- Lines and texts as they are printed, and what they say.
+use Rattle.std.specs.Prelude.{ℕ, ◌≡◌, true, false, List, [], ◌∷◌, ◌++◌, codes, Option, Some, None, Ok, Err}
+use Rattle.fabric_parts.specs.Cable.{port}
+use Rattle.netdiscover_file.specs.declared.fault.DiscoveryCause.TheVariants.{Malformed, NoSuchPort, WrongFarEnd}
+use Rattle.netdiscover_file.specs.declared.kind.NodeKind.{NodeKind}
+use Rattle.netdiscover_file.specs.declared.ends.FarEnd.{FarEnd}
+use Rattle.netdiscover_file.specs.declared.node.Node.{Node}
+use Rattle.netdiscover_file.specs.declared.port.PortLine.{PortLine}
 use Rattle.netdiscover_file.specs.declared.kind.NodeKind.TheVariants.{Switch, ChannelAdapter, Router}
-use Rattle.netdiscover_file.specs.Discovery.{header_of}
+use Rattle.netdiscover_file.specs.Discovery.{discovery_of, header_of}
 use Rattle.netdiscover_file.specs.Assignment.{switch_guids_in}
 use Rattle.netdiscover_file.specs.Comment.{initiator_in}
 use Rattle.netdiscover_file.specs.Ends.{far_end_of, own_end_in}
-use Rattle.netdiscover_file.specs.Lids.{own_lid_in}
+use Rattle.netdiscover_file.specs.Lids.{own_lid_in, owns}
+use Rattle.netdiscover_file.specs.Sound.{is_port}
 
 -- a port's own end, and the end at the other side of its cable
 pub record EndsAreRead : Type 0 where
@@ -38,3 +44,52 @@ pub record HeadersAreRead : Type 0 where
   pub other_kind : header_of 10 Switch None (codes "2" ∷ codes "\"H-0000000000000020\"" ∷ []) (codes " \"h2\" base port 0 lid 4 lmc 0") ≡ Err Malformed
   pub guids : switch_guids_in (codes "0x2c902004085b0(2c902004085b1)\t# \n") ≡ Ok (record { node = 0x2c902004085b0; port = 0x2c902004085b1 })
   pub initiator : initiator_in (codes " Initiated from node 0002c90300a1b200 port 0002c90300a1b201\r\n") ≡ Ok 0x2c90300a1b201
+
+-- ---- a whole text: a switch with as many ports as there may be and the greatest LID, an adapter of two ports, and a router.
+-- Of comments the first counts that tells where it was printed; chassis are passed over, and words that are told besides.
+abbrev switch_text : List ℕ
+switch_text =
+    codes "#\n# Initiated from node 0000000000000100 port 0000000000000101\n# Initiated from node 0000000000000200 port 0000000000000201\n\n"
+    ++ codes "Chassis 0 (guid 0x20)\nvendid=0x2c9\nsub_dev2=x\nswitchguid=0x20(21)\n"
+    ++ codes "Switch\t255 \"S-0000000000000020\"\t\t# \"A\" enhanced port 0 lid 65535 lmc 7\n[255]\t\"H-0000000000000100\"[1](101) \t\t# \"h\"\n"
+
+abbrev adapter_text : List ℕ
+adapter_text =
+    codes "\nNon-Chassis Nodes\ncaguid=0x100\nCa\t2 \"H-0000000000000100\"\t\t# \"h\"\n"
+    ++ codes "[1](101) \t\"S-0000000000000020\"[255]\t\t# lid 49151 lmc 7 \"A\" lid 65535 4xEDR\n"
+    ++ codes "[2](102) \t\"R-ffffffffffffff00\"[1](ffffffffffffff01) \t\t# lid 5 lmc 0 \"r\" lid 6 4xEDR\n"
+
+abbrev router_text : List ℕ
+router_text = codes "\nRt\t1 \"R-ffffffffffffff00\"\t\t# \"r\"\n[1](ffffffffffffff01) \t\"H-0000000000000100\"[2](102) \t\t# lid 6 lmc 0 \"h\" lid 5 4xEDR\n"
+
+abbrev far : NodeKind → ℕ → ℕ → Option ℕ → FarEnd
+far kind guid number port_guid = record { node = record { kind = kind; guid = guid }; port = number; guid = port_guid }
+
+abbrev found_nodes : List Node
+found_nodes =
+    (record { id = record { kind = Switch; guid = 32 }; ports = 255; name = codes "A"; lid = Some 65535; port_guid = Some 33; line = 9 })
+    ∷ (record { id = record { kind = ChannelAdapter; guid = 256 }; ports = 2; name = codes "h"; lid = None; port_guid = None; line = 14 })
+    ∷ (record { id = record { kind = Router; guid = 0xffffffffffffff00 }; ports = 1; name = codes "r"; lid = None; port_guid = None; line = 18 }) ∷ []
+
+abbrev found_ports : List PortLine
+found_ports =
+    (record { port = port 0 255; guid = None; lid = None; far = far ChannelAdapter 256 1 (Some 257); line = 10 })
+    ∷ (record { port = port 1 1; guid = Some 257; lid = Some 49151; far = far Switch 32 255 None; line = 15 })
+    ∷ (record { port = port 1 2; guid = Some 258; lid = Some 5; far = far Router 0xffffffffffffff00 1 (Some 0xffffffffffffff01); line = 16 })
+    ∷ (record { port = port 2 1; guid = Some 0xffffffffffffff01; lid = Some 6; far = far ChannelAdapter 256 2 (Some 258); line = 19 }) ∷ []
+
+pub record TextsAreRead : Type 0 where
+  pub whole : discovery_of (switch_text ++ adapter_text ++ router_text) ≡ Ok (record { nodes = found_nodes; ports = found_ports; initiator = Some 257 })
+  -- a cable whose other end is not told, the line of a port before any node, and a heading that is none
+  pub of_one_end : discovery_of (switch_text ++ adapter_text) ≡ Err (record { line = 16; cause = WrongFarEnd })
+  pub of_no_node : discovery_of (codes "\n[1]\t\"S-0000000000000020\"[1]\n") ≡ Err (record { line = 2; cause = NoSuchPort })
+  pub of_no_heading : discovery_of (codes "Non-Chassis Node\n") ≡ Err (record { line = 1; cause = Malformed })
+
+-- ---- ports that are none, and lines that lack what is their own or have what is not
+pub record UnsoundAreTold : Type 0 where
+  pub below : is_port found_nodes (port 1 0) ≡ false
+  pub past : is_port found_nodes (port 1 3) ≡ false
+  pub at_no_node : is_port found_nodes (port 3 1) ≡ false
+  pub of_a_switch : owns true (Some 33) None ≡ false
+  pub of_an_adapter : owns false None (Some 5) ≡ false
+  pub without_a_lid : owns false (Some 257) None ≡ false
