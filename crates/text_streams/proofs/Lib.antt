@@ -1,1 +1,2 @@
 pub mod KnownBytesLemmas
+pub mod LawLemmas

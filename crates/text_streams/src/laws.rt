@@ -1,11 +1,22 @@
-//! Numbers of the crate, written out.
+//! Numbers of the crate, written out, and what its words rule out.
 
 ghost use Rattle.std.specs.Prelude.{◌≡◌};
 ghost use Rattle.text_streams.specs.declared.reading.TheConstants.{PIECE, READS};
+ghost use Rattle.text_streams.specs.Laws.{OthersAreNoPart, ShortTextsEnd};
 
 /// How often a text is read, and how many bytes a read takes at most, so that a text is read up to 256 MiB.
 /// Both numbers are ours. Like every law the function does nothing: its contract is the law.
 pub fn the_numbers()
     ensures reads { READS ≡ 1_048_576 }
     ensures piece { PIECE ≡ 256 }
+{}
+
+/// A text of fewer bytes than there are reads is not endless.
+pub fn short_texts_end()
+    ensures { ShortTextsEnd }
+{}
+
+/// What has another byte than a text, or one too many, is no part of it.
+pub fn others_are_no_part()
+    ensures { OthersAreNoPart }
 {}

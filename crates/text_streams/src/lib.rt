@@ -9,6 +9,6 @@ mod laws;
 mod reading;
 mod writing;
 
-pub use crate::laws::the_numbers;
+pub use crate::laws::{others_are_no_part, short_texts_end, the_numbers};
 pub use crate::reading::{PIECE, READS, Reader, read_to_end};
 pub use crate::writing::{Output, write_text, write_whole};
