@@ -10,3 +10,6 @@ pub mod CircleLawLemmas
 pub mod WrongLemmas
 pub mod SafeLemmas
 pub mod ToldLemmas
+pub mod ExampleLemmas
+pub mod ChannelLawLemmas
+pub mod CountLemmas

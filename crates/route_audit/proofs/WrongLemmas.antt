@@ -1,14 +1,23 @@
 -- What wrong rules tell of two switches.
-use Rattle.std.proofs.Common.{◌≡◌, ◌∙◌, ◌==◌, ℕ, true, List, Some, ap, filter, lit<, map, refl, sym, [], ◌∷◌}
+use Rattle.std.proofs.Common.{◌≡◌, ◌∙◌, ◌==◌, ℕ, true, false, List, Some, ap, filter, lit<, map, refl, sym, [], ◌∷◌}
+use Rattle.std.proofs.Common.{◌+◌, ◌≤◌, arith}
 use Rattle.std.proofs.lemmas.Bool.{false≢true}
 use Rattle.fabric_parts.specs.Cable.{port}
+use Rattle.route_audit.specs.declared.following.Fate.TheVariants as fates
 use Rattle.route_audit.specs.declared.following.Turn.TheVariants as turns
 use Rattle.route_audit.specs.Laws.{IsWay}
 use Rattle.route_audit.specs.Lids.{aim_of, aims, all_lids, is_named}
-use Rattle.route_audit.specs.WrongRules.{LoopsBeginWhereTold, NamedLidsAreNotEnough, TablesAreNotEnough, OtherLidsDoNotCount, TheLastWaitsForTheFirst, TwoMakeACircle, WaysAreLonger, a_hole, named_are_reached, no_lids, two_switches}
+use Rattle.route_audit.specs.WrongRules.{FirstPortsAreChannels, HolesAreCounted, LoopsBeginWhereTold, NamedLidsAreNotEnough, TablesAreNotEnough, OtherLidsDoNotCount, TheLastWaitsForTheFirst, TwoMakeACircle, WaysAreLonger, a_hole, named_are_reached, no_lids, two_switches}
 
 pub ways_are_longer : WaysAreLonger
 ways_are_longer law = let none = law (two_switches 1 0) 1 0 refl refl 2 in cc
+
+pub holes_are_counted : HolesAreCounted
+holes_are_counted law = let none : ◌≡◌ {A = ℕ} 0 1 = law (record { to_switch = false; fate = fates.Hole } ∷ []) in cc
+
+pub first_ports_are_channels : FirstPortsAreChannels
+first_ports_are_channels law =
+    false≢true ((law (two_switches 1 1) (port 0 1)).1 (record { switch = refl; low = omega arith; high = omega arith; there = port 1 1; cable = refl; to_switch = refl }))
 
 pub other_lids_do_not_count : OtherLidsDoNotCount
 other_lids_do_not_count law = false≢true (law (two_switches 1 1) [] (port 0 1 ∷ port 1 1 ∷ []) refl).1

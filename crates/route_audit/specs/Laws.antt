@@ -1,16 +1,20 @@
 -- What is so of all fabrics and dumps: the statements of the laws of `src/laws.rt`.
-use Rattle.std.specs.Prelude.{ℕ, ◌≡◌, ◌<◌, Bool, true, false, ◌&&◌, List, [], ◌∷◌, filter, Option, Some, None}
+use Rattle.std.specs.Prelude.{ℕ, ◌≡◌, ◌<◌, ◌≤◌, ◌+◌, ◌↔◌, Bool, true, false, ◌&&◌, List, [], ◌∷◌, filter, length, Option, Some, None}
 use Rattle.std.specs.List.{list_all, list_any}
-use Rattle.fabric_parts.specs.Cable.{is_cabled, is_same_port}
+use Rattle.fabric_parts.specs.Cable.{far_end, is_cabled, is_same_port}
 use Rattle.fabric_parts.specs.declared.cable.PortRef.{PortRef}
-use Rattle.topo_file.specs.Node.{is_switch_at}
+use Rattle.topo_file.specs.Node.{is_switch_at, ports_at}
+use Rattle.route_audit.specs.declared.following.Fate.{Fate}
+use Rattle.route_audit.specs.declared.following.Fate.TheVariants as fates
 use Rattle.route_audit.specs.declared.following.Turn.{Turn}
 use Rattle.route_audit.specs.declared.following.Turn.TheVariants as turns
+use Rattle.route_audit.specs.declared.pairs.Pair.{Pair}
 use Rattle.route_audit.specs.Audit.{audit_of, lids_of}
 use Rattle.route_audit.specs.Channels.{channels, deadlock, depends}
 use Rattle.route_audit.specs.Following.{end_from, end_within, loop_from, turn}
 use Rattle.route_audit.specs.Lids.{aim_of, aims, is_adapters}
 use Rattle.route_audit.specs.Net.{NetState}
+use Rattle.route_audit.specs.Pairs.{count_of}
 
 -- ---- following entries
 -- what goes from this switch never ends, whatever number of switches it is followed through
@@ -51,6 +55,33 @@ TellsLoops tells =
 
 abbrev pub ToldLoopsGoRound : Type 0
 ToldLoopsGoRound = TellsLoops loop_from
+
+-- ---- counts
+-- each pair is counted in one part of a line
+abbrev pub AddUp : (Fate → List Pair → ℕ) → Type 0
+AddUp count =
+    (pairs : List Pair) → count fates.Reached pairs + (count fates.Hole pairs + (count fates.Nowhere pairs
+    + (count fates.Wrong pairs + (count fates.Loop pairs + count fates.Unknown pairs)))) ≡ length pairs
+
+abbrev pub CountsAddUp : Type 0
+CountsAddUp = AddUp count_of
+
+-- ---- channels
+-- a port of a switch that has a cable to a switch
+pub record IsChannel (net : NetState) (at : PortRef) : Type 0 where
+  pub switch : is_switch_at net.plan.nodes at.node ≡ true
+  pub low : 1 ≤ at.port
+  pub high : at.port ≤ ports_at net.plan.nodes at.node
+  pub there : PortRef
+  pub cable : far_end net.plan.cables at ≡ Some there
+  pub to_switch : is_switch_at net.plan.nodes there.node ≡ true
+
+-- these are all channels, and no other ports
+abbrev pub TellsChannels : (NetState → List PortRef) → Type 0
+TellsChannels tells = (net : NetState) (at : PortRef) → (list_any (is_same_port at) (tells net) ≡ true) ↔ IsChannel net at
+
+abbrev pub ChannelsAreTold : Type 0
+ChannelsAreTold = TellsChannels channels
 
 -- ---- circles of channels
 -- each waits for the next, and the last for this one

@@ -11,3 +11,4 @@ pub mod Lines
 pub mod Audit
 pub mod Laws
 pub mod WrongRules
+pub mod Examples

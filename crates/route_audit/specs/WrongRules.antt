@@ -1,19 +1,22 @@
 -- Wrong rules for what is told, and the law that each breaks.
-use Rattle.std.specs.Prelude.{ℕ, nat_lt, ◌&&◌, Bool, List, [], ◌∷◌, codes, is_none, length, if◌then◌else◌, Option, Some, None, option_map}
+use Rattle.std.specs.Prelude.{ℕ, nat_lt, ◌&&◌, Bool, not, List, [], ◌∷◌, codes, count_by, filter, is_none, length, if◌then◌else◌, Option, Some, None, option_map}
 use Rattle.dump_file.specs.declared.destination.Destination.TheVariants as destinations
 use Rattle.dump_file.specs.declared.table.Table.{Table}
 use Rattle.fabric_parts.specs.Cable.{port}
 use Rattle.fabric_parts.specs.declared.cable.PortRef.{PortRef}
 use Rattle.fabric_parts.specs.declared.node_type.NodeType.TheVariants.{ChannelAdapter, Switch}
 use Rattle.topo_file.specs.declared.node.Node.{Node}
+use Rattle.route_audit.specs.declared.following.Fate.{Fate}
+use Rattle.route_audit.specs.declared.following.Fate.TheVariants as fates
 use Rattle.route_audit.specs.declared.following.Turn.{Turn}
-use Rattle.route_audit.specs.Channels.{deadlock}
+use Rattle.route_audit.specs.declared.pairs.Pair.{Pair}
+use Rattle.route_audit.specs.Channels.{channels, deadlock}
 use Rattle.route_audit.specs.Following.{end_within, loop_from}
-use Rattle.route_audit.specs.Laws.{MissesNone, TellsCircles, TellsEndless, TellsLoops, TellsSafe}
+use Rattle.route_audit.specs.Laws.{AddUp, MissesNone, TellsChannels, TellsCircles, TellsEndless, TellsLoops, TellsSafe}
 use Rattle.route_audit.specs.Net.{NetState}
 use Rattle.route_audit.specs.Audit.{adapters_ring, has_table}
 use Rattle.route_audit.specs.Lids.{aims}
-use Rattle.route_audit.specs.Pairs.{all_reached, pairs_by, to_adapters}
+use Rattle.route_audit.specs.Pairs.{all_reached, is_fate, pairs_by, to_adapters}
 use Rattle.topo_file.specs.Connectivity.{switches}
 use Rattle.std.specs.List.{list_all}
 
@@ -53,6 +56,20 @@ from_the_next net lid home = option_map second_of (loop_from net lid home)
 
 abbrev pub LoopsBeginWhereTold : Type 0
 LoopsBeginWhereTold = TellsLoops from_the_next → ⊥
+
+-- ---- pairs that come to a hole are not counted
+abbrev pub count_but_holes : Fate → List Pair → ℕ
+count_but_holes fate pairs = count_by (λ pair. is_fate fate pair.fate && not (is_fate fates.Hole fate)) pairs
+
+abbrev pub HolesAreCounted : Type 0
+HolesAreCounted = AddUp count_but_holes → ⊥
+
+-- ---- the first port of a switch is no channel
+abbrev pub behind_the_first : NetState → List PortRef
+behind_the_first net = filter (λ at. nat_lt 1 at.port) (channels net)
+
+abbrev pub FirstPortsAreChannels : Type 0
+FirstPortsAreChannels = TellsChannels behind_the_first → ⊥
 
 -- ---- dependencies along another LID count too
 abbrev pub along_another : NetState → List ℕ → Option (List PortRef)

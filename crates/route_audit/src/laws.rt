@@ -1,6 +1,6 @@
 //! What is so of all audits. The functions do nothing; their clauses are the theorems.
 
-ghost use Rattle.route_audit.specs.Laws.{LoopsNeverEnd, NoCircleIsMissed, SafeRoutesAreTold, ToldCirclesWait, ToldLoopsGoRound, WaysAreFollowed};
+ghost use Rattle.route_audit.specs.Laws.{ChannelsAreTold, CountsAddUp, LoopsNeverEnd, NoCircleIsMissed, SafeRoutesAreTold, ToldCirclesWait, ToldLoopsGoRound, WaysAreFollowed};
 
 /// What does not end within as many switches as there are never ends.
 pub fn loops_never_end()
@@ -15,6 +15,16 @@ pub fn ways_are_followed()
 /// A loop that is told is one, from the switch on where it is told.
 pub fn told_loops_go_round()
     ensures { ToldLoopsGoRound }
+{}
+
+/// Each pair of a switch and a LID is counted in one part of a line.
+pub fn counts_add_up()
+    ensures { CountsAddUp }
+{}
+
+/// Channels are the ports of switches that have a cable to a switch.
+pub fn channels_are_told()
+    ensures { ChannelsAreTold }
 {}
 
 /// A circle that is told is one, of channels.

@@ -10,6 +10,7 @@ mod auditing;
 mod channels;
 mod circle;
 mod entry;
+mod examples;
 mod following;
 mod laws;
 mod lids;
@@ -21,7 +22,7 @@ mod wrong_rules;
 
 pub use crate::auditing::audit;
 pub use crate::laws::{
-    loops_never_end, no_circle_is_missed, safe_routes_are_told, told_circles_wait,
-    told_loops_go_round, ways_are_followed,
+    channels_are_told, counts_add_up, loops_never_end, no_circle_is_missed, safe_routes_are_told,
+    told_circles_wait, told_loops_go_round, ways_are_followed,
 };
 pub use crate::outcome::Audit;

@@ -1,7 +1,8 @@
 //! Wrong rules for what is told, and the law that each breaks, so that a reader sees that the laws say something. Each
 //! function does nothing: its contract says that with this rule the law is false.
 
-ghost use Rattle.route_audit.specs.WrongRules.{LoopsBeginWhereTold, NamedLidsAreNotEnough, TablesAreNotEnough, OtherLidsDoNotCount, TheLastWaitsForTheFirst, TwoMakeACircle, WaysAreLonger};
+ghost use Rattle.route_audit.specs.WrongRules.{FirstPortsAreChannels, HolesAreCounted, LoopsBeginWhereTold, NamedLidsAreNotEnough};
+ghost use Rattle.route_audit.specs.WrongRules.{OtherLidsDoNotCount, TablesAreNotEnough, TheLastWaitsForTheFirst, TwoMakeACircle, WaysAreLonger};
 
 /// Where what does not end at the first switch is told to be endless, it may end at the second.
 pub fn ways_are_longer()
@@ -11,6 +12,16 @@ pub fn ways_are_longer()
 /// Where a loop is told without the switch where it is told, it does not begin there.
 pub fn loops_begin_where_told()
     ensures { LoopsBeginWhereTold }
+{}
+
+/// Where pairs that come to a hole are not counted, the parts of a line are not all.
+pub fn holes_are_counted()
+    ensures { HolesAreCounted }
+{}
+
+/// Where the first port of a switch is no channel, one is left out.
+pub fn first_ports_are_channels()
+    ensures { FirstPortsAreChannels }
 {}
 
 /// Where dependencies along another LID count too, channels are told that do not wait for one another along these.

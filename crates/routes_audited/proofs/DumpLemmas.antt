@@ -49,7 +49,7 @@ module _ (plan : TopologyState) (sound : IsSound plan) (keys : List (List ℕ)) 
   abbrev net : NetState
   net = over plan (dump_of plan routes.lids fabric)
 
-  good_up : IsGood fabric
+  pub good_up : IsGood fabric
   good_up = subst IsGood (sym up.is) up.pushed.linear.good
 
   -- ---- the node of the topology

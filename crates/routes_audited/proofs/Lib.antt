@@ -13,3 +13,4 @@ pub mod DumpLemmas
 pub mod NameLemmas
 pub mod SafeLemmas
 pub mod WrongLemmas
+pub mod SoundDumpLemmas

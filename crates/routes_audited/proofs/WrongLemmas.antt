@@ -3,10 +3,14 @@ use Rattle.std.proofs.Common.{◌≡◌, refl, sym, [], ◌∷◌, None, Some}
 use Rattle.std.proofs.lemmas.Bool.{false≢true}
 use Rattle.std.proofs.lemmas.Option.{none-some}
 use Rattle.fabric_parts.specs.Cable.{port}
-use Rattle.routes_audited.specs.WrongTables.{ACircleIsNotFree, ADeadEndDoesNotPass, AHoleDoesNotPass, ALoopDoesNotPass, AWrongEndDoesNotPass}
+use Rattle.routes_audited.specs.WrongTables.{ACircleIsNotFree, ADeadEndDoesNotPass, AHoleDoesNotPass, ALoopDoesNotPass, AWaitingRingDoesNotPass, AWrongEndDoesNotPass, NoEntriesDoNotPass}
 
 pub a_hole_does_not_pass : AHoleDoesNotPass
 a_hole_does_not_pass passes =
+    false≢true (passes.reached 0 1 (port 2 1) (record { switch = refl; number = 1; at = port 2 1; cable = refl; adapter = refl }) refl refl)
+
+pub no_entries_do_not_pass : NoEntriesDoNotPass
+no_entries_do_not_pass passes =
     false≢true (passes.reached 0 1 (port 2 1) (record { switch = refl; number = 1; at = port 2 1; cable = refl; adapter = refl }) refl refl)
 
 pub a_loop_does_not_pass : ALoopDoesNotPass
@@ -21,3 +25,11 @@ a_dead_end_does_not_pass passes = false≢true (passes.led 1 1 2 (port 2 1) refl
 pub a_circle_is_not_free : ACircleIsNotFree
 a_circle_is_not_free free =
     let none : Some (port 0 2 ∷ port 1 1 ∷ []) ≡ None = free (1 ∷ []) in none-some (port 0 2 ∷ port 1 1 ∷ []) (sym none)
+
+pub a_waiting_ring_does_not_pass : AWaitingRingDoesNotPass
+a_waiting_ring_does_not_pass = record {
+  come = refl;
+  waits = λ passes.
+      let none : Some (port 0 2 ∷ port 1 2 ∷ port 2 2 ∷ []) ≡ None = passes.free (1 ∷ 2 ∷ 3 ∷ []) in
+      none-some (port 0 2 ∷ port 1 2 ∷ port 2 2 ∷ []) (sym none);
+}

@@ -1,6 +1,7 @@
 -- What the audit says of tables that our own bring-up writes: the statements of the laws of `src/laws.rt`.
 use Rattle.std.specs.Prelude.{ℕ, ◌≡◌, ◌<◌, Bool, true, false, List, None, Some}
 use Rattle.dump_file.specs.Dump.{DumpState}
+use Rattle.dump_file.specs.Sound.{IsSound as IsSoundDump}
 use Rattle.fabric_parts.specs.Cable.{far_end, is_cabled, port}
 use Rattle.fabric_parts.specs.declared.cable.PortRef.{PortRef}
 use Rattle.route_audit.specs.Audit.{audit_of}
@@ -25,6 +26,13 @@ abbrev pub ADumpShowsWhatIsHeld : Type 0
 ADumpShowsWhatIsHeld =
     (plan : TopologyState) (keys : List (List ℕ)) (routes : RoutesState) (fabric : FabricState) → IsSound plan → IsBroughtUpBy plan keys routes fabric
     → Shows (over plan (dump_of plan routes.lids fabric)) routes.lids fabric
+
+-- which agrees with itself, as every dump does that was read: no switch has two tables, LIDs rise in each up to its top, and each
+-- LID has one end port
+abbrev pub ItIsSound : Type 0
+ItIsSound =
+    (plan : TopologyState) (keys : List (List ℕ)) (routes : RoutesState) (fabric : FabricState) → IsSound plan → IsBroughtUpBy plan keys routes fabric
+    → IsSoundDump (dump_of plan routes.lids fabric)
 
 -- by which each adapter port that has a cable has a LID
 abbrev pub ItNamesEachPort : Type 0

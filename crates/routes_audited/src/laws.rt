@@ -1,10 +1,15 @@
 //! What the audit says of tables that our own bring-up writes. The functions do nothing; their clauses are the theorems.
 
-ghost use Rattle.routes_audited.specs.Laws.{ADumpShowsWhatIsHeld, ItNamesEachPort, OwnRoutesAreSafe, OwnRoutesPass, SomeSwitchCarriesAnAdapter};
+ghost use Rattle.routes_audited.specs.Laws.{ADumpShowsWhatIsHeld, ItIsSound, ItNamesEachPort, OwnRoutesAreSafe, OwnRoutesPass, SomeSwitchCarriesAnAdapter};
 
 /// Each fabric that is brought up has a dump that shows what its switches hold.
 pub fn a_dump_shows_what_is_held()
     ensures { ADumpShowsWhatIsHeld }
+{}
+
+/// It agrees with itself, as every dump does that was read.
+pub fn it_is_sound()
+    ensures { ItIsSound }
 {}
 
 /// By it each adapter port that has a cable has a LID.

@@ -9,10 +9,10 @@ mod laws;
 mod wrong_tables;
 
 pub use crate::laws::{
-    a_dump_shows_what_is_held, it_names_each_port, own_routes_are_safe, own_routes_pass,
-    some_switch_carries_an_adapter,
+    a_dump_shows_what_is_held, it_is_sound, it_names_each_port, own_routes_are_safe,
+    own_routes_pass, some_switch_carries_an_adapter,
 };
 pub use crate::wrong_tables::{
     a_circle_is_not_free, a_dead_end_does_not_pass, a_hole_does_not_pass, a_loop_does_not_pass,
-    a_wrong_end_does_not_pass,
+    a_waiting_ring_does_not_pass, a_wrong_end_does_not_pass, no_entries_do_not_pass,
 };

@@ -1,11 +1,17 @@
 //! Tables that do not pass, so that a reader sees that the laws say something. Each function does nothing: its contract says that
 //! with these entries the audit is not passed.
 
-ghost use Rattle.routes_audited.specs.WrongTables.{ACircleIsNotFree, ADeadEndDoesNotPass, AHoleDoesNotPass, ALoopDoesNotPass, AWrongEndDoesNotPass};
+ghost use Rattle.routes_audited.specs.WrongTables.{ACircleIsNotFree, ADeadEndDoesNotPass, AHoleDoesNotPass, ALoopDoesNotPass, AWaitingRingDoesNotPass};
+ghost use Rattle.routes_audited.specs.WrongTables.{AWrongEndDoesNotPass, NoEntriesDoNotPass};
 
 /// Where a switch that carries an adapter has no entry for its LID, it is not reached.
 pub fn a_hole_does_not_pass()
     ensures { AHoleDoesNotPass }
+{}
+
+/// Where no switch has an entry, it is not reached either.
+pub fn no_entries_do_not_pass()
+    ensures { NoEntriesDoNotPass }
 {}
 
 /// Where two switches send a LID to one another, it goes round.
@@ -26,4 +32,9 @@ pub fn a_dead_end_does_not_pass()
 /// Where two switches send a LID to one another, channels wait in a circle.
 pub fn a_circle_is_not_free()
     ensures { ACircleIsNotFree }
+{}
+
+/// Where three switches send all LIDs on in a ring, all are reached, and channels wait in a circle.
+pub fn a_waiting_ring_does_not_pass()
+    ensures { AWaitingRingDoesNotPass }
 {}

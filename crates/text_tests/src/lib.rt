@@ -12,6 +12,8 @@ mod cables;
 #[cfg(test)]
 mod discoveries;
 #[cfg(test)]
+mod fault_texts;
+#[cfg(test)]
 mod fixtures;
 #[cfg(test)]
 mod imports;

@@ -1,4 +1,4 @@
--- The text of a topology, computed.
+-- The texts of topologies, computed.
 use Rattle.std.proofs.Common.{◌≡◌, refl, ℕ, true, codes, List, [], ◌∷◌, Ok}
 use Rattle.fabric_parts.specs.Cable.{port}
 use Rattle.fabric_parts.specs.declared.cable.Cable.{Cable}
@@ -10,7 +10,7 @@ use Rattle.topo_file.specs.declared.node.Node.{Node}
 use Rattle.topo_file.specs.Topology.{TopologyState, after_line, after_words, cable_of, cable_spelt, manager_of, manager_spelt, node_of, node_spelt, topology_of, whole}
 use Rattle.topology_import.specs.Agreement.{agrees}
 use Rattle.topology_import.specs.Ends.{ends}
-use Rattle.topology_import.specs.Examples.{two_hosts, two_hosts_text, TwoHostsAreImported}
+use Rattle.topology_import.specs.Examples.{OthersAreRefused, PortsAreImported, two_hosts, two_hosts_text, TwoHostsAreImported, two_ports, two_ports_text}
 use Rattle.topology_import.specs.Import.{import_of, text_read}
 use Rattle.topology_import.specs.Names.{named}
 use Rattle.topology_import.specs.Text.{planned_nodes, text_of, text_with}
@@ -47,3 +47,36 @@ given = rw (told, read, agreed) refl
 pub two_hosts_are_imported : TwoHostsAreImported
 unfolding import_of
 two_hosts_are_imported = given
+
+-- ---- of an adapter of two ports
+other_plan : TopologyState
+other_plan = record {
+  nodes = (record { name = codes "a_switch_of_thirty-three_letters"; node_type = Switch; guid = 16; ports = 4 })
+      ∷ (record { name = codes "node"; node_type = ChannelAdapter; guid = 256; ports = 2 }) ∷ [];
+  cables = (record { first = port 0 1; second = port 1 1 }) ∷ (record { first = port 0 2; second = port 1 2 }) ∷ [];
+  roots = [];
+  sm = port 1 2;
+}
+
+other_told : text_of two_ports 258 ≡ two_ports_text
+unfolding digits encode_with named text_with
+other_told = refl
+
+other_read : topology_of two_ports_text ≡ Ok other_plan
+unfolding after_line after_lines after_words cable_of cable_spelt manager_of manager_spelt node_of node_spelt other_plan topology_of whole
+other_read = refl
+
+other_agreed : agrees two_ports (ends two_ports) (planned_nodes two_ports) 258 other_plan ≡ true
+unfolding digits named other_plan
+other_agreed = refl
+
+other_given : text_read two_ports 258 ≡ Ok two_ports_text
+other_given = rw (other_told, other_read, other_agreed) refl
+
+pub ports_are_imported : PortsAreImported
+unfolding import_of
+ports_are_imported = record { asked = other_given; of_a_router = refl; of_none = refl }
+
+pub others_are_refused : OthersAreRefused
+unfolding after_line after_lines after_words cable_of cable_spelt digits encode_with import_of manager_of manager_spelt named node_of node_spelt text_with topology_of whole
+others_are_refused = record { of_a_node = refl; of_port_0 = refl; too_large = refl; past_its_ports = refl }

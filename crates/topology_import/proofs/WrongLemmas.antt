@@ -19,7 +19,7 @@ use Rattle.topology_import.specs.declared.planned.Planned.{Planned}
 use Rattle.topology_import.specs.Agreement.{is_between}
 use Rattle.topology_import.specs.Ends.{counted}
 use Rattle.topology_import.specs.Laws.{Among, LeadToOneAnother}
-use Rattle.topology_import.specs.WrongRules.{CablesAreWanted, EndsAreWanted, LinesAreWanted, NearEndsAloneAreNotEnough, NoRootsAreWanted, TheManagerIsWanted}
+use Rattle.topology_import.specs.WrongRules.{CablesAreWanted, EndsAreWanted, LinesAreWanted, NearEndsAloneAreNotEnough, NoRootsAreWanted, SwitchesAreJoinedToo, TheManagerIsWanted}
 
 -- ---- nothing was discovered
 abbrev nothing : DiscoveryState
@@ -162,4 +162,49 @@ near_ends_alone_are_not_enough law =
     let lead : LeadToOneAnother star (out 1 16) (back 1 16 1) = record { counts = (0, refl); there = (2, refl); cable = refl } in
     let it = (law star planned 17 (plan_of nodes crossed 1) star_sound refl).joined (out 1 16) (back 1 16 1) lead in
     let told : false ≡ true = any_passes_from_place (λ c. is_between star nodes c (out 1 16) (back 1 16 1)) crossed it.1.0 it.0 it.1.1 it.2 in
+    false≢true told
+
+-- ---- two switches, of which the first has an adapter
+abbrev trunk : ℕ → ℕ → ℕ → ℕ → PortLine
+trunk place number guid far_number = record {
+  port = port place number;
+  guid = None;
+  lid = None;
+  far = record { node = record { kind = Switch; guid = guid }; port = far_number; guid = None };
+  line = 1;
+}
+
+abbrev twins : DiscoveryState
+twins = record {
+  nodes = switch ∷ record switch { id = record { kind = Switch; guid = 2 } } ∷ adapter 16 ∷ [];
+  ports = out 1 16 ∷ trunk 0 2 2 1 ∷ trunk 1 1 1 2 ∷ back 2 16 1 ∷ [];
+  initiator = None;
+}
+
+twins_sound : IsSound twins
+twins_sound = record {
+  lines = record {
+    own_nodes = distinct shares_guid twins.nodes refl;
+    own_lines = distinct shares_port twins.ports refl;
+    own_guids = distinct nat_eq (port_guids twins.nodes twins.ports) refl;
+    are_ports = refl;
+    have_own = refl;
+  };
+  cables = refl;
+  found = refl;
+}
+
+abbrev twins_planned : List Planned
+twins_planned = planned_switch ∷ record planned_switch { name = codes "t"; guid = 2 } ∷ planned_adapter (codes "a") 16 ∷ []
+
+abbrev twins_nodes : List Node
+twins_nodes = read_switch ∷ record read_switch { name = codes "t"; guid = 2 } ∷ read_adapter (codes "a") 16 ∷ []
+
+-- the adapter alone has its cable
+pub switches_are_joined_too : SwitchesAreJoinedToo
+switches_are_joined_too law =
+    let one : List Cable = cable 1 2 ∷ [] in
+    let lead : LeadToOneAnother twins (trunk 0 2 2 1) (trunk 1 1 1 2) = record { counts = (1, refl); there = (2, refl); cable = refl } in
+    let it = (law twins twins_planned 17 (plan_of twins_nodes one 2) twins_sound refl).joined (trunk 0 2 2 1) (trunk 1 1 1 2) lead in
+    let told : false ≡ true = any_passes_from_place (λ c. is_between twins twins_nodes c (trunk 0 2 2 1) (trunk 1 1 1 2)) one it.1.0 it.0 it.1.1 it.2 in
     false≢true told

@@ -1,10 +1,12 @@
--- A fabric of a switch and two adapters of one name, and its topology.
-use Rattle.std.specs.Prelude.{ℕ, ◌≡◌, ◌+◌, List, [], ◌∷◌, codes, Some, None, Ok}
+-- Fabrics, and their topologies: a switch and two adapters of one name, and one adapter of two ports beside a router.
+use Rattle.std.specs.Prelude.{ℕ, ◌≡◌, ◌+◌, List, [], ◌∷◌, codes, Some, None, Ok, Err}
 use Rattle.fabric_parts.specs.Cable.{port}
-use Rattle.netdiscover_file.specs.declared.kind.NodeKind.TheVariants.{ChannelAdapter, Switch}
+use Rattle.netdiscover_file.specs.declared.kind.NodeKind.TheVariants.{ChannelAdapter, Router, Switch}
 use Rattle.netdiscover_file.specs.declared.node.Node.{Node}
 use Rattle.netdiscover_file.specs.declared.port.PortLine.{PortLine}
 use Rattle.netdiscover_file.specs.Discovery.{DiscoveryState}
+use Rattle.topo_file.specs.declared.fault.TopologyCause.TheVariants as topology
+use Rattle.topology_import.specs.declared.fault.ImportCause.TheVariants.{GuidTaken, Refused, UnknownManager}
 use Rattle.topology_import.specs.Import.{import_of}
 
 abbrev pub leaf : Node
@@ -44,3 +46,52 @@ two_hosts_text = codes "# fabric import, from ibnetdiscover at port 0x0000000000
 
 abbrev pub TwoHostsAreImported : Type 0
 TwoHostsAreImported = import_of two_hosts None ≡ Ok two_hosts_text
+
+-- ---- a switch with a name of 33 bytes, of which the GUID of port 0 is not told, an adapter of two ports that has no name, and a
+-- router
+abbrev pub spine : Node
+spine = record { id = record { kind = Switch; guid = 16 }; ports = 4; name = codes "a switch of thirty-three letters."; lid = Some 3; port_guid = None; line = 2 }
+
+abbrev pub gate : Node
+gate = record { id = record { kind = Router; guid = 512 }; ports = 1; name = codes "gate"; lid = None; port_guid = None; line = 9 }
+
+abbrev pub to_gate : PortLine
+to_gate = record {
+  port = port 0 3;
+  guid = None;
+  lid = None;
+  far = record { node = record { kind = Router; guid = 512 }; port = 1; guid = Some 513 };
+  line = 5;
+}
+
+abbrev pub two_ports : DiscoveryState
+two_ports = record {
+  nodes = spine ∷ record (host 256 6) { ports = 2; name = [] } ∷ gate ∷ [];
+  ports = down 1 256 3
+      ∷ record (down 2 256 4) { far = record { node = record { kind = ChannelAdapter; guid = 256 }; port = 2; guid = Some 258 } }
+      ∷ to_gate ∷ up 1 256 1 7 ∷ record (up 1 256 2 8) { port = port 1 2; guid = Some 258; lid = Some 2 } ∷ up 2 512 3 10 ∷ [];
+  initiator = None;
+}
+
+abbrev pub two_ports_text : List ℕ
+two_ports_text = codes "# fabric import, from ibnetdiscover\nswitch a_switch_of_thirty-three_letters 0x0000000000000010 4 # \"a switch of thirty-three letters.\" lid 3\nadapter node 0x0000000000000100 2 # \"\" port 1 lid 1; \"\" port 2 lid 2\ncable a_switch_of_thirty-three_letters/1 node/1\ncable a_switch_of_thirty-three_letters/2 node/2\nsm node/2\n# router \"gate\" 0x0000000000000200 is left out\n"
+
+pub record PortsAreImported : Type 0 where
+  -- the subnet manager is on the port that is asked for
+  pub asked : import_of two_ports (Some 258) ≡ Ok two_ports_text
+  -- a router's port is none, and where nothing is asked for and the text tells none there is none
+  pub of_a_router : import_of two_ports (Some 513) ≡ Err (record { line = 0; cause = UnknownManager })
+  pub of_none : import_of two_ports None ≡ Err (record { line = 0; cause = UnknownManager })
+
+-- ---- an adapter that would have the GUID of a switch, or of its port 0; and fabrics that no topology may have, told with the line
+-- of the switch or of the cable
+abbrev pub one_host : ℕ → DiscoveryState
+one_host guid = record { nodes = leaf ∷ host guid 6 ∷ []; ports = down 1 guid 4 ∷ up 1 guid 1 7 ∷ []; initiator = Some (guid + 1) }
+
+pub record OthersAreRefused : Type 0 where
+  pub of_a_node : import_of (one_host 16) None ≡ Err (record { line = 7; cause = GuidTaken 17 16 })
+  pub of_port_0 : import_of (one_host 17) None ≡ Err (record { line = 7; cause = GuidTaken 18 17 })
+  pub too_large : import_of (record (one_host 32) { nodes = record leaf { ports = 37 } ∷ host 32 6 ∷ [] }) None
+      ≡ Err (record { line = 3; cause = Refused topology.Malformed })
+  pub past_its_ports : import_of (record (one_host 32) { ports = down 5 32 4 ∷ up 1 32 5 7 ∷ [] }) None
+      ≡ Err (record { line = 4; cause = Refused topology.NoSuchPort })

@@ -1,5 +1,5 @@
 -- Wrong rules for which topologies are those of a discovery, and the law that each breaks.
-use Rattle.std.specs.Prelude.{ℕ, Bool, ◌&&◌, ◌||◌, List}
+use Rattle.std.specs.Prelude.{ℕ, Bool, ◌&&◌, ◌||◌, List, is_none}
 use Rattle.std.specs.List.{list_all, list_any}
 use Rattle.fabric_parts.specs.declared.cable.Cable.{Cable}
 use Rattle.netdiscover_file.specs.declared.port.PortLine.{PortLine}
@@ -29,6 +29,17 @@ agrees_without_lines discovery planned manager plan =
 
 abbrev pub LinesAreWanted : Type 0
 LinesAreWanted = TellsOthers agrees_without_lines → ⊥
+
+-- lines of switches are not asked for theirs
+abbrev pub agrees_at_adapters : DiscoveryState → List Planned → ℕ → TopologyState → Bool
+agrees_at_adapters discovery planned manager plan =
+    are_as_planned planned plan.nodes
+    && (list_all (has_ends (ends discovery)) plan.nodes
+    && (list_all (λ line. is_none line.guid || has_cable discovery plan line) (counted discovery)
+    && (list_all (is_told discovery plan) plan.cables && (is_end_port plan.nodes plan.sm manager && has_no_roots plan))))
+
+abbrev pub SwitchesAreJoinedToo : Type 0
+SwitchesAreJoinedToo = TellsOthers agrees_at_adapters → ⊥
 
 -- no cable is asked for its lines
 abbrev pub agrees_without_cables : DiscoveryState → List Planned → ℕ → TopologyState → Bool

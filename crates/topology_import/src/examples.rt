@@ -1,8 +1,18 @@
-//! The topology of a fabric, computed. The function does nothing: its contract is the example.
+//! The topologies of fabrics, computed. Each function does nothing: its contract is the example.
 
-ghost use Rattle.topology_import.specs.Examples.{TwoHostsAreImported};
+ghost use Rattle.topology_import.specs.Examples.{OthersAreRefused, PortsAreImported, TwoHostsAreImported};
 
 /// A switch and two adapters of one name.
 pub fn two_hosts_are_imported()
     ensures { TwoHostsAreImported }
+{}
+
+/// An adapter of two ports without a name, and a router.
+pub fn ports_are_imported()
+    ensures { PortsAreImported }
+{}
+
+/// Fabrics that are refused, with their lines.
+pub fn others_are_refused()
+    ensures { OthersAreRefused }
 {}

@@ -2,7 +2,8 @@
 //! are the theorems.
 
 ghost use Rattle.topology_import.specs.Laws.{OthersAreTold};
-ghost use Rattle.topology_import.specs.WrongRules.{CablesAreWanted, EndsAreWanted, LinesAreWanted, NearEndsAloneAreNotEnough, NoRootsAreWanted, TheManagerIsWanted};
+ghost use Rattle.topology_import.specs.WrongRules.{CablesAreWanted, EndsAreWanted, LinesAreWanted, NearEndsAloneAreNotEnough, NoRootsAreWanted};
+ghost use Rattle.topology_import.specs.WrongRules.{SwitchesAreJoinedToo, TheManagerIsWanted};
 
 /// A topology that passes the test of this crate is that of the discovery.
 pub fn others_are_told()
@@ -17,6 +18,11 @@ pub fn ends_are_wanted()
 /// Where no line is asked for its cable, an end port may have none.
 pub fn lines_are_wanted()
     ensures { LinesAreWanted }
+{}
+
+/// Where lines of switches are not asked for theirs, two switches may have none.
+pub fn switches_are_joined_too()
+    ensures { SwitchesAreJoinedToo }
 {}
 
 /// Where no cable is asked for its lines, ports may be joined that no lines join.

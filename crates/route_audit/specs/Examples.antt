@@ -1,0 +1,87 @@
+-- What entries, ports and lines are, in examples.
+use Rattle.std.specs.Prelude.{ℕ, ◌≡◌, true, false, [], ◌∷◌, ◌++◌, codes, Some, None}
+use Rattle.dump_file.specs.declared.destination.Destination.TheVariants.{Nobody}
+use Rattle.dump_file.specs.declared.row.Row.{Row}
+use Rattle.dump_file.specs.declared.table.Table.{Table}
+use Rattle.fabric_parts.specs.Cable.{port}
+use Rattle.fabric_parts.specs.declared.node_type.NodeType.TheVariants.{ChannelAdapter}
+use Rattle.topo_file.specs.declared.node.Node.{Node}
+use Rattle.route_audit.specs.declared.entry.Entry.TheVariants.{Out, Missing, Untold}
+use Rattle.route_audit.specs.declared.lids.Aim.{Aim}
+use Rattle.route_audit.specs.Audit.{count_line, counts_by, deadlock_words}
+use Rattle.route_audit.specs.Lids.{number_in, port_of}
+use Rattle.route_audit.specs.Lines.{guid_text, leaves_out, no_lid_lines, no_port_line, no_switch_line, no_table_line, stray_line, troubles_by}
+use Rattle.route_audit.specs.Net.{NetState, entry, entry_in}
+use Rattle.route_audit.specs.Pairs.{pairs_by}
+use Rattle.route_audit.specs.WrongRules.{a_hole, a_switch, a_table}
+
+-- ---- entries: 255 leads nowhere, as no row does, but for a top that is a multiple of 64
+abbrev topped : ℕ → Table
+topped top = record (a_table 16 1) { top = top }
+
+pub record EntriesAreTold : Type 0 where
+  pub there : entry_in 1 (a_table 16 254) ≡ Out 254
+  pub closed : entry_in 1 (a_table 16 255) ≡ Missing
+  pub without_row : entry_in 2 (topped 64) ≡ Missing
+  pub left_out : entry_in 192 (topped 192) ≡ Untold
+  pub above_a_multiple : entry_in 193 (topped 193) ≡ Missing
+  pub below_the_top : entry_in 64 (topped 192) ≡ Missing
+  pub without_table : entry a_hole 1 2 ≡ Untold
+  pub has_the_row : leaves_out 1 (topped 1) ≡ false
+
+-- ---- ports by their GUIDs
+abbrev an_adapter : ℕ → ℕ → Node
+an_adapter guid ports = record { name = codes "k"; node_type = ChannelAdapter; guid = guid; ports = ports }
+
+pub record PortsAreFound : Type 0 where
+  pub switch : number_in 16 (a_switch (codes "A") 16) ≡ Some 0
+  pub port_of_a_switch : number_in 17 (a_switch (codes "A") 16) ≡ None
+  pub node : number_in 256 (an_adapter 256 2) ≡ None
+  pub first : number_in 257 (an_adapter 256 2) ≡ Some 1
+  pub last : number_in 258 (an_adapter 256 2) ≡ Some 2
+  pub past : number_in 259 (an_adapter 256 2) ≡ None
+  pub among_nodes : port_of (a_switch (codes "A") 16 ∷ an_adapter 256 2 ∷ an_adapter 512 1 ∷ []) 513 ≡ Some (port 2 1)
+  pub of_none : port_of (a_switch (codes "A") 16 ∷ an_adapter 256 2 ∷ []) 513 ≡ None
+
+-- ---- lines: two switches, the first with an adapter, and their entries for its LID
+abbrev with_entries : ℕ → ℕ → NetState
+with_entries first second = record { plan = a_hole.plan; dump = record { tables = a_table 16 first ∷ a_table 32 second ∷ [] } }
+
+-- the LID of the adapter's port
+abbrev an_aim : Aim
+an_aim = record { lid = 1; guid = Some 257; end = Some (port 2 1) }
+
+-- a row for a LID that nobody has
+abbrev strays : ℕ → Table
+strays number = record (a_table 16 1) { rows = record { line = 4; lid = 21; port = number; destination = Nobody } ∷ [] }
+
+abbrev astray : ℕ → NetState
+astray number = record { plan = a_hole.plan; dump = record { tables = strays number ∷ [] } }
+
+pub record TroublesAreTold : Type 0 where
+  pub hole : troubles_by (with_entries 1 255) (an_aim ∷ []) ≡ codes "hole B 1\n"
+  pub loop : troubles_by (with_entries 2 1) (an_aim ∷ []) ≡ codes "loop 1 A B\n"
+  pub wrong : troubles_by (with_entries 0 1) (an_aim ∷ []) ≡ codes "wrong A 1 A/0\n"
+  pub nowhere : troubles_by (with_entries 1 254) (an_aim ∷ []) ≡ codes "nowhere B 1 port 254\n"
+  pub none : troubles_by (with_entries 1 1) (an_aim ∷ []) ≡ []
+  pub stray : stray_line (astray 2) 0 21 ≡ codes "stray A 21\n"
+  pub closed_stray : stray_line (astray 255) 0 21 ≡ []
+
+-- what the files lack of one another
+pub record LacksAreTold : Type 0 where
+  pub table : no_table_line (astray 2) 1 ≡ codes "no-table B\n"
+  pub has_table : no_table_line (astray 2) 0 ≡ []
+  pub switch : no_switch_line a_hole (a_table 256 1) ≡ codes "no-switch " ++ guid_text 256 ++ codes "\n"
+  pub has_switch : no_switch_line a_hole (a_table 32 1) ≡ []
+  pub end_port : no_port_line (record { lid = 3; guid = Some 0x7cfe9003009f0a11; end = None }) ≡ codes "no-port 3 " ++ guid_text 0x7cfe9003009f0a11 ++ codes "\n"
+  pub lid : no_lid_lines a_hole [] (record { first = port 0 1; second = port 2 1 }) ≡ codes "no-lid h/1\n"
+  pub has_lid : no_lid_lines a_hole (an_aim ∷ []) (record { first = port 0 1; second = port 2 1 }) ≡ []
+
+-- and counts
+pub record CountsAreTold : Type 0 where
+  pub of_a_hole : count_line (codes "audit: ") (pairs_by (with_entries 1 255) (an_aim ∷ [])) (deadlock_words false)
+      ≡ codes "audit: 2 pairs, 1 reached, 1 holes, 0 nowhere, 0 wrong, 0 loops, 0 unknown, no deadlock\n"
+  pub of_a_loop : counts_by (pairs_by (with_entries 2 1) (an_aim ∷ [])) false true
+      ≡ codes "adapters: 2 pairs, 0 reached, 0 holes, 0 nowhere, 0 wrong, 2 loops, 0 unknown, no deadlock\n"
+      ++ codes "switches: 0 pairs, 0 reached, 0 holes, 0 nowhere, 0 wrong, 0 loops, 0 unknown\n"
+      ++ codes "audit: 2 pairs, 0 reached, 0 holes, 0 nowhere, 0 wrong, 2 loops, 0 unknown, deadlock\n"

@@ -1,0 +1,121 @@
+//! What the faults of discoveries, of imports and of dumps say in words: no clause speaks of these texts.
+
+use dump_file::{DumpCause, DumpFault};
+use netdiscover_file::{DiscoveryCause, DiscoveryFault};
+use std::test::Fail;
+use topo_file::TopologyCause;
+use topology_import::{ImportCause, ImportError};
+
+const OF_DISCOVERIES: [(DiscoveryCause, &str); 4] = [
+    (DiscoveryCause::Malformed, "line 7: the line is malformed"),
+    (
+        DiscoveryCause::NoSuchPort,
+        "line 7: the port is of no node, not one of its node's, or has a line already",
+    ),
+    (
+        DiscoveryCause::DuplicateGuid,
+        "line 7: a node or port of this GUID is told already, or the GUIDs of the switch differ from those told before",
+    ),
+    (
+        DiscoveryCause::WrongFarEnd,
+        "line 7: the cable does not stand so at its other end",
+    ),
+];
+
+const OF_IMPORTS: [(ImportCause, &str); 4] = [
+    (
+        ImportCause::GuidTaken {
+            port: 0x102,
+            guid: 0x101,
+        },
+        "line 7: the port of GUID 0x0000000000000102 would be of an adapter of GUID 0x0000000000000101, which is a switch's or none",
+    ),
+    (
+        ImportCause::UnknownManager,
+        "line 7: no channel adapter has a cabled port of the subnet manager's GUID",
+    ),
+    (
+        ImportCause::Refused(TopologyCause::NoSuchPort),
+        "line 7: the node has no port of this number",
+    ),
+    (
+        ImportCause::Unlike,
+        "line 7: the topology that is read differs from the one that was meant",
+    ),
+];
+
+const OF_DUMPS: [(DumpCause, &str); 7] = [
+    (
+        DumpCause::Malformed,
+        "line 7: the line is malformed, or stands where it cannot",
+    ),
+    (
+        DumpCause::EndNotTold,
+        "line 7: the row does not tell whose its LID is",
+    ),
+    (
+        DumpCause::DuplicateTable,
+        "line 7: the switch has a table already",
+    ),
+    (
+        DumpCause::WrongLid,
+        "line 7: the LID does not rise, or is above the top of its table",
+    ),
+    (
+        DumpCause::WrongCount,
+        "line 7: the table has another number of rows",
+    ),
+    (
+        DumpCause::Unfinished,
+        "line 7: the text ends within a table, or has none",
+    ),
+    (
+        DumpCause::TwoEndPorts,
+        "line 7: the LID is another end port's by a row before",
+    ),
+];
+
+#[test]
+fn faults_of_discoveries_say_what_is_wrong(rt: HostRuntime) -> Result<(), Fail> {
+    for (cause, text) in OF_DISCOVERIES.iter() {
+        let fault = DiscoveryFault::At {
+            line: 7,
+            cause: *cause,
+        };
+        let told = format!(in rt.alloc(); "{}", fault)?;
+        assert_eq!(rt; told.as_str(), *text);
+    }
+    let told = format!(in rt.alloc(); "{}", DiscoveryFault::NoMemory)?;
+    assert_eq!(rt; told.as_str(), "out of memory");
+    Ok(())
+}
+
+#[test]
+fn faults_of_imports_say_what_is_wrong(rt: HostRuntime) -> Result<(), Fail> {
+    for (cause, text) in OF_IMPORTS.iter() {
+        let fault = ImportError::At {
+            line: 7,
+            cause: *cause,
+        };
+        let told = format!(in rt.alloc(); "{}", fault)?;
+        assert_eq!(rt; told.as_str(), *text);
+    }
+    let told = format!(in rt.alloc(); "{}", ImportError::NoMemory)?;
+    assert_eq!(rt; told.as_str(), "out of memory");
+    Ok(())
+}
+
+#[test]
+fn faults_of_dumps_say_what_is_wrong(rt: HostRuntime) -> Result<(), Fail> {
+    for (cause, text) in OF_DUMPS.iter() {
+        let fault = DumpFault::At {
+            line: 7,
+            cause: *cause,
+        };
+        let told = format!(in rt.alloc(); "{}", fault)?;
+        assert_eq!(rt; told.as_str(), *text);
+    }
+    let told = format!(in rt.alloc(); "{}", DumpFault::NoMemory)?;
+    assert_eq!(rt; told.as_str(), "out of memory");
+    Ok(())
+}
