@@ -38,7 +38,7 @@ goes_on_at net place next (Out number) goes = elim (cases_Bool (number == 0)) [
   | inr other ↦ goes_to_switch net number next (far_end net.plan.cables (port place number)) (rw other at goes)
 ]
 
-turn_goes : (net : NetState) (lid place next : ℕ) → turn net lid place ≡ turns.Goes next → is_switch_at net.plan.nodes next ≡ true
+pub turn_goes : (net : NetState) (lid place next : ℕ) → turn net lid place ≡ turns.Goes next → is_switch_at net.plan.nodes next ≡ true
 turn_goes net lid place next goes = goes_on_at net place next (entry net lid place) goes
 
 -- ---- all switches

@@ -6,6 +6,7 @@ pub mod ChannelLemmas
 pub mod LineLemmas
 pub mod RoundLemmas
 pub mod EndlessLemmas
+pub mod TroubleLemmas
 pub mod CircleLawLemmas
 pub mod WrongLemmas
 pub mod SafeLemmas

@@ -8,11 +8,13 @@ use Rattle.route_audit.specs.declared.following.Fate.{Fate}
 use Rattle.route_audit.specs.declared.following.Fate.TheVariants as fates
 use Rattle.route_audit.specs.declared.following.Turn.{Turn}
 use Rattle.route_audit.specs.declared.following.Turn.TheVariants as turns
+use Rattle.route_audit.specs.declared.lids.Aim.{Aim}
 use Rattle.route_audit.specs.declared.pairs.Pair.{Pair}
 use Rattle.route_audit.specs.Audit.{audit_of, lids_of}
 use Rattle.route_audit.specs.Channels.{channels, deadlock, depends}
-use Rattle.route_audit.specs.Following.{end_from, end_within, loop_from, turn}
+use Rattle.route_audit.specs.Following.{end_from, end_within, fate, loop_from, turn}
 use Rattle.route_audit.specs.Lids.{aim_of, aims, is_adapters}
+use Rattle.route_audit.specs.Lines.{trouble_line}
 use Rattle.route_audit.specs.Net.{NetState}
 use Rattle.route_audit.specs.Pairs.{count_of}
 
@@ -83,6 +85,34 @@ TellsChannels tells = (net : NetState) (at : PortRef) → (list_any (is_same_por
 abbrev pub ChannelsAreTold : Type 0
 ChannelsAreTold = TellsChannels channels
 
+-- ---- what is wrong has its line
+-- the end port that the dump and the topology give a LID
+abbrev pub end_port_of : NetState → ℕ → Option PortRef
+end_port_of net lid = (aim_of net lid).end
+
+-- a packet comes there, over these switches
+abbrev pub ComesBy : NetState → ℕ → ℕ → List ℕ → ℕ → Type 0
+ComesBy net lid place [] there = place ≡ there
+ComesBy net lid place (next ∷ rest) there = (turn net lid place ≡ turns.Goes next) × ComesBy net lid next rest there
+
+-- a line of the LID stands at a switch to which packets come from here
+pub record HasItsLine (line : NetState → ℕ → Aim → List ℕ) (net : NetState) (lid place : ℕ) : Type 0 where
+  pub there : ℕ
+  pub of_switch : is_switch_at net.plan.nodes there ≡ true
+  pub way : List ℕ
+  pub comes : ComesBy net lid place way there
+  pub told : line net there (aim_of net lid) ≡ [] → ⊥
+
+-- so it is with each switch and each LID of an end port, unless packets from there come to that port, or to an entry of which
+-- nothing is known
+abbrev pub TellsTroubles : (NetState → ℕ → Aim → List ℕ) → Type 0
+TellsTroubles line =
+    (net : NetState) (lid place : ℕ) (end : PortRef) → is_switch_at net.plan.nodes place ≡ true → end_port_of net lid ≡ Some end
+    → (fate net lid end place ≡ fates.Reached → ⊥) → (fate net lid end place ≡ fates.Unknown → ⊥) → HasItsLine line net lid place
+
+abbrev pub EachTroubleHasALine : Type 0
+EachTroubleHasALine = TellsTroubles trouble_line
+
 -- ---- circles of channels
 -- each waits for the next, and the last for this one
 abbrev pub wait_round : (PortRef → PortRef → Bool) → PortRef → List PortRef → Bool
@@ -116,10 +146,6 @@ abbrev pub NoCircleIsMissed : Type 0
 NoCircleIsMissed = MissesNone deadlock
 
 -- ---- what is safe
--- the end port that the dump and the topology give a LID
-abbrev pub end_port_of : NetState → ℕ → Option PortRef
-end_port_of net lid = (aim_of net lid).end
-
 -- the port of an adapter that has a cable
 abbrev pub IsAdaptersEnd : NetState → PortRef → Type 0
 IsAdaptersEnd net end = (is_switch_at net.plan.nodes end.node ≡ false) × (is_cabled net.plan.cables end ≡ true)

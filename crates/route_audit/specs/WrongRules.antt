@@ -1,5 +1,5 @@
 -- Wrong rules for what is told, and the law that each breaks.
-use Rattle.std.specs.Prelude.{ℕ, nat_lt, ◌&&◌, Bool, not, List, [], ◌∷◌, codes, count_by, filter, is_none, length, if◌then◌else◌, Option, Some, None, option_map}
+use Rattle.std.specs.Prelude.{ℕ, nat_lt, ◌&&◌, Bool, true, false, not, List, [], ◌∷◌, codes, count_by, filter, is_none, length, if◌then◌else◌, Option, Some, None, option_map}
 use Rattle.dump_file.specs.declared.destination.Destination.TheVariants as destinations
 use Rattle.dump_file.specs.declared.table.Table.{Table}
 use Rattle.fabric_parts.specs.Cable.{port}
@@ -11,8 +11,11 @@ use Rattle.route_audit.specs.declared.following.Fate.TheVariants as fates
 use Rattle.route_audit.specs.declared.following.Turn.{Turn}
 use Rattle.route_audit.specs.declared.pairs.Pair.{Pair}
 use Rattle.route_audit.specs.Channels.{channels, deadlock}
-use Rattle.route_audit.specs.Following.{end_within, loop_from}
-use Rattle.route_audit.specs.Laws.{AddUp, MissesNone, TellsChannels, TellsCircles, TellsEndless, TellsLoops, TellsSafe}
+use Rattle.route_audit.specs.declared.following.Turn.TheVariants as turns
+use Rattle.route_audit.specs.declared.lids.Aim.{Aim}
+use Rattle.route_audit.specs.Following.{end_within, loop_from, turn}
+use Rattle.route_audit.specs.Laws.{AddUp, MissesNone, TellsChannels, TellsCircles, TellsEndless, TellsLoops, TellsSafe, TellsTroubles}
+use Rattle.route_audit.specs.Lines.{trouble_line}
 use Rattle.route_audit.specs.Net.{NetState}
 use Rattle.route_audit.specs.Audit.{adapters_ring, has_table}
 use Rattle.route_audit.specs.Lids.{aims}
@@ -137,3 +140,25 @@ no_rows guid = record { line = 1; guid = guid; top = 1; rows = [] }
 
 abbrev pub no_lids : NetState
 no_lids = record { plan = a_hole.plan; dump = record { tables = no_rows 16 ∷ no_rows 32 ∷ [] } }
+
+-- ---- what goes on has no line, or what is a hole
+abbrev pub is_going : Turn → Bool
+is_going (turns.Goes next) = true
+is_going _ = false
+
+abbrev pub is_hole : Turn → Bool
+is_hole turns.Hole = true
+is_hole _ = false
+
+abbrev pub silent_where : (Turn → Bool) → NetState → ℕ → Aim → List ℕ
+silent_where test net place aim = if test (turn net aim.lid place) then [] else trouble_line net place aim
+
+-- the fabric with the hole, where each switch sends the LID to the other one
+abbrev pub a_loop : NetState
+a_loop = record { plan = a_hole.plan; dump = record { tables = a_table 16 2 ∷ a_table 32 1 ∷ [] } }
+
+abbrev pub LoopsHaveALine : Type 0
+LoopsHaveALine = TellsTroubles (silent_where is_going) → ⊥
+
+abbrev pub HolesHaveALine : Type 0
+HolesHaveALine = TellsTroubles (silent_where is_hole) → ⊥

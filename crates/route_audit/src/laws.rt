@@ -1,6 +1,7 @@
 //! What is so of all audits. The functions do nothing; their clauses are the theorems.
 
-ghost use Rattle.route_audit.specs.Laws.{ChannelsAreTold, CountsAddUp, LoopsNeverEnd, NoCircleIsMissed, SafeRoutesAreTold, ToldCirclesWait, ToldLoopsGoRound, WaysAreFollowed};
+ghost use Rattle.route_audit.specs.Laws.{ChannelsAreTold, CountsAddUp, EachTroubleHasALine, LoopsNeverEnd, NoCircleIsMissed};
+ghost use Rattle.route_audit.specs.Laws.{SafeRoutesAreTold, ToldCirclesWait, ToldLoopsGoRound, WaysAreFollowed};
 
 /// What does not end within as many switches as there are never ends.
 pub fn loops_never_end()
@@ -25,6 +26,12 @@ pub fn counts_add_up()
 /// Channels are the ports of switches that have a cable to a switch.
 pub fn channels_are_told()
     ensures { ChannelsAreTold }
+{}
+
+/// Of each switch and each LID of an end port from which packets do not come there, a line tells it, at a switch on their way:
+/// where they end, or on the loop that they go round.
+pub fn each_trouble_has_a_line()
+    ensures { EachTroubleHasALine }
 {}
 
 /// A circle that is told is one, of channels.

@@ -22,7 +22,8 @@ mod wrong_rules;
 
 pub use crate::auditing::audit;
 pub use crate::laws::{
-    channels_are_told, counts_add_up, loops_never_end, no_circle_is_missed, safe_routes_are_told,
-    told_circles_wait, told_loops_go_round, ways_are_followed,
+    channels_are_told, counts_add_up, each_trouble_has_a_line, loops_never_end,
+    no_circle_is_missed, safe_routes_are_told, told_circles_wait, told_loops_go_round,
+    ways_are_followed,
 };
 pub use crate::outcome::Audit;

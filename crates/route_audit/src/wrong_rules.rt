@@ -1,7 +1,7 @@
 //! Wrong rules for what is told, and the law that each breaks, so that a reader sees that the laws say something. Each
 //! function does nothing: its contract says that with this rule the law is false.
 
-ghost use Rattle.route_audit.specs.WrongRules.{FirstPortsAreChannels, HolesAreCounted, LoopsBeginWhereTold, NamedLidsAreNotEnough};
+ghost use Rattle.route_audit.specs.WrongRules.{FirstPortsAreChannels, HolesAreCounted, HolesHaveALine, LoopsBeginWhereTold, LoopsHaveALine, NamedLidsAreNotEnough};
 ghost use Rattle.route_audit.specs.WrongRules.{OtherLidsDoNotCount, TablesAreNotEnough, TheLastWaitsForTheFirst, TwoMakeACircle, WaysAreLonger};
 
 /// Where what does not end at the first switch is told to be endless, it may end at the second.
@@ -47,4 +47,14 @@ pub fn tables_are_not_enough()
 /// Where it is enough that all LIDs which rows name are reached, rows may name none, and a port of an adapter has none.
 pub fn named_lids_are_not_enough()
     ensures { NamedLidsAreNotEnough }
+{}
+
+/// Where what goes on has no line, packets go round and none tells it.
+pub fn loops_have_a_line()
+    ensures { LoopsHaveALine }
+{}
+
+/// Where a hole has no line, packets end there and none tells it.
+pub fn holes_have_a_line()
+    ensures { HolesHaveALine }
 {}

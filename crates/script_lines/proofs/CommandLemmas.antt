@@ -118,16 +118,6 @@ send_names plan port dlid p_key qp payload command is =
     let made : Command = Send (record { port_guid = sender.0; dlid = lid.0; p_key = key.0; destination_qp = number.0; payload = bytes.0 }) in
     subst (NamesWhatIsThere plan) (same_ok made command bytes.2) (sends plan port sender.0 sender.1)
 
-send_words_name : (plan : TopologyState) (words : List (List ℕ)) (command : Command) → send_of plan words ≡ Ok command → NamesWhatIsThere plan command
-unfolding send_of
-send_words_name plan [] command is = absurd cc
-send_words_name plan (a ∷ []) command is = absurd cc
-send_words_name plan (a ∷ b ∷ []) command is = absurd cc
-send_words_name plan (a ∷ b ∷ c ∷ []) command is = absurd cc
-send_words_name plan (a ∷ b ∷ c ∷ d ∷ []) command is = absurd cc
-send_words_name plan (a ∷ b ∷ c ∷ d ∷ e ∷ []) command is = send_names plan a b c d e command is
-send_words_name plan (a ∷ b ∷ c ∷ d ∷ e ∷ f ∷ rest) command is = absurd cc
-
 ask_names : (plan : TopologyState) (port how what tid : List ℕ) (fields : List (List ℕ)) (command : Command) → ask_spelt plan port how what tid fields ≡ Ok command → NamesWhatIsThere plan command
 unfolding ask_spelt
 ask_names plan port how what tid fields command is =
@@ -138,14 +128,6 @@ ask_names plan port how what tid fields command is =
     let named = bind_ok (fields_in kind.0 fields) _ command number.2 in
     let made : Command = Ask (record { port_guid = sender.0; mad = asking_mad method.0 kind.0 number.0 (asking named.0) }) in
     subst (NamesWhatIsThere plan) (same_ok made command named.2) (sends plan port sender.0 sender.1)
-
-ask_words_name : (plan : TopologyState) (words : List (List ℕ)) (command : Command) → ask_of plan words ≡ Ok command → NamesWhatIsThere plan command
-unfolding ask_of
-ask_words_name plan [] command is = absurd cc
-ask_words_name plan (a ∷ []) command is = absurd cc
-ask_words_name plan (a ∷ b ∷ []) command is = absurd cc
-ask_words_name plan (a ∷ b ∷ c ∷ []) command is = absurd cc
-ask_words_name plan (a ∷ b ∷ c ∷ d ∷ fields) command is = ask_names plan a b c d fields command is
 
 named_joins : (plan : TopologyState) (one other : List ℕ) (cable : Cable) → named_cable plan one other ≡ Ok cable → IsSwitchCable plan cable
 unfolding named_cable
@@ -166,42 +148,68 @@ cable_names plan mended one other command is =
     let made : Command = Command.Cable (record { cable = cable.0; up = mended }) in
     subst (NamesWhatIsThere plan) (same_ok made command cable.2) (named_joins plan one other cable.0 cable.1)
 
-cable_words_name : (plan : TopologyState) (mended : Bool) (words : List (List ℕ)) (command : Command) → cable_of plan mended words ≡ Ok command → NamesWhatIsThere plan command
-unfolding cable_of
-cable_words_name plan mended [] command is = absurd cc
-cable_words_name plan mended (a ∷ []) command is = absurd cc
-cable_words_name plan mended (a ∷ b ∷ []) command is = cable_names plan mended a b command is
-cable_words_name plan mended (a ∷ b ∷ c ∷ rest) command is = absurd cc
+-- ---- what each command has that words make, that of a line has
+module _ (plan : TopologyState) (P : Command → Type 0)
+    (send_has : (port dlid p_key qp payload : List ℕ) (command : Command) → send_spelt plan port dlid p_key qp payload ≡ Ok command → P command)
+    (ask_has : (port how what tid : List ℕ) (fields : List (List ℕ)) (command : Command) → ask_spelt plan port how what tid fields ≡ Ok command → P command)
+    (cable_has : (mended : Bool) (one other : List ℕ) (command : Command) → cable_spelt plan mended one other ≡ Ok command → P command) where
+  send_words_have : (words : List (List ℕ)) (command : Command) → send_of plan words ≡ Ok command → P command
+  unfolding send_of
+  send_words_have [] command is = absurd cc
+  send_words_have (a ∷ []) command is = absurd cc
+  send_words_have (a ∷ b ∷ []) command is = absurd cc
+  send_words_have (a ∷ b ∷ c ∷ []) command is = absurd cc
+  send_words_have (a ∷ b ∷ c ∷ d ∷ []) command is = absurd cc
+  send_words_have (a ∷ b ∷ c ∷ d ∷ e ∷ []) command is = send_has a b c d e command is
+  send_words_have (a ∷ b ∷ c ∷ d ∷ e ∷ f ∷ rest) command is = absurd cc
 
--- one kind of command
-kind_names : (plan : TopologyState) (given : Result Command ScriptCause) (command : Command) → ((made : Command) → given ≡ Ok made → NamesWhatIsThere plan made)
-    → (given >>= λ made. Ok (Some made)) ≡ Ok (Some command) → NamesWhatIsThere plan command
-kind_names plan given command sent is =
-    let made = bind_done given (λ (command : Command). Some command) (Some command) is in
-    sent command (made.1 ∙ ap (λ (command : Command). Ok command) (same_Some made.0 command made.2))
+  ask_words_have : (words : List (List ℕ)) (command : Command) → ask_of plan words ≡ Ok command → P command
+  unfolding ask_of
+  ask_words_have [] command is = absurd cc
+  ask_words_have (a ∷ []) command is = absurd cc
+  ask_words_have (a ∷ b ∷ []) command is = absurd cc
+  ask_words_have (a ∷ b ∷ c ∷ []) command is = absurd cc
+  ask_words_have (a ∷ b ∷ c ∷ d ∷ fields) command is = ask_has a b c d fields command is
 
--- the commands behind a first word: one kind where the test of the word passes, else what is told of it further on
-one_kind : (plan : TopologyState) (test : Bool) (given : Result Command ScriptCause) (others : Result (Option Command) ScriptCause) (command : Command)
-    → ((made : Command) → given ≡ Ok made → NamesWhatIsThere plan made) → (others ≡ Ok (Some command) → NamesWhatIsThere plan command)
-    → (if test then (given >>= λ made. Ok (Some made)) else others) ≡ Ok (Some command) → NamesWhatIsThere plan command
-one_kind plan true given others command named otherwise is = kind_names plan given command named is
-one_kind plan false given others command named otherwise is = otherwise is
+  cable_words_have : (mended : Bool) (words : List (List ℕ)) (command : Command) → cable_of plan mended words ≡ Ok command → P command
+  unfolding cable_of
+  cable_words_have mended [] command is = absurd cc
+  cable_words_have mended (a ∷ []) command is = absurd cc
+  cable_words_have mended (a ∷ b ∷ []) command is = cable_has mended a b command is
+  cable_words_have mended (a ∷ b ∷ c ∷ rest) command is = absurd cc
 
-all_words_name : (plan : TopologyState) (words : List (List ℕ)) (command : Command) → command_in plan words ≡ Ok (Some command) → NamesWhatIsThere plan command
-unfolding command_in
-all_words_name plan [] command is = absurd (none-some command (same_ok None (Some command) is))
-all_words_name plan (first ∷ rest) command is =
-    one_kind plan (bytes_eq first (codes "send")) (send_of plan rest) _ command (send_words_name plan rest)
-    (one_kind plan (bytes_eq first (codes "ask")) (ask_of plan rest) _ command (ask_words_name plan rest)
-    (one_kind plan (bytes_eq first (codes "cut")) (cable_of plan false rest) _ command (cable_words_name plan false rest)
-    (one_kind plan (bytes_eq first (codes "mend")) (cable_of plan true rest) (Err Malformed) command (cable_words_name plan true rest)
-    (λ malformed. absurd cc)))) is
+  -- one kind of command
+  kind_has : (given : Result Command ScriptCause) (command : Command) → ((made : Command) → given ≡ Ok made → P made)
+      → (given >>= λ made. Ok (Some made)) ≡ Ok (Some command) → P command
+  kind_has given command has is =
+      let made = bind_done given (λ (command : Command). Some command) (Some command) is in
+      has command (made.1 ∙ ap (λ (command : Command). Ok command) (same_Some made.0 command made.2))
+
+  -- the commands behind a first word: one kind where the test of the word passes, else what is told of it further on
+  one_kind : (test : Bool) (given : Result Command ScriptCause) (others : Result (Option Command) ScriptCause) (command : Command)
+      → ((made : Command) → given ≡ Ok made → P made) → (others ≡ Ok (Some command) → P command)
+      → (if test then (given >>= λ made. Ok (Some made)) else others) ≡ Ok (Some command) → P command
+  one_kind true given others command has otherwise is = kind_has given command has is
+  one_kind false given others command has otherwise is = otherwise is
+
+  all_words_have : (words : List (List ℕ)) (command : Command) → command_in plan words ≡ Ok (Some command) → P command
+  unfolding command_in
+  all_words_have [] command is = absurd (none-some command (same_ok None (Some command) is))
+  all_words_have (first ∷ rest) command is =
+      one_kind (bytes_eq first (codes "send")) (send_of plan rest) _ command (send_words_have rest)
+      (one_kind (bytes_eq first (codes "ask")) (ask_of plan rest) _ command (ask_words_have rest)
+      (one_kind (bytes_eq first (codes "cut")) (cable_of plan false rest) _ command (cable_words_have false rest)
+      (one_kind (bytes_eq first (codes "mend")) (cable_of plan true rest) (Err Malformed) command (cable_words_have true rest)
+      (λ malformed. absurd cc)))) is
+
+  pub line_has : (line : List ℕ) (command : Command) → command_of plan line ≡ Ok (Some command) → P command
+  unfolding command_of
+  line_has line command is =
+      let words = bind_ok (ok_or (words_of line) Malformed) _ (Some command) is in
+      all_words_have words.0 command words.2
 
 pub line_names : (plan : TopologyState) (line : List ℕ) (command : Command) → command_of plan line ≡ Ok (Some command) → NamesWhatIsThere plan command
-unfolding command_of
-line_names plan line command is =
-    let words = bind_ok (ok_or (words_of line) Malformed) _ (Some command) is in
-    all_words_name plan words.0 command words.2
+line_names plan = line_has plan (NamesWhatIsThere plan) (send_names plan) (ask_names plan) (cable_names plan)
 
 -- ---- what each line's command has, those of all lines have
 more : (P : Command → Type 0) (so_far : List Command) (one : Option Command) → ((command : Command) → one ≡ Some command → P command)

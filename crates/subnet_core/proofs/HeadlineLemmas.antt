@@ -1,6 +1,6 @@
 -- A run that is answered keeps partitions apart.
-use Rattle.std.proofs.Common.{◌≡◌, ◌==◌, ◌∙◌, ℕ, Bool, true, false, List, [], ◌∷◌, filter, Option, Some, None, Result, Ok, Err, IfOk, refl, sym, ap, subst}
-use Rattle.std.specs.List.{list_all}
+use Rattle.std.proofs.Common.{◌≡◌, ◌==◌, ◌∙◌, ℕ, Bool, true, false, List, [], ◌∷◌, ◌++◌, filter, Option, Some, None, Result, Ok, Err, IfOk, refl, sym, ap, subst}
+use Rattle.std.specs.List.{AllByRecursion, list_all}
 use Rattle.std.proofs.lemmas.Bool.{and_from, and_parts, eqb-true}
 use Rattle.topo_file.specs.Topology.{TopologyState, topology_of}
 use Rattle.partition_file.specs.declared.partition.Partition.{Partition}
@@ -21,11 +21,16 @@ use Rattle.subnet_core.specs.declared.fault.RunFault.{RunFault}
 use Rattle.subnet_core.specs.Headline.{KeepsPartitionsApart, RecordsComeFromNear}
 use Rattle.subnet_core.specs.Laws.{StreamsKeepPartitionsApart}
 use Rattle.subnet_core.specs.Stream.{commands_before_fault}
-use Rattle.subnet_core.specs.Roster.{partitions_for, roster_of, rostered}
+use Rattle.subnet_core.specs.Roster.{GiveRosters, partitions_for, roster_of, rostered}
 use Rattle.subnet_core.specs.Run.{ReportState, report_of, told_of}
 use Rattle.script_lines.specs.Script.{commands_in}
 use Rattle.subnet_ports.specs.Ports.{configuration_of, ports_of}
-use Rattle.subnet_model.specs.Configured.{HaveLidsInOrder}
+use Rattle.subnet_model.specs.Configured.{IsConfigured}
+use Rattle.subnet_core.proofs.AnswerLemmas.{roster_is_configured}
+use Rattle.subnet_core.proofs.BringUpLemmas.{lids_in_order}
+use Rattle.subnet_core.proofs.CarryLemmas.{commands_carry_bytes, lines_carry_bytes}
+use Rattle.sa_runs.proofs.RunDataLemmas.{data_of_runs_is_noted}
+use Rattle.sa_runs.specs.RunData.{CarriesBytes}
 use Rattle.subnet_ports.proofs.LidLemmas.{own_lids}
 
 -- the roster of texts that are accepted
@@ -71,35 +76,50 @@ noted_at_port ports p (one ∷ noted) all = by (one.event.port_guid == p) refl (
         ap (λ (guid : ℕ). bytes_from_near ports guid (noted_in one.noted)) (sym (eqb-true one.event.port_guid p same)) ∙ parts.0 in
         rw same (and_from (bytes_from_near ports p (noted_in one.noted)) _ here (later parts.1))
 
-records_are : (configuration : ConfigurationState) (p : ℕ) (commands : List Command) (events : List PortEvent)
-    → events ≡ (told_of configuration commands).events → RecordsComeFromNear configuration p commands events
-records_are configuration p commands events same = record {
+-- what all commands have, the one between others has
+has_between : (P : Command → Type 0) (before after : List Command) (command : Command) → AllByRecursion P (before ++ (command ∷ after)) → P command
+has_between P [] after command all = all.0
+has_between P (one ∷ before) after command all = has_between P before after command all.1
+
+records_are : (configuration : ConfigurationState) (p : ℕ) (commands : List Command) (events : List PortEvent) → IsConfigured configuration
+    → AllByRecursion CarriesBytes commands → events ≡ (told_of configuration commands).events → RecordsComeFromNear configuration p commands events
+records_are configuration p commands events configured carry same = record {
   beside = (notes_stand_beside_runs configuration commands).events ∙ sym same;
+  whole = λ before after command is. data_of_runs_is_noted configuration before command configured
+      (has_between CarriesBytes before after command (subst (AllByRecursion CarriesBytes) (sym is) carry));
   near = noted_at_port configuration.ports p (noted_report configuration commands) (records_come_from_near configuration commands).events;
 }
 
 -- and that is isolated
 pub told_apart : (topology script : List ℕ) (partitions : Option (List ℕ)) (stop : Option RunFault) (r : ReportState) → report_of topology partitions script stop ≡ Ok r
-    → HaveLidsInOrder r.ports → KeepsPartitionsApart topology partitions script r.events
-told_apart topology script partitions stop r h lids = λ plan all commands e p f q.
-    let same : told_of (configuration_of all plan) commands ≡ r = told topology script partitions stop r plan all commands (rosters topology partitions plan all e p) f h in
+    → GiveRosters topology partitions → KeepsPartitionsApart topology partitions script r.events
+told_apart topology script partitions stop r h given = λ plan all commands e p f q.
+    let are = rosters topology partitions plan all e p in
+    let is = given (rostered plan all) are in
+    let same : told_of (configuration_of all plan) commands ≡ r = told topology script partitions stop r plan all commands are f h in
     let events = ap (λ (t : ReportState). t.events) (sym same) in
     let apart =
     subst (λ (some : List PortEvent). DependsOnNear subnet_administration (configuration_of all plan) q commands some
     × HaveSlidsNear (ports_of all plan) q some) (sym events) (runs_are_isolated (configuration_of all plan) commands q) in
-    let own = own_lids 1 (ports_of all plan) (subst (λ (t : ReportState). HaveLidsInOrder t.ports) (sym same) lids) in
-    (apart.0, slids_name_their_ports (ports_of all plan) q r.events own apart.1, records_are (configuration_of all plan) q commands r.events events)
+    let own = own_lids 1 (ports_of all plan) (lids_in_order (rostered plan all) is) in (
+      apart.0,
+      slids_name_their_ports (ports_of all plan) q r.events own apart.1,
+      records_are (configuration_of all plan) q commands r.events (roster_is_configured (rostered plan all) is) (commands_carry_bytes plan script commands f) events,
+    )
 
 pub answered_apart : (topology script : List ℕ) (partitions : Option (List ℕ)) (result : Result ReportState RunFault)
-    → Answers (λ (r : ReportState). r) result (roster_of topology partitions) (report_of topology partitions script) → IfOk result (λ r. HaveLidsInOrder r.ports)
-    → IfOk result (λ r. KeepsPartitionsApart topology partitions script r.events)
-answered_apart topology script partitions (Ok r) h lids = told_apart topology script partitions h.stop r h.is lids
-answered_apart topology script partitions (Err fault) h lids = tt
+    → Answers (λ (r : ReportState). r) result (roster_of topology partitions) (report_of topology partitions script)
+    → IfOk result (λ r. GiveRosters topology partitions) → IfOk result (λ r. KeepsPartitionsApart topology partitions script r.events)
+answered_apart topology script partitions (Ok r) h given = told_apart topology script partitions h.stop r h.is given
+answered_apart topology script partitions (Err fault) h given = tt
 
 pub streams_keep_partitions_apart : StreamsKeepPartitionsApart
-streams_keep_partitions_apart roster lids taken p =
+streams_keep_partitions_apart roster is taken p =
     let commands = commands_before_fault roster.plan taken in
     let events = (told_of roster.configuration commands).events in
     let apart = runs_are_isolated roster.configuration commands p in
-    let own = own_lids 1 roster.configuration.ports lids in
-    (apart.0, slids_name_their_ports roster.configuration.ports p events own apart.1, records_are roster.configuration p commands events refl)
+    let own = own_lids 1 roster.configuration.ports (lids_in_order roster is) in (
+      apart.0,
+      slids_name_their_ports roster.configuration.ports p events own apart.1,
+      records_are roster.configuration p commands events (roster_is_configured roster is) (lines_carry_bytes roster.plan taken) refl,
+    )

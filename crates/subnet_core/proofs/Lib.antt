@@ -1,5 +1,6 @@
 pub mod LookupLemmas
 pub mod CommandLemmas
+pub mod CarryLemmas
 pub mod HeadlineLemmas
 pub mod BringUpLemmas
 mod CableLemmas

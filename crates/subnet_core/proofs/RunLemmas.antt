@@ -1,14 +1,22 @@
 -- What a run answers once its subnet is up.
-use Rattle.std.proofs.Common.{ℕ, ◌≡◌, List, Option, Some, None, Ok, Err, refl}
+use Rattle.std.proofs.Common.{ℕ, ◌≡◌, ◌∙◌, List, Option, Some, None, Ok, Err, refl, subst, sym}
+use Rattle.result_words.proofs.StepLemmas.{same_ok}
 use Rattle.result_words.specs.Gives.{Fails}
 use Rattle.subnet_core.specs.BringUp.{FailsWith, WithFabric, up_from}
-use Rattle.subnet_core.specs.Roster.{RosterState, of_text, roster_of}
+use Rattle.subnet_core.specs.Roster.{GiveRosters, IsRostered, RosterState, of_text, roster_of}
 use Rattle.subnet_core.specs.Run.{report_of, told_of}
 use Rattle.script_lines.specs.Script.{commands_in}
 use Rattle.subnet_core.specs.declared.fault.RunFault.{RunFault}
 use Rattle.subnet_core.specs.declared.fault.RunFault.TheVariants.{Script}
 use Rattle.subnet_model.specs.declared.command.Command.{Command}
-use Rattle.subnet_core.proofs.BringUpLemmas.{fails_mapped, mapped}
+use Rattle.subnet_core.proofs.BringUpLemmas.{fails_mapped, mapped, same_roster}
+
+-- texts of which a subnet came up give its roster alone
+pub rosters_given : (topology : List ℕ) (partitions : Option (List ℕ)) (up : RosterState)
+    → WithFabric (roster_of topology partitions) (λ stop. up_from (roster_of topology partitions) stop ≡ Ok up) → IsRostered up
+    → GiveRosters topology partitions
+rosters_given topology partitions up so is = λ roster given.
+    subst IsRostered (same_ok up roster (sym (same_roster (roster_of topology partitions) so.stop up so.is) ∙ given)) is
 
 module _ (topology : List ℕ) (partitions : Option (List ℕ)) (script : List ℕ) where
   -- it is not brought up

@@ -1,6 +1,6 @@
 -- What `run` promises: what a port receives depends only on the ports that share a partition with it.
-use Rattle.std.specs.Prelude.{ℕ, ◌≡◌, ◌==◌, true, List, Option, Ok, filter, map}
-use Rattle.std.specs.List.{list_all}
+use Rattle.std.specs.Prelude.{ℕ, ◌≡◌, ◌==◌, true, List, ◌∷◌, ◌++◌, Option, Ok, filter, map}
+use Rattle.std.specs.List.{AllByRecursion, list_all}
 use Rattle.partition_file.specs.declared.partition.Partition.{Partition}
 use Rattle.topo_file.specs.Topology.{TopologyState, topology_of}
 use Rattle.subnet_model.specs.Configuration.{ConfigurationState}
@@ -10,7 +10,8 @@ use Rattle.subnet_model.specs.Isolation.{DependsOnNear}
 use Rattle.subnet_model.specs.Source.{ComesFromNear}
 use Rattle.sa_replies.specs.Sources.{bytes_from_near}
 use Rattle.sa_runs.specs.Administration.{subnet_administration}
-use Rattle.sa_runs.specs.Sources.{NotedEvent, noted_in, noted_report}
+use Rattle.sa_runs.specs.RunData.{HasItsData}
+use Rattle.sa_runs.specs.Sources.{NotedEvent, noted_after, noted_in, noted_report, noted_step}
 use Rattle.subnet_ports.specs.Ports.{configuration_of, ports_of}
 use Rattle.subnet_core.specs.Roster.{partitions_for}
 use Rattle.script_lines.specs.Script.{commands_in}
@@ -19,12 +20,18 @@ use Rattle.script_lines.specs.Script.{commands_in}
 abbrev pub noted_at : ConfigurationState → ℕ → List Command → List NotedEvent
 noted_at configuration p commands = filter (λ one. one.event.port_guid == p) (noted_report configuration commands)
 
--- these events are those beside which it is noted (that what is noted is the data of each answer says `data_of_runs_is_noted`
--- of `sa_runs`); and each byte of a record that p is answered comes from a port near p, or
+-- what is noted of each answer to each command is its data, and only of a refusal and of a packet between two ports nothing is
+abbrev pub DataIsNoted : ConfigurationState → List Command → Type 0
+DataIsNoted configuration commands =
+    (before after : List Command) (command : Command) → before ++ (command ∷ after) ≡ commands
+    → AllByRecursion (HasItsData command) (noted_step configuration (noted_after configuration before) command).0
+
+-- these events are those beside which it is noted so; and each byte of a record that p is answered comes from a port near p, or
 -- from the partition file
 pub record RecordsComeFromNear (configuration : ConfigurationState) (p : ℕ) (commands : List Command) (events : List PortEvent)
     : Type 0 where
   pub beside : map (λ one. one.event) (noted_report configuration commands) ≡ events
+  pub whole : DataIsNoted configuration commands
   pub near : list_all (λ one. bytes_from_near configuration.ports p (noted_in one.noted)) (noted_at configuration p commands) ≡ true
 
 -- Whatever fabric the topology describes, whatever partitions the file gives it, and whatever commands the

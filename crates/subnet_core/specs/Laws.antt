@@ -10,7 +10,6 @@ use Rattle.subnet_core.specs.Roster.{IsRostered, RosterState, roster_of}
 use Rattle.subnet_core.specs.Run.{report_of, told_of}
 use Rattle.subnet_core.specs.Stream.{commands_before_fault}
 use Rattle.subnet_fabric.specs.BringUp.{BroughtUpState}
-use Rattle.subnet_model.specs.Configured.{HaveLidsInOrder}
 use Rattle.subnet_model.specs.Isolation.{DependsOnNear}
 use Rattle.subnet_model.specs.Source.{ComesFromNear}
 use Rattle.script_lines.specs.Script.{commands_in}
@@ -36,11 +35,10 @@ TextsHaveOneAnswer =
     → Becomes (roster_of topology partitions) stop → Becomes (roster_of topology partitions) other
     → report_of topology partitions script stop ≡ report_of topology partitions script other
 
--- what a stream tells in a subnet that is up (its ports have their LIDs in order), after whatever lines it ends, keeps
--- partitions apart as a run does
+-- what a stream tells, after whatever lines it ends, keeps partitions apart as a run does
 abbrev pub StreamsKeepPartitionsApart : Type 0
 StreamsKeepPartitionsApart =
-    (roster : RosterState) → HaveLidsInOrder roster.configuration.ports → (taken : List (List ℕ)) (p : ℕ)
+    (roster : RosterState) → IsRostered roster → (taken : List (List ℕ)) (p : ℕ)
     → let commands = commands_before_fault roster.plan taken in
     let events = (told_of roster.configuration commands).events in
     DependsOnNear subnet_administration roster.configuration p commands events × ComesFromNear roster.configuration.ports p events

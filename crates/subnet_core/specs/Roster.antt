@@ -46,6 +46,10 @@ roster_of topology partitions = do
   all ← partitions_for partitions
   Ok (rostered plan all)
 
+-- what they give is a roster
+abbrev pub GiveRosters : List ℕ → Option (List ℕ) → Type 0
+GiveRosters topology partitions = (roster : RosterState) → roster_of topology partitions ≡ Ok roster → IsRostered roster
+
 -- ---- what is answered is what is given, unless memory was refused
 abbrev pub fault_in : RunFault → Option RunFault
 fault_in NoMemory = None

@@ -8,10 +8,9 @@ use Rattle.script_lines.specs.Script.{command_of, with_line}
 use Rattle.script_lines.specs.declared.script_cause.ScriptCause.{ScriptCause}
 use Rattle.subnet_core.specs.BringUp.{FailsWith, WithFabric, up_from}
 use Rattle.subnet_core.specs.EventLines.{report_text}
-use Rattle.subnet_core.specs.Roster.{RosterState, fault_in, of_text}
+use Rattle.subnet_core.specs.Roster.{IsRostered, RosterState, fault_in, of_text}
 use Rattle.subnet_core.specs.declared.fault.RunFault.{RunFault}
 use Rattle.subnet_core.specs.declared.fault.RunFault.TheVariants.{NoMemory, Script, Read, Write}
-use Rattle.subnet_model.specs.Configured.{HaveLidsInOrder}
 use Rattle.subnet_model.specs.Report.{report_by}
 use Rattle.subnet_model.specs.declared.command.Command.{Command}
 use Rattle.text_streams.specs.Writing.{AppendsPart}
@@ -71,7 +70,7 @@ pub record CarriesOut (X : Type 0) (roster : RosterState) (answer : Result X Run
   pub ends : EndsSo roster answer read left taken old new
 
 -- ---- from the texts of topology and partitions on
--- where no subnet comes up nothing is read and nothing is written; one that is up has its ports' LIDs in order
+-- where no subnet comes up nothing is read and nothing is written
 abbrev pub DoesNotBegin : {X : Type 0} → Result X RunFault → Result RosterState RunFault → Type 0
 DoesNotBegin (Ok done) given = ⊥
 DoesNotBegin (Err fault) given = FailsWith given (fault_in fault) (up_from given)
@@ -79,5 +78,4 @@ DoesNotBegin (Err fault) given = FailsWith given (fault_in fault) (up_from given
 abbrev pub Streams : {X : Type 0} → Result X RunFault → Result RosterState RunFault → (script left old new : Option (List ℕ)) → Type 0
 Streams {X} answer given script left old new =
     (DoesNotBegin answer given × (left ≡ script) × (new ≡ old))
-    ⊎ ((roster : RosterState) × HaveLidsInOrder roster.configuration.ports
-    × WithFabric given (λ stop. up_from given stop ≡ Ok roster) × CarriesOut X roster answer script left old new)
+    ⊎ ((roster : RosterState) × IsRostered roster × WithFabric given (λ stop. up_from given stop ≡ Ok roster) × CarriesOut X roster answer script left old new)

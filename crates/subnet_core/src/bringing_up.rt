@@ -4,7 +4,7 @@ ghost use Rattle.std.specs.Prelude.{◌≡◌, ◌≤◌, length, Err, IfOk};
 ghost use Rattle.std.specs.List.{Contains};
 ghost use Rattle.std.specs.Option.{option_copied};
 ghost use Rattle.subnet_core.specs.BringUp.{Answers, ComesTo, IsStarted, up_from};
-ghost use Rattle.subnet_core.specs.Roster.{roster_of};
+ghost use Rattle.subnet_core.specs.Roster.{IsRostered, roster_of};
 ghost use Rattle.subnet_fabric.specs.BringUp.{HasNoPath, Stops};
 ghost use Rattle.subnet_fabric.specs.Laws.{all_keys};
 ghost use Rattle.subnet_model.specs.Configured.{HaveLidsInOrder};
@@ -28,7 +28,7 @@ pub fn bring_up(
     ensures exact { Answers (λ subnet. subnet.roster) result (roster_of topology.now (option_copied partitions.entry))
         (up_from (roster_of topology.now (option_copied partitions.entry))) }
     ensures started { IfOk result IsStarted }
-    ensures lids { IfOk result (λ subnet. HaveLidsInOrder subnet.roster.configuration.ports) }
+    ensures rostered { IfOk result (λ subnet. IsRostered subnet.roster) }
 {
     let roster = read_roster(alloc, topology, partitions)?;
     let up = fabric_of(alloc, &roster)?;

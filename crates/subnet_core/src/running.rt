@@ -3,10 +3,9 @@
 ghost use Rattle.std.specs.Prelude.{IfOk};
 ghost use Rattle.std.specs.Option.{option_copied};
 ghost use Rattle.result_words.specs.AtLine.{on_line};
-ghost use Rattle.subnet_model.specs.Configured.{HaveLidsInOrder};
 ghost use Rattle.subnet_core.specs.Headline.{KeepsPartitionsApart};
 ghost use Rattle.subnet_core.specs.BringUp.{Answers};
-ghost use Rattle.subnet_core.specs.Roster.{RunGives, of_text, roster_of};
+ghost use Rattle.subnet_core.specs.Roster.{GiveRosters, RunGives, of_text, roster_of};
 ghost use Rattle.subnet_core.specs.Run.{report_of};
 ghost use Rattle.script_lines.specs.Script.{commands_in, with_line};
 ghost use Rattle.subnet_core.specs.declared.fault.RunFault.TheVariants.{Script};
@@ -45,7 +44,7 @@ fn in_turn(
 ) -> Result<Report, RunFault>
     ensures exact { Answers (λ report. report) result (roster_of topology.now (option_copied partitions.entry))
         (report_of topology.now (option_copied partitions.entry) script.now) }
-    ensures lids { IfOk result (λ report. HaveLidsInOrder report.ports) }
+    ensures rosters { IfOk result (λ _. GiveRosters topology.now (option_copied partitions.entry)) }
 {
     let subnet = bring_up(alloc, topology, partitions)?;
     let commands = commands_in(alloc, &subnet, script)?;

@@ -1,5 +1,5 @@
 use Rattle.std.proofs.lemmas.Result.{err_from_is_err_and}
-use Rattle.subnet_core.proofs.BringUpLemmas.{comes_up, fabric_fails, lids_in_order, texts_fail}
+use Rattle.subnet_core.proofs.BringUpLemmas.{comes_up, fabric_fails, texts_fail}
 use Rattle.subnet_core.proofs.bringing_up.bring_up.Goals as goal
 
 pub returns-in_err-roster-clause-exact : goal.returns-in_err-roster-clause-exact
@@ -15,5 +15,5 @@ returns-in_err-up-clause-exact c =
 pub returns-clause-exact : goal.returns-clause-exact
 returns-clause-exact c = rw c.in_ok-new.ensures.roster (comes_up _ _ _ c.in_ok-roster.ensures c.in_ok-up.ensures)
 
-pub returns-clause-lids : goal.returns-clause-lids
-returns-clause-lids c = rw c.in_ok-new.ensures.roster (lids_in_order _ c.known_listed.ensures)
+pub returns-clause-rostered : goal.returns-clause-rostered
+returns-clause-rostered c = rw c.in_ok-new.ensures.roster c.known_listed.ensures

@@ -1,7 +1,7 @@
 use Rattle.std.specs.Option.{option_copied}
 use Rattle.std.proofs.lemmas.Result.{err_from_is_err_and}
 use Rattle.subnet_core.proofs.CommandLemmas.{text_is_good}
-use Rattle.subnet_core.proofs.RunLemmas.{run_stops, run_tells, script_fails}
+use Rattle.subnet_core.proofs.RunLemmas.{rosters_given, run_stops, run_tells, script_fails}
 use Rattle.subnet_core.proofs.SenderLemmas.{commands_name_senders}
 use Rattle.subnet_core.specs.declared.fault.RunFault.TheVariants.{Script}
 use Rattle.subnet_core.proofs.running.in_turn.Goals as goal
@@ -26,3 +26,7 @@ pub returns-clause-exact : goal.returns-clause-exact
 returns-clause-exact c =
     rw (c.in_ok-report.ensures, c.deref.ensures.value)
     (run_tells c.args.topology.now (option_copied c.args.partitions) c.args.script.now _ _ c.in_ok-subnet.ensures.exact c.in_ok-commands.ensures)
+
+pub returns-clause-rosters : goal.returns-clause-rosters
+returns-clause-rosters c =
+    rosters_given c.args.topology.now (option_copied c.args.partitions) _ c.in_ok-subnet.ensures.exact (rw c.roster.ensures at c.known_listed.ensures)

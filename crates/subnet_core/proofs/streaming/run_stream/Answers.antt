@@ -20,4 +20,4 @@ returns-in_err-stream-clause-exact g c =
     rw (p.1, p.2) (inl (tt, refl, refl))
 
 pub returns-clause-exact : goal.returns-clause-exact
-returns-clause-exact g c = inr (c.in_ok-subnet.subnet.roster, c.in_ok-subnet.ensures.lids, c.in_ok-subnet.ensures.exact, rw c.in_ok-stream.ensures at c.run.ensures.exact)
+returns-clause-exact g c = inr (c.in_ok-subnet.subnet.roster, c.in_ok-subnet.ensures.rostered, c.in_ok-subnet.ensures.exact, rw c.in_ok-stream.ensures at c.run.ensures.exact)
