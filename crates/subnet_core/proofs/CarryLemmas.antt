@@ -46,7 +46,7 @@ spelt_below n digits given is = by (decode_of digits) refl is
   where
     by : (decoded : Result (List ℕ) FromHexError) → decode_of digits ≡ decoded → (bytes_or_fault decoded >>= λ bytes. filled n bytes) ≡ Ok given
         → AllBelowBase 256 given
-    by (Ok bytes) e h = filled_below n bytes given (bytes_below bytes (decode_of-ok digits bytes e).1.1.1) h
+    by (Ok bytes) e h = filled_below n bytes given (bytes_below bytes (decode_of-ok digits bytes e).3) h
     by (Err error) e h = absurd cc
 
 payload_below : (written : Option Written) (given : List ℕ) → payload_of written ≡ Ok given → AllBelowBase 256 given
@@ -94,7 +94,7 @@ line_carries plan = line_has plan CarriesBytes (send_carries plan) (ask_carries 
 pub commands_carry_bytes : (plan : TopologyState) (script : List ℕ) (commands : List Command) → commands_in plan script ≡ Ok commands
     → AllByRecursion CarriesBytes commands
 commands_carry_bytes plan script commands given =
-    recursion_from_All commands (each_line plan CarriesBytes (line_carries plan) 1 [] (lines script) commands (All-nil CarriesBytes) given)
+    recursion_from_All CarriesBytes commands (each_line plan CarriesBytes (line_carries plan) 1 [] (lines script) commands (All-nil CarriesBytes) given)
 
 pub lines_carry_bytes : (plan : TopologyState) (taken : List (List ℕ)) → AllByRecursion CarriesBytes (commands_before_fault plan taken)
 unfolding commands_before_fault
