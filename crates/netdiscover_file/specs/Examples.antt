@@ -50,7 +50,7 @@ pub record HeadersAreRead : Type 0 where
 abbrev switch_text : List ℕ
 switch_text =
     codes "#\n# Initiated from node 0000000000000100 port 0000000000000101\n# Initiated from node 0000000000000200 port 0000000000000201\n\n"
-    ++ codes "Chassis 0 (guid 0x20)\nvendid=0x2c9\nsub_dev2=x\nswitchguid=0x20(21)\n"
+    ++ codes "Chassis 12 (guid 0x20)\nvendid=0x2c9\nsub_dev2=x\nswitchguid=0x20(21)\n"
     ++ codes "Switch\t255 \"S-0000000000000020\"\t\t# \"A\" enhanced port 0 lid 65535 lmc 7\n[255]\t\"H-0000000000000100\"[1](101) \t\t# \"h\"\n"
 
 abbrev adapter_text : List ℕ

@@ -1,5 +1,5 @@
 -- The dump of what the switches of a fabric hold agrees with itself.
-use Rattle.std.proofs.Common.{ℕ, suc, ◌≡◌, ◌+◌, ◌==◌, ◌∙◌, ◌<◌, ◌≤◌, ap, refl, sym, subst, Bool, true, false, if◌then◌else◌, nat_le, List, [], ◌∷◌, ◌++◌, flat_map, length, map, Option, Some, None, arith}
+use Rattle.std.proofs.Common.{ℕ, suc, ◌≡◌, ◌+◌, ◌==◌, ◌∙◌, ◌≤◌, ap, refl, sym, subst, Bool, true, false, if◌then◌else◌, nat_le, List, [], ◌∷◌, ◌++◌, flat_map, length, map, Option, Some, None, arith}
 use Rattle.std.specs.List.{AllByRecursion, IsDistinct, list_all, list_any}
 use Rattle.std.specs.Option.{option_map_or, option_or}
 use Rattle.std.proofs.lemmas.Bool.{and_from, eq-eqb, or_parts}
@@ -9,11 +9,9 @@ use Rattle.std.proofs.lemmas.Map.Keys.{IsDistinct-tail}
 use Rattle.std.proofs.lemmas.Option.{same_Some}
 use Rattle.dump_file.specs.Destination.{guid_said}
 use Rattle.dump_file.specs.Row.{end_of, said_of}
-use Rattle.dump_file.specs.Sound.{has_its_end, have_one_end, is_end, is_rising, rise, shares_switch}
+use Rattle.dump_file.specs.Sound.{has_its_end, is_end, is_rising, rise, shares_switch}
 use Rattle.dump_file.specs.Table.{rows_of}
 use Rattle.dump_file.specs.declared.row.Row.{Row}
-use Rattle.dump_file.specs.declared.table.Table.{Table}
-use Rattle.lid_assign.specs.Lids.{guid_in}
 use Rattle.result_words.proofs.DistinctLemmas.{none_shares}
 use Rattle.smp_wire.specs.Good.{node_guid}
 use Rattle.smp_wire.specs.declared.node.Node.{Node}

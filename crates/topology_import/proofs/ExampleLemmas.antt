@@ -10,7 +10,7 @@ use Rattle.topo_file.specs.declared.node.Node.{Node}
 use Rattle.topo_file.specs.Topology.{TopologyState, after_line, after_words, cable_of, cable_spelt, manager_of, manager_spelt, node_of, node_spelt, topology_of, whole}
 use Rattle.topology_import.specs.Agreement.{agrees}
 use Rattle.topology_import.specs.Ends.{ends}
-use Rattle.topology_import.specs.Examples.{OthersAreRefused, PortsAreImported, two_hosts, two_hosts_text, TwoHostsAreImported, two_ports, two_ports_text}
+use Rattle.topology_import.specs.Examples.{EndsAreCounted, OthersAreRefused, PortsAreImported, two_hosts, two_hosts_text, TwoHostsAreImported, two_ports, two_ports_text}
 use Rattle.topology_import.specs.Import.{import_of, text_read}
 use Rattle.topology_import.specs.Names.{named}
 use Rattle.topology_import.specs.Text.{planned_nodes, text_of, text_with}
@@ -80,3 +80,6 @@ ports_are_imported = record { asked = other_given; of_a_router = refl; of_none =
 pub others_are_refused : OthersAreRefused
 unfolding after_line after_lines after_words cable_of cable_spelt digits encode_with import_of manager_of manager_spelt named node_of node_spelt text_with topology_of whole
 others_are_refused = record { of_a_node = refl; of_port_0 = refl; too_large = refl; past_its_ports = refl }
+
+pub ends_are_counted : EndsAreCounted
+ends_are_counted = record { one = refl; eight = refl; nine = refl; the_eighth = refl; the_ninth = refl; apart = refl; last = refl }

@@ -1,5 +1,6 @@
 -- Fabrics, and their topologies: a switch and two adapters of one name, and one adapter of two ports beside a router.
-use Rattle.std.specs.Prelude.{ℕ, ◌≡◌, ◌+◌, List, [], ◌∷◌, codes, Some, None, Ok, Err}
+use Rattle.std.specs.Prelude.{ℕ, ◌≡◌, ◌+◌, List, [], ◌∷◌, codes, map, Some, None, Ok, Err}
+use Rattle.std.specs.List.{range_with_len}
 use Rattle.fabric_parts.specs.Cable.{port}
 use Rattle.netdiscover_file.specs.declared.kind.NodeKind.TheVariants.{ChannelAdapter, Router, Switch}
 use Rattle.netdiscover_file.specs.declared.node.Node.{Node}
@@ -7,6 +8,7 @@ use Rattle.netdiscover_file.specs.declared.port.PortLine.{PortLine}
 use Rattle.netdiscover_file.specs.Discovery.{DiscoveryState}
 use Rattle.topo_file.specs.declared.fault.TopologyCause.TheVariants as topology
 use Rattle.topology_import.specs.declared.fault.ImportCause.TheVariants.{GuidTaken, Refused, UnknownManager}
+use Rattle.topology_import.specs.Ends.{number_of, ports_from}
 use Rattle.topology_import.specs.Import.{import_of}
 
 abbrev pub leaf : Node
@@ -95,3 +97,16 @@ pub record OthersAreRefused : Type 0 where
       ≡ Err (record { line = 3; cause = Refused topology.Malformed })
   pub past_its_ports : import_of (record (one_host 32) { ports = down 5 32 4 ∷ up 1 32 5 7 ∷ [] }) None
       ≡ Err (record { line = 4; cause = Refused topology.NoSuchPort })
+
+-- ---- so many ports of GUIDs that follow one another, from 257 on, are those of one adapter; of more than 8 there is none
+abbrev pub some_ends : ℕ → List PortLine
+some_ends count = map (λ before. up 1 (256 + before) 1 7) (range_with_len 0 count)
+
+pub record EndsAreCounted : Type 0 where
+  pub one : ports_from (some_ends 1) 257 ≡ 1
+  pub eight : ports_from (some_ends 8) 257 ≡ 8
+  pub nine : ports_from (some_ends 9) 257 ≡ 9
+  pub the_eighth : number_of (some_ends 8) 264 ≡ 8
+  pub the_ninth : number_of (some_ends 9) 265 ≡ 9
+  pub apart : number_of (up 1 256 1 7 ∷ up 1 258 1 7 ∷ []) 259 ≡ 1
+  pub last : ports_from (up 1 0xfffffffffffffffe 1 7 ∷ []) 0xffffffffffffffff ≡ 1

@@ -1,6 +1,6 @@
 //! The topologies of fabrics, computed. Each function does nothing: its contract is the example.
 
-ghost use Rattle.topology_import.specs.Examples.{OthersAreRefused, PortsAreImported, TwoHostsAreImported};
+ghost use Rattle.topology_import.specs.Examples.{EndsAreCounted, OthersAreRefused, PortsAreImported, TwoHostsAreImported};
 
 /// A switch and two adapters of one name.
 pub fn two_hosts_are_imported()
@@ -15,4 +15,9 @@ pub fn ports_are_imported()
 /// Fabrics that are refused, with their lines.
 pub fn others_are_refused()
     ensures { OthersAreRefused }
+{}
+
+/// Ports of GUIDs that follow one another.
+pub fn ends_are_counted()
+    ensures { EndsAreCounted }
 {}
