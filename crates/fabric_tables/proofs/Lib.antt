@@ -1,3 +1,4 @@
 mod TextLemmas
 mod UsedLemmas
 mod WholeLemmas
+pub mod LinearWholeLemmas
