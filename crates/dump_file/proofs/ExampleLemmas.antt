@@ -45,4 +45,3 @@ texts_are_read = record { whole = refl; before_a_comment = refl; unfinished = re
 pub unsound_are_told : UnsoundAreTold
 unfolding IsDistinct
 unsound_are_told = record { of_one_switch = λ distinct. false≢true (sym distinct.0.0); twice = refl; falling = refl; past_the_top = refl; of_two_ends = refl }
-
