@@ -1,6 +1,6 @@
 -- What wrong rules tell of two switches.
 use Rattle.std.proofs.Common.{◌≡◌, ◌∙◌, ◌==◌, ℕ, zero, suc, true, false, List, Some, ap, filter, lit<, map, refl, sym, [], ◌∷◌}
-use Rattle.std.proofs.Common.{◌+◌, ◌≤◌, arith}
+use Rattle.std.proofs.Common.{arith}
 use Rattle.std.proofs.lemmas.Bool.{false≢true}
 use Rattle.fabric_parts.specs.Cable.{port}
 use Rattle.route_audit.specs.declared.following.Fate.TheVariants as fates

@@ -1,7 +1,6 @@
 -- What entries, ports and lines are, in examples.
 use Rattle.std.specs.Prelude.{ℕ, ◌≡◌, true, false, [], ◌∷◌, ◌++◌, codes, Some, None}
 use Rattle.dump_file.specs.declared.destination.Destination.TheVariants.{Nobody}
-use Rattle.dump_file.specs.declared.row.Row.{Row}
 use Rattle.dump_file.specs.declared.table.Table.{Table}
 use Rattle.fabric_parts.specs.Cable.{port}
 use Rattle.fabric_parts.specs.declared.node_type.NodeType.TheVariants.{ChannelAdapter}
