@@ -45,5 +45,7 @@ fn after(alloc: Global, subnet: Subnet, script: &[u8]) -> Result<Subnet, RunFaul
     left.roster().known_listed();
     let commands = commands_in(alloc, &left, script)?;
     left.run_through(&commands)?;
+    // What a subnet meets is known once its fabric is looked at.
+    let _ = left.fabric();
     Ok(left)
 }

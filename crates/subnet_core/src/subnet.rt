@@ -32,7 +32,6 @@ use updn_routes::Routes;
 ///
 /// Its value is who is in it, its routes and its fabric, what its subnet administration remembers, and whether memory was
 /// refused.
-#[derive(Drop)]
 pub struct Subnet {
     alloc: Global,
     roster: Roster,
@@ -40,6 +39,20 @@ pub struct Subnet {
     fabric: Fabric,
     administrator: Administrator,
     is_broken: bool,
+}
+
+// As derived, but by one call: else what owns a subnet is proved to let go of each of its parts, on each way out.
+impl Drop for Subnet {
+    fn drop(self) {
+        let Subnet {
+            alloc: _,
+            roster: _,
+            routes: _,
+            fabric: _,
+            administrator: _,
+            is_broken: _,
+        } = self;
+    }
 }
 
 impl Model for Subnet {
@@ -106,7 +119,15 @@ impl Subnet {
         ensures parts { (result.0 ≡ self.roster) × (result.1 ≡ self.fabric) }
         ensures up { StaysUp self }
     {
-        (self.roster, self.fabric)
+        let Subnet {
+            alloc: _,
+            roster,
+            routes: _,
+            fabric,
+            administrator: _,
+            is_broken: _,
+        } = self;
+        (roster, fabric)
     }
 
     /// Who is in it, as [`Roster::listing`] prints it.
@@ -189,8 +210,9 @@ impl Subnet {
         let mut subnet = self;
         let mut events = Vec::new(subnet.alloc);
         subnet.carry_out(&mut events, commands)?;
-        let configuration = subnet.roster.into_configuration();
-        Ok(Report::new(subnet.alloc, configuration, events))
+        let alloc = subnet.alloc;
+        let (roster, _fabric) = subnet.into_parts();
+        Ok(Report::new(alloc, roster.into_configuration(), events))
     }
 
     /// Carries out commands one after another. What they tell is dropped.

@@ -1,10 +1,10 @@
-use Rattle.std.proofs.Common.{◌≡◌, ◌∙◌, ap, subst, sym, List, Ok}
+use Rattle.std.proofs.Common.{◌≡◌, subst, sym, List, Ok}
 use Rattle.std.proofs.lemmas.Result.{err_from_is_err_and}
 use Rattle.subnet_core.proofs.AfterLemmas.{left_from_start}
 use Rattle.subnet_core.proofs.CommandLemmas.{text_is_good}
 use Rattle.subnet_core.proofs.SenderLemmas.{commands_name_senders}
 use Rattle.subnet_core.specs.After.{IsThrough}
-use Rattle.subnet_core.specs.BringUp.{StaysUp, SubnetState}
+use Rattle.subnet_core.specs.BringUp.{StaysUp}
 use Rattle.script_lines.specs.Script.{commands_in}
 use Rattle.subnet_core.specs.Roster.{RosterState}
 use Rattle.subnet_core.specs.declared.fault.RunFault.TheVariants.{Script}
@@ -30,8 +30,7 @@ returns-in_err-run_through-clause-fault c =
 pub returns-clause-left : goal.returns-clause-left
 returns-clause-left c =
     let through = subst (λ (commands : List Command). IsThrough commands c.args.subnet c.run_through.new.self) c.deref.ensures.value c.in_ok-run_through.ensures in
-    let stays : StaysUp c.run_through.new.self = λ whole.
-    rw (← c.left-2.view_is) (c.left-2.invariant (ap (λ (subnet : SubnetState). subnet.is_broken) c.left-2.view_is ∙ whole)).served in (
+    let stays : StaysUp c.run_through.new.self = c.fabric.ensures.up in (
       c.in_ok-commands.commands.items,
       subst (λ (roster : RosterState). commands_in roster.plan c.args.script.now ≡ Ok c.in_ok-commands.commands.items) (sym through.roster)
           (text_is_good Script _ _ c.in_ok-commands.ensures),
