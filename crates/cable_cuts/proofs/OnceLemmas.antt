@@ -1,7 +1,7 @@
 -- Each entry that differs is told once, and so is each mask, where each end port has a LID of its own.
-use Rattle.std.proofs.Common.{ℕ, ◌+◌, ◌<◌, ◌≡◌, ◌==◌, ◌&&◌, refl, sym, subst, Bool, true, false, if◌then◌else◌, List, [], ◌∷◌, ◌++◌, is_some, arith}
-use Rattle.std.specs.List.{AllByRecursion, IsDistinct, enumerate_from, flat_map}
-use Rattle.std.proofs.lemmas.Bool.{false≢true}
+use Rattle.std.proofs.Common.{ℕ, ◌+◌, ◌<◌, ◌≡◌, ◌==◌, ◌&&◌, refl, sym, subst, Bool, true, false, if◌then◌else◌, List, [], ◌∷◌, ◌++◌, is_some, length, map, arith}
+use Rattle.std.specs.List.{AllByRecursion, IsDistinct, enumerate_from, flat_map, range_with_len}
+use Rattle.std.proofs.lemmas.Bool.{false≢true, ne_eqb}
 use Rattle.std.proofs.lemmas.Bool.Decides.{nat_tests}
 use Rattle.std.proofs.lemmas.Map.Keys.{IsDistinct-cons, IsDistinct-head, IsDistinct-tail}
 use Rattle.result_words.proofs.ListLemmas.{IsDistinct-nil}
@@ -11,7 +11,7 @@ use Rattle.subnet_model.specs.declared.subnet_port.SubnetPort.{SubnetPort}
 use Rattle.cable_cuts.proofs.ChangeLemmas.{changes_are_what_differs}
 use Rattle.cable_cuts.proofs.MaskToldLemmas.{mask_changes_are_what_differs}
 use Rattle.cable_cuts.specs.Changes.{Tables, change_at, changes, changes_at}
-use Rattle.cable_cuts.specs.Laws.{EntriesAreToldOnce, MasksAreToldOnce, NumbersAreOfWhatDiffers, have_same_lid, same_entry, same_mask}
+use Rattle.cable_cuts.specs.Laws.{EntriesAreToldOnce, LidsAreOwn, MasksAreToldOnce, NumbersAreOfWhatDiffers, have_same_lid, same_entry, same_mask}
 use Rattle.cable_cuts.specs.Masks.{Masks, differs, mask_change_at, mask_changes, mask_changes_at}
 use Rattle.cable_cuts.specs.declared.changes.Change.{Change}
 use Rattle.cable_cuts.specs.declared.masks.MaskChange.{MaskChange}
@@ -53,6 +53,24 @@ module _ {X Y : Type 0} (same : Y → Y → Bool) (key : Y → ℕ) (of : X → 
   once_all (x ∷ xs) differ =
       joined (of x) (f x) (flat_map f xs) (own x) (each x) (others (of x) xs (IsDistinct-head (λ a b. of a == of b) x xs differ))
       (once_all xs (IsDistinct-tail (λ a b. of a == of b) x xs differ))
+
+-- ---- LIDs that count on
+lids_behind : (lid first : ℕ) (ports : List SubnetPort) → lid < first → map (λ port. port.lid) ports ≡ range_with_len first (length ports)
+    → AllByRecursion (λ port. (lid == port.lid) ≡ false) ports
+lids_behind lid first [] low are = tt
+lids_behind lid first (port ∷ ports) low are =
+    let here : port.lid ≡ first = cc in
+    (ne_eqb lid port.lid (λ same. absurd (omega arith)), lids_behind lid (first + 1) ports (omega arith) (cc))
+
+lids_differ : (first : ℕ) (ports : List SubnetPort) → map (λ port. port.lid) ports ≡ range_with_len first (length ports)
+    → IsDistinct have_same_lid ports
+lids_differ first [] are = IsDistinct-nil have_same_lid
+lids_differ first (port ∷ ports) are =
+    let here : port.lid ≡ first = cc in
+    IsDistinct-cons have_same_lid port ports (lids_behind port.lid (first + 1) ports (omega arith) (cc)) (lids_differ (first + 1) ports (cc))
+
+pub lids_are_own : LidsAreOwn
+lids_are_own ports are = lids_differ 1 ports are
 
 pub one_alone : {Y : Type 0} (same : Y → Y → Bool) (y : Y) → IsDistinct same (y ∷ [])
 one_alone same y = IsDistinct-cons same y [] tt (IsDistinct-nil same)

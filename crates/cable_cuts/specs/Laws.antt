@@ -9,6 +9,7 @@ use Rattle.smp_wire.specs.FabricState.{FabricState}
 use Rattle.subnet_fabric.specs.BringUp.{BroughtUpState, IsBroughtUpBy, IsBroughtUpOf}
 use Rattle.subnet_fabric.specs.Standing.{CanComeUp}
 use Rattle.subnet_model.specs.Configuration.{ConfigurationState}
+use Rattle.subnet_model.specs.Configured.{HaveLidsInOrder}
 use Rattle.subnet_model.specs.declared.subnet_port.SubnetPort.{SubnetPort}
 use Rattle.table_push.specs.Masks.{LiesInTable, all_masks_pushed}
 use Rattle.topo_file.specs.Sound.{IsSound}
@@ -73,6 +74,10 @@ EntriesAreToldOnceBy rule =
 
 abbrev pub EntriesAreToldOnce : Type 0
 EntriesAreToldOnce = EntriesAreToldOnceBy changes
+
+-- so each has, where LIDs count from 1 in the order of the ports
+abbrev pub LidsAreOwn : Type 0
+LidsAreOwn = (ports : List SubnetPort) → HaveLidsInOrder ports → IsDistinct have_same_lid ports
 
 -- ---- masks
 -- a mask is counted exactly where in these some port has different bits: of a switch among the end ports, for the group of a

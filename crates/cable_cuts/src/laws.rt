@@ -1,6 +1,6 @@
 //! What the answers say of fabrics. Each function's contract is its law; it does nothing.
 
-ghost use Rattle.cable_cuts.specs.Laws.{ChangesAreTheFabrics, ChangesAreWhatDiffers, EntriesAreToldOnce, KeptIsWhatComesUp, MaskChangesAreTheFabrics, MaskChangesAreWhatDiffers, MasksAreTheFabrics, MasksAreToldOnce, NumbersAreOfWhatDiffers, OneFateIsTold, OneTextIsTold};
+ghost use Rattle.cable_cuts.specs.Laws.{ChangesAreTheFabrics, ChangesAreWhatDiffers, EntriesAreToldOnce, KeptIsWhatComesUp, LidsAreOwn, MaskChangesAreTheFabrics, MaskChangesAreWhatDiffers, MasksAreTheFabrics, MasksAreToldOnce, NumbersAreOfWhatDiffers, OneFateIsTold, OneTextIsTold};
 ghost use Rattle.cable_cuts.specs.Whole.{LinesAreWhole};
 
 /// A cable is told as one that the fabric keeps without exactly where the fabric of the topology without it comes up.
@@ -32,6 +32,11 @@ pub fn mask_changes_are_what_differs()
 /// So the masks that are counted are those in which the two fabrics differ.
 pub fn mask_changes_are_the_fabrics()
     ensures { MaskChangesAreTheFabrics }
+{}
+
+/// In every subnet each end port has a LID of its own.
+pub fn lids_are_own()
+    ensures { LidsAreOwn }
 {}
 
 /// Each entry is told once, where each end port has a LID of its own.
