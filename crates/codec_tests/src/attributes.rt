@@ -36,7 +36,7 @@ fn a_cabled_adapter_port_at_power_up(rt: HostRuntime) {
     let info = port_info_at_power_up(NodeType::ChannelAdapter, 1, PortLink::Cabled);
     let mut written = [0xff; 64];
     info.write(&mut written);
-    assert_eq!(rt; written, bytes);
+    assert_eq!(rt; written.as_slice(), bytes.as_slice());
     let read = PortInfo::read(&bytes);
     assert_eq!(rt; read, info);
     assert_eq!(rt; read.port_state(), Some(PortState::Initialize));
@@ -65,7 +65,7 @@ fn a_switch_at_power_up(rt: HostRuntime) {
     let info = switch_info_at_power_up();
     let mut written = [0xff; 64];
     info.write(&mut written);
-    assert_eq!(rt; written, bytes);
+    assert_eq!(rt; written.as_slice(), bytes.as_slice());
     assert_eq!(rt; SwitchInfo::read(&bytes), info);
 }
 
@@ -120,7 +120,7 @@ fn nodes_say_what_they_are(rt: HostRuntime) {
         assert_eq!(rt; info.node_type(), Some(node_type));
         let mut written = [0xff; 64];
         info.write(&mut written);
-        assert_eq!(rt; written, attribute);
+        assert_eq!(rt; written.as_slice(), attribute.as_slice());
     }
 }
 
@@ -132,7 +132,7 @@ fn nodes_have_names(rt: HostRuntime) {
         assert_eq!(rt; NodeDescription::read(&attribute), description);
         let mut written = [0xff; 64];
         description.write(&mut written);
-        assert_eq!(rt; written, attribute);
+        assert_eq!(rt; written.as_slice(), attribute.as_slice());
     }
 }
 
@@ -156,7 +156,7 @@ fn blocks_of_keys_and_masks_read_and_write(rt: HostRuntime) {
         assert_eq!(rt; block, WordBlock { words });
         let mut written = [0xff; 64];
         block.write(&mut written);
-        assert_eq!(rt; written, attribute);
+        assert_eq!(rt; written.as_slice(), attribute.as_slice());
     }
 }
 
@@ -175,7 +175,7 @@ fn a_block_of_ports_reads_and_writes(rt: HostRuntime) {
     assert_eq!(rt; (block.ports[2], block.ports[3]), (0, 3));
     let mut written = [0; 64];
     block.write(&mut written);
-    assert_eq!(rt; written, ENTRIES);
+    assert_eq!(rt; written.as_slice(), ENTRIES.as_slice());
 }
 
 #[test]

@@ -76,11 +76,11 @@ fn nodes_read_and_write(rt: HostRuntime) {
     let adapter = filled(&ADAPTER_PORT);
     let read = NodeRecord::read(&adapter);
     assert_eq!(rt; read, adapter_port());
-    assert_eq!(rt; SaRecord::Node(read).data(), adapter);
+    assert_eq!(rt; SaRecord::Node(read).data().as_slice(), adapter.as_slice());
     let switch = filled(&SWITCH_PORT);
     let read = NodeRecord::read(&switch);
     assert_eq!(rt; read, switch_port());
-    assert_eq!(rt; SaRecord::Node(read).data(), switch);
+    assert_eq!(rt; SaRecord::Node(read).data().as_slice(), switch.as_slice());
 }
 
 #[test]
@@ -208,7 +208,7 @@ fn paths_read_and_write(rt: HostRuntime) {
     let bytes = filled(&PATH);
     let read = PathRecord::read(&bytes);
     assert_eq!(rt; read, path());
-    assert_eq!(rt; SaRecord::Path(read).data(), bytes);
+    assert_eq!(rt; SaRecord::Path(read).data().as_slice(), bytes.as_slice());
     assert_eq!(rt; PathRecord::read(&filled(&ODD_PATH)), odd_path());
 }
 
@@ -421,7 +421,7 @@ fn groups_read_and_write(rt: HostRuntime) {
         let bytes = filled(bytes);
         let read = McMemberRecord::read(&bytes);
         assert_eq!(rt; read, record);
-        assert_eq!(rt; SaRecord::Group(read).data(), bytes);
+        assert_eq!(rt; SaRecord::Group(read).data().as_slice(), bytes.as_slice());
     }
 }
 
@@ -539,7 +539,7 @@ fn services_read_and_write(rt: HostRuntime) {
         let bytes = filled(bytes);
         let read = ServiceRecord::read(&bytes);
         assert_eq!(rt; read, record);
-        assert_eq!(rt; SaRecord::Service(read).data(), bytes);
+        assert_eq!(rt; SaRecord::Service(read).data().as_slice(), bytes.as_slice());
     }
 }
 

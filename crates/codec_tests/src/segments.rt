@@ -150,7 +150,7 @@ fn a_table_is_cut_into_segments_of_200_bytes(rt: HostRuntime) -> Result<(), Fail
         let part = bytes.get(first..last).unwrap_or(&[]);
         assert_eq!(rt; part.len(), last.saturating_sub(first));
         let wanted = mad_of(&NODE_RECORDS_HEADER, &rmpp, &NODE_RECORDS_FIELDS, part);
-        assert_eq!(rt; segment_of(&sender, number), wanted);
+        assert_eq!(rt; segment_of(&sender, number).as_slice(), wanted.as_slice());
     }
     Ok(())
 }
@@ -194,11 +194,11 @@ const ACKS: [&[Ack]; 4] = [
 
 fn are_answered(rt: &impl Abort, sender: &mut Sender, acks: &[Ack]) {
     for (segment, window, brings) in acks {
-        let answer = sender.on_ack(*segment, *window);
-        assert_eq!(rt;
-            answer.map(|sent| (sent.first, sent.last, sent.is_complete)),
-            *brings
-        );
+        let answer = match sender.on_ack(*segment, *window) {
+            Ok(sent) => Ok((sent.first, sent.last, sent.is_complete)),
+            Err(cause) => Err(cause),
+        };
+        assert_eq!(rt; answer, *brings);
     }
 }
 
@@ -211,26 +211,40 @@ fn an_ack_brings_the_segments_of_its_window(rt: HostRuntime) -> Result<(), Fail>
     Ok(())
 }
 
+/// The fields of an ABORT of a table that was asked for by the mask 0x1d: that stands, and no AttributeOffset.
+const ABORT_FIELDS: [u8; 20] = [
+    0, 0, 0, 0, 0, 0, 0, 0, 0x00, 0x00, 0, 0, 0, 0, 0, 0, 0, 0, 0, 0x1d,
+];
+
+/// Whether it aborts so, with this status, and no data.
+fn aborts(sender: &Sender, cause: AbortCause, status: u8) -> bool {
+    let rmpp = [1, 4, 1, status, 0, 0, 0, 0, 0, 0, 0, 0];
+    let wanted = mad_of(&NODE_RECORDS_HEADER, &rmpp, &ABORT_FIELDS, &[]);
+    sender.abort(cause).as_slice() == wanted.as_slice()
+}
+
 #[test]
 fn an_abort_has_no_data(rt: HostRuntime) -> Result<(), Fail> {
-    // the table's ComponentMask stands, its AttributeOffset does not
     let header = ReplyHeader {
         component_mask: 0x1d,
         ..NODE_RECORDS
     };
-    let fields = [
-        0, 0, 0, 0, 0, 0, 0, 0, 0x00, 0x00, 0, 0, 0, 0, 0, 0, 0, 0, 0, 0x1d,
-    ];
     let sender = Sender::open(rt.alloc(), header, table().get(..448).unwrap_or(&[]))?;
-    for (cause, code) in [
-        (AbortCause::WindowTooSmall, 0x7a),
-        (AbortCause::SegmentTooBig, 0x7b),
-    ] {
-        let rmpp = [1, 4, 1, code, 0, 0, 0, 0, 0, 0, 0, 0];
-        let wanted = mad_of(&NODE_RECORDS_HEADER, &rmpp, &fields, &[]);
-        assert_eq!(rt; sender.abort(cause), wanted);
-    }
+    assert!(rt; aborts(&sender, AbortCause::WindowTooSmall, 0x7a));
+    assert!(rt; aborts(&sender, AbortCause::SegmentTooBig, 0x7b));
     Ok(())
+}
+
+/// Whether these bytes come whole, and not before the last segment.
+fn comes_whole(alloc: Global, sender: &Sender, bytes: &[u8]) -> Result<bool, Fail> {
+    let mut receiver = Receiver::new(alloc);
+    for number in 1..=sender.segment_count() {
+        if receiver.bytes().is_some() {
+            return Ok(false);
+        }
+        receiver.on_data(&sender.segment(number))?;
+    }
+    Ok(receiver.bytes() == Some(bytes))
 }
 
 #[test]
@@ -239,28 +253,18 @@ fn segments_in_order_are_the_table(rt: HostRuntime) -> Result<(), Fail> {
     for size in [0, 1, 199, 200, 201, 399, 400, 401, 448, 600] {
         let part = bytes.get(..size).unwrap_or(&[]);
         let sender = Sender::open(rt.alloc(), NODE_RECORDS, part)?;
-        let mut receiver = Receiver::new(rt.alloc());
-        for number in 1..=sender.segment_count() {
-            assert_eq!(rt; receiver.bytes(), None);
-            receiver.on_data(&sender.segment(number))?;
-        }
-        assert_eq!(rt; receiver.bytes(), Some(part));
+        assert!(rt; comes_whole(rt.alloc(), &sender, part)?);
     }
     Ok(())
 }
 
-/// Whether a receiver of three segments, given those of these numbers, refuses the last one of them for this fault, and
-/// every segment after it.
-fn refuses(alloc: Global, sender: &Sender, numbers: &[u32], fault: ReceiveFault) -> bool {
-    let mut receiver = Receiver::new(alloc);
+/// Whether a receiver is given these MADs of three, refuses the last one of them for this fault, and has nothing to show.
+fn refuses(receiver: &mut Receiver, mads: &[Mad], fault: ReceiveFault) -> bool {
     let mut last = Ok(());
-    for number in numbers {
-        last = receiver.on_data(&segment_of(sender, *number));
+    for mad in mads {
+        last = receiver.on_data(mad);
     }
-    last == Err(fault)
-        && receiver.bytes().is_none()
-        && receiver.on_data(&segment_of(sender, 1)) == Err(fault)
-        && receiver.bytes().is_none()
+    last == Err(fault) && receiver.bytes().is_none()
 }
 
 /// The second first, one twice, one left out, one after the last; 0 is no segment at all.
@@ -274,18 +278,34 @@ const OUT_OF_ORDER: [&[u32]; 7] = [
     &[0],
 ];
 
+/// The segments of these numbers.
+fn segments(alloc: Global, sender: &Sender, numbers: &[u32]) -> Result<Vec<Mad>, Fail> {
+    let mut mads = Vec::new(alloc);
+    for number in numbers {
+        mads.push(segment_of(sender, *number))?;
+    }
+    Ok(mads)
+}
+
+/// And every segment after that.
+fn refuses_for_good(
+    alloc: Global,
+    sender: &Sender,
+    numbers: &[u32],
+    fault: ReceiveFault,
+) -> Result<bool, Fail> {
+    let mads = segments(alloc, sender, numbers)?;
+    let mut receiver = Receiver::new(alloc);
+    let is_refused = refuses(&mut receiver, &mads, fault);
+    Ok(is_refused && refuses(&mut receiver, &[segment_of(sender, 1)], fault))
+}
+
 #[test]
 fn segments_out_of_order_are_refused_for_good(rt: HostRuntime) -> Result<(), Fail> {
     let sender = three_segments(rt.alloc())?;
     for numbers in OUT_OF_ORDER {
-        assert!(rt;
-            refuses(
-                rt.alloc(),
-                &sender,
-                numbers,
-                ReceiveFault::UnexpectedSegment
-            )
-        );
+        let fault = ReceiveFault::UnexpectedSegment;
+        assert!(rt; refuses_for_good(rt.alloc(), &sender, numbers, fault)?);
     }
     Ok(())
 }
@@ -314,30 +334,48 @@ const CHANGED: [(u32, usize, u8, ReceiveFault); 15] = [
     (3, 35, 200, ReceiveFault::WrongLength),
 ];
 
+/// The three segments, with another byte in one of them.
+fn changed(sender: &Sender, number: u32, place: usize, value: u8) -> [Mad; 3] {
+    let mut mads = [
+        segment_of(sender, 1),
+        segment_of(sender, 2),
+        segment_of(sender, 3),
+    ];
+    for (mad, each) in mads.iter_mut().zip([1, 2, 3]) {
+        if each == number {
+            if let Some(byte) = mad.get_mut(place) {
+                *byte = value;
+            }
+        }
+    }
+    mads
+}
+
 #[test]
 fn contradictions_are_refused_for_good(rt: HostRuntime) -> Result<(), Fail> {
     let sender = three_segments(rt.alloc())?;
     for (number, place, value, fault) in CHANGED {
-        let mut receiver = Receiver::new(rt.alloc());
-        let mut last = Ok(());
-        for each in 1..=sender.segment_count() {
-            let mut mad = sender.segment(each);
-            if each == number {
-                if let Some(byte) = mad.get_mut(place) {
-                    *byte = value;
-                }
-            }
-            last = receiver.on_data(&mad);
-        }
-        assert_eq!(rt; last, Err(fault));
-        assert_eq!(rt; receiver.bytes(), None);
+        let mads = changed(&sender, number, place, value);
+        assert!(rt; refuses(&mut Receiver::new(rt.alloc()), &mads, fault));
     }
     Ok(())
 }
 
+/// How many bytes a receiver has of a table of one segment with this PayloadLength, if it takes that.
+fn taken(alloc: Global, length: u8) -> Option<usize> {
+    let rmpp = [1, 1, 7, 0, 0, 0, 0, 1, 0, 0, 0, length];
+    let bytes = table();
+    let data = bytes.get(..200).unwrap_or(&[]);
+    let mad = mad_of(&NODE_RECORDS_HEADER, &rmpp, &NODE_RECORDS_FIELDS, data);
+    let mut receiver = Receiver::new(alloc);
+    match receiver.on_data(&mad) {
+        Ok(()) => Some(receiver.bytes()?.len()),
+        Err(_) => None,
+    }
+}
+
 #[test]
-fn a_single_segment_is_held_to_both_lengths(rt: HostRuntime) -> Result<(), Fail> {
-    let rmpp = |length| [1, 1, 7, 0, 0, 0, 0, 1, 0, 0, 0, length];
+fn a_single_segment_is_held_to_both_lengths(rt: HostRuntime) {
     for (length, size) in [
         (20, Some(0)),
         (21, Some(1)),
@@ -346,17 +384,8 @@ fn a_single_segment_is_held_to_both_lengths(rt: HostRuntime) -> Result<(), Fail>
         (221, None),
         (0, None),
     ] {
-        let mad = mad_of(
-            &NODE_RECORDS_HEADER,
-            &rmpp(length),
-            &NODE_RECORDS_FIELDS,
-            table().get(..200).unwrap_or(&[]),
-        );
-        let mut receiver = Receiver::new(rt.alloc());
-        assert_eq!(rt; receiver.on_data(&mad).is_ok(), size.is_some());
-        assert_eq!(rt; receiver.bytes().map(|bytes| bytes.len()), size);
+        assert_eq!(rt; taken(rt.alloc(), length), size);
     }
-    Ok(())
 }
 
 /// A table that is sent and received: what came, or nothing where memory was refused.

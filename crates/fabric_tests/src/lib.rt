@@ -1,15 +1,11 @@
 //! Tests of the subnet manager on the simulated fabric, through public calls alone: sweeps, LIDs and routes.
 //!
-//! They say what no clause says: that the definitions mean what the documents say, by byte vectors and
-//! worked requests.
+//! They say what no clause says: how many SMPs a sweep takes, what it answers over wires at fault, and that memory is
+//! not refused where it is there.
 #![tactic(auto)]
 
 #[cfg(test)]
 mod fat_tree;
-#[cfg(test)]
-mod fixtures;
-#[cfg(test)]
-mod lids;
 #[cfg(test)]
 mod sweeps;
 #[cfg(test)]

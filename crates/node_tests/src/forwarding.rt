@@ -1,94 +1,89 @@
 //! By which port a switch forwards a unicast packet, by the tables that SMPs wrote.
 
-use crate::agents::fixtures::{TestSwitch, adapter_port_info, attribute_with, set};
-use crate::sending::packet;
+use crate::fixtures::{attribute_with, packet, request};
+use crate::switch_agent::TestSwitch;
 use agent_rules::PortLink;
 use attr_tables::SmpAttribute;
-use data_packet::Packet;
 use fabric_parts::SWITCH_PORTS;
-use std::test::Fail;
+use std::process::Abort;
 use switch_model::Switch;
 
-/// A packet to that LID under this key.
-fn packet_to(dlid: u16, key: u16) -> Result<Packet, Fail> {
-    packet(4, dlid, key, 7)
+fn put(node: &mut TestSwitch, attribute: SmpAttribute, modifier: u32, first: u8, bytes: &[u8]) {
+    let mut smp = request(2, attribute, modifier, attribute_with(first, bytes));
+    node.agent(1, &mut smp);
 }
 
-/// Entries for the LIDs from 0 on; those behind them lead nowhere.
+/// Entries for the LIDs from 0 on, of which 6 is the last that counts.
 const ENTRIES: [u8; 8] = [5, 0, 1, 36, 37, 0xff, 2, 3];
 
-/// A switch of 36 ports, all Down, that SMPs gave these entries and LinearFDBTop 6.
-fn switch_with_entries() -> TestSwitch {
+/// A switch of 36 ports, all Down, that SMPs gave these entries, and the port of that number these enforcement bits and keys.
+fn switch_with(number: u8, enforcement: u8, keys: &[u8]) -> TestSwitch {
     let mut node: TestSwitch = Switch::new(0x10, b"A", &[PortLink::Uncabled; SWITCH_PORTS]);
-    let mut top = set(SmpAttribute::SwitchInfo, 0, attribute_with(6, &[0, 6]));
-    node.agent(1, &mut top);
-    let mut block = [0xff; 64];
-    block[..ENTRIES.len()].copy_from_slice(&ENTRIES);
-    let mut entries = set(SmpAttribute::LinearForwardingTable, 0, block);
-    node.agent(1, &mut entries);
+    put(&mut node, SmpAttribute::SwitchInfo, 0, 6, &[0, 6]);
+    put(
+        &mut node,
+        SmpAttribute::LinearForwardingTable,
+        0,
+        0,
+        &ENTRIES,
+    );
+    let port_info = [0x40, 0, 0, 0, 0, 0, 0, enforcement];
+    put(
+        &mut node,
+        SmpAttribute::PortInfo,
+        u32::from(number),
+        36,
+        &port_info,
+    );
+    put(
+        &mut node,
+        SmpAttribute::PKeyTable,
+        u32::from(number) << 16,
+        0,
+        keys,
+    );
     node
 }
 
-/// DLID, and the port by which the packet leaves, if it does. LID 1 is the switch's own.
-const FORWARDED: [(u16, Option<u8>); 13] = [
-    (0, Some(5)),
-    (1, None),
-    (2, Some(1)),
-    (3, Some(36)),
-    (4, None),
-    (5, None),
-    (6, Some(2)),
-    (7, None),
-    (8, None),
-    (511, None),
-    (512, None),
-    (0xc000, None),
-    (0xffff, None),
+/// By which port a packet leaves, if it does.
+fn out_of(node: &TestSwitch, in_port: u8, dlid: u16, key: u16) -> Option<Option<u8>> {
+    let packet = packet(dlid, key)?;
+    Some(node.unicast_out(in_port, &packet))
+}
+
+/// The port by which a packet comes in, its DLID, and the port by which it leaves, if it does. LID 1 is the switch's own; port 0
+/// is the switch itself, and there is no port 37.
+const FORWARDED: [(u8, u16, Option<u8>); 16] = [
+    (1, 0, Some(5)),
+    (1, 1, None),
+    (1, 2, Some(1)),
+    (1, 3, Some(36)),
+    (1, 4, None),
+    (1, 5, None),
+    (1, 6, Some(2)),
+    (1, 7, None),
+    (1, 8, None),
+    (1, 511, None),
+    (1, 512, None),
+    (1, 0xc000, None),
+    (1, 0xffff, None),
+    (0, 2, Some(1)),
+    (36, 2, Some(1)),
+    (37, 2, None),
 ];
 
 #[test]
-fn a_packet_leaves_by_the_entry_of_its_lid(rt: HostRuntime) -> Result<(), Fail> {
-    let node = switch_with_entries();
-    // port 0 is the switch itself; port 1 is where LID 2 leads, too
-    for in_port in [0, 1, 36] {
-        for (dlid, out) in FORWARDED {
-            assert_eq!(rt; node.unicast_out(in_port, &packet_to(dlid, 0x0001)?), out);
-        }
+fn a_packet_leaves_by_the_entry_of_its_lid(rt: HostRuntime) {
+    let node = switch_with(1, 0, &[]);
+    for (in_port, dlid, out) in FORWARDED {
+        assert_eq!(rt; out_of(&node, in_port, dlid, 0x0001), Some(out));
     }
-    assert_eq!(rt;
-        node.unicast_out(37, &packet_to(2, 0x0001)?),
-        None,
-        "no such port"
-    );
-    Ok(())
-}
-
-#[test]
-fn a_new_switch_forwards_nothing(rt: HostRuntime) -> Result<(), Fail> {
-    let node: TestSwitch = Switch::new(0x10, b"A", &[PortLink::Cabled; SWITCH_PORTS]);
-    for (dlid, _) in FORWARDED {
-        assert_eq!(rt; node.unicast_out(1, &packet_to(dlid, 0xffff)?), None);
-    }
-    Ok(())
 }
 
 /// PartitionEnforcementInbound and PartitionEnforcementOutbound, in their byte.
 const INBOUND: u8 = 0x08;
 
 const OUTBOUND: u8 = 0x04;
-
-/// The same switch; SMPs gave the port of that number these enforcement bits and these keys.
-fn enforcing_switch(number: u8, enforcement: u8, keys: &[u8; 4]) -> TestSwitch {
-    let mut node = switch_with_entries();
-    let mut bytes = adapter_port_info(0);
-    bytes[43] = 0x10 + enforcement % 16;
-    let mut info = set(SmpAttribute::PortInfo, u32::from(number), bytes);
-    node.agent(1, &mut info);
-    let words = attribute_with(0, keys);
-    let mut table = set(SmpAttribute::PKeyTable, u32::from(number) << 16, words);
-    node.agent(1, &mut table);
-    node
-}
 
 /// Keys of a port that enforces partitions, a packet's key, and whether the packet passes.
 const ENFORCED: [([u8; 4], u16, bool); 11] = [
@@ -105,39 +100,58 @@ const ENFORCED: [([u8; 4], u16, bool); 11] = [
     ([0, 0, 0, 0], 0x0001, false),
 ];
 
-/// Which port enforces partitions, and which way, for packets that come in at port 1 and leave by port 2; and
-/// whether that concerns them.
-const ENFORCING: [(u8, u8, bool); 8] = [
-    (1, INBOUND, true),
-    (1, OUTBOUND, false),
-    (1, 0x03, false),
-    (2, INBOUND, false),
-    (2, OUTBOUND, true),
-    (2, INBOUND + OUTBOUND, true),
-    (2, 0, false),
-    (3, INBOUND + OUTBOUND, false),
+/// Which port enforces partitions, and which way, for packets that come in at port 1; their DLID, by which they leave by port 2
+/// or come back; and whether that concerns them.
+const ENFORCING: [(u8, u8, u16, u8, bool); 11] = [
+    (1, INBOUND, 6, 2, true),
+    (1, OUTBOUND, 6, 2, false),
+    (1, 0x03, 6, 2, false),
+    (2, INBOUND, 6, 2, false),
+    (2, OUTBOUND, 6, 2, true),
+    (2, INBOUND + OUTBOUND, 6, 2, true),
+    (2, 0, 6, 2, false),
+    (3, INBOUND + OUTBOUND, 6, 2, false),
+    (1, INBOUND, 2, 1, true),
+    (1, OUTBOUND, 2, 1, true),
+    (1, INBOUND + OUTBOUND, 2, 1, true),
 ];
 
-#[test]
-fn the_entry_port_enforces_inbound_and_the_other_outbound(rt: HostRuntime) -> Result<(), Fail> {
-    for (number, enforcement, concerned) in ENFORCING {
-        for (keys, key, passes) in ENFORCED {
-            let node = enforcing_switch(number, enforcement, &keys);
-            let out = if passes || !concerned { Some(2) } else { None };
-            assert_eq!(rt; node.unicast_out(1, &packet_to(6, key)?), out);
-        }
+/// By which port a packet leaves the switch whose port of that number enforces partitions so.
+fn out_of_enforcing(
+    number: u8,
+    enforcement: u8,
+    keys: &[u8],
+    dlid: u16,
+    key: u16,
+) -> Option<Option<u8>> {
+    let node = switch_with(number, enforcement, keys);
+    out_of(&node, 1, dlid, key)
+}
+
+fn is_enforced(
+    rt: &impl Abort,
+    number: u8,
+    enforcement: u8,
+    dlid: u16,
+    out: u8,
+    is_concerned: bool,
+) {
+    for (keys, key, passes) in ENFORCED {
+        let left = if passes || !is_concerned {
+            Some(out)
+        } else {
+            None
+        };
+        assert_eq!(rt;
+            out_of_enforcing(number, enforcement, &keys, dlid, key),
+            Some(left)
+        );
     }
-    Ok(())
 }
 
 #[test]
-fn a_packet_that_comes_back_is_judged_both_ways(rt: HostRuntime) -> Result<(), Fail> {
-    for enforcement in [INBOUND, OUTBOUND, INBOUND + OUTBOUND] {
-        for (keys, key, passes) in ENFORCED {
-            let node = enforcing_switch(1, enforcement, &keys);
-            let out = if passes { Some(1) } else { None };
-            assert_eq!(rt; node.unicast_out(1, &packet_to(2, key)?), out);
-        }
+fn the_entry_port_enforces_inbound_and_the_other_outbound(rt: HostRuntime) {
+    for (number, enforcement, dlid, out, is_concerned) in ENFORCING {
+        is_enforced(&rt, number, enforcement, dlid, out, is_concerned);
     }
-    Ok(())
 }

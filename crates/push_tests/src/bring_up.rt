@@ -1,51 +1,46 @@
-//! What stands in the agents of the two-switch fabric once it is brought up, whatever stood there before.
+//! What the end ports of the two-switch fabric are told.
 
 use crate::fixtures::found;
-use crate::keys::{fill_key_tables, keys_of_one_partition, keys_stand, other_tables_stay};
-use crate::linear::{entries_stand, fill_tables};
-use crate::ports::{ends_stand, fill_infos, switch_ports_stand, tops_stand};
-use fabric_wire::{Fabric, SmpWire};
-use std::alloc::Global;
+use attr_tables::SmpAttribute;
+use fabric_wire::{SmpWire, get_attribute};
+use std::process::Abort;
 use std::test::Fail;
-use table_push::push_all;
+use table_push::push_ports;
 use updn_routes::Routes;
 
-/// The fabric after all three pushes, with the keys of one partition.
-fn brought_up(alloc: Global) -> Result<Fabric, Fail> {
-    let (mut fabric, routes) = found(alloc)?;
-    fill(&mut fabric)?;
-    push(alloc, &mut fabric, &routes)?;
-    Ok(fabric)
+/// End ports by the paths to them, and their LIDs.
+const ENDS: [(&[u8], u8); 6] = [
+    (&[], 1),
+    (&[1], 2),
+    (&[1, 3], 3),
+    (&[1, 2], 4),
+    (&[1, 3, 1], 5),
+    (&[1, 3, 2], 6),
+];
+
+/// Where GidPrefix stands in PortInfo, and behind it the LID and the subnet manager's LID; PortState, four bits.
+const GID_PREFIX: usize = 8;
+
+const STATE: usize = 32;
+
+/// Each end port has the link-local prefix, its LID and the subnet manager's, and is Active.
+fn ends_stand<W: SmpWire>(rt: &impl Abort, wire: &mut W) -> Result<(), Fail> {
+    for (path, lid) in ENDS {
+        let info = get_attribute(wire, 1, SmpAttribute::PortInfo, 0, path).or(Err("a Get"))?;
+        let wanted = [0xfe, 0x80, 0, 0, 0, 0, 0, 0, 0, lid, 0, 1];
+        assert_eq!(rt; &info[GID_PREFIX..GID_PREFIX + 12], wanted.as_slice());
+        assert_eq!(rt; info[STATE] & 0x0f, 4);
+    }
+    Ok(())
 }
 
-fn fill<W: SmpWire>(wire: &mut W) -> Result<(), Fail> {
-    fill_infos(wire)?;
-    fill_key_tables(wire)?;
-    fill_tables(wire)
-}
-
-fn push<W: SmpWire>(alloc: Global, wire: &mut W, routes: &Routes) -> Result<(), Fail> {
-    let keys = keys_of_one_partition(alloc)?;
-    Ok(push_all(wire, routes, &keys).or(Err("a push"))?)
-}
-
-#[test]
-fn ports_are_set_up_and_those_without_a_cable_stay(rt: HostRuntime) -> Result<(), Fail> {
-    let mut fabric = brought_up(rt.alloc())?;
-    ends_stand(&rt, &mut fabric)?;
-    switch_ports_stand(&rt, &mut fabric)?;
-    tops_stand(&rt, &mut fabric)
-}
-
-#[test]
-fn key_tables_are_the_files_and_nothing_else(rt: HostRuntime) -> Result<(), Fail> {
-    let mut fabric = brought_up(rt.alloc())?;
-    keys_stand(&rt, &mut fabric)?;
-    other_tables_stay(&rt, &mut fabric)
+fn ends_are_told<W: SmpWire>(rt: &impl Abort, wire: &mut W, routes: &Routes) -> Result<(), Fail> {
+    push_ports(wire, routes).or(Err("a push"))?;
+    ends_stand(rt, wire)
 }
 
 #[test]
-fn linear_tables_are_the_routes_and_nothing_else(rt: HostRuntime) -> Result<(), Fail> {
-    let mut fabric = brought_up(rt.alloc())?;
-    entries_stand(&rt, &mut fabric)
+fn end_ports_are_told_their_lid_and_the_managers(rt: HostRuntime) -> Result<(), Fail> {
+    let (mut fabric, routes) = found(rt.alloc())?;
+    ends_are_told(&rt, &mut fabric, &routes)
 }

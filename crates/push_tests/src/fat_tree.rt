@@ -1,15 +1,12 @@
-//! Fat trees that are brought up.
+//! Fat trees whose pushes are counted. `bench/measure` counts the instructions of each push.
 
 ghost use Rattle.std.specs.Prelude.{◌≤◌, ◌<◌};
 
-use crate::fixtures::{Push, routes_over};
-use crate::keys::table_of;
+use crate::fixtures::{Push, keys_of, routes_over};
 use fabric_wire::{CountingWire, Fabric, SmpWire};
-use pkey_rules::{KeyTable, PARTITIONS};
 use std::alloc::Global;
 use std::process::Abort;
 use std::test::Fail;
-use table_push::push_all;
 use test_fabrics::fat_tree_of;
 use updn_routes::Routes;
 
@@ -17,7 +14,7 @@ use updn_routes::Routes;
 /// each end of a cable. Keys: four for each switch, and for each end of a cable to an adapter, of which three ask whether an empty
 /// block is there. Linear tables: one a block. A slice
 /// of multicast tables: one for each position of each switch.
-fn smps_of(push: Push, leaves: u16) -> u64
+fn smps_of(push: &Push, leaves: u16) -> u64
     requires { leaves ≤ 32 }
 {
     let switches = 2 * u64::from(leaves);
@@ -47,17 +44,6 @@ fn roots_of(alloc: Global, leaves: u16) -> Result<Vec<u64>, Fail>
     Ok(roots)
 }
 
-/// Two keys for each of the LIDs.
-fn keys_of(alloc: Global, leaves: u16) -> Result<Vec<KeyTable<PARTITIONS>>, Fail>
-    requires { leaves ≤ 32 }
-{
-    let mut tables = Vec::new(alloc);
-    for _ in 0..10 * leaves {
-        tables.push(table_of(0x7fff, 0x8001)?).or(Err("memory"))?;
-    }
-    Ok(tables)
-}
-
 /// The routes of a fat tree, with the spines as roots.
 fn routed<W: SmpWire>(alloc: Global, wire: &mut W, leaves: u16) -> Result<Routes, Fail>
     requires { leaves ≤ 32 }
@@ -68,7 +54,7 @@ fn routed<W: SmpWire>(alloc: Global, wire: &mut W, leaves: u16) -> Result<Routes
 
 /// One push over a fat tree that is made, swept and routed for it. `bench/measure` counts the instructions of each call.
 #[inline(never)]
-fn is_pushed(rt: &impl Abort, alloc: Global, leaves: u16, push: Push) -> Result<(), Fail>
+fn is_pushed(rt: &impl Abort, alloc: Global, leaves: u16, push: &Push) -> Result<(), Fail>
     requires some { 0 < leaves }
     requires few { leaves ≤ 32 }
 {
@@ -85,81 +71,31 @@ fn count_of(
     wire: Fabric,
     routes: &Routes,
     leaves: u16,
-    push: Push,
+    push: &Push,
 ) -> Result<u64, Fail>
     requires { leaves ≤ 32 }
 {
-    let keys = keys_of(alloc, leaves)?;
+    let keys = keys_of(alloc, 10 * leaves)?;
     let mut counting = CountingWire { wire, count: 0 };
     push.over(&mut counting, routes, &keys).or(Err("a push"))?;
     Ok(counting.count)
 }
 
-/// Each push alone, and none.
-fn each_is_pushed(rt: &impl Abort, alloc: Global, leaves: u16) -> Result<(), Fail>
-    requires some { 0 < leaves }
-    requires few { leaves ≤ 32 }
-{
-    for push in [
-        Push::Nothing,
-        Push::Ports,
-        Push::Keys,
-        Push::Linear,
-        Push::Multicast,
-    ] {
-        is_pushed(rt, alloc, leaves, push)?;
-    }
-    Ok(())
-}
+/// None, and each push alone.
+const PUSHES: [Push; 5] = [
+    Push::Nothing,
+    Push::Ports,
+    Push::Keys,
+    Push::Linear,
+    Push::Multicast,
+];
 
 #[test]
 fn fat_trees_of_8_16_and_64_switches_have_what_is_pushed(rt: HostRuntime) -> Result<(), Fail> {
-    each_is_pushed(&rt, rt.alloc(), 4)?;
-    each_is_pushed(&rt, rt.alloc(), 8)?;
-    each_is_pushed(&rt, rt.alloc(), 32)
-}
-
-/// A fat tree that is swept, routed and brought up by all three pushes, over one wire.
-fn is_brought_up(rt: &impl Abort, alloc: Global, leaves: u16, smps: u64) -> Result<(), Fail>
-    requires some { 0 < leaves }
-    requires few { leaves ≤ 32 }
-{
-    let count = smps_to_bring_up(alloc, fat_tree_of(alloc, leaves)?, leaves)?;
-    assert_eq!(rt; count, smps);
+    for leaves in [4, 8, 32] {
+        for push in PUSHES.iter() {
+            is_pushed(&rt, rt.alloc(), leaves, push)?;
+        }
+    }
     Ok(())
-}
-
-fn smps_to_bring_up(alloc: Global, wire: Fabric, leaves: u16) -> Result<u64, Fail>
-    requires { leaves ≤ 32 }
-{
-    let mut counting = CountingWire { wire, count: 0 };
-    all_is_done(alloc, &mut counting, leaves)?;
-    Ok(counting.count)
-}
-
-fn all_is_done<W: SmpWire>(alloc: Global, wire: &mut W, leaves: u16) -> Result<(), Fail>
-    requires { leaves ≤ 32 }
-{
-    let routes = routed(alloc, wire, leaves)?;
-    all_is_pushed(alloc, wire, &routes, leaves)
-}
-
-fn all_is_pushed<W: SmpWire>(
-    alloc: Global,
-    wire: &mut W,
-    routes: &Routes,
-    leaves: u16,
-) -> Result<(), Fail>
-    requires { leaves ≤ 32 }
-{
-    let keys = keys_of(alloc, leaves)?;
-    Ok(push_all(wire, routes, &keys).or(Err("a push"))?)
-}
-
-/// The greatest takes 14,658 SMPs, of which the sweep has 4,674, and 1,728 ask whether blocks of keys are empty.
-#[test]
-fn fat_trees_of_8_16_and_64_switches_are_brought_up(rt: HostRuntime) -> Result<(), Fail> {
-    is_brought_up(&rt, rt.alloc(), 4, 1066)?;
-    is_brought_up(&rt, rt.alloc(), 8, 2386)?;
-    is_brought_up(&rt, rt.alloc(), 32, 14658)
 }

@@ -1,11 +1,10 @@
-//! Pushes over wires at fault: each stops at the first exchange that is.
+//! Pushes over a wire at fault: each stops at the first exchange that is, and numbers its requests.
 
 ghost use Rattle.std.specs.Prelude.{None};
 
-use crate::fixtures::{Push, found};
-use crate::keys::keys_of_one_partition;
+use crate::fixtures::{Push, found, keys_of};
 use fabric_wire::{Fabric, SmpWire};
-use mad_layout::{Mad, Method};
+use mad_layout::Mad;
 use pkey_rules::{KeyTable, PARTITIONS};
 use std::alloc::Global;
 use std::process::Abort;
@@ -13,10 +12,10 @@ use std::test::Fail;
 use table_push::PushFault;
 use updn_routes::Routes;
 
-/// How many exchanges each push takes over the two-switch fabric, and how many of them are Sets. Ports: Get and Set of two
-/// ports 0 and of SwitchInfo twice; of the ten ports that a cable ends in a Get, and a Set each to Armed and to Active. Key
-/// tables: of two ports 0, and of both ends of four cables, a Set of the first block and a Get of each of the three empty ones. Linear tables: eight blocks each of two switches. A slice of
-/// multicast tables: a block at each of three positions of two switches.
+/// The pushes over the two-switch fabric: how many exchanges each takes, and how many of them are Sets. Ports: Get and Set of two ports 0 and of SwitchInfo twice; of the ten ports that a
+/// cable ends in a Get, and a Set each to Armed and to Active. Key tables: of two ports 0, and of both ends of four
+/// cables, a Set of the first block and a Get of each of the three empty ones. Linear tables: eight blocks each of two
+/// switches. A slice of multicast tables: a block at each of three positions of two switches.
 const PUSHES: [(Push, u64, u64); 4] = [
     (Push::Multicast, 6, 6),
     (Push::Ports, 38, 24),
@@ -24,8 +23,13 @@ const PUSHES: [(Push, u64, u64); 4] = [
     (Push::Linear, 16, 16),
 ];
 
-/// Where the class version stands in an SMP, the method, the status in a reply, the TransactionID, the modifier and the
-/// attribute.
+/// The method of a Get and of a Set.
+const GET: u8 = 1;
+
+const SET: u8 = 2;
+
+/// Where the class version stands in an SMP, the method, the status in a reply, the TransactionID, the modifier, the
+/// attribute, and PortState in PortInfo.
 const CLASS_VERSION: usize = 2;
 
 const METHOD: usize = 3;
@@ -38,173 +42,130 @@ const MODIFIER: usize = 23;
 
 const DATA: usize = 64;
 
-/// Where PortState stands in PortInfo.
 const STATE: usize = DATA + 32;
 
-/// What a wire does to one exchange.
-#[derive(Clone, Copy, Debug)]
-enum Spoils {
-    /// No reply comes.
-    Exchange,
-    /// These bits of a byte of the reply are turned.
-    Reply(usize, u8),
-    /// The same, of exchanges that set.
-    ReplyToSet(usize, u8),
-}
+/// A place that no SMP has.
+const NOWHERE: usize = 256;
+
+/// Of requests by that method, or a greater one: which byte of the reply is turned, and in which bits. Where there is no such
+/// byte, no reply comes. And what a push stops with. Of what is set these are the first and the last byte, and one of a
+/// LID or, of SwitchInfo, of LinearFDBTop.
+const SPOILS: [((u8, usize, u8), PushFault); 9] = [
+    ((GET, NOWHERE, 0), PushFault::NoReply),
+    ((GET, STATUS, 0x1c), PushFault::Refused),
+    ((GET, TRANSACTION_ID, 1), PushFault::NotAsSet),
+    ((GET, CLASS_VERSION, 3), PushFault::NotAsSet),
+    ((GET, MODIFIER, 0x40), PushFault::NotAsSet),
+    ((SET, DATA, 1), PushFault::NotAsSet),
+    ((SET, DATA + 7, 2), PushFault::NotAsSet),
+    ((SET, DATA + 17, 4), PushFault::NotAsSet),
+    ((SET, DATA + 63, 0x80), PushFault::NotAsSet),
+];
 
 /// Passes so many exchanges on, of those that it may spoil, spoils the next, and passes on what comes then: so a push that
-/// does not stop there is seen. It stands for no fabric.
+/// does not stop there is seen. Where requests are to be numbered, it answers none whose TransactionID is not the number
+/// of the exchange. It stands for no fabric.
 #[derive(Drop)]
 struct FaultyWire {
     wire: Fabric,
+    exchanges: u8,
+    is_numbered: bool,
     left: u64,
-    spoils: Spoils,
-}
-
-impl FaultyWire {
-    /// Whether it is the turn of this exchange.
-    fn is_spoilt(&mut self, smp: &Mad) -> bool {
-        if matches!(self.spoils, Spoils::ReplyToSet(_, _)) && smp[METHOD] != Method::Set.code() {
-            return false;
-        }
-        let is_spoilt = self.left == 0;
-        self.left = self.left.wrapping_sub(1);
-        is_spoilt
-    }
+    spoil: (u8, usize, u8),
 }
 
 impl SmpWire for FaultyWire {
     ghost fabric = { λ _. None };
 
     fn exchange(&mut self, smp: &Mad) -> Option<Mad> {
-        let is_spoilt = self.is_spoilt(smp);
-        let reply = self.wire.exchange(smp)?;
-        if is_spoilt {
-            spoilt(self.spoils, reply)
-        } else {
-            Some(reply)
+        self.exchanges = self.exchanges.wrapping_add(1);
+        if self.is_numbered && smp[TRANSACTION_ID] != self.exchanges {
+            return None;
         }
-    }
-}
-
-fn spoilt(spoils: Spoils, mut reply: Mad) -> Option<Mad> {
-    match spoils {
-        Spoils::Exchange => None,
-        Spoils::Reply(place, bits) | Spoils::ReplyToSet(place, bits) => {
-            let byte = reply.get_mut(place)?;
-            *byte ^= bits;
-            Some(reply)
+        let mut reply = self.wire.exchange(smp)?;
+        let (method, place, bits) = self.spoil;
+        if smp[METHOD] >= method {
+            self.left = self.left.wrapping_sub(1);
+            if self.left == u64::MAX {
+                *reply.get_mut(place)? ^= bits;
+            }
         }
+        Some(reply)
     }
 }
 
 /// What a push answers over the two-switch fabric where the exchange behind so many is spoilt.
 fn pushed(
     alloc: Global,
-    push: Push,
+    push: &Push,
+    is_numbered: bool,
     left: u64,
-    spoils: Spoils,
+    spoil: (u8, usize, u8),
 ) -> Result<Result<(), PushFault>, Fail> {
-    let (fabric, routes) = found(alloc)?;
-    let keys = keys_of_one_partition(alloc)?;
-    Ok(pushed_over(fabric, &routes, &keys, push, left, spoils))
+    let keys = keys_of(alloc, 6)?;
+    let (wire, routes) = found(alloc)?;
+    let faulty = FaultyWire {
+        wire,
+        exchanges: 0,
+        is_numbered,
+        left,
+        spoil,
+    };
+    Ok(pushed_over(faulty, push, &routes, &keys))
 }
 
 fn pushed_over(
-    wire: Fabric,
+    mut wire: FaultyWire,
+    push: &Push,
     routes: &Routes,
     keys: &[KeyTable<PARTITIONS>],
-    push: Push,
-    left: u64,
-    spoils: Spoils,
 ) -> Result<(), PushFault> {
-    let mut faulty = FaultyWire { wire, left, spoils };
-    push.over(&mut faulty, routes, keys)
+    push.over(&mut wire, routes, keys)
 }
 
 /// A push stops wherever one of so many exchanges is spoilt, and has no more.
 fn stops(
     rt: &impl Abort,
     alloc: Global,
-    push: Push,
+    push: &Push,
+    is_numbered: bool,
     count: u64,
-    spoils: Spoils,
+    spoil: (u8, usize, u8),
     fault: PushFault,
 ) -> Result<(), Fail> {
     for left in 0..count {
-        assert_eq!(rt; pushed(alloc, push, left, spoils)?, Err(fault));
+        let told = pushed(alloc, push, is_numbered, left, spoil)?;
+        assert_eq!(rt; told, Err(fault));
     }
-    assert_eq!(rt; pushed(alloc, push, count, spoils)?, Ok(()));
+    let told = pushed(alloc, push, is_numbered, count, spoil)?;
+    assert_eq!(rt; told, Ok(()));
     Ok(())
 }
 
 #[test]
-fn a_silent_wire_stops_a_push(rt: HostRuntime) -> Result<(), Fail> {
-    for (push, exchanges, _) in PUSHES {
-        let fault = PushFault::NoReply;
-        stops(&rt, rt.alloc(), push, exchanges, Spoils::Exchange, fault)?;
+fn a_push_stops_at_the_first_exchange_at_fault(rt: HostRuntime) -> Result<(), Fail> {
+    for (push, exchanges, sets) in PUSHES.iter() {
+        for (spoil, fault) in SPOILS {
+            let count = if spoil.0 == SET { *sets } else { *exchanges };
+            stops(&rt, rt.alloc(), push, true, count, spoil, fault)?;
+        }
     }
     Ok(())
 }
 
-#[test]
-fn a_refusal_stops_a_push(rt: HostRuntime) -> Result<(), Fail> {
-    for (push, exchanges, _) in PUSHES {
-        let refusal = Spoils::Reply(STATUS, 0x1c);
-        stops(
-            &rt,
-            rt.alloc(),
-            push,
-            exchanges,
-            refusal,
-            PushFault::Refused,
-        )?;
-    }
-    Ok(())
-}
-
-/// What a wire does to one exchange, and how all three pushes, one after another, stop there: at each of their exchanges.
-const ALL_STOP: [(Spoils, PushFault); 5] = [
-    (Spoils::Exchange, PushFault::NoReply),
-    (Spoils::Reply(STATUS, 0x1c), PushFault::Refused),
-    (Spoils::Reply(TRANSACTION_ID, 1), PushFault::NotAsSet),
-    (Spoils::Reply(CLASS_VERSION, 3), PushFault::NotAsSet),
-    (Spoils::Reply(MODIFIER, 0x40), PushFault::NotAsSet),
-];
-
+/// The numbers of the requests of each push begin at 1.
 #[test]
 fn all_pushes_stop_where_one_of_them_does(rt: HostRuntime) -> Result<(), Fail> {
-    for (spoils, fault) in ALL_STOP {
-        stops(&rt, rt.alloc(), Push::All, 38 + 40 + 16, spoils, fault)?;
-    }
-    Ok(())
-}
-
-#[test]
-fn a_reply_of_another_request_stops_a_push(rt: HostRuntime) -> Result<(), Fail> {
-    for (push, exchanges, _) in PUSHES {
-        let other = Spoils::Reply(TRANSACTION_ID, 1);
-        stops(&rt, rt.alloc(), push, exchanges, other, PushFault::NotAsSet)?;
-    }
-    Ok(())
-}
-
-/// The first and the last byte of an attribute, and one of a LID or, of SwitchInfo, of LinearFDBTop.
-const BYTES: [(usize, u8); 4] = [(DATA, 1), (DATA + 7, 2), (DATA + 17, 4), (DATA + 63, 0x80)];
-
-#[test]
-fn another_byte_than_was_set_stops_a_push(rt: HostRuntime) -> Result<(), Fail> {
-    for (place, bits) in BYTES {
-        all_stop(&rt, rt.alloc(), Spoils::ReplyToSet(place, bits))?;
-    }
-    Ok(())
-}
-
-fn all_stop(rt: &impl Abort, alloc: Global, spoils: Spoils) -> Result<(), Fail> {
-    for (push, _, sets) in PUSHES {
-        stops(rt, alloc, push, sets, spoils, PushFault::NotAsSet)?;
-    }
-    Ok(())
+    let (spoil, fault) = SPOILS[0];
+    stops(
+        &rt,
+        rt.alloc(),
+        &Push::All,
+        false,
+        38 + 40 + 16,
+        spoil,
+        fault,
+    )
 }
 
 /// Which of the Sets of ports ask for no state: those of port 0 of each switch.
@@ -213,43 +174,8 @@ const NO_STATE_ASKED: [u64; 2] = [0, 3];
 #[test]
 fn a_state_that_was_not_asked_is_not_compared(rt: HostRuntime) -> Result<(), Fail> {
     for left in 0..24 {
-        let told = pushed(rt.alloc(), Push::Ports, left, Spoils::ReplyToSet(STATE, 1))?;
+        let told = pushed(rt.alloc(), &Push::Ports, true, left, (SET, STATE, 1))?;
         assert_eq!(rt; told.is_ok(), NO_STATE_ASKED.contains(&left));
-    }
-    Ok(())
-}
-
-/// Answers a request only where its TransactionID is the number of the exchange, counted from 1. It stands for no fabric.
-#[derive(Drop)]
-struct NumberingWire {
-    wire: Fabric,
-    exchanges: u8,
-}
-
-impl SmpWire for NumberingWire {
-    ghost fabric = { λ _. None };
-
-    fn exchange(&mut self, smp: &Mad) -> Option<Mad> {
-        self.exchanges = self.exchanges.wrapping_add(1);
-        if smp[TRANSACTION_ID] == self.exchanges {
-            self.wire.exchange(smp)
-        } else {
-            None
-        }
-    }
-}
-
-fn pushed_by_number(alloc: Global, push: Push) -> Result<Result<(), PushFault>, Fail> {
-    let (wire, routes) = found(alloc)?;
-    let keys = keys_of_one_partition(alloc)?;
-    let mut numbering = NumberingWire { wire, exchanges: 0 };
-    Ok(push.over(&mut numbering, &routes, &keys))
-}
-
-#[test]
-fn each_request_of_a_push_has_the_next_number(rt: HostRuntime) -> Result<(), Fail> {
-    for (push, _, _) in PUSHES {
-        assert_eq!(rt; pushed_by_number(rt.alloc(), push)?, Ok(()));
     }
     Ok(())
 }

@@ -1,12 +1,10 @@
-//! Fabrics with their routes, the pushes, and what agents have.
+//! Fabrics with their routes, key tables, and the pushes.
 
-ghost use Rattle.std.specs.Prelude.{◌≤◌, length};
 ghost use Rattle.sweep.specs.Joined.{AllJoined};
 
-use attr_tables::SmpAttribute;
-use fabric_wire::{Fabric, SmpWire, get_attribute, set_attribute};
+use fabric_wire::{Fabric, SmpWire};
 use lid_assign::assign;
-use pkey_rules::{KeyTable, PARTITIONS};
+use pkey_rules::{KeyTable, PARTITIONS, PKey};
 use std::alloc::Global;
 use std::test::Fail;
 use subnet_model::GroupReceiver;
@@ -16,7 +14,6 @@ use test_fabrics::two_switch_fabric;
 use updn_routes::{Routes, are_switches, routes};
 
 /// One of the pushes, none, or the first three one after another.
-#[derive(Clone, Copy, Debug)]
 pub enum Push {
     Nothing,
     Ports,
@@ -27,8 +24,8 @@ pub enum Push {
     All,
 }
 
-/// Of the first multicast LID of partition 1: the LIDs of h1 and h2 of the two-switch fabric.
-const RECEIVERS: [GroupReceiver; 2] = [
+/// h1 and h2 of the two-switch fabric, of the first multicast LID of partition 1.
+pub const TWO: [GroupReceiver; 2] = [
     GroupReceiver {
         mlid: 0xc020,
         lid: 4,
@@ -42,7 +39,7 @@ const RECEIVERS: [GroupReceiver; 2] = [
 impl Push {
     /// What the push answers over a wire.
     pub fn over<W: SmpWire>(
-        self,
+        &self,
         wire: &mut W,
         routes: &Routes,
         keys: &[KeyTable<PARTITIONS>],
@@ -52,7 +49,7 @@ impl Push {
             Push::Ports => push_ports(wire, routes),
             Push::Keys => push_keys(wire, routes, keys),
             Push::Linear => push_linear(wire, routes),
-            Push::Multicast => push_multicast(wire, routes, 1, &RECEIVERS),
+            Push::Multicast => push_multicast(wire, routes, 1, &TWO),
             Push::All => push_all(wire, routes, keys),
         }
     }
@@ -83,28 +80,19 @@ fn routes_of(alloc: Global, graph: Graph, roots: &[u64]) -> Result<Routes, Fail>
     Ok(routes(alloc, graph, lids, roots).or(Err("routes"))?)
 }
 
-/// What a Get of an attribute says of the node at the end of a path.
-pub fn told<W: SmpWire>(
-    wire: &mut W,
-    attribute: SmpAttribute,
-    modifier: u32,
-    path: &[u8],
-) -> Result<[u8; 64], Fail>
-    requires short { length path.now ≤ 63 }
-{
-    Ok(get_attribute(wire, 1, attribute, modifier, path).or(Err("a Get"))?)
+/// A table of one key.
+fn one_key() -> Result<KeyTable<PARTITIONS>, Fail> {
+    let key = PKey::new(0x7fff).or(Err("a key"))?;
+    let mut table = KeyTable::new();
+    table.push(key).or(Err("a place"))?;
+    Ok(table)
 }
 
-/// Sets an attribute of the node at the end of a path.
-pub fn give<W: SmpWire>(
-    wire: &mut W,
-    attribute: SmpAttribute,
-    modifier: u32,
-    path: &[u8],
-    bytes: &[u8; 64],
-) -> Result<(), Fail>
-    requires short { length path.now ≤ 63 }
-{
-    set_attribute(wire, 1, attribute, modifier, path, bytes).or(Err("a Set"))?;
-    Ok(())
+/// A key for each of so many LIDs.
+pub fn keys_of(alloc: Global, lids: u16) -> Result<Vec<KeyTable<PARTITIONS>>, Fail> {
+    let mut tables = Vec::new(alloc);
+    for _ in 0..lids {
+        tables.push(one_key()?).or(Err("memory"))?;
+    }
+    Ok(tables)
 }

@@ -1,7 +1,7 @@
 //! Tests of the pushes: ports, key tables, linear and multicast forwarding tables, through public calls alone.
 //!
-//! They say what no clause says: what stands in the agents then, by byte vectors, what a push does over wires at fault,
-//! and how many SMPs it takes.
+//! They say what no clause says: what an end port is told, byte for byte, what a push does over wires at fault, and how
+//! many SMPs it takes.
 #![tactic(auto)]
 
 #[cfg(test)]
@@ -15,10 +15,4 @@ mod faults;
 #[cfg(test)]
 mod fixtures;
 #[cfg(test)]
-mod keys;
-#[cfg(test)]
-mod linear;
-#[cfg(test)]
 mod multicast;
-#[cfg(test)]
-mod ports;

@@ -40,26 +40,11 @@ fn a_step_tells_its_events(rt: HostRuntime) -> Result<(), Fail> {
     Ok(())
 }
 
-/// tools/refused-memory refuses each allocation of this test, and of the next, in turn.
-#[test]
-fn a_run_is_told_or_memory_is_refused(rt: HostRuntime) -> Result<(), Fail> {
-    let script = b"send h1/1 5 0xffff 7 2:beef\nsend h1/1 5 0x7fff 7 0:\n";
-    let expected = b"h2/1 recv 0x0004 0x0005 0xffff 0x000007 2:beef\nh1/1 refused AR1\n";
-    match run(rt.alloc(), TWO_SWITCHES.as_bytes(), None, script) {
-        Ok(report) => match report.text() {
-            Ok(text) => assert_eq!(rt; text.as_slice(), expected.as_slice()),
-            Err(_) => {}
-        },
-        Err(fault) => assert_eq!(rt; fault, RunFault::NoMemory),
-    }
-    Ok(())
-}
-
 /// A partition of which h1 is a full member, and h2 and h3 are limited ones.
-pub const PARTITIONS: &str = "P1=0x0001: 0x111=full, 0x121, 0x131;";
+const PARTITIONS: &str = "P1=0x0001: 0x111=full, 0x121, 0x131;";
 
 /// A group is made and joined, records come in segments, a service is set, and a packet goes to the group.
-pub const ASKS: &str = "ask h1/1 set member tid=1 mgid=0xff12000000000000000000000000000a \
+const ASKS: &str = "ask h1/1 set member tid=1 mgid=0xff12000000000000000000000000000a \
     portgid=0xfe800000000000000000000000000111 qkey=1 tclass=0 pkey=0x8001 sl=0 flow=0 join=1\n\
     ask h2/1 set member tid=1 mgid=0xff12000000000000000000000000000a \
     portgid=0xfe800000000000000000000000000121 pkey=0x8001 join=1\n\
@@ -83,7 +68,8 @@ fn answers(rt: &impl Abort, alloc: Global) -> Option<Vec<u8>> {
     }
 }
 
-/// Of two runs at most one is refused memory, and what one tells the other tells.
+/// Of two runs at most one is refused memory, and what one tells the other tells. tools/refused-memory refuses each allocation
+/// of this test, and of the last, in turn.
 #[test]
 fn a_run_that_asks_is_told_or_memory_is_refused(rt: HostRuntime) -> Result<(), Fail> {
     let first = answers(&rt, rt.alloc());

@@ -1,137 +1,267 @@
-//! Ways that no subnet manager of ours leaves: a byte of a table is spoilt by an SMP, and the trace says why the packet is
-//! lost.
+//! Ways that no subnet manager of ours leaves: SMPs of the test write into tables and masks, and the trace says what becomes
+//! of a packet then.
 
-pub(crate) mod groups;
-
-use attr_tables::SmpAttribute;
+use attr_tables::SmpAttribute::{
+    self, LinearForwardingTable, MulticastForwardingTable, PKeyTable, SwitchInfo,
+};
 use example_texts::TWO_SWITCHES;
 use fabric_parts::PortRef;
 use fabric_wire::{Fabric, get_attribute, set_attribute};
 use packet_trace::trace_text;
 use std::alloc::Global;
-use std::process::Abort;
 use std::test::Fail;
 use subnet_core::bring_up;
-use topo_file::{Topology, read};
+use topo_file::read;
 
-/// A byte of an attribute of the node at the end of a path, and what is traced of a packet from h1 to LID 5 then.
-#[derive(Drop)]
-struct Spoilt {
-    attribute: SmpAttribute,
-    modifier: u32,
-    path: &'static [u8],
-    place: usize,
-    byte: u8,
-    told: &'static str,
-}
+/// Bytes that are written: the attribute and its modifier, the path to the node, the first byte's place, and they.
+type Written<'a> = (SmpAttribute, u32, &'a [u8], usize, &'a [u8]);
 
-/// In a linear forwarding table byte 5 is the entry for LID 5; in SwitchInfo byte 7 is the low one of LinearFDBTop; in the
-/// key table of port 2 byte 1 is of the default partition's key.
-const SPOILT: [Spoilt; 5] = [
-    Spoilt {
-        attribute: SmpAttribute::LinearForwardingTable,
-        modifier: 0,
-        path: &[1, 3],
-        place: 5,
-        byte: 3,
-        told: "A in 2 out 3\nB in 3 out 3\nA in 3 out 3\nB in 3 again\n",
-    },
-    Spoilt {
-        attribute: SmpAttribute::LinearForwardingTable,
-        modifier: 0,
-        path: &[1],
-        place: 5,
-        byte: 5,
-        told: "A in 2 drops entry 5\n",
-    },
-    Spoilt {
-        attribute: SmpAttribute::LinearForwardingTable,
-        modifier: 0,
-        path: &[1],
-        place: 5,
-        byte: 4,
-        told: "A in 2 out 4 no cable\n",
-    },
-    Spoilt {
-        attribute: SmpAttribute::SwitchInfo,
-        modifier: 0,
-        path: &[1],
-        place: 7,
-        byte: 4,
-        told: "A in 2 drops top\n",
-    },
-    Spoilt {
-        attribute: SmpAttribute::PKeyTable,
-        modifier: 2 << 16,
-        path: &[1],
-        place: 1,
-        byte: 0,
-        told: "A in 2 drops inbound\n",
-    },
+/// A topology, what is written into its fabric, and what is traced then of a packet from port 1 of an adapter to a LID.
+type Way<'a> = (&'a str, &'a [Written<'a>], &'a [u8], u16, &'a str);
+
+/// Three switches in a ring, with an adapter on port 3 of each.
+const RING: &str = "\
+switch a 0x10 3
+switch b 0x11 3
+switch c 0x12 3
+adapter ha 0x200 1
+adapter hb 0x210 1
+adapter hc 0x220 1
+cable a/1 b/2
+cable b/1 c/2
+cable c/1 a/2
+cable a/3 ha/1
+cable b/3 hb/1
+cable c/3 hc/1
+sm ha/1
+";
+
+const WAYS: [Way; 13] = [
+    // In a linear forwarding table byte 5 is the entry for LID 5: B sends the packet back, A knows no way, A sends it where
+    // no cable is.
+    (
+        TWO_SWITCHES,
+        &[(LinearForwardingTable, 0, &[1, 3], 5, &[3])],
+        b"h1",
+        5,
+        "\
+h1/1 stamps 0x0004 0x0005 0xffff
+A in 2 out 3
+B in 3 out 3
+A in 3 out 3
+B in 3 again
+",
+    ),
+    (
+        TWO_SWITCHES,
+        &[(LinearForwardingTable, 0, &[1], 5, &[5])],
+        b"h1",
+        5,
+        "\
+h1/1 stamps 0x0004 0x0005 0xffff
+A in 2 drops entry 5
+",
+    ),
+    (
+        TWO_SWITCHES,
+        &[(LinearForwardingTable, 0, &[1], 5, &[4])],
+        b"h1",
+        5,
+        "\
+h1/1 stamps 0x0004 0x0005 0xffff
+A in 2 out 4 no cable
+",
+    ),
+    // In SwitchInfo byte 7 is the low one of LinearFDBTop.
+    (
+        TWO_SWITCHES,
+        &[(SwitchInfo, 0, &[1], 7, &[4])],
+        b"h1",
+        5,
+        "\
+h1/1 stamps 0x0004 0x0005 0xffff
+A in 2 drops top
+",
+    ),
+    // In the key table of port 2 byte 1 is of the default partition's key.
+    (
+        TWO_SWITCHES,
+        &[(PKeyTable, 2 << 16, &[1], 1, &[0])],
+        b"h1",
+        5,
+        "\
+h1/1 stamps 0x0004 0x0005 0xffff
+A in 2 drops inbound
+",
+    ),
+    // The first entry of block 1 is the mask of 0xC020, bit n for port n: a member, and one who is none.
+    (
+        TWO_SWITCHES,
+        &[
+            (MulticastForwardingTable, 1, &[1], 0, &[0, 0x0c]),
+            (MulticastForwardingTable, 1, &[1, 3], 0, &[0, 0x0a]),
+        ],
+        b"h1",
+        0xc020,
+        "\
+h1/1 stamps 0x0004 0xc020 0xffff
+A in 2 out 3
+B in 3 out 1
+h2/1 accepts
+",
+    ),
+    (
+        TWO_SWITCHES,
+        &[
+            (MulticastForwardingTable, 1, &[1], 0, &[0, 0x0c]),
+            (MulticastForwardingTable, 1, &[1, 3], 0, &[0, 0x0a]),
+        ],
+        b"h0",
+        0xc020,
+        "\
+h0/1 stamps 0x0001 0xc020 0xffff
+A in 1 out 2
+A in 1 out 3
+h1/1 accepts
+B in 3 out 1
+h2/1 accepts
+",
+    ),
+    // Port 0 is the switch itself, and port 4 has no cable.
+    (
+        TWO_SWITCHES,
+        &[(MulticastForwardingTable, 1, &[1], 0, &[0, 0x13])],
+        b"h1",
+        0xc020,
+        "\
+h1/1 stamps 0x0004 0xc020 0xffff
+A in 2 takes
+A in 2 out 1
+A in 2 out 4 no cable
+h0/1 accepts
+",
+    ),
+    // The masks have the port of entry alone, or none.
+    (
+        TWO_SWITCHES,
+        &[(MulticastForwardingTable, 1, &[1], 0, &[0, 0x04])],
+        b"h1",
+        0xc020,
+        "\
+h1/1 stamps 0x0004 0xc020 0xffff
+A in 2 drops mask
+",
+    ),
+    (
+        TWO_SWITCHES,
+        &[(MulticastForwardingTable, 1, &[1], 0, &[0, 0x08])],
+        b"h1",
+        0xc020,
+        "\
+h1/1 stamps 0x0004 0xc020 0xffff
+A in 2 out 3
+B in 3 drops mask
+",
+    ),
+    // Both ways round the ring meet, at each adapter and at the switches.
+    (
+        RING,
+        &[
+            (MulticastForwardingTable, 1, &[1], 0, &[0, 0x0e]),
+            (MulticastForwardingTable, 1, &[1, 1], 0, &[0, 0x0e]),
+            (MulticastForwardingTable, 1, &[1, 2], 0, &[0, 0x0e]),
+        ],
+        b"ha",
+        0xc020,
+        "\
+ha/1 stamps 0x0001 0xc020 0xffff
+a in 3 out 1
+a in 3 out 2
+b in 2 out 1
+b in 2 out 3
+c in 1 out 2
+c in 1 out 3
+c in 2 out 1
+c in 2 out 3 again
+hb/1 accepts
+b in 1 out 2
+b in 1 out 3 again
+hc/1 accepts
+a in 2 out 1 again
+a in 2 out 3
+a in 1 out 2 again
+a in 1 out 3 again
+ha/1 accepts
+",
+    ),
+    // All ports of A but port 4 are in its mask, and one of them lacks the key.
+    (
+        TWO_SWITCHES,
+        &[
+            (MulticastForwardingTable, 1, &[1], 0, &[0, 0x0e]),
+            (PKeyTable, 1 << 16, &[1], 1, &[0]),
+        ],
+        b"h1",
+        0xc020,
+        "\
+h1/1 stamps 0x0004 0xc020 0xffff
+A in 2 out 1 drops outbound
+A in 2 out 3
+B in 3 drops mask
+",
+    ),
+    (
+        TWO_SWITCHES,
+        &[
+            (MulticastForwardingTable, 1, &[1], 0, &[0, 0x0e]),
+            (PKeyTable, 2 << 16, &[1], 1, &[0]),
+        ],
+        b"h1",
+        0xc020,
+        "\
+h1/1 stamps 0x0004 0xc020 0xffff
+A in 2 drops inbound
+",
+    ),
 ];
 
-const STAMPS: &str = "h1/1 stamps 0x0004 0x0005 0xffff\n";
-
-fn spoil(fabric: &mut Fabric, spoilt: &Spoilt) -> Result<(), Fail> {
-    if spoilt.path.len() > 63 {
+fn write(fabric: &mut Fabric, written: &Written) -> Result<(), Fail> {
+    let (attribute, modifier, path, place, bytes) = *written;
+    if path.len() > 63 {
         return Err("a path of 63 hops at most")?;
     }
-    let mut bytes = get_attribute(fabric, 1, spoilt.attribute, spoilt.modifier, spoilt.path).or(Err(
-        "a Get",
-    ))?;
-    *bytes.get_mut(spoilt.place).ok_or("a byte")? = spoilt.byte;
-    set_attribute(
-        fabric,
-        2,
-        spoilt.attribute,
-        spoilt.modifier,
-        spoilt.path,
-        &bytes,
-    )
-    .or(Err("a Set"))?;
-    Ok(())
-}
-
-/// The fabric of a topology, brought up.
-pub(crate) fn brought_up(alloc: Global, topology: &str) -> Result<Fabric, Fail> {
-    Ok(bring_up(alloc, topology.as_bytes(), None)?.into_parts().1)
-}
-
-/// The way of a packet from port 1 of the adapter of that name to that LID, behind the line of the port that sends it.
-fn trace(
-    alloc: Global,
-    topology: &Topology,
-    fabric: &Fabric,
-    name: &[u8],
-    dlid: u16,
-) -> Result<Vec<u8>, Fail> {
-    let node = topology.index_of(name).ok_or("an adapter")?;
-    let from = PortRef { node, port: 1 };
-    Ok(trace_text(alloc, topology, fabric, from, dlid, 0xffff)?)
-}
-
-fn spoilt_way(alloc: Global, topology: &Topology, spoilt: &Spoilt) -> Result<Vec<u8>, Fail> {
-    let mut fabric = brought_up(alloc, TWO_SWITCHES)?;
-    spoil(&mut fabric, spoilt)?;
-    trace(alloc, topology, &fabric, b"h1", 5)
-}
-
-fn is_told(rt: &impl Abort, text: &[u8], told: &str) {
-    assert_eq!(rt; text.len(), STAMPS.len() + told.len());
-    assert!(rt; text.starts_with(STAMPS.as_bytes()));
-    assert!(rt; text.ends_with(told.as_bytes()));
-}
-
-fn all_are_told(rt: &impl Abort, alloc: Global, topology: &Topology) -> Result<(), Fail> {
-    for spoilt in &SPOILT {
-        let text = spoilt_way(alloc, topology, spoilt)?;
-        is_told(rt, &text, spoilt.told);
+    let mut told = get_attribute(fabric, 1, attribute, modifier, path).or(Err("a Get"))?;
+    for (byte, new) in told.iter_mut().skip(place).zip(bytes) {
+        *byte = *new;
     }
+    set_attribute(fabric, 2, attribute, modifier, path, &told).or(Err("a Set"))?;
     Ok(())
+}
+
+/// The fabric of a topology, brought up, and with these bytes.
+fn written(alloc: Global, topology: &str, all: &[Written]) -> Result<Fabric, Fail> {
+    let mut fabric = bring_up(alloc, topology.as_bytes(), None)?.into_parts().1;
+    for one in all {
+        write(&mut fabric, one)?;
+    }
+    Ok(fabric)
+}
+
+fn traced(alloc: Global, fabric: &Fabric, way: &Way) -> Result<Vec<u8>, Fail> {
+    let topology = read(alloc, way.0.as_bytes()).or(Err("the topology"))?;
+    let node = topology.index_of(way.2).ok_or("an adapter")?;
+    let from = PortRef { node, port: 1 };
+    Ok(trace_text(alloc, &topology, fabric, from, way.3, 0xffff)?)
 }
 
 #[test]
-fn what_spoilt_tables_make_of_a_packet_is_told(rt: HostRuntime) -> Result<(), Fail> {
-    let topology = read(rt.alloc(), TWO_SWITCHES.as_bytes()).or(Err("the topology"))?;
-    all_are_told(&rt, rt.alloc(), &topology)
+fn what_is_written_into_tables_and_masks_shows_in_the_way_of_a_packet(
+    rt: HostRuntime,
+) -> Result<(), Fail> {
+    for way in &WAYS {
+        let fabric = written(rt.alloc(), way.0, way.1)?;
+        let told = traced(rt.alloc(), &fabric, way)?;
+        assert_eq!(rt; told.as_slice(), way.4.as_bytes());
+    }
+    Ok(())
 }

@@ -9,6 +9,4 @@ mod cables;
 #[cfg(test)]
 mod carrying;
 #[cfg(test)]
-mod random_fabrics;
-#[cfg(test)]
 mod wires;

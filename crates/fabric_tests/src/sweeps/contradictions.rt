@@ -4,6 +4,7 @@ ghost use Rattle.std.specs.Prelude.{None};
 
 use fabric_wire::{CountingWire, PlainWire, SmpWire};
 use mad_layout::Mad;
+use std::alloc::Global;
 use std::test::Fail;
 use sweep::{SweepFault, sweep};
 use test_fabrics::two_switch_wire;
@@ -41,132 +42,104 @@ const NODE_INFO: u8 = 0x11;
 
 const PORT_INFO: u8 = 0x15;
 
-/// A byte of some replies, set to a value: of those that have these bytes.
-#[derive(Clone, Copy, Drop)]
-struct Edit {
+/// The two-switch fabric, with one byte set in those of its replies that have these bytes. It answers no request whose
+/// TransactionID is not the number of the exchange, counted from 1. It stands for no fabric.
+#[derive(Drop)]
+struct EditedWire {
+    wire: PlainWire,
+    exchanges: u8,
     of: &'static [(usize, u8)],
     place: usize,
     value: u8,
-}
-
-/// The two-switch fabric, with an edit in its replies. It stands for no fabric.
-#[derive(Drop)]
-struct EditedWire {
-    wire: CountingWire<PlainWire>,
-    edit: Edit,
-}
-
-fn has_bytes(reply: &Mad, bytes: &[(usize, u8)]) -> bool {
-    bytes
-        .iter()
-        .all(|(place, value)| reply.get(*place) == Some(value))
 }
 
 impl SmpWire for EditedWire {
     ghost fabric = { λ _. None };
 
     fn exchange(&mut self, smp: &Mad) -> Option<Mad> {
+        self.exchanges = self.exchanges.wrapping_add(1);
+        if smp[TRANSACTION_ID] != self.exchanges {
+            return None;
+        }
         let mut reply = self.wire.exchange(smp)?;
-        if has_bytes(&reply, self.edit.of) {
-            if let Some(byte) = reply.get_mut(self.edit.place) {
-                *byte = self.edit.value;
-            }
+        if has_bytes(&reply, self.of) {
+            *reply.get_mut(self.place)? = self.value;
         }
         Some(reply)
     }
 }
 
-/// Edits, and how many SMPs a sweep sends before it stops: at the first reply, or when all was asked.
-const EDITS: [(Edit, u64); 8] = [
+fn has_bytes(reply: &Mad, bytes: &[(usize, u8)]) -> bool {
+    for (place, value) in bytes {
+        if reply.get(*place) != Some(value) {
+            return false;
+        }
+    }
+    true
+}
+
+/// What a sweep over such a wire answers, and how many SMPs it sent.
+fn swept(
+    alloc: Global,
+    of: &'static [(usize, u8)],
+    place: usize,
+    value: u8,
+) -> Result<(Option<SweepFault>, u8), Fail> {
+    let mut wire = EditedWire {
+        wire: two_switch_wire(alloc)?,
+        exchanges: 0,
+        of,
+        place,
+        value,
+    };
+    let fault = sweep(alloc, &mut wire).err();
+    Ok((fault, wire.exchanges))
+}
+
+/// Which replies are edited, where and to what, and how many SMPs a sweep sends before it stops: at the first reply, or when
+/// all was asked.
+const EDITS: [(&'static [(usize, u8)], usize, u8, u8); 8] = [
     // Each is of another version of its class.
-    (
-        Edit {
-            of: &[],
-            place: CLASS_VERSION,
-            value: 2,
-        },
-        1,
-    ),
+    (&[], CLASS_VERSION, 2, 1),
     // Each PortInfo is that of another port.
-    (
-        Edit {
-            of: &[(ATTRIBUTE, PORT_INFO)],
-            place: MODIFIER,
-            value: 9,
-        },
-        4,
-    ),
+    (&[(ATTRIBUTE, PORT_INFO)], MODIFIER, 9, 4),
     // Seen from B, A has fewer ports than before.
     (
-        Edit {
-            of: &[(ATTRIBUTE, NODE_INFO), (HOP_COUNT, 3), (NODE_GUID, 0x10)],
-            place: NUM_PORTS,
-            value: 3,
-        },
+        &[(ATTRIBUTE, NODE_INFO), (HOP_COUNT, 3), (NODE_GUID, 0x10)],
+        NUM_PORTS,
+        3,
         21,
     ),
     // Each reply has another TransactionID than its request, which count from 1.
-    (
-        Edit {
-            of: &[],
-            place: TRANSACTION_ID,
-            value: 0,
-        },
-        1,
-    ),
+    (&[], TRANSACTION_ID, 0, 1),
     // Each has the first one.
-    (
-        Edit {
-            of: &[],
-            place: TRANSACTION_ID,
-            value: 1,
-        },
-        2,
-    ),
+    (&[], TRANSACTION_ID, 1, 2),
     // Each is refused: a field of the attribute, or its modifier, is invalid.
-    (
-        Edit {
-            of: &[],
-            place: STATUS,
-            value: 0x1C,
-        },
-        1,
-    ),
+    (&[], STATUS, 0x1C, 1),
     // B has the GUID of A.
     (
-        Edit {
-            of: &[(ATTRIBUTE, NODE_INFO), (HOP_COUNT, 2), (NODE_GUID, 0x20)],
-            place: NODE_GUID,
-            value: 0x10,
-        },
+        &[(ATTRIBUTE, NODE_INFO), (HOP_COUNT, 2), (NODE_GUID, 0x20)],
+        NODE_GUID,
+        0x10,
         12,
     ),
     // Port 3 of B is Down, though a cable leads there from A.
     (
-        Edit {
-            of: &[(ATTRIBUTE, PORT_INFO), (HOP_COUNT, 2), (MODIFIER, 3)],
-            place: PORT_STATE,
-            value: 1,
-        },
+        &[(ATTRIBUTE, PORT_INFO), (HOP_COUNT, 2), (MODIFIER, 3)],
+        PORT_STATE,
+        1,
         21,
     ),
 ];
 
+/// And where an edit changes nothing, it finds the fabric by SMPs that are numbered from 1 to 22.
 #[test]
 fn a_sweep_takes_no_wrong_reply(rt: HostRuntime) -> Result<(), Fail> {
-    for (edit, smps) in EDITS {
-        let counting = CountingWire {
-            wire: two_switch_wire(rt.alloc())?,
-            count: 0,
-        };
-        let mut wire = EditedWire {
-            wire: counting,
-            edit,
-        };
-        let swept = sweep(rt.alloc(), &mut wire);
-        assert_eq!(rt; swept.err(), Some(SweepFault::WrongReply));
-        assert_eq!(rt; wire.wire.count, smps);
+    for (of, place, value, smps) in EDITS {
+        let told = swept(rt.alloc(), of, place, value)?;
+        assert_eq!(rt; told, (Some(SweepFault::WrongReply), smps));
     }
+    assert_eq!(rt; swept(rt.alloc(), &[], METHOD, 0x81)?, (None, 22));
     Ok(())
 }
 
@@ -209,36 +182,5 @@ fn a_sweep_without_end_stops_at_the_65th_switch(rt: HostRuntime) -> Result<(), F
     let swept = sweep(rt.alloc(), &mut wire);
     assert_eq!(rt; swept.err(), Some(SweepFault::TooManyNodes));
     assert_eq!(rt; wire.count, 1 + 3 * 65 - 1);
-    Ok(())
-}
-
-/// Answers a request only where its TransactionID is the number of the exchange, counted from 1. It stands for no fabric.
-#[derive(Drop)]
-struct NumberingWire {
-    wire: PlainWire,
-    exchanges: u8,
-}
-
-impl SmpWire for NumberingWire {
-    ghost fabric = { λ _. None };
-
-    fn exchange(&mut self, smp: &Mad) -> Option<Mad> {
-        self.exchanges = self.exchanges.wrapping_add(1);
-        if smp[TRANSACTION_ID] == self.exchanges {
-            self.wire.exchange(smp)
-        } else {
-            None
-        }
-    }
-}
-
-#[test]
-fn each_request_of_a_sweep_has_the_next_number(rt: HostRuntime) -> Result<(), Fail> {
-    let mut wire = NumberingWire {
-        wire: two_switch_wire(rt.alloc())?,
-        exchanges: 0,
-    };
-    assert_eq!(rt; sweep(rt.alloc(), &mut wire).err(), None);
-    assert_eq!(rt; wire.exchanges, 22);
     Ok(())
 }

@@ -1,14 +1,10 @@
 //! The two-switch fabric as a subnet manager leaves it, and what becomes of packets there.
 
-ghost use Rattle.std.specs.Prelude.{◌≤◌, length};
-
 use attr_tables::SmpAttribute;
 use data_packet::{Packet, Payload, QueuePair};
-use fabric_wire::{Fabric, set_attribute};
+use fabric_wire::{Delivery, Fabric, set_attribute};
 use pkey_rules::PKey;
 use std::alloc::Global;
-use std::test::Fail;
-use test_fabrics::two_switch_fabric;
 
 /// The GUIDs of the ports of h0 to h3, whose LIDs are 1, 4, 5 and 6.
 pub const H0: u64 = 0x101;
@@ -20,154 +16,163 @@ pub const H2: u64 = 0x121;
 pub const H3: u64 = 0x131;
 
 /// The paths to the switches, from h0.
-pub const TO_A: [u8; 1] = [1];
+pub const TO_A: &[u8] = &[1];
 
-pub const TO_B: [u8; 2] = [1, 3];
+pub const TO_B: &[u8] = &[1, 3];
 
-/// Sets a part of an attribute at the end of a path.
-pub fn put(
+/// An attribute of zero bytes but for these, from that byte on.
+fn attribute_with(first: u8, bytes: &[u8]) -> [u8; 64] {
+    let mut attribute = [0; 64];
+    let mut place = first;
+    for byte in bytes {
+        attribute[usize::from(place % 64)] = *byte;
+        place = place.wrapping_add(1);
+    }
+    attribute
+}
+
+/// Sets a part of an attribute at the end of a path to zero bytes but for these.
+fn put(
     fabric: &mut Fabric,
     path: &[u8],
     attribute: SmpAttribute,
     modifier: u32,
-    wanted: &[u8; 64],
-) -> Result<(), Fail>
-    requires { length path.now ≤ 63 }
-{
-    set_attribute(fabric, 1, attribute, modifier, path, wanted)
-        .ok()
-        .ok_or("a Set")?;
-    Ok(())
-}
-
-/// PortInfo with that LID, PortState and enforcement bits, and NeighborMTU 2048.
-fn port_info(lid: u8, port_state: u8, enforcement: u8) -> [u8; 64] {
-    let mut bytes = [0; 64];
-    bytes[17] = lid;
-    bytes[32] = port_state;
-    bytes[36] = 0x40;
-    bytes[43] = enforcement;
-    bytes
-}
-
-/// Gives the port of an adapter its LID, and makes it Active.
-pub fn put_lid(fabric: &mut Fabric, path: &[u8], lid: u8) -> Result<(), Fail>
-    requires { length path.now ≤ 63 }
-{
-    for port_state in [3, 4] {
-        put(
-            fabric,
-            path,
-            SmpAttribute::PortInfo,
-            0,
-            &port_info(lid, port_state, 0),
-        )?;
+    first: u8,
+    bytes: &[u8],
+) -> Option<()> {
+    if path.len() > 63 {
+        return None;
     }
-    Ok(())
-}
-
-/// Has a port of a switch enforce partitions, in the directions of these bits.
-pub fn put_enforcement(fabric: &mut Fabric, path: &[u8], number: u32, bits: u8) -> Result<(), Fail>
-    requires { length path.now ≤ 63 }
-{
-    put(
-        fabric,
-        path,
-        SmpAttribute::PortInfo,
-        number,
-        &port_info(0, 0, bits),
-    )
+    let wanted = attribute_with(first, bytes);
+    set_attribute(fabric, 1, attribute, modifier, path, &wanted).ok()?;
+    Some(())
 }
 
 /// PartitionEnforcementInbound and PartitionEnforcementOutbound.
 pub const BOTH_WAYS: u8 = 0x0c;
 
-/// Gives a switch these entries for the LIDs from 0 on, and LinearFDBTop 6.
-pub fn put_entries(fabric: &mut Fabric, path: &[u8], entries: &[u8; 7]) -> Result<(), Fail>
-    requires { length path.now ≤ 63 }
-{
-    let mut block = [0xff; 64];
-    block[..7].copy_from_slice(entries);
-    put(fabric, path, SmpAttribute::LinearForwardingTable, 0, &block)?;
+/// Has a port of a switch enforce partitions, in the directions of these bits.
+pub fn put_enforcement(fabric: &mut Fabric, path: &[u8], number: u8, bits: u8) -> Option<()> {
+    // NeighborMTU 2048
+    let bytes = [0x40, 0, 0, 0, 0, 0, 0, bits];
     put(
         fabric,
         path,
-        SmpAttribute::SwitchInfo,
-        0,
-        &attribute_with(6, &[0, 6]),
+        SmpAttribute::PortInfo,
+        u32::from(number),
+        36,
+        &bytes,
     )
 }
 
-/// Gives a port these keys, from the first place of its table on: that of this number of a switch, or an adapter's
-/// own, which is number 0.
-pub fn put_keys(fabric: &mut Fabric, path: &[u8], number: u32, keys: &[u8]) -> Result<(), Fail>
-    requires path { length path.now ≤ 63 }
-    requires keys { length keys.now ≤ 64 }
-{
+/// Takes the port of an adapter over a state, and gives it its LID.
+fn put_state(fabric: &mut Fabric, path: &[u8], lid: u8, state: u8) -> Option<()> {
+    let bytes = [
+        lid, 0, 0, 0, 0, 0, 0, 0, 0, 0, 0, 0, 0, 0, 0, state, 0, 0, 0, 0x40,
+    ];
+    put(fabric, path, SmpAttribute::PortInfo, 0, 17, &bytes)
+}
+
+/// Gives a switch these entries for the LIDs from 0 on, and LinearFDBTop 6.
+pub fn put_entries(fabric: &mut Fabric, path: &[u8], entries: &[u8; 7]) -> Option<()> {
+    put(
+        fabric,
+        path,
+        SmpAttribute::LinearForwardingTable,
+        0,
+        0,
+        entries,
+    )?;
+    put(fabric, path, SmpAttribute::SwitchInfo, 0, 6, &[0, 6])
+}
+
+/// Gives a port one key, or none: that of this number of a switch, or an adapter's own, which is number 0.
+pub fn put_key(fabric: &mut Fabric, path: &[u8], number: u8, key: u16) -> Option<()> {
+    let modifier = u32::from(number) << 16;
     put(
         fabric,
         path,
         SmpAttribute::PKeyTable,
-        number << 16,
-        &attribute_with(0, keys),
+        modifier,
+        0,
+        &key.to_be_bytes(),
     )
 }
 
-/// Fills the tables of the two-switch fabric, so that they lead to each LID; ports of switches that face adapters
-/// enforce partitions. The keys are those of power-up, which hold without a partition file, too.
-pub fn set_up(fabric: &mut Fabric) -> Result<(), Fail> {
-    put_entries(fabric, &TO_A, &[0xff, 1, 0, 3, 2, 3, 3])?;
-    put_entries(fabric, &TO_B, &[0xff, 3, 3, 0, 3, 1, 2])?;
+/// Sets the mask of a multicast LID, told by its distance from 0xC000, at one position of the table of a switch, and those of
+/// the other LIDs of its block to 0.
+pub fn put_mask(
+    fabric: &mut Fabric,
+    path: &[u8],
+    lid: u16,
+    position: u32,
+    mask: u16,
+) -> Option<()> {
+    let entry = (lid % 32) as u8 * 2;
+    let modifier = u32::from(lid / 32) | position << 28;
+    put(
+        fabric,
+        path,
+        SmpAttribute::MulticastForwardingTable,
+        modifier,
+        entry,
+        &mask.to_be_bytes(),
+    )
+}
+
+/// Fills the tables of the two-switch fabric, so that they lead to each LID, and to h1 and h2 in the group of 0xC020; ports of
+/// switches that face adapters enforce partitions. The keys are those of power-up, which hold without a partition file, too.
+pub fn set_up(fabric: &mut Fabric) -> Option<()> {
+    put_entries(fabric, TO_A, &[0xff, 1, 0, 3, 2, 3, 3])?;
+    put_entries(fabric, TO_B, &[0xff, 3, 3, 0, 3, 1, 2])?;
     for number in [1, 2] {
-        put_enforcement(fabric, &TO_A, number, BOTH_WAYS)?;
-        put_enforcement(fabric, &TO_B, number, BOTH_WAYS)?;
+        put_enforcement(fabric, TO_A, number, BOTH_WAYS)?;
+        put_enforcement(fabric, TO_B, number, BOTH_WAYS)?;
     }
-    put_lid(fabric, &[], 1)?;
-    put_lid(fabric, &[1, 2], 4)?;
-    put_lid(fabric, &[1, 3, 1], 5)?;
-    put_lid(fabric, &[1, 3, 2], 6)
-}
-
-/// The two-switch fabric, its tables filled.
-pub fn brought_up(alloc: Global) -> Result<Fabric, Fail> {
-    let mut fabric = two_switch_fabric(alloc)?;
-    set_up(&mut fabric)?;
-    Ok(fabric)
-}
-
-/// Who gets a packet to that LID under this key, if anybody; whether the sender would stamp it or not.
-pub fn receiver(
-    alloc: Global,
-    fabric: &Fabric,
-    sender: u64,
-    dlid: u16,
-    key: u16,
-) -> Result<Option<u64>, Fail> {
-    let sent = packet(9, dlid, key, 7)?;
-    let deliveries = fabric.carry(alloc, sender, &sent).ok().ok_or("memory")?;
-    match deliveries.as_slice() {
-        [] => Ok(None),
-        [one] if *one.packet() == sent => Ok(Some(one.port())),
-        _ => Err("one delivery of this packet".into()),
+    for state in [3, 4] {
+        put_state(fabric, &[], 1, state)?;
+        put_state(fabric, &[1, 2], 4, state)?;
+        put_state(fabric, &[1, 3, 1], 5, state)?;
+        put_state(fabric, &[1, 3, 2], 6, state)?;
     }
+    put_mask(fabric, TO_A, 0x20, 0, 0x000c)?;
+    put_mask(fabric, TO_B, 0x20, 0, 0x000a)
 }
 
-/// A packet from and to these LIDs, under this key, to the queue pair of that number.
-pub fn packet(slid: u16, dlid: u16, key: u16, number: u32) -> Result<Packet, Fail> {
-    Ok(Packet {
-        slid,
+/// A packet to that LID under this key.
+pub fn packet(dlid: u16, key: u16) -> Option<Packet> {
+    Some(Packet {
+        slid: 9,
         dlid,
-        p_key: PKey::new(key).ok().ok_or("a key")?,
-        destination_qp: QueuePair::new(number).ok_or("a queue pair")?,
+        p_key: PKey::new(key).ok()?,
+        destination_qp: QueuePair::new(7)?,
         payload: Payload::new(b"abc"),
     })
 }
 
-/// An attribute of zero bytes but for these, from that byte on.
-pub fn attribute_with(first: usize, bytes: &[u8]) -> [u8; 64] {
-    let mut attribute = [0; 64];
-    for (place, byte) in attribute.iter_mut().skip(first).zip(bytes) {
-        *place = *byte;
+/// Whose these deliveries are, in their order, a hexadecimal digit each, which is 1 for h0, 2 for h1, 3 for h2 and 4 for h3; none
+/// where one is not of this packet.
+pub fn digits_of(deliveries: &[Delivery], sent: &Packet) -> Option<u32> {
+    let mut digits = 0u32;
+    for delivery in deliveries {
+        if *delivery.packet() != *sent {
+            return None;
+        }
+        let adapter = (delivery.port() >> 4 & 15) as u32;
+        digits = digits << 4 | adapter + 1;
     }
-    attribute
+    Some(digits)
+}
+
+/// Who gets a packet to that LID under this key, as digits, which are 0 for nobody; whether the sender would stamp it or not.
+pub fn receivers(alloc: Global, fabric: &Fabric, sender: u64, dlid: u16, key: u16) -> Option<u32> {
+    let sent = packet(dlid, key)?;
+    let deliveries = fabric.carry(alloc, sender, &sent).ok()?;
+    digits_of(&deliveries, &sent)
+}
+
+/// How many ports get a packet from that one.
+pub fn copies(alloc: Global, fabric: &Fabric, sender: u64, sent: &Packet) -> Option<usize> {
+    let deliveries = fabric.carry(alloc, sender, sent).ok()?;
+    Some(deliveries.len())
 }
