@@ -9,7 +9,7 @@ each group from two of them. What is kept is a list of who is in which group; a 
 import random
 import sys
 
-# h1 is a full member of both partitions' keys but the second, h2 of both, h3 a limited one of the first.
+# h1 is a full member of the first partition and a limited one of the second, h2 a full one of both, h3 a limited one of the first.
 PARTITIONS = "P1=1: 0x111=full, 0x121=full, 0x131;\nP2=2: 0x111, 0x121=full;\n"
 MEMBERS = {(4, 1): True, (5, 1): True, (6, 1): False, (4, 2): False, (5, 2): True}  # by LID and base: is it a full one
 NAMES = {4: "h1/1", 5: "h2/1", 6: "h3/1"}
