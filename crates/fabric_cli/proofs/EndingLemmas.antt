@@ -1,28 +1,22 @@
 -- How a call ends, from what was written to both streams.
-use Rattle.std.proofs.Common.{ℕ, ◌≡◌, ◌≢◌, ◌⊎◌, ◌∙◌, inl, inr, refl, sym, append-nil, ap, arith, Bool, List, [], ◌∷◌, take, length, Option, Some, None, IfSome}
-use Rattle.std.proofs.Common.{Result, Ok, Err, option_map, map, string_bytes, String, Global, subst}
+use Rattle.std.proofs.Common.{ℕ, ◌≡◌, ◌≢◌, ◌⊎◌, ◌∙◌, inl, inr, refl, ap, arith, Bool, List, [], ◌∷◌, take, length, Option, Some, None, IfSome}
+use Rattle.std.proofs.Common.{Result, Ok, Err, string_bytes, subst}
 use Rattle.std.specs.Io.KnownBytes.{Appends, Keeps}
-use Rattle.std.specs.declared.io.Error.{Error}
-use Rattle.std.specs.declared.vec.IntoIter.{IntoIter}
 use Rattle.subnet_core.specs.declared.fault.RunFault.{RunFault}
 use Rattle.subnet_core.specs.declared.fault.RunFault.TheVariants as run
 use Rattle.fabric_cli.specs.declared.faults.Stop.{Stop}
 use Rattle.fabric_cli.specs.declared.faults.Stop.TheVariants.{Words, NoMemory, Unread, Unwritten, Run, Second, Foreign}
-use Rattle.fabric_cli.specs.Faults.{line_of, memory_line, run_line, run_status, status_of, stop_of, IsOfFiles, NamesUnread}
-use Rattle.fabric_cli.specs.Files.{Contents, OpensAll, OpensInOrder}
+use Rattle.fabric_cli.specs.Faults.{line_of, run_line, run_status, status_of}
+use Rattle.fabric_cli.specs.Files.{Contents}
 use Rattle.fabric_cli.specs.declared.answering.Answer.{Answer}
 use Rattle.fabric_cli.specs.declared.answering.Answer.TheVariants.{Complete, Warned}
-use Rattle.fabric_cli.specs.Serving.{AppendsSome, Bytes, Ending, audited, broken_off, complete, ending_of, faulted, status_in, warned, imported, judged_for, output_in, refused}
-use Rattle.fabric_cli.specs.Serving.{Answers, BreaksOff, Ends, EndsAs, ForEnding, ForSomeBytes, GoesOut, GoesPartly, IsRefusal, IsRefused, IsToldStop, RunStops, Stops, StopsBehind, TellsStop}
+use Rattle.fabric_cli.specs.Serving.{AppendsSome, Bytes, Ending, audited, broken_off, complete, faulted, status_in, warned, imported, judged_for, output_in, refused}
+use Rattle.fabric_cli.specs.Serving.{Answers, BreaksOff, Ends, EndsAs, ForEnding, ForSomeBytes, GoesOut, GoesPartly, IsRefusal, IsToldStop, RunStops, Stops, StopsBehind}
 use Rattle.code_texts.specs.Texts.{explained}
-use Rattle.call_words.specs.Refusals.{IsOfGiven, IsOfWords}
-use Rattle.call_words.specs.Words.{Asking, asked_by_given, given_items, given_texts, opened_for}
+use Rattle.call_words.specs.Words.{Asking}
 use Rattle.call_words.specs.declared.call.Call.TheVariants.{Audit, Explain, Import, Subnet}
-use Rattle.call_words.specs.declared.call.Refused.{Refused}
-use Rattle.call_words.specs.declared.call.Refused.TheVariants as refusal
-use Rattle.text_streams.specs.Writing.{AppendsPart, Writes}
+use Rattle.text_streams.specs.Writing.{AppendsPart}
 use Rattle.fabric_cli.proofs.JudgedLemmas.{for_ending}
-use Rattle.fabric_cli.proofs.ServingLemmas.{stop_is_refused}
 
 pub kept : (known : Option (List ℕ)) → Keeps known known
 kept None = tt
@@ -179,47 +173,6 @@ module _ (judged : Result Bytes Ending) (out out' : Option (List ℕ)) where
   answer_some (Second line cause) a is = either_some (Second line cause) is
   answer_some (Foreign line cause) a is = either_some (Foreign line cause) is
 
--- a stop with nothing written
-pub stop_answers : (judged : Result Bytes Ending) (stop : Stop) (a : Bool) (out : Option (List ℕ)) → Stops judged stop → StopsBehind judged stop a out out
-stop_answers judged (Words text) a out is = inl (is, kept out)
-stop_answers judged NoMemory a out is = inl (kept out)
-stop_answers judged (Unread name) a out is = inl (kept out)
-stop_answers judged Unwritten a out is = absurd is
-stop_answers judged (Run fault) a out is = inl (is, kept out)
-stop_answers judged (Second line cause) a out is = inl (is, kept out)
-stop_answers judged (Foreign line cause) a out is = inl (is, kept out)
-
--- files that are not read
-pub files_stop : (judged : Result Bytes Ending) (stop : Stop) → IsOfFiles stop → Stops judged stop
-files_stop judged (Words text) is = absurd is
-files_stop judged NoMemory is = tt
-files_stop judged (Unread name) is = tt
-files_stop judged Unwritten is = absurd is
-files_stop judged (Run fault) is = absurd is
-files_stop judged (Second line cause) is = absurd is
-files_stop judged (Foreign line cause) is = absurd is
-
--- a text that is made, and goes out whole or in part
-out_so : (answer : Answer) (text : List ℕ) (out out' : Option (List ℕ)) → Appends out out' text → GoesOut answer (ending_of answer text) out out'
-out_so Complete text out out' wrote = wrote
-out_so Warned text out out' wrote = wrote
-
-pub made_goes_out : (judged : Result Bytes Ending) (answer : Answer) (text : List ℕ) (out out' : Option (List ℕ))
-    → ForEnding judged (λ ending. ending ≡ ending_of answer text) → Appends out out' text → ForEnding judged (λ ending. GoesOut answer ending out out')
-made_goes_out judged answer text out out' is wrote =
-    for_ending judged (λ ending. ending ≡ ending_of answer text) (λ ending. GoesOut answer ending out out')
-    (λ ending same. subst (λ (e : Ending). GoesOut answer e out out') (sym same) (out_so answer text out out' wrote)) is
-
-partly_so : (answer : Answer) (text : List ℕ) (out out' : Option (List ℕ)) → AppendsPart out out' text → GoesPartly (ending_of answer text) out out'
-partly_so Complete text out out' wrote = wrote
-partly_so Warned text out out' wrote = wrote
-
-pub made_goes_partly : (judged : Result Bytes Ending) (answer : Answer) (text : List ℕ) (out out' : Option (List ℕ))
-    → ForEnding judged (λ ending. ending ≡ ending_of answer text) → AppendsPart out out' text → ForEnding judged (λ ending. GoesPartly ending out out')
-made_goes_partly judged answer text out out' is wrote =
-    for_ending judged (λ ending. ending ≡ ending_of answer text) (λ ending. GoesPartly ending out out')
-    (λ ending same. subst (λ (e : Ending). GoesPartly e out out') (sym same) (partly_so answer text out out' wrote)) is
-
 -- it is said of files that were read
 pub is_told : (stop : Stop) (answer : ℕ) → answer ≢ 3 → answer ≡ status_of stop → IsToldStop stop
 is_told (Words text) answer other is = tt
@@ -275,9 +228,6 @@ module _ (told : Option Contents) (judged : Contents → Result Bytes Ending) wh
       → IfSome told (λ file. AppendsSome (judged file) out out')
   told_some stop a out out' is = for_some_told told (λ file one. answer_some (judged file) out out' stop a one) is
 
-  pub told_stops : (stop : Stop) (a : Bool) (out : Option (List ℕ)) → IfSome told (λ file. Stops (judged file) stop) → IfSome told (λ file. StopsBehind (judged file) stop a out out)
-  told_stops stop a out is = for_some_told told (λ file one. stop_answers (judged file) stop a out one) is
-
 -- and where they do not
 pub any_done_ends : (asked : Asking) (answer : Answer) (out out' err : Option (List ℕ)) → ForSomeBytes asked (λ judged. ForEnding judged (λ ending. GoesOut answer ending out out'))
     → ForSomeBytes asked (λ judged. EndsAs judged (status_in answer) out out' err err)
@@ -290,74 +240,3 @@ pub any_ends : (asked : Asking) (stop : Stop) (answer : ℕ) (a : Bool) (out out
 any_ends asked stop answer a out out' err err' is other line =
     for_some_bytes asked (λ judged. StopsBehind judged stop a out out') (λ judged. EndsAs judged answer out out' err err')
     (λ judged one. answer_ends judged stop answer a out out' err err' one other line) is
-
-pub any_stops : (asked : Asking) (stop : Stop) (a : Bool) (out : Option (List ℕ)) → ForSomeBytes asked (λ judged. Stops judged stop) → ForSomeBytes asked (λ judged. StopsBehind judged stop a out out)
-any_stops asked stop a out is =
-    for_some_bytes asked (λ judged. Stops judged stop) (λ judged. StopsBehind judged stop a out out) (λ judged one. stop_answers judged stop a out one) is
-
-nothing_opened : (opened : Option (List (List ℕ))) → OpensAll opened opened []
-nothing_opened None = inr refl
-nothing_opened (Some names) = inr (ap (λ (all : List (List ℕ)). Some all) (sym (append-nil names)))
-
--- nothing is opened before the words are known
-pub opens_none : (opened : Option (List (List ℕ))) (names : List (List ℕ)) → OpensInOrder opened opened names
-opens_none opened names = (0, nothing_opened opened)
-
-pub given_are : (given : Result (IntoIter (String Global) Global) Error) (words : List (String Global)) → given_items given ≡ Some words
-    → given_texts given ≡ Some (map string_bytes words)
-given_are given words is = ap (option_map (λ all. map string_bytes all)) is
-
--- ---- words that ask for nothing
-pub words_stop : (file : Contents) (asked : Asking) (stop : Refused (String Global)) → IsOfWords asked stop → Stops (judged_for file asked) (stop_of stop)
-words_stop file (Ok call) (refusal.Words text) is = absurd is
-words_stop file (Err shown) (refusal.Words text) is = is
-words_stop file asked refusal.NoMemory is = tt
-
-pub words_any : (asked : Asking) (stop : Refused (String Global)) → IsOfWords asked stop
-    → IsToldStop (stop_of stop) → ForSomeBytes asked (λ judged. Stops judged (stop_of stop))
-words_any (Ok call) (refusal.Words text) is told = absurd is
-words_any (Err shown) (refusal.Words text) is told = is
-words_any asked refusal.NoMemory is told = absurd told
-
--- words that are not given are not text, unless memory was refused
-not_given : (given : Result (IntoIter (String Global) Global) Error) (stop : Refused (String Global)) → IsOfGiven given stop
-    → IsOfWords (asked_by_given (given_texts given)) stop
-not_given (Ok words) (refusal.Words text) is = absurd is.0
-not_given (Err error) (refusal.Words text) is = is.1
-not_given given refusal.NoMemory is = tt
-
-module _ (given : Result (IntoIter (String Global) Global) Error) (stop : Refused (String Global)) (is : IsOfGiven given stop) where
-  abbrev asked : Asking
-  asked = asked_by_given (given_texts given)
-
-  stops : (file : Contents) → Stops (judged_for file asked) (stop_of stop)
-  stops file = words_stop file asked stop (not_given given stop is)
-
-  module _ (answer : ℕ) (out err err' : Option (List ℕ)) where
-    pub not_given_ends : (told : Option Contents) → answer ≢ 3 → (answer ≡ status_of (stop_of stop)) × Appends err err' (line_of (stop_of stop))
-        → IfSome told (λ file. EndsAs (judged_for file asked) answer out out err err')
-    not_given_ends None other written = tt
-    not_given_ends (Some file) other written = stop_ends (judged_for file asked) (stop_of stop) answer out out err err' (stops file) (kept out) other written
-
-    pub not_given_any : answer ≢ 3 → (answer ≡ status_of (stop_of stop)) × Appends err err' (line_of (stop_of stop))
-        → ForSomeBytes asked (λ judged. EndsAs judged answer out out err err')
-    not_given_any other written =
-        for_some_bytes asked (λ judged. Stops judged (stop_of stop)) (λ judged. EndsAs judged answer out out err err')
-        (λ judged stopped. stop_ends judged (stop_of stop) answer out out err err' stopped (kept out) other written)
-        (words_any asked stop (not_given given stop is) (is_told (stop_of stop) answer other written.0))
-
-    pub not_given_refused : (told : Option Contents) (reads : Bool) (opened : Option (List (List ℕ))) (a b : Bool) → answer ≡ 3
-        → TellsStop (stop_of stop) answer b err err' ⊎ Writes b err err' memory_line
-        → IfSome told (λ file. IsRefused file reads opened opened (opened_for asked) (judged_for file asked) a b err err')
-    not_given_refused told reads opened a b three part =
-        stop_is_refused told reads opened opened (opened_for asked) (λ file. judged_for file asked) (stop_of stop) answer a b err err' three
-        (all_stop told) (no_name told stop) part
-      where
-        all_stop : (t : Option Contents) → IfSome t (λ file. Stops (judged_for file asked) (stop_of stop))
-        all_stop None = tt
-        all_stop (Some file) = stops file
-
-        no_name : (t : Option Contents) (s : Refused (String Global)) → NamesUnread t reads opened opened (opened_for asked) (stop_of s)
-        no_name None s = tt
-        no_name (Some file) (refusal.Words text) = tt
-        no_name (Some file) refusal.NoMemory = tt

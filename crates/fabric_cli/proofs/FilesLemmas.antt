@@ -8,13 +8,11 @@ use Rattle.std.specs.Option.{option_to_list}
 use Rattle.result_words.specs.Steps.{◌>>=◌}
 use Rattle.fabric_cli.specs.declared.faults.Stop.{Stop}
 use Rattle.fabric_cli.specs.declared.faults.Stop.TheVariants.{Words, NoMemory, Unread, Unwritten, Run, Second, Foreign}
-use Rattle.fabric_cli.specs.Faults.{LeavesUnread, NamesUnread}
+use Rattle.fabric_cli.specs.Faults.{NamesUnread}
 use Rattle.fabric_cli.specs.Files.{Contents, OpensAll, OpensInOrder, StopsAt, all_open}
-use Rattle.fabric_cli.specs.Serving.{Bytes, Ending, OfScript, bytes_if_named, bytes_of, left_in, opened_bytes, script_in, texts_in, texts_of}
+use Rattle.fabric_cli.specs.Serving.{Bytes, Ending, OfScript, bytes_if_named, left_in, opened_bytes, script_in, texts_in, texts_of}
 use Rattle.fabric_cli.specs.declared.texts.Texts.{Texts}
 use Rattle.call_words.specs.Words.{Names}
-use Rattle.call_words.specs.declared.call.Work.{Work}
-use Rattle.call_words.specs.declared.call.Work.TheVariants as work
 use Rattle.text_streams.specs.Reading.{IsEndless}
 
 then_more : (old : Option (List (List ℕ))) (names more : List (List ℕ))
@@ -167,41 +165,6 @@ pub last_after : (told now : Option Contents) (reads reading : Bool) (first befo
 last_after None now reads reading first before after names more word same stays opened read last = tt
 last_after (Some file) now reads reading first before after names more word same stays opened read last =
     stops_after file reads first before after names more word opened read (rw (same, stays) at last)
-
--- what is left of it is known, and is its bytes
-pub open_known : (told : Option Contents) (name : List ℕ) (known : Option (List ℕ)) → IfSome told (λ file. Some known ≡ option_map Some (file name))
-    → IfSome told (λ _. is_some known ≡ true)
-open_known None name known is = tt
-open_known (Some file) name known is = by (file name) is
-  where
-    by : (found : Option (List ℕ)) → Some known ≡ option_map Some found → is_some known ≡ true
-    by None e = absurd cc
-    by (Some bytes) e = let at : known ≡ Some bytes = cc in rw at refl
-
-abbrev run_of : List ℕ → Result (Work (List ℕ) (List ℕ)) Ending
-run_of bytes = Ok (work.Run bytes)
-
-pub open_bytes : (told : Option Contents) (name : List ℕ) (known : Option (List ℕ)) → IfSome told (λ file. Some known ≡ option_map Some (file name))
-    → IfSome told (λ file. (bytes_of file name >>= run_of) ≡ run_of (unwrap_or known []))
-open_bytes None name known is = tt
-open_bytes (Some file) name known is = by (file name) is
-  where
-    by : (found : Option (List ℕ)) → Some known ≡ option_map Some found → (opened_bytes name found >>= run_of) ≡ run_of (unwrap_or known [])
-    by None e = absurd cc
-    by (Some bytes) e = let at : known ≡ Some bytes = cc in rw at refl
-
--- a stop at a script that is open
-pub named_unread : (told : Option Contents) (reads : Bool) (old new : Option (List (List ℕ))) (names : List (List ℕ)) (Is : List ℕ → Type 0) (stop : Stop)
-    → LeavesUnread Is stop → ((word : List ℕ) → Is word → IfSome told (λ file. StopsAt file reads old new names word))
-    → NamesUnread told reads old new names stop
-named_unread None reads old new names Is stop leaves last = tt
-named_unread (Some file) reads old new names Is (Unread name) leaves last = last name.now leaves
-named_unread (Some file) reads old new names Is (Words text) leaves last = tt
-named_unread (Some file) reads old new names Is NoMemory leaves last = tt
-named_unread (Some file) reads old new names Is Unwritten leaves last = tt
-named_unread (Some file) reads old new names Is (Run fault) leaves last = tt
-named_unread (Some file) reads old new names Is (Second line cause) leaves last = tt
-named_unread (Some file) reads old new names Is (Foreign line cause) leaves last = tt
 
 -- ---- what is judged of the texts of files
 script_known : (known : Option (List ℕ)) (Is : List ℕ → Type 0) → is_some known ≡ true → OfScript known Is → Is (unwrap_or known [])

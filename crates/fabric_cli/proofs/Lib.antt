@@ -6,3 +6,7 @@ pub mod EndingLemmas
 pub mod RunLemmas
 pub mod ExplainedLemmas
 pub mod AgreementLemmas
+pub mod LineTextLemmas
+pub mod PortLineLemmas
+pub mod PrintedLemmas
+pub mod OneEndingLemmas

@@ -45,7 +45,7 @@ part_of_more old new first rest all is part =
     (some.0, subst (λ (text : List ℕ). Appends old new text) (sym same) part.1)
 
 -- ---- what a script is told as
-script_output : (output : List ℕ) (found : Result (List Command) (AtLine ScriptCause)) → output_in (script_told output found) ≡ output
+pub script_output : (output : List ℕ) (found : Result (List Command) (AtLine ScriptCause)) → output_in (script_told output found) ≡ output
 script_output output (Ok commands) = refl
 script_output output (Err at) = refl
 

@@ -1,5 +1,5 @@
 -- What stands on standard error at status 3.
-use Rattle.std.proofs.Common.{ℕ, ◌≡◌, ◌≢◌, ◌⊎◌, ◌∙◌, inl, inr, refl, sym, arith, Bool, true, false, List, Option, Some, None, Result, IfSome, string_bytes}
+use Rattle.std.proofs.Common.{ℕ, ◌≡◌, ◌≢◌, ◌⊎◌, ◌∙◌, inl, inr, refl, sym, arith, Bool, true, List, Option, Some, None, Result, IfSome, string_bytes}
 use Rattle.std.specs.Io.KnownBytes.{Keeps}
 use Rattle.subnet_core.specs.declared.fault.RunFault.{RunFault}
 use Rattle.subnet_core.specs.declared.fault.RunFault.TheVariants as run
@@ -14,9 +14,6 @@ use Rattle.fabric_cli.proofs.JudgedLemmas.{for_ending}
 -- a status other than 3 was answered where the line can go out
 pub other_status : (status answer : ℕ) (b : Bool) → answer ≡ 3 → (b ≡ true → answer ≡ status) → status ≢ 3 → b ≢ true
 other_status status answer b three told other sure = other (sym (told sure) ∙ three)
-
-pub false_is_not_true : false ≡ true → ⊥
-false_is_not_true e = cc
 
 pub of_memory : (file : Contents) (reads : Bool) (old new : Option (List (List ℕ))) (names : List (List ℕ)) (judged : Result Bytes Ending) (a b : Bool) (err err' : Option (List ℕ))
     → Writes b err err' memory_line → IsRefused file reads old new names judged a b err err'
@@ -128,15 +125,7 @@ module _ (file : Contents) (reads : Bool) (old new : Option (List (List ℕ))) (
   of_answer (Second line cause) out out' is unread (inl part) = of_either (Second line cause) out out' is unread part
   of_answer (Foreign line cause) out out' is unread (inl part) = of_either (Foreign line cause) out out' is unread part
 
--- a call that stops
-pub stop_is_refused : (told : Option Contents) (reads : Bool) (old new : Option (List (List ℕ))) (names : List (List ℕ)) (judged : Contents → Result Bytes Ending) (stop : Stop) (answer : ℕ) (a b : Bool) (err err' : Option (List ℕ))
-    → answer ≡ 3 → IfSome told (λ file. Stops (judged file) stop) → NamesUnread told reads old new names stop → TellsStop stop answer b err err' ⊎ Writes b err err' memory_line
-    → IfSome told (λ file. IsRefused file reads old new names (judged file) a b err err')
-stop_is_refused None reads old new names judged stop answer a b err err' three is unread part = tt
-stop_is_refused (Some file) reads old new names judged stop answer a b err err' three is unread part =
-    of_stop file reads old new names (judged file) answer a b err err' three stop is unread part
-
--- and one that stops with its output written as far as it went
+-- a call that stops, with its output written as far as it went
 pub answer_is_refused : (told : Option Contents) (reads : Bool) (old new : Option (List (List ℕ))) (names : List (List ℕ)) (judged : Contents → Result Bytes Ending) (stop : Stop) (answer : ℕ) (a b : Bool) (out out' err err' : Option (List ℕ))
     → answer ≡ 3 → IfSome told (λ file. StopsBehind (judged file) stop a out out') → NamesUnread told reads old new names stop
     → TellsStop stop answer b err err' ⊎ Writes b err err' memory_line

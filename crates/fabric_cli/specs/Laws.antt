@@ -1,9 +1,11 @@
 -- What holds of all calls: the statements of laws of `src/laws.rt`.
-use Rattle.std.specs.Prelude.{ℕ, ◌≡◌, List, Option}
+use Rattle.std.specs.Prelude.{ℕ, ◌≡◌, Bool, true, false, List, Option}
 use Rattle.std.specs.List.{All}
 use Rattle.call_words.specs.Words.{Asking, opened_for}
+use Rattle.call_words.specs.declared.call.Work.{Work}
+use Rattle.call_words.specs.declared.call.Work.TheVariants as work
 use Rattle.fabric_cli.specs.Files.{Contents}
-use Rattle.fabric_cli.specs.Serving.{Ending, broken_off, ending_by, faulted, judged_for, reported, run_in}
+use Rattle.fabric_cli.specs.Serving.{Bytes, Ending, ForTexts, broken_off, ending_by, faulted, judged_for, reported, run_in}
 use Rattle.subnet_core.specs.BringUp.{up_from}
 use Rattle.subnet_core.specs.Roster.{roster_of}
 use Rattle.subnet_core.specs.declared.fault.RunFault.{RunFault}
@@ -24,3 +26,15 @@ abbrev pub RunsEndAsReports : Type 0
 RunsEndAsReports =
     (topology : List ℕ) (partitions : Option (List ℕ)) (script : List ℕ) (stop : Option RunFault)
     → without_told (run_in (up_from (roster_of topology partitions) stop) script) ≡ ending_by (reported topology partitions script stop)
+
+-- what a fabric holds, and what the loss of a cable would do to it, is told of some routes
+abbrev pub needs_no_routes : {W S : Type 0} → Work W S → Bool
+needs_no_routes (work.Inspect what script) = false
+needs_no_routes (work.Cuts view) = false
+needs_no_routes _ = true
+
+-- in all else that is asked of a subnet the texts end in one way: whatever became of their fabric, it was the same
+abbrev pub OneEndingComesOfTexts : Type 0
+OneEndingComesOfTexts =
+    (texts : Bytes) (one other : Ending) → needs_no_routes texts.work ≡ true
+    → ForTexts texts (λ ending. ending ≡ one) → ForTexts texts (λ ending. ending ≡ other) → one ≡ other

@@ -2,4 +2,5 @@ pub mod Files
 pub mod Explained
 pub mod Faults
 pub mod Serving
+pub mod Printed
 pub mod Laws

@@ -23,7 +23,9 @@ mod texts;
 
 pub use crate::files::{Files, MachineFiles};
 pub use crate::laws::{
-    every_code_that_is_told_is_explained, files_that_agree_are_judged_alike, runs_end_as_reports,
+    a_ports_lines_are_its_events, every_code_that_is_told_is_explained,
+    files_that_agree_are_judged_alike, one_ending_comes_of_texts,
+    printed_lines_keep_partitions_apart, runs_end_as_reports,
 };
 pub use crate::serving::{serve, serve_by, serve_given};
 pub use text_streams::{Output, Reader};

@@ -1,0 +1,43 @@
+-- What is printed of one port by a run.
+use Rattle.std.specs.Prelude.{ℕ, ◌≡◌, List, ◌++◌, codes, filter, map, nat_eq, Option, Some, Ok}
+use Rattle.std.specs.List.{starts_with}
+use Rattle.line_parts.specs.Parts.{port_text}
+use Rattle.subnet_core.specs.BringUp.{up_from}
+use Rattle.subnet_core.specs.EventLines.{line_text, report_text}
+use Rattle.subnet_core.specs.Roster.{RosterState, roster_of}
+use Rattle.subnet_core.specs.Stream.{commands_before_fault}
+use Rattle.subnet_core.specs.declared.fault.RunFault.{RunFault}
+use Rattle.subnet_model.specs.Delivery.{port_with_guid}
+use Rattle.subnet_model.specs.Near.{is_near}
+use Rattle.subnet_model.specs.Restriction.{commands_of, events_at}
+use Rattle.subnet_model.specs.declared.command.Command.{Command}
+use Rattle.subnet_model.specs.declared.event.PortEvent.{PortEvent}
+use Rattle.subnet_model.specs.declared.subnet_port.SubnetPort.{SubnetPort}
+use Rattle.text_words.specs.Lines.{lines}
+use Rattle.fabric_cli.specs.Serving.{output_in, run_in}
+
+-- the lines of an output that begin with the name of the port, as `h1/1`, and a blank
+abbrev pub lines_at : SubnetPort → List ℕ → List (List ℕ)
+lines_at port output = filter (λ line. starts_with nat_eq line (port_text port ++ codes " ")) (lines output)
+
+-- in a report these are the lines of the port's own events, one for each, in order
+abbrev pub APortsLinesAreItsEvents : Type 0
+APortsLinesAreItsEvents =
+    (topology : List ℕ) (partitions : Option (List ℕ)) (roster : RosterState) (p : ℕ) (port : SubnetPort) (events : List PortEvent)
+    → roster_of topology partitions ≡ Ok roster → port_with_guid roster.configuration.ports p ≡ Some port
+    → lines_at port (report_text roster.configuration.ports events) ≡ map (line_text roster.configuration.ports) (events_at p events)
+
+-- the commands of the ports near a port that a script gives, up to its first fault
+abbrev pub near_commands : RosterState → ℕ → List ℕ → List Command
+near_commands roster p script =
+    commands_of (is_near roster.configuration.ports p) (commands_before_fault roster.plan (lines script))
+
+-- where two scripts give the same of these, runs of them print the same lines of that port, byte for byte
+abbrev pub PrintedLinesKeepPartitionsApart : Type 0
+PrintedLinesKeepPartitionsApart =
+    (topology : List ℕ) (partitions : Option (List ℕ)) (stop : Option RunFault) (roster : RosterState) (p : ℕ) (port : SubnetPort)
+    (first second : List ℕ)
+    → roster_of topology partitions ≡ Ok roster → port_with_guid roster.configuration.ports p ≡ Some port
+    → near_commands roster p first ≡ near_commands roster p second
+    → lines_at port (output_in (run_in (up_from (roster_of topology partitions) stop) first))
+    ≡ lines_at port (output_in (run_in (up_from (roster_of topology partitions) stop) second))
