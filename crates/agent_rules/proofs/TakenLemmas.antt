@@ -1,15 +1,12 @@
 -- What a Set of PortInfo takes over, and what NodeInfo names.
-use Rattle.std.proofs.Common.{ℕ, ◌≡◌, ◌∙◌, ◌==◌, ap, refl, sym, subst, Bool, true, false, if◌then◌else◌, List, Result, Ok, Err}
+use Rattle.std.proofs.Common.{ℕ, ◌≡◌, refl, sym, subst, Bool, true, false, if◌then◌else◌, List, Ok, Err}
 use Rattle.result_words.proofs.StepLemmas.{same_ok}
-use Rattle.mad_layout.specs.declared.status.MadStatus.{MadStatus}
 use Rattle.mad_layout.specs.declared.status.MadStatus.TheVariants.{InvalidField}
-use Rattle.mad_layout.specs.Bits.{field}
-use Rattle.mad_layout.specs.Layout.{Fits, Holds}
 use Rattle.mad_layout.proofs.LayoutLemmas.{spells_put_all}
 use Rattle.attr_tables.specs.NodeInfo.{node_info, node_info_bytes}
 use Rattle.attr_tables.specs.declared.port_info.PortInfo.{PortInfo}
-use Rattle.agent_rules.specs.Laws.{IsTaken, NodeInfosNameGuids, SetsAreTaken, unsettable}
-use Rattle.agent_rules.specs.PortSetting.{is_valid, port_info_after, port_setting, taken_over}
+use Rattle.agent_rules.specs.Laws.{IsTaken, NodeInfosNameGuids, SetsAreTaken}
+use Rattle.agent_rules.specs.PortSetting.{is_valid, port_setting, taken_over}
 use Rattle.agent_rules.specs.PowerUp.{node_info_of}
 
 taken : (enforces : Bool) (info : PortInfo) (attribute : List ℕ) → IsTaken enforces info (taken_over enforces info (port_setting attribute)) attribute

@@ -11,14 +11,13 @@ use Rattle.result_words.proofs.ListLemmas.{IsDistinct-nil, list_all_push, list_a
 use Rattle.result_words.proofs.PlaceLemmas.{not_there}
 use Rattle.dump_file.specs.declared.heading.Heading.{Heading}
 use Rattle.dump_file.specs.declared.row.Row.{Row}
-use Rattle.dump_file.specs.declared.stage.Stage.{Stage}
 use Rattle.dump_file.specs.declared.stage.Stage.TheVariants.{Between}
 use Rattle.dump_file.specs.declared.table.Table.{Table}
 use Rattle.dump_file.specs.Destination.{guid_said}
 use Rattle.dump_file.specs.Dump.{DraftState, heading_of, nothing, rows_so_far, with_rows}
 use Rattle.dump_file.specs.Row.{are_two, end_of, is_above, is_said_otherwise, may_follow, said_of}
 use Rattle.dump_file.specs.Sound.{IsOpen, IsSoundSoFar, StandUnder, has_its_end, have_one_end, is_end, is_rising, may_take, rise, shares_switch}
-use Rattle.dump_file.specs.Table.{place_of, rows_of, table_of}
+use Rattle.dump_file.specs.Table.{rows_of, table_of}
 
 pub nothing_sound : IsSoundSoFar nothing
 nothing_sound = record { tables = record { own_switches = IsDistinct-nil shares_switch; rising = refl }; open_rows = refl; one_end = refl }
@@ -130,15 +129,3 @@ sound_with_table so_far heading sound under =
       open_rows = refl;
       one_end = ap have_one_end (rows_closed so_far.tables heading so_far.rows) ∙ sound.one_end;
     }
-
--- ---- a heading
-pub sound_with_heading : (so_far : DraftState) (heading : Heading) (next : Stage) → IsSoundSoFar so_far → heading_of so_far.stage ≡ None → heading_of next ≡ Some heading
-    → place_of heading.guid so_far.tables ≡ None → IsSoundSoFar (record so_far { stage = next })
-sound_with_heading so_far heading next sound none under new =
-    let empty : so_far.rows ≡ [] = subst (λ h. StandUnder h so_far.tables so_far.rows) none sound.open_rows in
-    let stand : IsOpen so_far.tables heading so_far.rows = record { new = new; rising = ap (rise 0 heading.top) empty } in
-    record { tables = sound.tables; open_rows = rw under stand; one_end = sound.one_end }
-
--- ---- a stage of the same heading
-pub sound_at : (so_far : DraftState) (next : Stage) → IsSoundSoFar so_far → heading_of next ≡ heading_of so_far.stage → IsSoundSoFar (record so_far { stage = next })
-sound_at so_far next sound same = record { tables = sound.tables; open_rows = rw same sound.open_rows; one_end = sound.one_end }

@@ -6,7 +6,7 @@ ghost use Rattle.dump_file.specs.Dump.{is_between};
 use crate::heading::Heading;
 
 /// What is to come after the lines so far.
-#[derive(Clone, Copy, Debug)]
+#[derive(Clone, Copy)]
 pub(crate) enum Stage {
     /// A table.
     Between,

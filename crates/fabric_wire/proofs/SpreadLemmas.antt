@@ -214,14 +214,6 @@ module _ (nodes : List Node) (cables : List Cable) (packet : Packet) where
       pub closed : (here next : PortRef) → has_port (take done ports) here → Passes nodes cables packet here next → has_port ports next
       pub differ : IsDistinct is_same_port ports
 
-    pub is_begun : (ports : List PortRef) → ports ≡ first ∷ [] → IsDistinct is_same_port ports → IsSearched 0 ports
-    is_begun ports is differ = record {
-      begins = rw is (at_first first []);
-      sound = λ at there. ([], sym (alone first at (subst (λ (list : List PortRef). has_port list at) is there)));
-      closed = λ here next none. absurd (cc);
-      differ = differ;
-    }
-
     pub goes_on : (done : ℕ) (here : PortRef) (ports new : List PortRef) → IsSearched done ports → slice_get ports done ≡ Some here
         → IsGrown nodes cables packet here ports new → IsSearched (done + 1) new
     goes_on done here ports new so_far is grown = record {

@@ -35,12 +35,24 @@ use std::marker::Model;
 use topo_file::Topology;
 
 /// A fabric whose nodes hand SMPs on hop by hop, each of them knowing its own ports alone.
-#[derive(Debug, Drop)]
+#[derive(Debug)]
 pub struct Fabric {
     nodes: Vec<Node>,
     cabling: Cabling,
     adapter_ports: IndexMap<u64, PortRef>,
     manager: PortRef,
+}
+
+// As derived, but by one call: else what owns one is proved to let go of each of its parts, on each way out.
+impl Drop for Fabric {
+    fn drop(self) {
+        let Fabric {
+            nodes: _,
+            cabling: _,
+            adapter_ports: _,
+            manager: _,
+        } = self;
+    }
 }
 
 impl Model for Fabric {

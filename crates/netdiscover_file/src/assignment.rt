@@ -12,7 +12,7 @@ use crate::spelling::guid_in;
 use text_words::{Words, cut_at};
 
 /// The GUIDs of a switch that a line before its header tells.
-#[derive(Clone, Copy, Debug, PartialEq, Eq)]
+#[derive(Clone, Copy, Debug)]
 pub(crate) struct SwitchGuids {
     /// The node's.
     pub(crate) node: u64,

@@ -11,7 +11,7 @@ use memchr::memrchr;
 use text_words::{Words, cut_at};
 
 /// What stands before, between and behind two bytes.
-#[derive(Clone, Copy, Debug)]
+#[derive(Clone, Copy)]
 pub(crate) struct Between<'a> {
     pub(crate) before: &'a [u8],
     pub(crate) inside: &'a [u8],

@@ -21,7 +21,7 @@ use std::marker::Model;
 use text_words::Words;
 
 /// What the lines so far tell.
-#[derive(Debug, Drop)]
+#[derive(Drop)]
 pub(crate) struct Draft {
     pub(crate) nodes: NodeList,
     pub(crate) ports: PortList,

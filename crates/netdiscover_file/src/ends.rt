@@ -30,7 +30,7 @@ impl NodeId {
 }
 
 /// The port that a line is of, before it is known whether there is such a port.
-#[derive(Clone, Copy, Debug, PartialEq, Eq)]
+#[derive(Clone, Copy)]
 pub(crate) struct OwnEnd {
     pub(crate) number: u128,
     pub(crate) guid: Option<u64>,

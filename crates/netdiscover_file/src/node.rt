@@ -58,7 +58,7 @@ pub struct Node {
 }
 
 /// What a header says of a node, before it is one.
-#[derive(Clone, Copy, Debug)]
+#[derive(Clone, Copy)]
 pub(crate) struct NewNode<'a> {
     pub(crate) id: NodeId,
     pub(crate) ports: u8,

@@ -92,7 +92,7 @@ impl PortList {
 }
 
 /// Different GUIDs, in the order in which they were told.
-#[derive(Debug, Drop)]
+#[derive(Drop)]
 pub(crate) struct GuidList {
     guids: IndexSet<u64>,
 }

@@ -355,7 +355,12 @@ module _ (fabric : FabricState) (packet : Packet) (first : PortRef) (multicast :
 
   is_begun : IsTraced 0 begun
   is_begun = record {
-    searched = search.is_begun fabric.nodes fabric.cables packet first (first ∷ []) refl (distinct_with [] first none_differ);
+    searched = record {
+      begins = search.at_first first [];
+      sound = λ at there. ([], sym (search.alone first at there));
+      closed = λ here next none. absurd (cc);
+      differ = distinct_with [] first none_differ;
+    };
     each = λ at none. absurd (cc);
     sound = λ one none. absurd (nothing_in one none);
     taken = λ one none accepts. absurd (nothing_in one none);

@@ -21,7 +21,7 @@ use switch_model::{Switch, passes_inbound, passes_outbound};
 ///
 /// The ports are also the list of those from which the packet goes on: so a trace ends where masks lead in circles, and comes
 /// to each port once where ways meet.
-#[derive(Debug, Drop)]
+#[derive(Drop)]
 pub(crate) struct Spread {
     known: IndexSet<PortRef>,
     steps: Vec<Step>,

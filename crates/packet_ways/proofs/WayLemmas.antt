@@ -202,10 +202,6 @@ goes_on nodes cables packet first here next hops unicast on is =
       count = omega (arith, count, more);
     }
 
-pub comes_to_end : (nodes : List Node) (cables : List Cable) (packet : Packet) (first here : PortRef) (hops : ℕ)
-    → IsOnWay nodes cables packet first hops here → next_port nodes cables packet here ≡ None → IsEnd nodes cables packet first here
-comes_to_end nodes cables packet first here hops on stops = record { way = on.way; goes = on.goes; ends = stops }
-
 -- after more hops than there are ends of cables the way has no end
 pub goes_round : (nodes : List Node) (cables : List Cable) (packet : Packet) (first here last : PortRef) (hops : ℕ)
     → is_multicast packet.dlid ≡ false → IsOnWay nodes cables packet first hops here → 2 * length cables < hops → IsEnd nodes cables packet first last → ⊥

@@ -114,12 +114,6 @@ flag_alone flags raw free = rw (has_none raw free, word_alone raw free) refl
 flag_given : (flags : Flags) (raw p : List ℕ) → IsOpen raw → with_flag_part flags (raw ++ 61 ∷ p) ≡ with_flag_value (flag_of (folded raw)) (folded p) flags
 flag_given flags raw p free = rw (has_value_there raw p free, word_there raw p free, value_there raw p free) refl
 
-item_alone : (default : Bool) (raw : List ℕ) → IsOpen raw → items_of default raw ≡ item_of (ports_named (folded raw)) default
-item_alone default raw free = rw (has_none raw free, word_alone raw free) refl
-
-item_given : (default : Bool) (raw p : List ℕ) → IsOpen raw → items_of default (raw ++ 61 ∷ p) ≡ item_of (ports_named (folded raw)) (is_full (membership_in (folded p)))
-item_given default raw p free = rw (has_value_there raw p free, word_there raw p free, value_there raw p free) refl
-
 -- ---- a name
 name_equals : (raw p : List ℕ) → IsOpen raw → finished part.Name blank (raw ++ 61 ∷ p) ≡ finished part.Base (record blank { name = folded raw }) p
 name_equals raw p free =

@@ -46,9 +46,6 @@ refused_text : (text : List ℕ) (e : AtLine PartitionCause) → whole (without_
 unfolding partitions_of
 refused_text text e h = bind_refused (whole (without_comments false text)) (λ definitions. Ok (partitions_in definitions)) e h
 
-same_fault : (e : AtLine PartitionCause) (line : ℕ) (cause : PartitionCause) → e.line ≡ line → e.cause ≡ cause → record { line = line; cause = cause } ≡ e
-same_fault e line cause h k = rw (sym h, sym k) refl
-
 whole_inside : (shown : List ℕ) (e : AtLine PartitionCause) → HasFaultInside shown e → whole shown ≡ Err e
 unfolding whole
 whole_inside shown e h =

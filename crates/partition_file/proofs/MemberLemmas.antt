@@ -13,7 +13,6 @@ use Rattle.pkey_rules.specs.PKey.{base_of, is_base, key_of}
 use Rattle.pkey_rules.specs.KeyTable.{has_base}
 use Rattle.pkey_rules.proofs.PKeyLemmas.{key_has_base}
 use Rattle.partition_file.specs.declared.partition.Partition.{Partition}
-use Rattle.partition_file.proofs.SoundLemmas.{few_partitions}
 use Rattle.partition_file.specs.Members.{AreSoundHeadings, bases_in, heading_of, is_full_member, is_member, key_in, keys_in}
 use Rattle.partition_file.specs.declared.heading.Heading.{Heading}
 use Rattle.partition_file.specs.Sound.{IsSound, has_fit_group, all_bases}
@@ -21,9 +20,6 @@ use Rattle.partition_file.specs.Sound.{IsSound, has_fit_group, all_bases}
 -- ---- the base of a key
 base_below : (base : ℕ) → is_base base ≡ true → base < 32768
 base_below base h = grind (arith, nat_tests)
-
-base_above : (base : ℕ) → is_base base ≡ true → 1 ≤ base
-base_above base h = grind (arith, nat_tests)
 
 -- ---- what the loop over partitions keeps: the keys so far and those of the partitions that are left, no base of which is held
 abbrev pub AreFree : List ℕ → List ℕ → Type 0
@@ -35,19 +31,6 @@ pub record IsFilled (port : EndPort) (left : List Partition) (held : List ℕ) (
   pub distinct : IsDistinct nat_eq (all_bases left)
   pub room : length held + length left ≤ PARTITIONS
   pub valid : list_all is_base (all_bases left) ≡ true
-
-none_held : (bases : List ℕ) → AreFree bases []
-none_held [] = tt
-none_held (base ∷ bases) = (refl, none_held bases)
-
-pub starts : (port : EndPort) (partitions : List Partition) → IsSound partitions → IsFilled port partitions [] partitions
-starts port partitions sound = record {
-  same = refl;
-  free = none_held (all_bases partitions);
-  distinct = sound.bases.distinct;
-  room = omega (arith, few_partitions partitions sound);
-  valid = sound.bases.valid;
-}
 
 has_last : (base key : ℕ) (held : List ℕ) → has_base base (held ++ key ∷ []) ≡ (has_base base held || (base_of key == base))
 has_last base key [] = or_false (base_of key == base)
@@ -105,22 +88,6 @@ goes_on port partition left rest held all cut so_far =
       distinct = IsDistinct-tail nat_eq partition.base (all_bases rest) kept.distinct;
       room = omega (arith, kept.room, short_by held (key_in port partition));
       valid = valid.1;
-    }
-
--- what adding the next key asks for
-pub record MayAdd (partition : Partition) (held : List ℕ) : Type 0 where
-  pub base : is_base partition.base ≡ true
-  pub free : has_base partition.base held ≡ false
-  pub room : length held < PARTITIONS
-
-pub may_add : (port : EndPort) (partition : Partition) (left rest : List Partition) (held : List ℕ) (all : List Partition) → left ≡ partition ∷ rest
-    → IsFilled port left held all → MayAdd partition held
-may_add port partition left rest held all cut so_far =
-    let kept : IsFilled port (partition ∷ rest) held all = subst (λ (l : List Partition). IsFilled port l held all) cut so_far in
-    record {
-      base = (and_parts (is_base partition.base) (list_all is_base (all_bases rest)) kept.valid).0;
-      free = kept.free.0;
-      room = omega (arith, kept.room);
     }
 
 pub next_left : (partitions : List Partition) (i : ℕ) (partition : Partition) → i < length partitions → drop i partitions ≡ get_or partitions i partition ∷ drop (i + 1) partitions

@@ -5,12 +5,6 @@ use Rattle.std.specs.Borrow.{Bor}
 use Rattle.std.proofs.lemmas.Grind.{flat_map-append}
 use Rattle.std.proofs.lemmas.List.{map_more, take-map, append-nil}
 
-words_of : List (Bor (List ℕ)) → List (List ℕ)
-words_of words = map (λ word. word.now) words
-
-blank_before : List ℕ → List ℕ
-blank_before word = 32 ∷ word
-
 -- one more word, after a blank
 pub word_more : (words : List (Bor (List ℕ))) (i : ℕ) (word : Bor (List ℕ)) (so_far before : List ℕ) → i < length words
     → so_far ≡ before ++ flat_map (λ w. 32 ∷ w) (take i (map (λ w. w.now) words))

@@ -1,5 +1,5 @@
 -- Which fault is told for one byte: the first in turn of those that hold there.
-use Rattle.std.proofs.Common.{◌≡◌, ℕ, zero, suc, ◌+◌, ◌<◌, ◌≤◌, Bool, true, false, cond, ◌==◌, List, [], ◌∷◌, Option, Some, None, Ok, Err, refl, sym, ap, subst, ◌∙◌, arith}
+use Rattle.std.proofs.Common.{◌≡◌, ℕ, zero, suc, ◌+◌, ◌≤◌, Bool, true, false, cond, ◌==◌, List, [], ◌∷◌, Option, Some, None, Ok, Err, refl, sym, ap, subst, ◌∙◌, arith}
 use Rattle.std.specs.List.{find}
 use Rattle.std.proofs.lemmas.Bool.{eqb-true}
 use Rattle.std.proofs.lemmas.Bool.Decides.{nat_tests}
@@ -43,17 +43,6 @@ by_turn BadFlagValue = refl
 
 same_turn : (f g : PartitionCause) → turn f ≡ turn g → f ≡ g
 same_turn f g h = sym (by_turn f) ∙ ap told_at h ∙ by_turn g
-
-turn_below : (fault : PartitionCause) → turn fault < 9
-turn_below BothMembership = omega arith
-turn_below MgidItem = omega arith
-turn_below BadCharacter = omega arith
-turn_below BadNumber = omega arith
-turn_below ReservedKey = omega arith
-turn_below UnknownFlag = omega arith
-turn_below TooManyPartitions = omega arith
-turn_below Unfinished = omega arith
-turn_below BadFlagValue = omega arith
 
 abbrev InOrder : ℕ → List PartitionCause → Type 0
 InOrder n [] = Unit {0}

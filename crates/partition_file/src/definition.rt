@@ -70,7 +70,7 @@ impl PartitionName {
 }
 
 /// What a definition says.
-#[derive(Debug, Drop)]
+#[derive(Drop)]
 pub(crate) struct Definition {
     pub(crate) name: PartitionName,
     /// The base that it names.
@@ -93,7 +93,7 @@ impl Definition {
 }
 
 /// Definitions in the order of the text, with what their limit is asked of kept beside them.
-#[derive(Debug, Drop)]
+#[derive(Drop)]
 pub(crate) struct DefinitionList {
     definitions: Vec<Definition>,
     // The default base and those that the definitions name, each once.

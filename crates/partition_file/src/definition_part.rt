@@ -10,7 +10,7 @@ use crate::piece::Delimiter;
 use crate::token::Token;
 
 /// What the next delimiter ends.
-#[derive(Clone, Copy, Debug, PartialEq, Eq)]
+#[derive(Clone, Copy)]
 pub(crate) enum Part {
     Name,
     Base,

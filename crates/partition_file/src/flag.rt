@@ -4,7 +4,7 @@ ghost use Rattle.std.specs.Prelude.{◌≡◌};
 ghost use Rattle.partition_file.specs.Flags.{flag_of, is_full_by_default, is_given, no_flags, setting_of, takes_value, with_flag, with_setting};
 
 /// A flag of a definition.
-#[derive(Clone, Copy, Debug, PartialEq, Eq)]
+#[derive(Clone, Copy, PartialEq, Eq)]
 pub(crate) enum Flag {
     Ipoib,
     Indx0,
@@ -49,7 +49,7 @@ impl Flag {
 }
 
 /// A flag with its value.
-#[derive(Clone, Copy, Debug, PartialEq, Eq)]
+#[derive(Clone, Copy, PartialEq, Eq)]
 pub(crate) enum Setting {
     Rate(u8),
     Mtu(u8),
@@ -85,7 +85,7 @@ pub(crate) fn flag_of(word: &[u8]) -> Option<Flag>
 }
 
 /// The flags that a definition has given so far.
-#[derive(Clone, Copy, Debug)]
+#[derive(Clone, Copy)]
 pub(crate) struct Flags {
     pub(crate) ipoib: bool,
     pub(crate) indx0: bool,

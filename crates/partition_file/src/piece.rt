@@ -17,7 +17,7 @@ const BLANK: u8 = b' ';
 const COMMENT: u8 = b'#';
 
 /// What ends a piece.
-#[derive(Clone, Copy, Debug, PartialEq, Eq)]
+#[derive(Clone, Copy)]
 pub(crate) enum Delimiter {
     Equals,
     Comma,

@@ -12,7 +12,7 @@ use std::alloc::{AllocError, Global};
 use std::marker::Model;
 
 /// A definition with the base of its partition.
-#[derive(Debug, Drop)]
+#[derive(Drop)]
 pub(crate) struct Rule<'a> {
     base: u16,
     definition: &'a Definition,

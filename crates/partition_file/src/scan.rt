@@ -70,7 +70,7 @@ impl Definition {
 
 /// What the text so far says: the part that the next delimiter ends, the definition that it belongs
 /// to, and the definitions before.
-#[derive(Debug, Drop)]
+#[derive(Drop)]
 pub(crate) struct Scan {
     part: Part,
     current: Definition,

@@ -11,7 +11,7 @@ use pkey_rules::base_of;
 use text_words::number_in;
 
 /// What stands where a name may stand.
-#[derive(Clone, Copy, Debug, PartialEq, Eq)]
+#[derive(Clone, Copy, PartialEq, Eq)]
 pub(crate) enum NameWord {
     /// `Default`.
     Default,
@@ -22,7 +22,7 @@ pub(crate) enum NameWord {
 }
 
 /// How ports are listed.
-#[derive(Clone, Copy, Debug, PartialEq, Eq)]
+#[derive(Clone, Copy, PartialEq, Eq)]
 pub(crate) enum MembershipWord {
     Full,
     Limited,
@@ -40,7 +40,7 @@ impl MembershipWord {
 }
 
 /// The value of a flag.
-#[derive(Clone, Copy, Debug, PartialEq, Eq)]
+#[derive(Clone, Copy, PartialEq, Eq)]
 pub(crate) enum Value {
     /// One that the flag takes.
     Taken(Setting),
@@ -55,7 +55,7 @@ pub(crate) enum Value {
 }
 
 /// What a piece says.
-#[derive(Clone, Copy, Debug, PartialEq, Eq)]
+#[derive(Clone, Copy)]
 pub(crate) enum Token {
     Name(NameWord),
     /// The base that a PKey names; none where the piece is no PKey.

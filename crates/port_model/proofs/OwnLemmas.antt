@@ -1,11 +1,7 @@
 -- A port of a channel adapter answers for itself alone.
-use Rattle.std.proofs.Common.{ℕ, ◌≡◌, ◌≢◌, ◌⊎◌, ◌==◌, ◌||◌, inl, inr, refl, Bool, true, false, if◌then◌else◌, List, Ok, Err}
+use Rattle.std.proofs.Common.{ℕ, ◌≡◌, ◌≢◌, ◌⊎◌, ◌==◌, inl, inr, refl, true, false}
 use Rattle.std.proofs.Math.Bool.{or-true}
 use Rattle.std.proofs.lemmas.Bool.{eq-eqb, ne_eqb}
-use Rattle.attr_tables.specs.PortInfo.{port_info_bytes}
-use Rattle.attr_tables.specs.declared.smp_attribute.SmpAttribute.TheVariants.{PortInfo}
-use Rattle.agent_rules.specs.Agent.{shown_at}
-use Rattle.mad_layout.specs.declared.status.MadStatus.TheVariants.{InvalidField}
 use Rattle.port_model.specs.AdapterState.{AdapterState}
 use Rattle.port_model.specs.Agent.{get, is_own, set}
 use Rattle.port_model.specs.Laws.{PortsAnswerForThemselves}

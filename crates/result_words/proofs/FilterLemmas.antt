@@ -55,10 +55,6 @@ pub map_swap : {X : Type 0} (f g : X → X) → ((x : X) → f (g x) ≡ g (f x)
 map_swap f g same [] = refl
 map_swap f g same (x ∷ xs) = rw (same x, map_swap f g same xs) refl
 
-pub map_absorbs : {X : Type 0} (f g : X → X) → ((x : X) → f (g x) ≡ f x) → (xs : List X) → map f (map g xs) ≡ map f xs
-map_absorbs f g same [] = refl
-map_absorbs f g same (x ∷ xs) = rw (same x, map_absorbs f g same xs) refl
-
 -- what neither a map nor a filter changes
 pub filter_map_idle : {X : Type 0} (p keep : X → Bool) (f : X → X) → ((x : X) → p x ≡ true → f x ≡ x) → ((x : X) → p x ≡ true → keep x ≡ true) → (xs : List X)
     → list_all p xs ≡ true → filter keep (map f xs) ≡ xs

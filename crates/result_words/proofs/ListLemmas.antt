@@ -1,5 +1,5 @@
 -- Tests of the elements of lists, and lists whose elements differ.
-use Rattle.std.proofs.Common.{ℕ, zero, suc, ◌+◌, ◌<◌, Bool, true, false, List, [], ◌∷◌, ◌++◌, length, take, drop, replicate, get_or, slice_get, slice_set, find, Some, map, flat_map, ◌||◌}
+use Rattle.std.proofs.Common.{ℕ, zero, suc, ◌+◌, ◌<◌, Bool, true, false, List, [], ◌∷◌, ◌++◌, length, take, drop, replicate, get_or, slice_get, find, Some, map, flat_map, ◌||◌}
 use Rattle.std.proofs.Common.{None, ◌≤◌, ◌⊎◌, ◌≡◌, subst, ◌∙◌, ap, refl, sym, inl, inr, arith}
 use Rattle.std.specs.List.{All, AllByRecursion, IsDistinct, list_all, list_any, range_with_len}
 use Rattle.std.proofs.lemmas.Bool.{and_from, and_parts, cases_Bool, or_cases, or_from, or_left, or_right}
@@ -60,14 +60,6 @@ all_cut p n xs all =
 pub all_alike : {X : Type 0} (p : X → Bool) (x : X) (n : ℕ) → p x ≡ true → list_all p (replicate n x) ≡ true
 all_alike p x zero one = refl
 all_alike p x (suc n) one = and_from (p x) _ one (all_alike p x n one)
-
-pub all_set : {X : Type 0} (p : X → Bool) (xs : List X) (i : ℕ) (x : X) → list_all p xs ≡ true → p x ≡ true
-    → list_all p (slice_set xs i x) ≡ true
-all_set p [] i x all one = refl
-all_set p (y ∷ ys) zero x all one = and_from (p x) _ one (and_parts (p y) _ all).1
-all_set p (y ∷ ys) (suc i) x all one =
-    let parts = and_parts (p y) (list_all p ys) all in
-    and_from (p y) _ parts.0 (all_set p ys i x parts.1 one)
 
 pub all_there : {X : Type 0} (p : X → Bool) (xs : List X) (i : ℕ) (x : X) → list_all p xs ≡ true → slice_get xs i ≡ Some x
     → p x ≡ true

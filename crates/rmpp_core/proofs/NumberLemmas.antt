@@ -1,12 +1,11 @@
 -- The numbers of a segment, and which ACK is the last.
-use Rattle.std.proofs.Common.{◌≡◌, ℕ, ◌+◌, ◌-◌, ◌*◌, ◌/◌, ◌<◌, ◌≤◌, ◌==◌, ◌⊎◌, inl, inr, Bool, true, nat_lt, List, length, max, Result, Ok, Err, ap, refl, sym, ◌∙◌, arith}
+use Rattle.std.proofs.Common.{◌≡◌, ℕ, ◌+◌, ◌-◌, ◌/◌, ◌==◌, inl, inr, nat_lt, List, length, max, Ok, ap, sym, ◌∙◌, arith}
 use Rattle.std.proofs.lemmas.Bool.{cases_Bool, eq-eqb, eqb-true}
 use Rattle.std.proofs.lemmas.Bool.Decides.{nat_tests}
 use Rattle.mad_layout.specs.declared.rmpp_header.RmppHeader.{RmppHeader}
 use Rattle.rmpp_core.specs.Acks.{after_ack}
-use Rattle.rmpp_core.specs.declared.abort.AbortCause.{AbortCause}
 use Rattle.rmpp_core.specs.declared.sender.Acknowledged.{Acknowledged}
-use Rattle.rmpp_core.specs.Laws.{CompletesAtLast, IsLastOf, LastAcksComplete, SegmentsHaveTheirNumbers}
+use Rattle.rmpp_core.specs.Laws.{IsLastOf, LastAcksComplete, SegmentsHaveTheirNumbers}
 use Rattle.rmpp_core.specs.Segments.{segment_count}
 use Rattle.rmpp_core.proofs.ReadBackLemmas.{reads_back}
 

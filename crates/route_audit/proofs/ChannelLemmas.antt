@@ -30,10 +30,6 @@ pub all_behind : (net : NetState) (place many : ℕ) → flat_map (channel_behin
 all_behind net place many = behind_by net place 0 many
 
 -- ---- the next ports are those by which the LIDs leave the next switch
-or_last : (b : Bool) → (b || false) ≡ b
-or_last true = refl
-or_last false = refl
-
 one_port : (number next : ℕ) (p : Entry × Entry) (rest : List ℕ) (later : Bool) → list_any (λ other. other == next) rest ≡ later
     → list_any (λ other. other == next) (cons_option (next_port number p) rest) ≡ ((is_out number p.0 && is_out next p.1) || later)
 one_port number next (Out here, Out there) rest later is = elim (cases_Bool (here == number)) [

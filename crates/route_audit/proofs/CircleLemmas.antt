@@ -1,12 +1,11 @@
 -- Circles, as rounds of marks find them.
-use Rattle.std.proofs.Common.{◌≡◌, ◌≢◌, ◌∙◌, ap, ap₂, refl, sym, ℕ, zero, suc, ◌+◌, ◌-◌, ◌<◌, ◌≤◌, ◌⊎◌, inl, inr, Bool, true, false, ◌==◌, ◌&&◌, ◌||◌, List, [], ◌∷◌, ◌++◌, length, map, get_or, find, take, arith}
+use Rattle.std.proofs.Common.{◌≡◌, ◌≢◌, ◌∙◌, ap, ap₂, refl, sym, ℕ, zero, suc, ◌+◌, ◌-◌, ◌<◌, ◌≤◌, ◌⊎◌, inl, inr, Bool, true, false, ◌==◌, ◌&&◌, ◌||◌, List, [], ◌∷◌, ◌++◌, length, map, get_or, find, arith}
 use Rattle.std.proofs.Common.{Option, Some, None, is_some, option_map}
 use Rattle.std.specs.List.{enumerate_from, list_any, range_with_len}
 use Rattle.std.proofs.lemmas.Bool.{and_from, and_parts, cases_Bool, eq-eqb, cases_lt, false_from_ne_true, false≢true, or_right}
 use Rattle.std.proofs.lemmas.Bool.Decides.{nat_tests}
 use Rattle.std.specs.Cmp.Lexicographic.{pointwise}
 use Rattle.std.proofs.Math.Bool.{beq}
-use Rattle.std.proofs.lemmas.List.Folds.{list_any-append}
 use Rattle.std.proofs.lemmas.List.{append-nil, append_assoc, length-map}
 use Rattle.std.proofs.lemmas.Option.{same_Some}
 use Rattle.result_words.proofs.FilterLemmas.{find_same}
@@ -59,9 +58,6 @@ find_first test low (suc many) (suc n) within fails here =
     let not_yet : test low ≡ false = fails low (omega arith) (omega arith) in
     let later = find_first test (low + 1) many n (omega (arith, within)) (λ k from to. fails k (omega (arith, from)) (omega (arith, to))) (ap test same ∙ here) in
     rw not_yet (later ∙ ap (λ (k : ℕ). Some k) same)
-
-is_some_by : {X : Type 0} (o : Option X) (x : X) → o ≡ Some x → is_some o ≡ true
-is_some_by o x e = ap is_some e
 
 some_by : (o : Option ℕ) → is_some o ≡ true → (n : ℕ) × (o ≡ Some n)
 some_by (Some n) is = (n, refl)
@@ -157,9 +153,6 @@ pub record AreRounds (graph : List (List ℕ)) (home count : ℕ) (before : List
   pub so_far : before ≡ map (rounds graph home) (range_with_len 0 count)
   pub now : marks ≡ rounds graph home count
   pub not_home : (k : ℕ) → k < count → leads graph k home home ≡ false
-
-pub rounds_start : (graph : List (List ℕ)) (home : ℕ) (before : List (List Bool)) (marks : List Bool) → before ≡ [] → marks ≡ map (λ nexts. false) graph → AreRounds graph home 0 before marks
-rounds_start graph home before marks none same = record { so_far = none; now = same; not_home = λ k less. absurd (omega (arith, less)) }
 
 pub rounds_step : (graph : List (List ℕ)) (home count : ℕ) (before : List (List Bool)) (marks next : List Bool) → AreRounds graph home count before marks
     → is_marked marks home ≡ false → next ≡ round graph home marks → AreRounds graph home (count + 1) (before ++ marks ∷ []) next
@@ -291,12 +284,6 @@ pub first_through : (graph : List (List ℕ)) (place : ℕ) (ring : List ℕ) (w
 first_through graph place ring whole less some so_far =
     sym (ap (first_circle graph) (range_next place (length graph) less) ∙ (rw some refl)) ∙ so_far
 
-pub none_left : (graph : List (List ℕ)) (place : ℕ) (whole : Option (List ℕ)) → length graph ≤ place
-    → first_circle graph (range_with_len place (length graph - place)) ≡ whole → None ≡ whole
-none_left graph place whole ended so_far =
-    let left : length graph - place ≡ 0 = omega (arith, ended) in
-    sym (ap (λ (n : ℕ). first_circle graph (range_with_len place n)) left) ∙ so_far
-
 is_none_by : {X : Type 0} (o : Option X) → is_some o ≡ false → o ≡ None
 is_none_by None is = refl
 is_none_by (Some x) is = absurd (false≢true (sym is))
@@ -369,35 +356,3 @@ pub record AreHit (before : List Bool) (nexts : List ℕ) (hits : List Bool) : T
   pub long : length hits ≡ length before
   pub kept : (other : ℕ) → is_marked before other ≡ true → is_marked hits other ≡ true
   pub all : (d : ℕ) → d < length before → list_any (λ next. next == d) nexts ≡ true → is_marked hits d ≡ true
-
-take_one : (xs : List ℕ) (i : ℕ) → i < length xs → take (suc i) xs ≡ take i xs ++ get_or xs i 0 ∷ []
-take_one [] i within = absurd (omega (arith, within))
-take_one (x ∷ xs) zero within = refl
-take_one (x ∷ xs) (suc i) within = ap (λ (rest : List ℕ). x ∷ rest) (take_one xs i (omega (arith, within)))
-
-any_more : (d : ℕ) (xs : List ℕ) (i x : ℕ) → i < length xs → x ≡ get_or xs i 0 → list_any (λ next. next == d) (take (i + 1) xs) ≡ true → (list_any (λ next. next == d) (take i xs) ≡ true) ⊎ (x ≡ d)
-any_more d xs i x within is some = elim (cases_Bool (x == d)) [
-  | inl here ↦ inr (grind (arith, nat_tests, here))
-  | inr other ↦ inl (let more : list_any (λ next. next == d) (take i xs ++ get_or xs i 0 ∷ []) ≡ true = ap (list_any (λ next. next == d)) (sym (take_more xs i within)) ∙ some in
-      or_first (list_any (λ next. next == d) (take i xs)) (get_or xs i 0 == d) (ap (λ (n : ℕ). n == d) (sym is) ∙ other)
-      (sym (list_any-append (λ next. next == d) (take i xs) (get_or xs i 0 ∷ [])) ∙ more))
-]
-  where
-    take_more : (xs : List ℕ) (i : ℕ) → i < length xs → take (i + 1) xs ≡ take i xs ++ get_or xs i 0 ∷ []
-    take_more xs i within = let next : i + 1 ≡ suc i = omega arith in ap (λ (n : ℕ). take n xs) next ∙ take_one xs i within
-
-    or_first : (a b : Bool) → b ≡ false → (a || (b || false)) ≡ true → a ≡ true
-    or_first true b off is = refl
-    or_first false b off is = absurd (false≢true (sym (ap (λ (t : Bool). t || false) off) ∙ is))
-
-pub hit_more : (before : List Bool) (nexts : List ℕ) (i x : ℕ) (hits after : List Bool) → i < length nexts → x ≡ get_or nexts i 0 → AreHit before (take i nexts) hits
-    → length after ≡ length hits → ((other : ℕ) → is_marked hits other ≡ true → is_marked after other ≡ true) → (x < length hits → is_marked after x ≡ true)
-    → AreHit before (take (i + 1) nexts) after
-hit_more before nexts i x hits after within is so_far long kept here = record {
-  long = long ∙ so_far.long;
-  kept = λ other was. kept other (so_far.kept other was);
-  all = λ d inside some. elim (any_more d nexts i x within is some) [
-    | inl earlier ↦ kept d (so_far.all d inside earlier)
-    | inr now ↦ ap (is_marked after) (sym now) ∙ here (let same = so_far.long in omega (arith, inside, now, same))
-  ];
-}

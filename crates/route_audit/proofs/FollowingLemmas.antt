@@ -1,5 +1,5 @@
 -- Steps of what follows entries.
-use Rattle.std.proofs.Common.{◌≡◌, ◌∙◌, ap, refl, sym, ℕ, suc, ◌+◌, ◌-◌, ◌<◌, ◌≤◌, true, false, ◌==◌, List, [], ◌∷◌, ◌++◌, arith}
+use Rattle.std.proofs.Common.{◌≡◌, ◌∙◌, ap, refl, sym, ℕ, suc, ◌+◌, ◌-◌, ◌<◌, true, false, ◌==◌, List, [], ◌∷◌, ◌++◌, arith}
 use Rattle.std.proofs.Common.{Option, Some, None, option_map}
 use Rattle.std.proofs.lemmas.List.{append-nil, append_assoc}
 use Rattle.route_audit.specs.declared.following.Turn.{Turn}
@@ -14,23 +14,12 @@ end_step net lid total count at whole less so_far =
     let more : total - count ≡ suc (total - (count + 1)) = omega (arith, less) in
     ap (λ (n : ℕ). end_within net lid n at) (sym more) ∙ so_far
 
-pub end_over : (net : NetState) (lid total count at : ℕ) (whole : Option Turn) → total ≤ count → end_within net lid (total - count) at ≡ whole → None ≡ whole
-end_over net lid total count at whole over so_far =
-    let none : total - count ≡ 0 = omega (arith, over) in
-    ap (λ (n : ℕ). end_within net lid n at) (sym none) ∙ so_far
-
 pub back_step : (net : NetState) (lid home total count at : ℕ) (so_far : List ℕ) (whole : Option (List ℕ)) → count < total
     → option_map (λ rest. so_far ++ rest) (back net lid home (total - count) at) ≡ whole
     → option_map (λ rest. so_far ++ rest) (back net lid home (suc (total - (count + 1))) at) ≡ whole
 back_step net lid home total count at so_far whole less is =
     let more : total - count ≡ suc (total - (count + 1)) = omega (arith, less) in
     ap (λ (n : ℕ). option_map (λ rest. so_far ++ rest) (back net lid home n at)) (sym more) ∙ is
-
-pub back_over : (net : NetState) (lid home total count at : ℕ) (so_far : List ℕ) (whole : Option (List ℕ)) → total ≤ count
-    → option_map (λ rest. so_far ++ rest) (back net lid home (total - count) at) ≡ whole → None ≡ whole
-back_over net lid home total count at so_far whole over is =
-    let none : total - count ≡ 0 = omega (arith, over) in
-    ap (λ (n : ℕ). option_map (λ rest. so_far ++ rest) (back net lid home n at)) (sym none) ∙ is
 
 onto_joined : (so_far : List ℕ) (place : ℕ) (o : Option (List ℕ)) → option_map (λ rest. so_far ++ rest) (option_map (λ rest. place ∷ rest) o) ≡ option_map (λ rest. (so_far ++ place ∷ []) ++ rest) o
 onto_joined so_far place None = refl

@@ -5,7 +5,6 @@ use Rattle.std.specs.List.{range_with_len}
 use Rattle.std.proofs.lemmas.Bool.{cases_Bool, eq-eqb, false≢true, or_right}
 use Rattle.std.proofs.lemmas.Bool.Decides.{nat_tests}
 use Rattle.std.proofs.lemmas.List.{drop_all}
-use Rattle.std.proofs.lemmas.List.Folds.{list_any-append}
 use Rattle.std.proofs.lemmas.Option.{slice_get-get_or}
 use Rattle.result_words.proofs.ElementLemmas.{get_other, get_written}
 use Rattle.result_words.proofs.RangeLemmas.{flat_more}
@@ -67,23 +66,6 @@ pub all_marked : (before : List Bool) (rows : List Row) (index : ℕ) (marks : L
     → (lid : ℕ) → is_marked marks lid ≡ (is_marked before lid || is_named rows lid)
 all_marked before rows index marks ended so_far lid =
     sym (or_last (is_marked marks lid)) ∙ ap (λ (rest : List Row). is_marked marks lid || is_named rest lid) (sym (drop_all index rows ended)) ∙ so_far.marked lid
-
-first_table : (tables : List Table) (index : ℕ) (none : Table) → index < length tables → drop index tables ≡ get_or tables index none ∷ drop (index + 1) tables
-first_table tables index none within = rw (add-one, drop-cons tables index none) refl
-
-pub marked_table : (count : ℕ) (tables : List Table) (index : ℕ) (marks after : List Bool) (none : Table) → index < length tables → AreMarkedBy count tables index marks
-    → length after ≡ length marks → ((lid : ℕ) → is_marked after lid ≡ (is_marked marks lid || is_named (get_or tables index none).rows lid)) → AreMarkedBy count tables (index + 1) after
-marked_table count tables index marks after none within so_far long marked = record {
-  long = long ∙ so_far.long;
-  marked = λ lid.
-      ap (λ (b : Bool). b || is_named (rows_of (drop (index + 1) tables)) lid) (marked lid)
-      ∙ or_moved (is_marked marks lid) (is_named (get_or tables index none).rows lid) (is_named (rows_of (drop (index + 1) tables)) lid)
-      ∙ ap (λ (b : Bool). is_marked marks lid || b) (sym (list_any-append (λ row. row.lid == lid) (get_or tables index none).rows (rows_of (drop (index + 1) tables))))
-      ∙ ap (λ (rest : List Table). is_marked marks lid || is_named (rows_of rest) lid) (sym (first_table tables index none within)) ∙ so_far.marked lid;
-}
-
-pub tables_start : (count : ℕ) (tables : List Table) (marks : List Bool) → length marks ≡ count → ((lid : ℕ) → is_marked marks lid ≡ false) → AreMarkedBy count tables 0 marks
-tables_start count tables marks long none = record { long = long; marked = λ lid. ap (λ (b : Bool). b || is_named (rows_of tables) lid) (none lid) }
 
 pub tables_marked : (count : ℕ) (tables : List Table) (index : ℕ) (marks : List Bool) → length tables ≤ index → AreMarkedBy count tables index marks
     → (lid : ℕ) → is_marked marks lid ≡ is_named (rows_of tables) lid

@@ -1,8 +1,8 @@
 -- What is wrong has its line.
-use Rattle.std.proofs.Common.{◌≡◌, ◌∙◌, ◌⊎◌, inl, inr, ap, refl, subst, sym, ℕ, zero, suc, ◌+◌, ◌-◌, ◌<◌, ◌≤◌, Bool, true, false, not, ◌==◌, ◌&&◌, nat_le, List, [], ◌∷◌, length, ◌++◌, codes, decimal, flat_map, arith}
-use Rattle.std.proofs.Common.{Option, Some, None, option_map, if◌then◌else◌}
-use Rattle.std.specs.List.{list_all, list_any}
-use Rattle.std.proofs.lemmas.Bool.{and_from, and_parts, cases_Bool, cases_lt, false≢true, not-false}
+use Rattle.std.proofs.Common.{◌≡◌, ◌∙◌, ◌⊎◌, inl, inr, ap, refl, subst, sym, ℕ, zero, suc, ◌+◌, ◌-◌, ◌<◌, ◌≤◌, Bool, true, false, ◌==◌, nat_le, List, [], ◌∷◌, length, ◌++◌, codes, decimal, flat_map, arith}
+use Rattle.std.proofs.Common.{Option, Some, None, option_map}
+use Rattle.std.specs.List.{list_any}
+use Rattle.std.proofs.lemmas.Bool.{and_from, cases_Bool, cases_lt, false≢true}
 use Rattle.std.proofs.lemmas.Bool.Decides.{nat_tests}
 use Rattle.std.proofs.lemmas.Cmp.{nat_eq_equiv}
 use Rattle.std.proofs.lemmas.Map.Made.{length-le_from_is_member}
@@ -14,7 +14,6 @@ use Rattle.topo_file.specs.Node.{is_switch_at}
 use Rattle.route_audit.specs.declared.following.Turn.{Turn}
 use Rattle.route_audit.specs.declared.following.Turn.TheVariants as turns
 use Rattle.route_audit.specs.declared.following.Fate.TheVariants as fates
-use Rattle.route_audit.specs.declared.lids.Aim.{Aim}
 use Rattle.route_audit.specs.Following.{back, end_from, end_within, fate_by, if_goes, loop_from, switch_total, then_end, turn}
 use Rattle.route_audit.specs.Laws.{ComesBy, EndsBy, HasItsLine, IsWay, NeverEnds, EachTroubleHasALine}
 use Rattle.route_audit.specs.Lids.{aim_of}
@@ -268,10 +267,6 @@ module _ (net : NetState) (lid : ℕ) where
       cc
 
   -- ---- the line of what does not go on for ever stands where it ends
-  last_of : ℕ → List ℕ → ℕ
-  last_of place [] = place
-  last_of place (next ∷ rest) = last_of next rest
-
   record Ends (place : ℕ) (turned : Turn) : Type 0 where
     there : ℕ
     of_switch : is_switch_at net.plan.nodes there ≡ true

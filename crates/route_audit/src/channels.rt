@@ -15,7 +15,7 @@ use std::marker::Model;
 use topo_file::ports_at;
 
 /// The entries of LIDs in the table of a switch.
-#[derive(Debug, Drop)]
+#[derive(Drop)]
 struct EntryList {
     entries: Vec<Entry>,
 }

@@ -10,7 +10,7 @@ use std::alloc::{AllocError, Global};
 use std::marker::Model;
 
 /// What one thing depends on, by numbers.
-#[derive(Debug, Drop)]
+#[derive(Drop)]
 pub(crate) struct NextList {
     numbers: Vec<usize>,
 }
@@ -38,7 +38,7 @@ impl NextList {
 }
 
 /// A mark, or none, for each thing.
-#[derive(Debug, Drop)]
+#[derive(Drop)]
 struct Marks {
     marks: Vec<bool>,
 }

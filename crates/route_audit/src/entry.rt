@@ -1,7 +1,7 @@
 //! The entry of a LID in the table of a switch.
 
 /// What a table says of a LID.
-#[derive(Clone, Copy, Debug, PartialEq, Eq)]
+#[derive(Clone, Copy)]
 pub(crate) enum Entry {
     /// It leads out of this port; 0 is the switch itself.
     Out(u8),

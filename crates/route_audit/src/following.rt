@@ -9,7 +9,7 @@ use fabric_parts::PortRef;
 use std::alloc::{AllocError, Global};
 
 /// What a switch does with a packet.
-#[derive(Clone, Copy, Debug, PartialEq, Eq)]
+#[derive(Clone, Copy)]
 pub(crate) enum Turn {
     /// It goes on at the switch there.
     Goes(usize),
@@ -24,7 +24,7 @@ pub(crate) enum Turn {
 }
 
 /// What comes of packets from a switch to a LID.
-#[derive(Clone, Copy, Debug, PartialEq, Eq)]
+#[derive(Clone, Copy)]
 pub(crate) enum Fate {
     /// They come to the end port that has the LID.
     Reached,

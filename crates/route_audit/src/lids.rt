@@ -15,7 +15,7 @@ use std::alloc::{AllocError, Global};
 use topo_file::Node;
 
 /// What is known of a LID that a dump names.
-#[derive(Clone, Copy, Debug)]
+#[derive(Clone, Copy)]
 pub(crate) struct Aim {
     pub(crate) lid: u16,
     /// The GUID of the end port that has it, if a row says one.

@@ -19,7 +19,7 @@ use std::marker::Model;
 use topo_file::{Node, Topology};
 
 /// A topology and a dump, with the far ends of cables looked up in constant time.
-#[derive(Debug, Drop)]
+#[derive(Drop)]
 pub(crate) struct Net<'a> {
     plan: &'a Topology,
     dump: &'a Dump,

@@ -9,7 +9,7 @@ use crate::net::Net;
 use std::alloc::{AllocError, Global};
 
 /// A switch and a LID of an end port.
-#[derive(Clone, Copy, Debug)]
+#[derive(Clone, Copy)]
 pub(crate) struct Pair {
     /// Whether the end port is a switch's.
     pub(crate) to_switch: bool,

@@ -10,7 +10,7 @@ use Rattle.std.proofs.Common.{nat_eq, nat_le}
 use Rattle.std.proofs.lemmas.Map.Keys.{IsDistinct-cons, IsDistinct-head, IsDistinct-tail}
 use Rattle.pkey_rules.specs.KeyTable.{has_base, same_base}
 use Rattle.pkey_rules.specs.PKey.{base_of}
-use Rattle.result_words.proofs.ListLemmas.{IsDistinct-nil, all_at}
+use Rattle.result_words.proofs.ListLemmas.{IsDistinct-nil}
 use Rattle.sa_groups.specs.Sound.{pairwise}
 use Rattle.sa_services.specs.KeyOrder.{by_base, with_key}
 use Rattle.sa_services.proofs.KeyOrderLemmas.{stand_by_base}
@@ -187,10 +187,6 @@ pub at_base : (base : ℕ) (places : List ServicesOfBase) (i : ℕ) (d : Service
 at_base base places i d has is =
     let at = position-Some (is_of_base base) places i d is in
     record { own = has.own; within = at.0; is = at.1 }
-
-pub in_order : (base : ℕ) (places : List ServicesOfBase) (i : ℕ) (d : ServicesOfBase) → HasPlace base places → i < length places
-    → pairwise lower_id (get_or places i d).services ≡ true
-in_order base places i d has within = all_at (λ place. pairwise lower_id place.services) places i d has.order within
 
 pub never_none : (base : ℕ) (places : List ServicesOfBase) → HasPlace base places → position (is_of_base base) places ≡ None → ⊥
 never_none base places has none = from 0 places has.there (sym (position_from-zero (is_of_base base) places) ∙ none)

@@ -1,5 +1,5 @@
 -- What requests for nodes and paths bring.
-use Rattle.std.proofs.Common.{◌≡◌, ℕ, ◌<◌, ◌^◌, Vec, Global, ◌++◌, List, [], ◌∷◌, filter, map, Option, Some, None, Result, Ok, Err, refl, sym, ◌∙◌, ap}
+use Rattle.std.proofs.Common.{◌≡◌, ℕ, Vec, Global, ◌++◌, List, [], ◌∷◌, filter, map, Option, Some, None, Result, Ok, Err, refl, sym, ◌∙◌, ap}
 use Rattle.std.specs.List.{flat_map}
 use Rattle.mad_layout.specs.declared.status.MadStatus.{MadStatus}
 use Rattle.sa_records.specs.declared.node_record.NodeRecord.{NodeRecord}
@@ -7,22 +7,16 @@ use Rattle.sa_records.specs.declared.path_record.PathRecord.{PathRecord}
 use Rattle.sa_records.specs.NodeRecord.{node_record_selected}
 use Rattle.sa_records.specs.SaRecord.{record_bytes}
 use Rattle.sa_records.specs.declared.path_record.TheConstants.{PATH_RECORD_OFFSET}
-use Rattle.rmpp_core.specs.Segments.{payload_size}
-use Rattle.subnet_model.specs.Configuration.{ConfigurationState}
-use Rattle.subnet_model.specs.Configured.{IsConfigured}
 use Rattle.subnet_model.specs.declared.subnet_port.SubnetPort.{SubnetPort}
 use Rattle.sa_queries.specs.Outcome.{the_only_one, unless_status}
 use Rattle.sa_queries.specs.Refusals.{refusal}
 use Rattle.sa_queries.specs.Selected.{Query, few_paths, nodes_selected, paths_wanted, selected}
 use Rattle.sa_queries.specs.Shown.{Entry, node_entry, node_record_of, path_entry}
-use Rattle.sa_queries.specs.Visible.{Path, SaState, may_know, visible_nodes}
+use Rattle.sa_queries.specs.Visible.{SaState, may_know, visible_nodes}
 use Rattle.sa_replies.specs.Answer.{all_records, get_outcome, one_record, table_outcome}
-use Rattle.sa_replies.specs.State.{at_start}
-use Rattle.sa_replies.proofs.OpenTableLemmas.{selected_most, size_low}
-use Rattle.sa_replies.proofs.StateLemmas.{starts_remembered}
-use Rattle.sa_answer.specs.Answering.{Brings, IsListed}
+use Rattle.sa_answer.specs.Answering.{Brings}
 use Rattle.sa_answer.specs.Asked.{is_told}
-use Rattle.sa_answer.specs.Replying.{node_bytes, node_data, only_one, path_bytes, path_data}
+use Rattle.sa_answer.specs.Replying.{node_bytes, node_data, only_one, path_bytes}
 use Rattle.sa_answer.specs.declared.outcome.Success.{Success}
 use Rattle.sa_answer.specs.declared.outcome.Success.TheVariants.{Reply, Table}
 use Rattle.sa_answer.proofs.SelectLemmas.{filter_both}
@@ -66,12 +60,6 @@ one_node state [] = refl
 one_node state (node ∷ []) = (refl, refl)
 one_node state (node ∷ other ∷ nodes) = refl
 
-one_path : (state : SaState) (paths : List Path)
-    → Brings state (one_record state (the_only_one (map path_entry paths))) (as_reply (only_one path_data paths))
-one_path state [] = refl
-one_path state (path ∷ []) = (refl, refl)
-one_path state (path ∷ other ∷ paths) = refl
-
 pub told_nodes : (ports : List SubnetPort) (own : SubnetPort) (mask : ℕ) (asked : NodeRecord)
     → filter (is_told own mask asked) ports ≡ nodes_selected mask asked (visible_nodes ports own)
 told_nodes ports own mask asked = filter_both (λ node. node_record_selected mask (node_record_of node) asked) (may_know own) ports
@@ -82,13 +70,6 @@ pub node_brought : (ports : List SubnetPort) (own : SubnetPort) (state : SaState
 node_brought ports own state mask asked found is =
     let told : found ≡ only_one node_data (nodes_selected mask asked (visible_nodes ports own)) = is ∙ ap (only_one node_data) (told_nodes ports own mask asked) in
     rw told (one_node state (nodes_selected mask asked (visible_nodes ports own)))
-
-pub path_brought : (ports : List SubnetPort) (own : SubnetPort) (state : SaState) (mask : ℕ) (asked : PathRecord) (found : Result (List ℕ) MadStatus)
-    → refusal own (Query.for_paths mask asked) ≡ None
-    → found ≡ only_one path_data (flat_map (few_paths (Some 1) mask asked own) ports)
-    → Brings state (get_outcome ports own state (Some (Query.for_paths mask asked))) (as_reply found)
-path_brought ports own state mask asked found none is =
-    rw (get_taken ports own state (Query.for_paths mask asked) none, is) (one_path state (flat_map (few_paths (Some 1) mask asked own) ports))
 
 -- ---- tables
 pub bytes_of_shown : {X : Type 0} (entry : X → Entry) (xs : List X) → flat_map (λ one. record_bytes one.shown) (map entry xs) ≡ flat_map (λ x. record_bytes (entry x).shown) xs
@@ -110,10 +91,3 @@ paths_brought ports own state mask asked bytes none is =
     (refl, is ∙ sym (bytes_of_shown path_entry (flat_map (few_paths (paths_wanted (Query.for_paths mask asked)) mask asked own) ports)))
 
 -- ---- and how long they can be
-pub selected_low : (most : Option ℕ) (configuration : ConfigurationState) (own : SubnetPort) (query : Query) (bytes : List ℕ) → IsConfigured configuration
-    → IsListed configuration.ports own
-    → bytes ≡ flat_map (λ one. record_bytes one.shown) (selected most configuration.ports own (at_start configuration).remembered query)
-    → payload_size bytes < 2 ^ 32
-selected_low most configuration own query bytes configured listed is =
-    let few = selected_most most configuration own (at_start configuration).remembered query configured listed (starts_remembered configuration configured) in
-    rw is (size_low (selected most configuration.ports own (at_start configuration).remembered query) few)

@@ -4,7 +4,7 @@ use Rattle.std.proofs.Common.{refl, sym, ap, inl, inr, arith}
 use Rattle.std.specs.List.{AllByRecursion, list_all, list_any, prefix_len}
 use Rattle.std.proofs.Common.{length}
 use Rattle.std.specs.Option.{option_map_or}
-use Rattle.std.proofs.lemmas.Bool.{and_parts, cases_Bool, eqb-true, eq-eqb, false≢true, ltb-true, ne_eqb, or_right}
+use Rattle.std.proofs.lemmas.Bool.{and_parts, cases_Bool, eqb-true, false≢true, ltb-true, ne_eqb, or_right}
 use Rattle.sa_groups.specs.Sound.{pairwise}
 use Rattle.sa_services.specs.Services.{Service}
 use Rattle.sa_services.specs.ServiceChange.{has_id, has_room, lower_id, most_services, with_service, without_service}

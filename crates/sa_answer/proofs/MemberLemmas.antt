@@ -362,10 +362,6 @@ can_join ports own mask asked partitions i found asked_well allowed fit place =
     founding none = ap (λ (named : Option MulticastGroup). first_refusal (group_questions ports own mask asked partitions named)) (sym none) ∙ allowed
 
 -- ---- what comes of it
-pub join_not_asked : (ports : List SubnetPort) (own : SubnetPort) (state : SaState) (mask : ℕ) (asked : McMemberRecord) (status : MadStatus)
-    → first_refusal (join_questions own mask asked) ≡ Some status → join_outcome ports own state mask asked ≡ Err status
-join_not_asked ports own state mask asked status refused = rw refused refl
-
 pub join_not_allowed : (ports : List SubnetPort) (own : SubnetPort) (state : SaState) (mask : ℕ) (asked : McMemberRecord) (status : MadStatus)
     → first_refusal (join_questions own mask asked) ≡ None → join_refusal ports own mask asked state.partitions ≡ Some status
     → join_outcome ports own state mask asked ≡ Err status

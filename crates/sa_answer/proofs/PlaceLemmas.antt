@@ -149,16 +149,6 @@ guid_nowhere guid kept h = none_from 0 kept (sym (place_is guid kept) ∙ h)
       | inr other ↦ rw other (none_from (from + 1) some (rw other at h))
     ]
 
-pub nobody : (guid : ℕ) (kept : List KeptPort) → place_with_guid (ports_of kept) guid ≡ None → port_with_guid (ports_of kept) guid ≡ None
-nobody guid kept h = none_from 0 kept (sym (place_is guid kept) ∙ h)
-  where
-    none_from : (from : ℕ) (some : List KeptPort) → position_from (λ one. one.port.guid == guid) from some ≡ None → port_with_guid (ports_of some) guid ≡ None
-    none_from from [] h = refl
-    none_from from (one ∷ some) h = elim (cases_Bool (one.port.guid == guid)) [
-      | inl here ↦ absurd (let e : Some from ≡ None = rw here at h in cc)
-      | inr other ↦ rw other (none_from (from + 1) some (rw other at h))
-    ]
-
 -- ---- LIDs count on from the first
 low_lid : (lid first : ℕ) (kept : List KeptPort) → lid < first → map (λ port. port.lid) (ports_of kept) ≡ range_with_len first (length kept)
     → of_lid lid (ports_of kept) ≡ []

@@ -82,20 +82,12 @@ filter_of_some p keep out (x ∷ xs) = elim (cases_Bool (keep x)) [
   | inr left ↦ rw left (rw (out x left) (filter_of_some p keep out xs))
 ]
 
-pub filter_of_none : {X : Type 0} (p : X → Bool) → ((x : X) → p x ≡ false) → (xs : List X) → filter p xs ≡ []
-filter_of_none p out [] = refl
-filter_of_none p out (x ∷ xs) = rw (out x) (filter_of_none p out xs)
-
 pub flat_of_some : {X Y : Type 0} (f : X → List Y) (keep : X → Bool) → ((x : X) → keep x ≡ false → f x ≡ []) → (xs : List X) → flat_map f (filter keep xs) ≡ flat_map f xs
 flat_of_some f keep out [] = refl
 flat_of_some f keep out (x ∷ xs) = elim (cases_Bool (keep x)) [
   | inl kept ↦ rw kept (ap (λ rest. f x ++ rest) (flat_of_some f keep out xs))
   | inr left ↦ rw left (flat_of_some f keep out xs ∙ ap (λ (some : List _). some ++ flat_map f xs) (sym (out x left)))
 ]
-
-pub flat_of_none : {X Y : Type 0} (f : X → List Y) → ((x : X) → f x ≡ []) → (xs : List X) → flat_map f xs ≡ []
-flat_of_none f out [] = refl
-flat_of_none f out (x ∷ xs) = rw (out x) (flat_of_none f out xs)
 
 -- one filter after another is a filter by both
 pub filter_both : {X : Type 0} (a b : X → Bool) (xs : List X) → filter (λ x. a x && b x) xs ≡ filter a (filter b xs)

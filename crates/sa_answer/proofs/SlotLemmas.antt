@@ -1,7 +1,7 @@
 -- Slots and the groups in them, by MLID: which group has an MGID, which MLID is free, and what changes with a slot.
 use Rattle.std.proofs.Common.{◌≡◌, ℕ, zero, suc, ◌+◌, ◌-◌, ◌*◌, ◌%◌, ◌^◌, ◌<◌, ◌≤◌, ◌==◌, nat_lt, bit_and, Bool, true, false, not}
 use Rattle.std.proofs.Common.{List, [], ◌∷◌, find, map, length, get_or, set, Option, Some, None, is_none, is_some}
-use Rattle.std.proofs.Common.{IfSome, refl, sym, ◌∙◌, ap, inl, inr, arith}
+use Rattle.std.proofs.Common.{refl, sym, ◌∙◌, ap, inl, inr, arith}
 use Rattle.std.specs.Int.{bit_at, bit_not, trailing_zeros}
 use Rattle.std.specs.List.{list_all, list_any, position, position_from, position_or_len, range_with_len}
 use Rattle.std.specs.Option.{option_map}
@@ -16,34 +16,10 @@ use Rattle.std.proofs.Math.Nat.{pow-succ'}
 use Rattle.std.specs.Simd.Lanes.{mask_l}
 use Rattle.sa_groups.specs.Anchor.{free_mlid}
 use Rattle.sa_groups.specs.Groups.{MulticastGroup, PartitionGroups, first_mlid, lower_port}
-use Rattle.sa_groups.specs.Joining.{Join, has_mgid, joined_group, new_group, with_created, with_group}
+use Rattle.sa_groups.specs.Joining.{Join, joined_group, new_group, with_created, with_group}
 use Rattle.sa_groups.specs.Sound.{other_mgid, pairwise}
 use Rattle.sa_answer.specs.Joined.{founded, holds_mgid, is_in_order, joined_slot}
 use Rattle.sa_answer.specs.Slots.{SlotGroup, free_slots, groups_in, partition_in, with_mlid}
-
--- ---- the slot of an MGID
-mlid_from : (mgid first k mlid : ℕ) (slots : List (Option SlotGroup)) → mlid ≡ first + k
-    → option_map (λ (j : ℕ). first + j) (position_from (holds_mgid mgid) k slots)
-    ≡ option_map (λ (group : MulticastGroup). group.mlid) (find (has_mgid mgid) (groups_in mlid slots))
-mlid_from mgid first k mlid [] is = refl
-mlid_from mgid first k mlid (None ∷ slots) is = mlid_from mgid first (k + 1) (mlid + 1) slots (omega arith)
-mlid_from mgid first k mlid (Some group ∷ slots) is = elim (cases_Bool (group.mgid == mgid)) [
-  | inl here ↦ rw here (ap (λ (n : ℕ). Some n) (sym is))
-  | inr other ↦ rw other (mlid_from mgid first (k + 1) (mlid + 1) slots (omega arith))
-]
-
-pub mlid_of_slot : (mgid first : ℕ) (slots : List (Option SlotGroup))
-    → option_map (λ (j : ℕ). first + j) (position (holds_mgid mgid) slots)
-    ≡ option_map (λ (group : MulticastGroup). group.mlid) (find (has_mgid mgid) (groups_in first slots))
-mlid_of_slot mgid first slots =
-    ap (option_map (λ (j : ℕ). first + j)) (position_from-zero (holds_mgid mgid) slots) ∙ mlid_from mgid first 0 first slots (omega arith)
-
-pub slot_within : (mgid : ℕ) (slots : List (Option SlotGroup)) (place : Option ℕ) → place ≡ position (holds_mgid mgid) slots
-    → length slots ≡ 32 → IfSome place (λ slot. slot < 32)
-slot_within mgid slots None is all = tt
-slot_within mgid slots (Some i) is all =
-    let at = position-Some (holds_mgid mgid) slots i None (sym is) in
-    omega (arith, at.0, all)
 
 -- ---- the free MLID
 abbrev has_mlid : ℕ → List MulticastGroup → Bool
@@ -185,11 +161,6 @@ free_stays (Some old ∷ slots) zero d None within same = absurd (false≢true s
 free_stays (Some old ∷ slots) zero d (Some group) within same = refl
 free_stays (None ∷ slots) (suc i) d new within same = ap (λ (n : ℕ). 1 + 2 * n) (free_stays slots i d new (omega arith) same)
 free_stays (Some old ∷ slots) (suc i) d new within same = ap (λ (n : ℕ). 2 * n) (free_stays slots i d new (omega arith) same)
-
-pub same_slots : (slots : List (Option SlotGroup)) (i : ℕ) (d : Option SlotGroup) → i < length slots → set slots i (get_or slots i d) ≡ slots
-same_slots [] i d within = absurd (omega arith)
-same_slots (slot ∷ slots) zero d within = refl
-same_slots (slot ∷ slots) (suc i) d within = ap (λ (rest : List (Option SlotGroup)). slot ∷ rest) (same_slots slots i d (omega arith))
 
 pub first_with : (mgid : ℕ) (slots : List (Option SlotGroup)) (i : ℕ) (d : Option SlotGroup) → position (holds_mgid mgid) slots ≡ Some i → IsFirst mgid slots i d
 first_with mgid slots i d place =

@@ -12,7 +12,7 @@ use std::alloc::Global;
 use std::marker::Model;
 
 /// Who made a group.
-#[derive(Clone, Copy, Debug, PartialEq, Eq)]
+#[derive(Clone, Copy)]
 pub(crate) enum Creator {
     /// The port of this GUID.
     Port(u64),
@@ -23,7 +23,7 @@ pub(crate) enum Creator {
 /// What is fixed for a group when it is made, as an MCMemberRecord codes it.
 ///
 /// Source: IBA volume 1, 15.2.5.
-#[derive(Clone, Copy, Debug, PartialEq, Eq)]
+#[derive(Clone, Copy)]
 pub(crate) struct GroupParameters {
     pub(crate) q_key: u32,
     pub(crate) mtu: u8,
@@ -37,7 +37,7 @@ pub(crate) struct GroupParameters {
 }
 
 /// The port of this GUID takes part in a group.
-#[derive(Debug, Drop)]
+#[derive(Drop)]
 pub(crate) struct Membership {
     pub(crate) port: u64,
     pub(crate) join_state: JoinState,
@@ -53,7 +53,7 @@ impl Model for Membership {
 }
 
 /// A group in its slot: all of it but its MLID, which its slot tells.
-#[derive(Debug, Drop)]
+#[derive(Drop)]
 pub(crate) struct Group {
     pub(crate) mgid: u128,
     pub(crate) parameters: GroupParameters,

@@ -20,7 +20,7 @@ use std::marker::Model;
 
 /// The port of this GUID joins the group of an MGID in the partition of a base; where there is none, it is made with these
 /// parameters.
-#[derive(Debug, Drop)]
+#[derive(Drop)]
 pub(crate) struct Join {
     pub(crate) port: u64,
     pub(crate) base: u16,

@@ -34,7 +34,7 @@ const FULL_MEMBER: u8 = 1 << 0;
 pub(crate) const JOIN_STATES: u8 = 0b111;
 
 /// The port of this GUID leaves the group of an MGID in the partition of a base, or in each partition where no base is asked.
-#[derive(Debug, Drop)]
+#[derive(Drop)]
 pub(crate) struct Leave {
     pub(crate) port: u64,
     pub(crate) base: Option<u16>,

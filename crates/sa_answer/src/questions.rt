@@ -9,7 +9,7 @@ use mad_layout::MadStatus;
 use std::marker::Model;
 
 /// A question, and the status by which a request is refused if so it is.
-#[derive(Clone, Copy, Debug)]
+#[derive(Clone, Copy)]
 pub(crate) struct Question {
     is_so: bool,
     status: MadStatus,

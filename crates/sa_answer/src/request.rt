@@ -20,7 +20,7 @@ pub(crate) const SA_CLASS_VERSION: u8 = 2;
 /// A MAD of subnet administration: its headers, its ComponentMask, and its data, in which a record stands first.
 ///
 /// Source: IBA volume 1, 13.4.2 and 15.2.1.1.
-#[derive(Clone, Copy, Debug)]
+#[derive(Clone, Copy)]
 pub(crate) struct Request {
     pub(crate) header: Header,
     pub(crate) rmpp: RmppHeader,

@@ -17,7 +17,7 @@ const MOST_SERVICES: usize = 16;
 /// A service, as its port describes it.
 ///
 /// Source: IBA volume 1, 15.2.5.14.
-#[derive(Debug, Drop)]
+#[derive(Drop)]
 pub(crate) struct Service {
     pub(crate) service_id: u64,
     pub(crate) lease: u32,
@@ -39,7 +39,7 @@ impl Model for Service {
 }
 
 /// The services of a port in the partition of a base, by ServiceID.
-#[derive(Debug, Drop)]
+#[derive(Drop)]
 pub(crate) struct ServicesOfBase {
     base: u16,
     services: Vec<Service>,

@@ -19,7 +19,7 @@ pub(crate) const SLOTS: usize = 32;
 
 /// The groups of the partition of this number and base. The one of its MLID `j`, counted from 0, stands in slot `j`, with
 /// its memberships beneath it; and bit `j` of a set says whether that slot is free.
-#[derive(Debug, Drop)]
+#[derive(Drop)]
 pub(crate) struct PartitionSlots {
     number: u16,
     base: u16,

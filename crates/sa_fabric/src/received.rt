@@ -7,7 +7,7 @@ use std::marker::Model;
 use subnet_model::GroupReceiver;
 
 /// Who received what is sent to the groups of a partition when its slice was pushed last.
-#[derive(Debug, Drop)]
+#[derive(Drop)]
 pub(crate) struct Received {
     receivers: Vec<GroupReceiver>,
 }

@@ -25,9 +25,6 @@ is_seen ports p membership = is_near ports p membership.port
 kept_one : {X : Type 0} (keep : X → Bool) (x : X) → keep x ≡ true → filter keep (x ∷ []) ≡ x ∷ []
 kept_one keep x h = rw h refl
 
-dropped_one : {X : Type 0} (keep : X → Bool) (x : X) → keep x ≡ false → filter keep (x ∷ []) ≡ []
-dropped_one keep x h = rw h refl
-
 more_seen : (ports : List SubnetPort) (p : ℕ) (join : Join) (m : Membership) → is_seen ports p (more_joined join m) ≡ is_seen ports p m
 more_seen ports p join m = ap (is_near ports p) (more_port join m)
 

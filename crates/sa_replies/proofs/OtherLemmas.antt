@@ -74,9 +74,6 @@ no_bits less state e = record_same (without_bits less state) state (kept state.f
         ∙ (ap (λ n. record { full_member = b.full_member; non_member = n; send_only_non_member = a.send_only_non_member }) y
         ∙ ap (λ o. record { full_member = b.full_member; non_member = b.non_member; send_only_non_member = o }) z)
 
-abbrev is_idle : Leave → ℕ → MulticastGroup → Membership → Bool
-is_idle leave base group m = not (is_taken_from leave base group m) && is_joined m.join_state
-
 less_idle : (leave : Leave) (base : ℕ) (group : MulticastGroup) (m : Membership) → is_taken_from leave base group m ≡ false → less_joined leave base group m ≡ m
 less_idle leave base group m untaken = elim (cases_Bool (is_left leave base group m)) [
   | inl this ↦

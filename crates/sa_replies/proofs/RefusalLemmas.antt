@@ -204,9 +204,6 @@ cases_if Q true a b first second = first refl
 cases_if Q false a b first second = second refl
 
 -- ---- what each leaves
-abbrev KeepsGroupsAndServices : Administration → Administration → Type 0
-KeepsGroupsAndServices state next = next.remembered ≡ state.remembered
-
 told_got : (own : SubnetPort) (request : Request) (state : Administration) (result : Result Success MadStatus) → Ends (IsGot state.remembered) result
     → (answered_with own request state result).1 ≡ state
 told_got own request state (Err status) is = refl

@@ -99,9 +99,6 @@ pub good : ExchangesKeepGood
 good fabric smp was = stays_good fabric (exchange_after fabric smp) (after_exchange fabric smp) was
 
 -- ---- links
-joined : {X : Type 0} → Option (Option X) → Option X
-joined o = option_and_then (λ x. x) o
-
 down_by : (found : Option Node) (number : ℕ)
     → option_map (λ info. is_down info) (option_and_then (λ node. port_info_at node number) found) ≡ option_and_then (λ x. x) (option_map (λ node. down_at node number) found)
 down_by None number = refl

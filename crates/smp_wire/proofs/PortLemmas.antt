@@ -7,10 +7,8 @@ use Rattle.std.proofs.lemmas.Bool.Decides.{nat_tests}
 use Rattle.std.proofs.lemmas.Option.{same_Some}
 use Rattle.fabric_parts.specs.declared.lid.TheConstants.{LAST_UNICAST_LID}
 use Rattle.fabric_parts.specs.declared.cable.PortRef.{PortRef}
-use Rattle.fabric_parts.specs.Cable.{is_cabled}
 use Rattle.attr_tables.specs.declared.port_info.PortInfo.{PortInfo}
 use Rattle.agent_rules.specs.Good.{IsGoodInfo}
-use Rattle.agent_rules.specs.PortSetting.{is_down}
 use Rattle.result_words.proofs.ListLemmas.{all_have}
 use Rattle.port_model.specs.AdapterState.{AdapterState}
 use Rattle.port_model.specs.Good.{IsGoodPort}
@@ -18,8 +16,7 @@ use Rattle.switch_model.specs.Good.{IsGoodPort as IsGoodSwitchPort}
 use Rattle.switch_model.specs.declared.switch_port.SwitchPort.{SwitchPort}
 use Rattle.smp_wire.specs.declared.node.Node.{Node}
 use Rattle.smp_wire.specs.declared.node.Node.TheVariants.{Switch, Adapter}
-use Rattle.smp_wire.specs.FabricState.{FabricState, is_port}
-use Rattle.smp_wire.specs.Good.{IsGood, IsGoodNode, ShowsLinks, info_at, is_up, port_info_at}
+use Rattle.smp_wire.specs.Good.{IsGoodNode, port_info_at}
 use Rattle.smp_wire.specs.Laws.{CabledPortsAreUp, PortsAreGood}
 
 switch_port : (ports : List SwitchPort) (number : ℕ) (found : Option SwitchPort) (info : PortInfo) → All IsGoodSwitchPort ports

@@ -1,5 +1,5 @@
 -- What is so of all cables of a good fabric is so of those that are not cut.
-use Rattle.std.proofs.Common.{◌≡◌, true, ap, sym, ◌∙◌, subst, List, flat_map}
+use Rattle.std.proofs.Common.{◌≡◌, true, sym, ◌∙◌, subst, List, flat_map}
 use Rattle.std.specs.List.{IsDistinct, list_all}
 use Rattle.std.proofs.lemmas.Bool.{and_parts}
 use Rattle.std.proofs.lemmas.Grind.{flat_map-append}

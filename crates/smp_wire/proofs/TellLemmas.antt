@@ -8,8 +8,6 @@ use Rattle.mad_layout.specs.MadStatus.{mad_status_code}
 use Rattle.mad_layout.specs.declared.method.Method.{Method}
 use Rattle.mad_layout.specs.declared.method.Method.TheVariants as method
 use Rattle.mad_layout.specs.declared.status.MadStatus.{MadStatus}
-use Rattle.mad_layout.specs.declared.status.MadStatus.TheVariants.{BadVersion, MethodNotSupported, AttributeNotSupported, InvalidField, NoResources}
-use Rattle.mad_layout.specs.declared.status.MadStatus.TheVariants.{RequestInvalid, NoRecords, TooManyRecords, InvalidGid, InsufficientComponents}
 use Rattle.mad_layout.proofs.AlignedLemmas.{byte_is_set, bytes_stand, field_aligned}
 use Rattle.mad_layout.proofs.LayoutLemmas.{length-put_field}
 use Rattle.attr_tables.specs.Attribute.{IsAttribute}

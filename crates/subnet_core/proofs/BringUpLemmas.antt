@@ -1,6 +1,6 @@
 -- What is answered where a fabric is brought up, and where it is not.
-use Rattle.std.proofs.Common.{ℕ, ◌≡◌, ◌+◌, ◌-◌, ◌≤◌, ◌<◌, ◌==◌, ◌∙◌, ap, refl, sym, arith, Bool, true, false, if◌then◌else◌, List, [], ◌∷◌, ◌++◌, length, get_or, take, slice_get, Option, Some, None, Result, Ok, Err}
-use Rattle.std.proofs.lemmas.List.{get_or-map, length-map, map-append, take_more}
+use Rattle.std.proofs.Common.{ℕ, ◌≡◌, ◌+◌, ◌-◌, ◌≤◌, ◌<◌, ◌==◌, ◌∙◌, ap, refl, sym, arith, Bool, true, false, if◌then◌else◌, List, length, get_or, slice_get, Option, Some, None, Result, Ok, Err}
+use Rattle.std.proofs.lemmas.List.{get_or-map, length-map}
 use Rattle.std.proofs.lemmas.List.FromFn.{get_or-range_with_len, length-enumerate_from}
 use Rattle.std.proofs.lemmas.Option.{none-some, slice_get_within}
 use Rattle.std.proofs.lemmas.Bool.Decides.{nat_tests}
@@ -13,7 +13,6 @@ use Rattle.subnet_core.specs.declared.fault.RunFault.TheVariants.{NoMemory, Topo
 use Rattle.fabric_wire.specs.OfTopology.{fabric_of}
 use Rattle.subnet_fabric.specs.BringUp.{HasNoPath, BroughtUpState}
 use Rattle.subnet_fabric.specs.SetUp.{AreAssigned, IsLaidOut}
-use Rattle.subnet_fabric.specs.Laws.{all_keys}
 use Rattle.subnet_fabric.proofs.ListedLemmas.{numbers_of}
 use Rattle.subnet_model.specs.declared.subnet_port.SubnetPort.{SubnetPort}
 use Rattle.subnet_ports.proofs.EndPortLemmas.{end_ports_stand_in_order}
@@ -72,13 +71,6 @@ unfolding up_from
 comes_up given roster up is by = record { stop = None; becomes = rw is (up, by); is = rw is refl }
 
 -- ---- ports in order
-pub keys_more : (ports : List SubnetPort) (i : ℕ) (port : SubnetPort) → i < length ports → get_or ports i port ≡ port
-    → all_keys (take i ports) ++ port.keys ∷ [] ≡ all_keys (take (i + 1) ports)
-keys_more ports i port inside here =
-    sym (ap all_keys (take_more ports i port inside)
-    ∙ (map-append (λ (port : SubnetPort). port.keys) (take i ports) (get_or ports i port ∷ [])
-    ∙ ap (λ (keys : List ℕ). all_keys (take i ports) ++ keys ∷ []) (ap (λ (port : SubnetPort). port.keys) here)))
-
 pub lid_at : (ports : List SubnetPort) (i : ℕ) (port : SubnetPort) → HaveLidsInOrder ports → i < length ports → get_or ports i port ≡ port → port.lid ≡ 1 + i
 lid_at ports i port order inside here =
     ap (λ (port : SubnetPort). port.lid) (sym here)

@@ -1,7 +1,7 @@
 -- What the commands of a script send are bytes.
-use Rattle.std.proofs.Common.{ℕ, suc, ◌-◌, ◌^◌, ◌<◌, ◌≡◌, refl, subst, Bool, nat_le, nat_lt, List, [], ◌∷◌, ◌++◌, length, replicate, Option, Some, None, Result, Ok, Err}
+use Rattle.std.proofs.Common.{ℕ, suc, ◌-◌, ◌^◌, ◌≡◌, refl, subst, Bool, nat_le, List, [], ◌∷◌, ◌++◌, length, replicate, Option, Some, None, Result, Ok, Err}
 use Rattle.std.specs.Int.Digits.{AllBelowBase}
-use Rattle.std.specs.List.{All, AllByRecursion}
+use Rattle.std.specs.List.{AllByRecursion}
 use Rattle.std.specs.Option.{ok_or}
 use Rattle.std.proofs.lemmas.List.Elements.{All-nil, recursion_from_All}
 use Rattle.hex.specs.Hex.{IsBytes, decode_of}
@@ -10,7 +10,6 @@ use Rattle.hex.proofs.HexLemmas.{decode_of-ok}
 use Rattle.mad_layout.proofs.LayoutLemmas.{zeros_below}
 use Rattle.mad_layout.proofs.NumberLemmas.{below_append}
 use Rattle.result_words.proofs.StepLemmas.{bind_ok, let_through, same_ok}
-use Rattle.result_words.specs.AtLine.{AtLine}
 use Rattle.result_words.specs.Steps.{◌>>=◌}
 use Rattle.rmpp_core.proofs.ReadBackLemmas.{reply_below}
 use Rattle.subnet_model.specs.declared.command.Command.{Command}

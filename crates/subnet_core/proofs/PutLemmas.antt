@@ -65,13 +65,6 @@ loses_all told text known = record { written = []; lost = text ++ told; appended
 pub loses_told : (told text : List ℕ) (known : Option (List ℕ)) → PutsSome told text text known known
 loses_told told text known = record { written = []; lost = told; appended = appends_nothing known; same = refl }
 
-pub loses_none : (text : List ℕ) (known : Option (List ℕ)) → PutsSome [] text text known known
-loses_none text known = record { written = []; lost = []; appended = appends_nothing known; same = refl }
-
-pub puts_some : (told text text' : List ℕ) (old new : Option (List ℕ)) → Puts told text text' old new → PutsSome told text text' old new
-puts_some told text text' old new one =
-    record { written = one.written; lost = []; appended = one.appended; same = one.same ∙ sym (append-nil (one.written ++ text')) }
-
 -- ---- by one
 pub all_written : (text : List ℕ) (old new : Option (List ℕ)) → Appends old new text → Puts [] text [] old new
 all_written text old new appended = record { written = text; appended = appended; same = refl }

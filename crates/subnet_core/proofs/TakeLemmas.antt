@@ -1,5 +1,5 @@
 -- Lines that are taken one after the other.
-use Rattle.std.proofs.Common.{ℕ, true, false, ◌==◌, ◌+◌, ◌≡◌, ◌∙◌, ap, refl, sym, subst, arith, List, [], ◌∷◌, ◌++◌, length, length-append, Option, Some, None, Result, Ok, Err}
+use Rattle.std.proofs.Common.{ℕ, true, ◌==◌, ◌+◌, ◌≡◌, ◌∙◌, ap, refl, sym, subst, arith, List, [], ◌∷◌, ◌++◌, length, length-append, Option, Some, None, Result, Ok, Err}
 use Rattle.std.specs.Prelude.{OnOk}
 use Rattle.std.proofs.lemmas.Bool.Decides.{nat_tests}
 use Rattle.std.proofs.lemmas.Grind.{flat_map-append}
@@ -81,10 +81,6 @@ not_begun (byte ∷ begun) none = absurd (grind (arith, nat_tests, none))
 pub on_ok : {X E P : Type 0} (answer : Result X E) → P → OnOk answer P
 on_ok (Ok x) p = p
 on_ok (Err error) p = tt
-
-pub is_begun : (begun : List ℕ) → false ≡ (length begun == 0) → rest_of begun ≡ begun ∷ []
-is_begun [] some = absurd cc
-is_begun (byte ∷ begun) some = refl
 
 module _ (first second : List (List ℕ)) (was between left : StreamState) (old middle new : Option (List ℕ)) where
   -- ---- lines that are carried out, and then others

@@ -19,7 +19,7 @@ use subnet_sends::{Event, Sent, ask, manager_key, reply, send};
 use updn_routes::Routes;
 
 /// The MADs that answer a request, and what happens at ports.
-#[derive(Debug, Drop)]
+#[derive(Drop)]
 pub(crate) struct Answer {
     /// The MADs, in order.
     pub(crate) mads: Vec<Mad>,

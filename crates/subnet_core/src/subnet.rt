@@ -41,7 +41,7 @@ pub struct Subnet {
     is_broken: bool,
 }
 
-// As derived, but by one call: else what owns a subnet is proved to let go of each of its parts, on each way out.
+// As derived, but by one call: else what owns one is proved to let go of each of its parts, on each way out.
 impl Drop for Subnet {
     fn drop(self) {
         let Subnet {

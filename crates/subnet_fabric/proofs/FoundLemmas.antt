@@ -1,19 +1,15 @@
 -- What a sweep and routes over a fabric come to.
 use Rattle.std.proofs.Common.{ℕ, ◌≡◌, List, subst, sym}
-use Rattle.fabric_wire.proofs.OfTopologyGoodLemmas.{good}
-use Rattle.fabric_wire.proofs.OfTopologyLinksLemmas.{links}
 use Rattle.fabric_wire.proofs.OfTopologyWalkLemmas.{joined}
 use Rattle.fabric_wire.specs.OfTopology.{fabric_of}
 use Rattle.smp_wire.specs.FabricState.{FabricState}
 use Rattle.subnet_fabric.specs.BringUp.{Stops, root_guids}
-use Rattle.subnet_fabric.specs.Fault.{of_routes, of_sweep}
+use Rattle.subnet_fabric.specs.Fault.{of_routes}
 use Rattle.subnet_fabric.specs.SetUp.{AreAssigned, AreRoutesOver, IsFound, IsLaidOut, IsNotSetUp}
 use Rattle.subnet_fabric.specs.declared.fault.FabricFault.{FabricFault}
 use Rattle.subnet_fabric.specs.declared.fault.FabricFault.TheVariants as fabric
 use Rattle.subnet_fabric.proofs.LimitLemmas.{not_too_big}
 use Rattle.sweep.specs.Graph.{GraphState}
-use Rattle.sweep.specs.Sweeps.{Fails, IsSweepable}
-use Rattle.sweep.specs.declared.fault.SweepFault.{SweepFault}
 use Rattle.sweep.specs.declared.fault.SweepFault.TheVariants.{NoMemory, NoReply, WrongReply, TooManyHops, TooManyNodes}
 use Rattle.topo_file.specs.Sound.{IsSound}
 use Rattle.topo_file.specs.Topology.{TopologyState}
@@ -23,19 +19,8 @@ use Rattle.updn_routes.specs.Subnet.{RoutesState, guids_of, homes_of, rows_of}
 use Rattle.updn_routes.specs.declared.fault.RouteFault.{RouteFault}
 use Rattle.updn_routes.specs.declared.fault.RouteFault.TheVariants as routes
 
-pub sweepable : (plan : TopologyState) → IsSound plan → IsSweepable (fabric_of plan)
-sweepable plan sound = record { good = good plan sound; links = links plan; joined = joined plan sound }
-
 pub laid_out : (over : FabricState) (graph : GraphState) → IsFound over graph → IsLaidOut over graph
 laid_out over graph found = record { layout = found.of.layout; joined = found.joined; near = found.near; small = found.small }
-
--- of a sweep's faults two may come
-pub unswept : (over : FabricState) (fault : SweepFault) → Fails over fault → (roots : List ℕ) → IsNotSetUp over roots (of_sweep fault)
-unswept over NoMemory fails roots = tt
-unswept over NoReply fails roots = fails
-unswept over WrongReply fails roots = fails
-unswept over TooManyHops fails roots = fails
-unswept over TooManyNodes fails roots = fails
 
 -- routes that are made are those of the fabric
 pub are_routes : (over : FabricState) (graph : GraphState) (lids roots : List ℕ) (routes : RoutesState) → IsFound over graph → AreAssigned graph lids

@@ -398,9 +398,6 @@ steps_isolate law p = record {
 }
 
 -- ---- whose LIDs stand in what p receives
-abbrev AllSlidsNear : List SubnetPort → ℕ → List PortEvent → Type 0
-AllSlidsNear ports p events = All (λ event. HasSlidNear ports p event.what) events
-
 -- the sender of a packet is near whomever its command is near
 sender_lid_near : (ports : List SubnetPort) (p : ℕ) (command : SendCommand) (sender : SubnetPort) → port_with_guid ports command.port_guid ≡ Some sender
     → is_near ports p command.port_guid ≡ true → is_lid_near ports p sender.lid ≡ true

@@ -1,8 +1,8 @@
 -- What a topology's subnet is brought up as is configured: few ports, in order, with keys of the partitions alone.
-use Rattle.std.proofs.Common.{◌≡◌, ℕ, ◌+◌, ◌≤◌, Bool, true, false, ◌==◌, ◌||◌, nat_eq, nat_le, List, [], ◌∷◌, length, map, fold, Option, Some, None, refl, sym, subst, ap, ◌∙◌, arith, inl, inr, All}
+use Rattle.std.proofs.Common.{◌≡◌, ℕ, ◌+◌, ◌≤◌, Bool, true, false, ◌==◌, ◌||◌, nat_eq, nat_le, List, [], ◌∷◌, length, map, fold, Option, Some, None, refl, sym, subst, ap, ◌∙◌, arith, inl, inr}
 use Rattle.std.specs.List.{AllByRecursion, IsDistinct, cons_option, list_all, list_any}
-use Rattle.std.proofs.lemmas.Bool.{and_parts, cases_Bool, eq-eqb, eqb-true, or_from, or_parts}
-use Rattle.std.proofs.lemmas.List.Elements.{All-from_recursion, All-weaker}
+use Rattle.std.proofs.lemmas.Bool.{and_parts, cases_Bool, eq-eqb, eqb-true}
+use Rattle.std.proofs.lemmas.List.Elements.{All-weaker}
 use Rattle.std.proofs.lemmas.Map.Keys.{IsDistinct-cons, IsDistinct-head, IsDistinct-tail}
 use Rattle.result_words.proofs.ListLemmas.{IsDistinct-nil}
 use Rattle.pkey_rules.specs.declared.end_port.EndPort.{EndPort}
@@ -18,7 +18,7 @@ use Rattle.subnet_model.specs.EndPorts.{lid_of}
 use Rattle.subnet_model.specs.declared.subnet_port.SubnetPort.{SubnetPort}
 use Rattle.subnet_model.specs.Configured.{HoldsKnownKeys, IsConfigured, is_known_key}
 use Rattle.subnet_ports.specs.declared.end_ports.Seat.{Seat}
-use Rattle.subnet_ports.specs.EndPorts.{AreEndPorts, IsEndPort, end_port_at}
+use Rattle.subnet_ports.specs.EndPorts.{IsEndPort, end_port_at}
 use Rattle.subnet_ports.specs.Ports.{configuration_of, end_ports, keyed, ports_of, seated, seats, with_port, with_seat}
 use Rattle.subnet_ports.proofs.EndPortLemmas.{end_ports_stand_in_order}
 use Rattle.subnet_ports.proofs.PortLemmas.{few_seats}

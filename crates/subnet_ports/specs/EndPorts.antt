@@ -1,6 +1,6 @@
 -- What is so of the list of end ports of every topology, whatever its partitions.
-use Rattle.std.specs.Prelude.{◌≡◌, ◌<◌, Bool, true, ◌==◌, ◌&&◌, if◌then◌else◌, List, length, map, All}
-use Rattle.std.specs.List.{IsDistinct, list_any, range_with_len}
+use Rattle.std.specs.Prelude.{◌≡◌, ◌<◌, Bool, true, ◌==◌, ◌&&◌, if◌then◌else◌, List, All}
+use Rattle.std.specs.List.{IsDistinct, list_any}
 use Rattle.pkey_rules.specs.declared.end_port.EndPort.{EndPort}
 use Rattle.fabric_parts.specs.declared.cable.PortRef.{PortRef}
 use Rattle.fabric_parts.specs.Cable.{is_cabled, is_same_port}

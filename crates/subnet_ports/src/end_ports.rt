@@ -17,7 +17,7 @@ use subnet_model::{Configuration, NodeName, SubnetPort, lid_of};
 use topo_file::{Node, Topology, name_at, ports_at};
 
 /// Where an end port stands: the place of its node in the topology, and its number there.
-#[derive(Clone, Copy, Debug)]
+#[derive(Clone, Copy)]
 pub(crate) struct Seat {
     place: usize,
     number: u8,

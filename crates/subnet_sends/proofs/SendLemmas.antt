@@ -1,12 +1,12 @@
 -- What comes of a command in a subnet's fabric is what the subnet tells.
 use Rattle.std.proofs.Common.{ℕ, ◌≡◌, ◌==◌, ◌∙◌, ap, refl, inl, inr, subst, sym, Bool, true, false, List, [], ◌∷◌, map, Option, Some, None, Result, Ok, Err}
-use Rattle.std.specs.Option.{option_map, option_map_or}
+use Rattle.std.specs.Option.{option_map_or}
 use Rattle.std.proofs.lemmas.Bool.{cases_Bool, eqb-true}
 use Rattle.data_packet.specs.declared.packet.Packet.{Packet}
 use Rattle.data_packet.specs.declared.refusal.Refusal.{Refusal}
 use Rattle.data_packet.specs.declared.refusal.Refusal.TheVariants.{KeyNotHeld}
 use Rattle.fabric_parts.specs.NodeType.{is_switch_type}
-use Rattle.packet_ways.specs.Deliveries.{DeliveryState, HasPort}
+use Rattle.packet_ways.specs.Deliveries.{DeliveryState}
 use Rattle.pkey_rules.specs.KeyTable.{holds}
 use Rattle.pkey_rules.specs.PKey.{default_base, key_of}
 use Rattle.port_model.specs.AdapterState.{AdapterState}
@@ -145,12 +145,3 @@ pub what_comes_of_asking_is_told : (fabric : FabricState) (command : AskCommand)
     → AskIsAsListed fabric command sent
 what_comes_of_asking_is_told fabric command sent comes ports receives own of sends =
     asking_is_told ports receives fabric command own of sends sent comes
-
--- no port is there that could ask
-pub nobody_asks : (fabric : FabricState) (command : AskCommand) (sent : Sent) → (HasPort fabric.nodes command.port_guid → ⊥)
-    → events_in sent ≡ [] → is_request sent ≡ false → ComesOfAsk fabric command sent
-nobody_asks fabric command sent none empty no_request = record {
-  nobody = λ no_port. (empty, no_request);
-  asked = λ at own there guid.
-      absurd (none (at, ap (option_map (λ (port : AdapterState). port.port_guid)) there ∙ ap (λ (g : ℕ). Some g) guid));
-}

@@ -24,7 +24,7 @@ use Rattle.sweep.specs.declared.graph.GraphLink.{GraphLink}
 use Rattle.sweep.specs.declared.graph.GraphPort.{GraphPort}
 use Rattle.sweep.specs.declared.seen.Seen.{Seen}
 use Rattle.sweep.proofs.CabledLemmas.{far_of, hops_over}
-use Rattle.sweep.proofs.EndPortLemmas.{hangs, of_one, one_of, stands, there_is, to_switch}
+use Rattle.sweep.proofs.EndPortLemmas.{hangs, of_one, one_of, stands}
 use Rattle.sweep.proofs.FoundLemmas.{among_at, among_place, node_there, one_place, place_is}
 use Rattle.sweep.proofs.LeastLemmas.{goes, hops, in_range}
 use Rattle.sweep.proofs.MetLemmas.{good_once}
@@ -289,9 +289,6 @@ module _ (fabric : FabricState) (graph : GraphState) (good : IsGood fabric) (lay
   -- ---- the subnet manager's port
   pub first : (there : PortRef) × (far_end fabric.cables fabric.manager ≡ Some there)
   first = far_of fabric.cables fabric.manager good.manager_cabled
-
-  pub first_switch : is_switch_at fabric.nodes first.0.node ≡ true
-  first_switch = to_switch fabric fabric.manager first.0 good good.manager_adapter first.1
 
   manager_seen : (o : Option Seen) → seen_at fabric fabric.manager ≡ o → option_map (λ seen. seen.port_guid) o ≡ Some graph.manager
       → (seen : Seen) × (seen_at fabric fabric.manager ≡ Some seen) × (seen.port_guid ≡ graph.manager)

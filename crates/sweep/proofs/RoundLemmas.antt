@@ -58,10 +58,6 @@ pub same_test : (o : Option ℕ) (k : ℕ) → is_exactly o k ≡ option_eq eqb 
 same_test None k = refl
 same_test (Some j) k = refl
 
-pub come_to : (o : Option ℕ) (distance : ℕ) → or_further o false distance ≡ o
-come_to None distance = refl
-come_to (Some j) distance = refl
-
 -- ---- lists
 pub exactly : (o : Option ℕ) (k : ℕ) → is_exactly o k ≡ true → o ≡ Some k
 exactly None k h = absurd (false≢true h)

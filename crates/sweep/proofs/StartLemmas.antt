@@ -1,7 +1,7 @@
 -- The first two steps of a sweep over a good fabric: the subnet manager's port, and the switch at its cable.
 use Rattle.std.proofs.Common.{ℕ, ◌≡◌, ◌∙◌, ap, refl, sym, ◌==◌, ◌||◌, not, Bool, true, false, if◌then◌else◌, List, [], ◌∷◌, ◌++◌, length, slice_get}
 use Rattle.std.proofs.Common.{Option, Some, None, option_map, Result, Ok, Err}
-use Rattle.std.specs.Option.{ForSome, ok_or, option_and_then, option_map_or}
+use Rattle.std.specs.Option.{ok_or, option_and_then, option_map_or}
 use Rattle.std.proofs.lemmas.Bool.{and_parts}
 use Rattle.std.proofs.lemmas.Bool.Decides.{Decides-eqb}
 use Rattle.std.proofs.lemmas.Option.{same_Some}
@@ -27,13 +27,8 @@ use Rattle.sweep.specs.declared.graph.GraphSwitch.{GraphSwitch}
 use Rattle.sweep.specs.declared.seen.Seen.{Seen}
 use Rattle.sweep.proofs.CabledLemmas.{any_found}
 use Rattle.sweep.proofs.EndLemmas.{end_port}
-use Rattle.sweep.proofs.ShownLemmas.{gives_info, gives_name}
+use Rattle.sweep.proofs.ShownLemmas.{gives_info}
 use Rattle.smp_wire.proofs.PresentLemmas.{present_right}
-
--- a Get leaves the fabric, and the next does
-pub left_again : (a b c : Option FabricState) → ForSome a (λ fabric. IsGood fabric → b ≡ Some fabric)
-    → ForSome b (λ fabric. IsGood fabric → c ≡ Some fabric) → ForSome a (λ fabric. IsGood fabric → c ≡ Some fabric)
-left_again a b c first second fabric stands good = second fabric (first fabric stands good) good
 
 -- a switch as it was seen
 abbrev pub switch_shown : Seen → List ℕ → List ℕ → GraphSwitch
@@ -136,9 +131,6 @@ no_sight fault = Err fault
 abbrev pub naming : List ℕ → Result (List ℕ) SweepFault
 naming name = Ok name
 
-abbrev pub no_naming : SweepFault → Result (List ℕ) SweepFault
-no_naming fault = Err fault
-
 seen_if : (o : Option Seen) (seen : Seen) → sight seen ≡ ok_or o NoReply → o ≡ Some seen
 seen_if None seen is = absurd (cc)
 seen_if (Some one) seen is = cc
@@ -170,28 +162,10 @@ seen_err fabric path at fault good is_there ends told =
     let so = told ∙ ap (λ (o : Option PortRef). ok_or (option_and_then (seen_at fabric) o) NoReply) ends ∙ ap (λ (o : Option Seen). ok_or o NoReply) shown in
     absurd (cc)
 
-pub named_err : (fabric : FabricState) (path : List ℕ) (at : PortRef) (fault : SweepFault) → is_port fabric.nodes at ≡ true
-    → end_of fabric path ≡ Some at → NamedAlong fabric path (no_naming fault) → ⊥
-named_err fabric path at fault is_there ends told =
-    let shown = (gives_name fabric at is_there).is in
-    let so = told ∙ ap (λ (o : Option PortRef). ok_or (option_and_then (name_at fabric) o) NoReply) ends ∙ ap (λ (o : Option (List ℕ)). ok_or o NoReply) shown in
-    absurd (cc)
-
 -- ---- what the sweep begins with
 -- the first look, along no hop
 at_manager : (fabric : FabricState) (none : List ℕ) → none ≡ [] → end_of fabric none ≡ Some fabric.manager
 at_manager fabric none empty = ap (end_of fabric) empty
-
-pub no_first : (fabric : FabricState) (none : List ℕ) (fault : SweepFault) → IsGood fabric → none ≡ []
-    → SeenAlong fabric none (no_sight fault) → ⊥
-no_first fabric none fault good empty told = seen_err fabric none fabric.manager fault good good.manager_port (at_manager fabric none empty) told
-
-pub first_adapter : (fabric : FabricState) (none : List ℕ) (here : Seen) → IsGood fabric → none ≡ []
-    → SeenAlong fabric none (sight here) → is_switch_type here.node_type ≡ true → ⊥
-first_adapter fabric none here good empty told switch =
-    let seen = seen_ok fabric none fabric.manager here (at_manager fabric none empty) told in
-    let kind = sym switch ∙ (kind_at fabric fabric.manager here seen).0 ∙ good.manager_adapter in
-    absurd (cc)
 
 -- the path of the first hop, and where it ends
 path_is : (fabric : FabricState) (none path : List ℕ) (here : Seen) → none ≡ [] → path ≡ none ++ here.local_port_num ∷ []
@@ -216,13 +190,6 @@ second_switch fabric none path here there good empty is first told adapter =
     let seen = seen_ok fabric path b.there there ends told in
     let kind = sym adapter ∙ (kind_at fabric b.there there seen).0 ∙ b.switch in
     absurd (cc)
-
-pub no_third : (fabric : FabricState) (none path : List ℕ) (here : Seen) (fault : SweepFault) → IsGood fabric → none ≡ []
-    → path ≡ none ++ here.local_port_num ∷ [] → SeenAlong fabric none (sight here) → NamedAlong fabric path (no_naming fault) → ⊥
-no_third fabric none path here fault good empty is first told =
-    let b = begins fabric good in
-    let ends = ap (end_of fabric) (path_is fabric none path here empty is first) ∙ b.ends in
-    named_err fabric path b.there fault (end_port fabric path b.there good ends) ends told
 
 pub started : (fabric : FabricState) (none path : List ℕ) (here there : Seen) (name : List ℕ) → IsGood fabric → none ≡ []
     → path ≡ none ++ here.local_port_num ∷ [] → SeenAlong fabric none (sight here) → SeenAlong fabric path (sight there)

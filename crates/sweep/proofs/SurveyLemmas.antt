@@ -1,10 +1,9 @@
 -- Links that lead to a port, and a search for one.
-use Rattle.std.proofs.Common.{ℕ, ◌≡◌, ◌==◌, ◌+◌, ◌&&◌, ◌||◌, ◌<◌, refl, Bool, true, false, if◌then◌else◌, List, [], ◌∷◌, find, get_or, length, nat_le}
+use Rattle.std.proofs.Common.{ℕ, ◌≡◌, ◌==◌, ◌+◌, ◌&&◌, ◌||◌, ◌<◌, refl, Bool, true, false, if◌then◌else◌, List, [], ◌∷◌, find, get_or, nat_le}
 use Rattle.std.proofs.Common.{Option, Some, None, option_map, arith}
 use Rattle.std.proofs.Math.Bool.{or-true}
 use Rattle.std.specs.List.{list_any}
 use Rattle.std.proofs.lemmas.Bool.Decides.{Decides-eqb, nat_tests}
-use Rattle.std.proofs.lemmas.List.{get_or_past}
 use Rattle.std.proofs.lemmas.Option.{same_Some}
 use Rattle.fabric_parts.specs.Cable.{is_same_port}
 use Rattle.fabric_parts.specs.declared.cable.PortRef.{PortRef}
@@ -61,11 +60,3 @@ none_more rows there node before none here within = by (nat_le node here.node) r
     by true after =
         let same : here.node ≡ node = grind (arith, nat_tests, after, within) in
         rw same (unlinked (get_or rows node []) there here.port none)
-
-pub none_at_all : (rows : List (List GraphLink)) (there : PortRef) → NoneLeads rows there (length rows)
-    → (here : PortRef) → is_linked rows here there ≡ false
-none_at_all rows there none here = by (nat_le (length rows) here.node) refl
-  where
-    by : (b : Bool) → nat_le (length rows) here.node ≡ b → is_linked rows here there ≡ false
-    by false within = none here (grind (arith, nat_tests, within))
-    by true past = rw (get_or_past rows here.node [] (grind (arith, nat_tests, past))) refl

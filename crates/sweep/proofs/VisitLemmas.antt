@@ -1,13 +1,13 @@
 -- What is noted of a port that is visited: the switch behind it, or the port of an adapter.
-use Rattle.std.proofs.Common.{ℕ, suc, ◌+◌, ◌<◌, ◌≤◌, ◌≡◌, ◌⊎◌, inl, inr, ◌∙◌, ◌==◌, not, ap, refl, sym, subst, Bool, true, false, List, [], ◌∷◌, ◌++◌}
-use Rattle.std.proofs.Common.{map, length, position, slice_get, get_or, Option, Some, None, option_map, Result, Ok, Err, nat_le, unwrap_or, arith}
+use Rattle.std.proofs.Common.{ℕ, suc, ◌+◌, ◌<◌, ◌≤◌, ◌≡◌, inl, inr, ◌∙◌, ◌==◌, not, ap, refl, sym, subst, Bool, true, false, List, [], ◌∷◌, ◌++◌}
+use Rattle.std.proofs.Common.{map, length, position, slice_get, Option, Some, None, option_map, Result, Ok, Err, nat_le, unwrap_or, arith}
 use Rattle.std.specs.List.{All, IsDistinct, list_all}
 use Rattle.std.specs.Option.{option_map_or}
 use Rattle.std.proofs.lemmas.Bool.{and_from, false≢true}
 use Rattle.std.proofs.lemmas.Bool.Decides.{nat_tests}
 use Rattle.std.proofs.lemmas.List.Folds.{list_all-map}
 use Rattle.std.proofs.lemmas.List.{append_assoc, append-nil, length-append, length-map}
-use Rattle.std.proofs.lemmas.Option.{same_Some, slice_get_cases, slice_get-map}
+use Rattle.std.proofs.lemmas.Option.{same_Some, slice_get-map}
 use Rattle.result_words.proofs.ListLemmas.{all_have, all_there, list_all_push}
 use Rattle.fabric_parts.specs.Cable.{far_end, is_cabled, port}
 use Rattle.fabric_parts.specs.declared.cable.PortRef.{PortRef}
@@ -429,9 +429,6 @@ on_again fabric found more i count survey row on = record {
   progress = rw (sym (append_assoc found more on.more)) on.progress;
 }
 
-pub begun : (fabric : FabricState) (found : List Found) (i : ℕ) (survey : SurveyState) → IsProgress fabric found i 0 survey [] → GoesOn fabric found i 0 survey []
-begun fabric found i survey progress = record { more = []; progress = rw (append-nil found) progress }
-
 pub row_end : (fabric : FabricState) (found : List Found) (one : Found) (place count : ℕ) (survey next : SurveyState) (row : List GraphLink)
     → StandsAt found place one → count ≡ ports_at fabric one.node → next ≡ record survey { rows = survey.rows ++ row ∷ [] }
     → GoesOn fabric found place count survey row → GoesOn fabric found (suc place) 0 next []
@@ -464,29 +461,9 @@ way_found fabric found switches place num_ports path are is =
     way_by fabric found place num_ports path (slice_get found place) refl
     (ap (option_map way_of) (sym (slice_get-map (switch_of fabric) found place) ∙ ap (λ (some : List GraphSwitch). slice_get some place) (sym are)) ∙ is)
 
-no_way : (fabric : FabricState) (found : List Found) (switches : List GraphSwitch) (place : ℕ) → switches ≡ map (switch_of fabric) found
-    → option_map way_of (slice_get switches place) ≡ None → length found ≤ place
-no_way fabric found switches place are none = by (slice_get_cases found place).1
-  where
-    by : ((x : Found) × (place < length found) × (slice_get found place ≡ Some x) × (get_or found place x ≡ x))
-        ⊎ ((length found ≤ place) × (slice_get found place ≡ None)) → length found ≤ place
-    by (inr past) = past.0
-    by (inl here) =
-        let some : option_map way_of (slice_get switches place) ≡ Some (way_of (switch_of fabric here.0)) =
-        ap (option_map way_of) (ap (λ (some : List GraphSwitch). slice_get some place) are ∙ slice_get-map (switch_of fabric) found place
-        ∙ ap (option_map (switch_of fabric)) here.2) in
-        let clash = sym none ∙ some in
-        absurd cc
-
 ended : (fabric : FabricState) (found : List Found) (place : ℕ) (survey : SurveyState) → (on : GoesOn fabric found place 0 survey [])
     → length (found ++ on.more) ≡ place → IsAllAsked fabric found survey
 ended fabric found place survey on all = record { more = on.more; progress = rw all on.progress }
-
-pub all_asked : (fabric : FabricState) (found : List Found) (place : ℕ) (survey : SurveyState) → GoesOn fabric found place 0 survey []
-    → option_map way_of (slice_get survey.switches place) ≡ None → IsAllAsked fabric found survey
-all_asked fabric found place survey on none =
-    ended fabric found place survey on
-    (omega (arith, on.progress.within, no_way fabric (found ++ on.more) survey.switches place on.progress.noted.switches none))
 
 pub full_asked : (fabric : FabricState) (found : List Found) (place : ℕ) (survey : SurveyState) → GoesOn fabric found place 0 survey []
     → 64 ≤ place → IsAllAsked fabric found survey

@@ -26,7 +26,7 @@ use smp_wire::SmpWire;
 use std::alloc::Global;
 
 /// Where a sweep begins.
-#[derive(Debug, Drop)]
+#[derive(Drop)]
 pub(crate) struct Origin {
     /// The GUID of the subnet manager's port.
     pub manager: u64,

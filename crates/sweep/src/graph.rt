@@ -133,12 +133,24 @@ impl GraphRow {
 /// them, and the ports of channel adapters that hang on them.
 ///
 /// `specs/Graph.antt` says what holds of every graph, whatever wire it came over.
-#[derive(Debug, Drop)]
+#[derive(Debug)]
 pub struct Graph {
     pub(crate) manager: u64,
     pub(crate) switches: SwitchList,
     pub(crate) rows: Vec<GraphRow>,
     pub(crate) ports: Vec<GraphPort>,
+}
+
+// As derived, but by one call: else what owns one is proved to let go of each of its parts, on each way out.
+impl Drop for Graph {
+    fn drop(self) {
+        let Graph {
+            manager: _,
+            switches: _,
+            rows: _,
+            ports: _,
+        } = self;
+    }
 }
 
 impl Model for Graph {

@@ -20,7 +20,7 @@ use std::marker::Model;
 
 /// The switches that were found, the links of those that were asked, and the ports of channel adapters that
 /// were met.
-#[derive(Debug, Drop)]
+#[derive(Drop)]
 pub(crate) struct Survey {
     switches: SwitchList,
     rows: Vec<GraphRow>,

@@ -2,12 +2,11 @@
 use Rattle.std.proofs.Common.{ℕ, zero, suc, ◌≡◌, ◌+◌, ◌-◌, ◌<◌, ◌≤◌, ◌==◌, ◌&&◌, ◌||◌, ◌∙◌, inl, inr, ap, refl, sym, Bool, true, false, nat_lt, List, length, get_or, replicate, slice_set, bit_or, Option, Some, None, option_map, arith}
 use Rattle.std.specs.Int.{bit_at}
 use Rattle.std.specs.Option.{option_and_then, option_map_or}
-use Rattle.std.proofs.lemmas.Bool.{eq-eqb, eqb-true, false≢true, lt-ltb, ltb-false, ltb-true, or_cases}
+use Rattle.std.proofs.lemmas.Bool.{eq-eqb, eqb-true, false≢true, ltb-false, ltb-true, or_cases}
 use Rattle.std.proofs.lemmas.List.{length-set}
 use Rattle.std.proofs.lemmas.Option.{none-some, option_and_then_some, same_Some}
 use Rattle.std.proofs.lemmas.Bool.Decides.{nat_tests}
 use Rattle.result_words.proofs.ListLemmas.{found_passes}
-use Rattle.switch_model.proofs.MulticastLemmas.{AreBits}
 use Rattle.table_push.specs.MaskSteps.{is_that_port}
 use Rattle.table_push.specs.TreeSteps.{ArePut, is_up_to}
 use Rattle.table_push.proofs.ReachLemmas.{no_bits, same_answers}
@@ -156,17 +155,6 @@ both_put p q r bit one two three are first second = (
       ∙ ap (λ (b : Bool). (bit_at (get_or one s 0) t == 1) || b) (and_distributes (p s) (q s) (bit == t) ∙ ap (λ (b : Bool). b && (bit == t)) (sym (are s))),
 )
 
-none_more : (a : Bool) → a ≡ (a || false)
-none_more true = refl
-none_more false = refl
-
-pub none_put : (p : ℕ → Bool) (bit : ℕ) (one : List ℕ) → ((s : ℕ) → s < 64 → p s ≡ false) → ArePut p bit one one
-none_put p bit one none = (
-  refl,
-  λ s t low. none_more (bit_at (get_or one s 0) t == 1)
-      ∙ ap (λ (b : Bool). (bit_at (get_or one s 0) t == 1) || (b && (bit == t))) (sym (none s low)),
-)
-
 pub one_put : (place bit x : ℕ) (one two : List ℕ) → place < length one → ((t : ℕ) → (bit_at x t == 1) ≡ (bit == t))
     → two ≡ slice_set one place (bit_or (get_or one place 0) x) → ArePut (is_that_port (Some place)) bit one two
 one_put place bit x one two low its is = (
@@ -182,30 +170,6 @@ put_as p q bit one two are put =
 pub up_none : (routes : RoutesState) (t s : ℕ) → is_up_to routes 0 t s ≡ is_that_port (Some t) s
 unfolding is_up_to
 up_none routes t s = refl
-
--- one bit more in each set
-bit_more : (k n : ℕ) (passes : ℕ → Bool) (b : Bool) → (k == n) ≡ b → ((nat_lt n k && passes n) || (passes k && b)) ≡ (nat_lt n (k + 1) && passes n)
-bit_more k n passes true same =
-    let is : k ≡ n = eqb-true k n same in
-    let high : nat_lt n k ≡ false = grind (arith, nat_tests) in
-    let low : nat_lt n (k + 1) ≡ true = lt-ltb n (k + 1) (omega (arith, is)) in
-    rw (high, low) (and_true (passes k) ∙ ap passes is)
-  where
-    and_true : (a : Bool) → (a && true) ≡ a
-    and_true true = refl
-    and_true false = refl
-bit_more k n passes false other =
-    let same : nat_lt n (k + 1) ≡ nat_lt n k = grind (arith, nat_tests) in
-    ap (λ (b : Bool). (nat_lt n k && passes n) || b) (and_false (passes k)) ∙ sym (none_more (nat_lt n k && passes n)) ∙ ap (λ (b : Bool). b && passes n) (sym same)
-  where
-    and_false : (a : Bool) → (a && false) ≡ false
-    and_false true = refl
-    and_false false = refl
-
-pub sets_more : (k : ℕ) (passes : ℕ → ℕ → Bool) (one two : List ℕ) → ((s : ℕ) → s < 64 → AreBits (get_or one s 0) k (passes s))
-    → ArePut (λ s. passes s k) k one two → (s : ℕ) → s < 64 → AreBits (get_or two s 0) (k + 1) (passes s)
-sets_more k passes one two are put s low n =
-    put.1 s n low ∙ ap (λ (b : Bool). b || (passes s k && (k == n))) (are s low n) ∙ bit_more k n (passes s) (k == n) refl
 
 zero_there : (count s : ℕ) → get_or {A = ℕ} (replicate count 0) s 0 ≡ 0
 zero_there zero s = refl

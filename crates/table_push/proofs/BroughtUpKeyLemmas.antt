@@ -47,9 +47,6 @@ no_keys : (count key : ℕ) → holds key (stored_keys (replicate count 0)) ≡ 
 no_keys zero key = refl
 no_keys (suc count) key = no_keys count key
 
-apart : ℕ → ℕ → Bool
-apart key other = not (same_base key other)
-
 -- of the first of a base its full form is the first, too
 full_held : (own : List ℕ) (count key : ℕ) → holds key (stored_keys (map (held_as false) own ++ replicate count 0)) ≡ true
     → holds (full_form key) (stored_keys (map (held_as true) own ++ replicate count 0)) ≡ true

@@ -1,5 +1,5 @@
 -- PortInfo that is read, changed, and set again.
-use Rattle.std.proofs.Common.{ℕ, ◌≡◌, ◌+◌, ◌*◌, ◌-◌, ◌/◌, ◌%◌, ◌^◌, ◌<◌, ◌≤◌, ◌==◌, ◌&&◌, ◌||◌, ◌⊎◌, inl, inr, nat_le, ◌∙◌, ap, refl, sym, subst, Bool, true, false, if◌then◌else◌, List, [], ◌∷◌, length, replicate, take, drop, Option, Some, None, Result, Ok, arith}
+use Rattle.std.proofs.Common.{ℕ, ◌≡◌, ◌+◌, ◌*◌, ◌-◌, ◌/◌, ◌%◌, ◌^◌, ◌<◌, ◌≤◌, ◌==◌, ◌&&◌, ◌||◌, nat_le, ◌∙◌, ap, refl, sym, subst, Bool, true, false, if◌then◌else◌, List, [], ◌∷◌, length, replicate, take, drop, Option, Some, None, Result, Ok, arith}
 use Rattle.std.specs.Int.{bytes_high_first}
 use Rattle.std.specs.Int.Digits.{AllBelowBase}
 use Rattle.std.specs.Option.{is_some, option_map_or}
@@ -197,10 +197,6 @@ put_twice xs off len v w small within fits =
     let same = number_put xs off len v in
     (λ i. bytes_high_first (size i) (replaced (same i) (8 * size i - (off + len)) len w))
     ∙ ap (bytes_high_first (length xs)) (replaced_again (number xs) (8 * length xs - (off + len)) len v w (8 * length xs) fits (omega arith) (number_below xs small))
-
-turned : (a b c d : ℕ) → (a ≤ b) ⊎ (c ≤ d) → (c ≤ d) ⊎ (a ≤ b)
-turned a b c d (inl one) = inr one
-turned a b c d (inr other) = inl other
 
 -- a field that is put last, apart from all others, may be put first
 put_first : (xs : List ℕ) (ps : List Field) (off len v : ℕ) → is_layout (8 * length xs) ps ≡ true → is_free off len ps ≡ true → Fits ps

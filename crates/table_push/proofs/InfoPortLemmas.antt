@@ -42,9 +42,6 @@ use Rattle.table_push.proofs.PartLemmas.{adapter_part_at, info_part, other_node,
 use Rattle.table_push.proofs.PortLemmas.{count_is, element, good_ports}
 
 -- ---- one Set, at either kind of node
-abbrev keep : {X : Type 0} → X → X
-keep x = x
-
 -- what a Set makes of PortInfo, and what a Get then tells; it tells the port by which it came in
 pub record InfoSet (guid number asked in_port : ℕ) (on : Bool) (node : Node) (info : PortInfo) : Type 0 where
   pub takes : (change : PortInfo → PortInfo) (bytes : List ℕ) → port_info_after on info (port_setting bytes) ≡ Ok (change info)

@@ -3,7 +3,7 @@ use Rattle.std.proofs.Common.{ℕ, zero, suc, ◌≡◌, ◌-◌, ◌*◌, ◌%�
 use Rattle.std.specs.Int.{bit_at}
 use Rattle.std.specs.List.{list_any, range_with_len}
 use Rattle.std.specs.Option.{option_map_or}
-use Rattle.std.proofs.lemmas.Bool.{and_parts, and_from, cases_Bool, eqb-true, false≢true, ne_eqb}
+use Rattle.std.proofs.lemmas.Bool.{and_parts, and_from, cases_Bool, eqb-true, false≢true}
 use Rattle.std.proofs.lemmas.Bool.Decides.{nat_tests}
 use Rattle.std.proofs.lemmas.Map.Keys.{any_passes_from_place}
 use Rattle.std.proofs.lemmas.Nat.Bits.{bit_at-lt, bit_at-zero, bit_at_or, bit_at_set_other, bit_at_set_same}
@@ -55,10 +55,6 @@ its_bit k n low = elim (cases_Bool (k == n)) [
 pub port_bit : (k n : ℕ) → k < 64 → (bit_at (1 * 2 ^ k % 2 ^ 64) n == 1) ≡ (k == n)
 port_bit k n low =
     sym (either_bit 0 (1 * 2 ^ k % 2 ^ 64) n ∙ ap (λ (b : Bool). b || (bit_at (1 * 2 ^ k % 2 ^ 64) n == 1)) (no_bits n)) ∙ its_bit k n low
-
--- no port of 64 or more is one of 48
-pub high_bit : (k n : ℕ) → 64 ≤ k → n < 48 → (bit_at 0 n == 1) ≡ (k == n)
-high_bit k n high low = no_bits n ∙ sym (ne_eqb k n (λ is. omega (arith, high, low, is)))
 
 -- ---- who is reached
 abbrev pub is_reached : RoutesState → (place mlid number : ℕ) → GroupReceiver → Bool

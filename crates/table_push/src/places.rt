@@ -144,7 +144,7 @@ fn receiver_at(receivers: &[GroupReceiver], place: usize) -> Option<GroupReceive
 }
 
 /// What comes next of two lists of receivers.
-#[derive(Clone, Copy, Debug, PartialEq, Eq)]
+#[derive(Clone, Copy)]
 pub(crate) enum Next {
     /// The same receiver in both.
     Both,

@@ -26,7 +26,7 @@ use updn_routes::Routes;
 const GID_PREFIX: u64 = 0xfe80_0000_0000_0000;
 
 /// What is changed of a port; what is none stays.
-#[derive(Clone, Copy, Debug)]
+#[derive(Clone, Copy)]
 pub struct PortChange {
     /// The LID of an end port, with which go its prefix and the subnet manager's LID.
     lid: Option<u16>,

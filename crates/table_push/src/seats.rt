@@ -12,7 +12,7 @@ use subnet_model::GroupReceiver;
 use updn_routes::Routes;
 
 /// The place of a receiver's multicast LID in a slice, and where it hangs.
-#[derive(Clone, Copy, Debug, PartialEq, Eq)]
+#[derive(Clone, Copy)]
 pub(crate) struct Seat {
     pub(crate) slot: usize,
     pub(crate) home: PortRef,

@@ -14,7 +14,7 @@ use switch_model::POSITIONS;
 use updn_routes::Routes;
 
 /// What the tree tells of each switch, by its place.
-#[derive(Debug, Drop)]
+#[derive(Drop)]
 pub(crate) struct Tree {
     /// The bits of the switches that are below it, and of itself.
     pub(crate) below: [u64; SWITCHES],

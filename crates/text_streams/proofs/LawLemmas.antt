@@ -1,5 +1,5 @@
 -- What the words of the clauses rule out.
-use Rattle.std.proofs.Common.{◌≡◌, ap, refl, sym, ℕ, zero, suc, ◌<◌, ◌≤◌, List, [], ◌∷◌, ◌++◌, codes, bytes_eq, length, take, arith}
+use Rattle.std.proofs.Common.{◌≡◌, ap, sym, ℕ, zero, suc, ◌<◌, List, [], ◌++◌, codes, bytes_eq, take, arith}
 use Rattle.std.proofs.lemmas.Bool.{false≢true}
 use Rattle.text_streams.specs.Laws.{OthersAreNoPart, ShortTextsEnd}
 

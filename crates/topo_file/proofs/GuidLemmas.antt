@@ -1,6 +1,6 @@
 -- The GUIDs of two nodes.
-use Rattle.std.proofs.Common.{ℕ, ◌≡◌, ◌+◌, ◌-◌, ◌≤◌, ◌&&◌, nat_le, Bool, true, false, refl, arith}
-use Rattle.std.proofs.lemmas.Bool.{and_from, and_parts, cases_Bool, le-leb, leb-false, leb-true}
+use Rattle.std.proofs.Common.{ℕ, ◌≡◌, ◌-◌, ◌≤◌, nat_le, Bool, true, false, refl, arith}
+use Rattle.std.proofs.lemmas.Bool.{and_from, and_parts, le-leb, leb-false, leb-true}
 use Rattle.topo_file.specs.declared.node.Node.{Node}
 use Rattle.topo_file.specs.Laws.{SharedGuidsAreTold}
 use Rattle.topo_file.specs.Node.{IsGuidOf, last_guid, shares_guid}

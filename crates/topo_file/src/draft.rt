@@ -18,14 +18,14 @@ use std::alloc::Global;
 use std::marker::Model;
 
 /// The subnet manager's port, and the line that places it there.
-#[derive(Clone, Copy, Debug, PartialEq, Eq)]
+#[derive(Clone, Copy, Debug)]
 pub(crate) struct Manager {
     pub(crate) port: PortRef,
     pub(crate) line: usize,
 }
 
 /// What the lines so far declare.
-#[derive(Debug, Drop)]
+#[derive(Drop)]
 pub(crate) struct Draft {
     pub(crate) nodes: NodeList,
     pub(crate) cables: CableList,

@@ -98,7 +98,7 @@ pub fn name_at(nodes: &[Node], place: usize) -> &[u8]
 }
 
 /// What a line says of a node, before it is one.
-#[derive(Clone, Copy, Debug)]
+#[derive(Clone, Copy)]
 pub(crate) struct NewNode<'a> {
     pub(crate) name: &'a [u8],
     pub(crate) node_type: NodeType,

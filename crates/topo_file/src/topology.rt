@@ -14,13 +14,25 @@ use fabric_parts::{Cable, PortRef};
 use std::marker::Model;
 
 /// The nodes and cables of a fabric, the roots of its routes, and the port that the subnet manager runs on.
-#[derive(Debug, Drop)]
+#[derive(Debug)]
 pub struct Topology {
     pub(crate) nodes: NodeList,
     pub(crate) cables: CableList,
     // The places of their switches among the nodes.
     pub(crate) roots: Vec<usize>,
     pub(crate) sm: PortRef,
+}
+
+// As derived, but by one call: else what owns one is proved to let go of each of its parts, on each way out.
+impl Drop for Topology {
+    fn drop(self) {
+        let Topology {
+            nodes: _,
+            cables: _,
+            roots: _,
+            sm: _,
+        } = self;
+    }
 }
 
 impl Model for Topology {

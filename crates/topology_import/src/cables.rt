@@ -11,14 +11,14 @@ use netdiscover_file::{Discovery, Node, PortLine};
 use std::alloc::{AllocError, Global};
 
 /// An end of a cable: the GUID that its node has in the topology, and the number of the port there.
-#[derive(Clone, Copy, Debug, PartialEq, Eq)]
+#[derive(Clone, Copy, PartialEq, Eq)]
 pub(crate) struct End {
     pub(crate) guid: u64,
     pub(crate) port: u8,
 }
 
 /// A cable, with the line that tells it.
-#[derive(Clone, Copy, Debug, PartialEq, Eq)]
+#[derive(Clone, Copy)]
 pub(crate) struct CableMeant {
     pub(crate) first: End,
     pub(crate) second: End,

@@ -49,7 +49,7 @@ pub(crate) fn guid_of(line: &PortLine) -> u64
 }
 
 /// End ports, found by their GUIDs in constant time.
-#[derive(Debug, Drop)]
+#[derive(Drop)]
 pub(crate) struct EndList {
     // The GUIDs again, each at the place of its line.
     guids: GuidIndex,

@@ -9,7 +9,7 @@ use std::alloc::{AllocError, Global};
 use std::marker::Model;
 
 /// GUIDs in the order in which they were added, of which each is found where it stands first, in constant time.
-#[derive(Debug, Drop)]
+#[derive(Drop)]
 pub(crate) struct GuidIndex {
     places: IndexMap<u64, usize>,
     guids: Vec<u64>,

@@ -11,7 +11,7 @@ use netdiscover_file::{Discovery, Node, PortLine};
 use std::alloc::{AllocError, Global};
 
 /// A node of the topology, but for its name.
-#[derive(Clone, Copy, Debug, PartialEq, Eq)]
+#[derive(Clone, Copy)]
 pub(crate) struct Meant {
     pub(crate) node_type: NodeType,
     pub(crate) guid: u64,

@@ -13,7 +13,7 @@ use std::alloc::{AllocError, Global};
 use std::marker::Model;
 
 /// The name of a node.
-#[derive(Debug, Drop)]
+#[derive(Drop)]
 pub(crate) struct Name {
     bytes: Vec<u8>,
 }
@@ -41,7 +41,7 @@ impl Name {
 }
 
 /// A node of the topology.
-#[derive(Debug, Drop)]
+#[derive(Drop)]
 pub(crate) struct Planned {
     pub(crate) name: Name,
     pub(crate) node_type: NodeType,
@@ -52,7 +52,7 @@ pub(crate) struct Planned {
 }
 
 /// Nodes in the order in which they were added, found by GUID and by name in constant time.
-#[derive(Debug, Drop)]
+#[derive(Drop)]
 pub(crate) struct PlannedList {
     // The GUIDs again, each at the place of its node.
     guids: GuidIndex,

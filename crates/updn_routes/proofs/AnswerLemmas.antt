@@ -1,31 +1,30 @@
 -- Routes as they are answered: next hops, channel numbers, and what has no route.
-use Rattle.std.proofs.Common.{◌≡◌, ◌≢◌, ℕ, zero, suc, ◌+◌, ◌-◌, ◌*◌, ◌<◌, ◌≤◌, ◌⊎◌, Bool, true, false, not, cond, ◌==◌, ◌&&◌, ◌||◌, nat_lt, List, [], ◌∷◌, length, map, get_or, slice_get, position, is_none}
-use Rattle.std.proofs.Common.{Option, Some, None, IfSome, option_map, refl, sym, ap, subst, ◌∙◌, inl, inr, arith}
-use Rattle.std.specs.List.{list_all, list_any, position_or_len, range_with_len}
+use Rattle.std.proofs.Common.{◌≡◌, ◌≢◌, ℕ, zero, suc, ◌+◌, ◌-◌, ◌<◌, ◌≤◌, ◌⊎◌, Bool, true, false, not, cond, ◌==◌, ◌&&◌, ◌||◌, nat_lt, List, [], ◌∷◌, length, map, get_or, slice_get, position, is_none}
+use Rattle.std.proofs.Common.{Option, Some, None, refl, sym, ap, subst, ◌∙◌, inl, inr, arith}
+use Rattle.std.specs.List.{list_any, position_or_len, range_with_len}
 use Rattle.std.proofs.lemmas.Bool.{and_parts, and_from, cases_lt, eqb-true, eqb-false, eq-eqb, ne_eqb, lt-ltb, ltb-true, not-true, or_cases, or_left, or_right, false≢true}
 use Rattle.std.proofs.lemmas.List.FromFn.{get_or-map-range_with_len, length-map-range_with_len}
 use Rattle.std.proofs.lemmas.List.Quantifiers.{position-Some}
 use Rattle.std.proofs.lemmas.List.Sums.{fails_before_first}
-use Rattle.std.proofs.lemmas.Option.{get_or_from_slice_get, slice_get-get_or, slice_get_cases}
+use Rattle.std.proofs.lemmas.Option.{slice_get-get_or, slice_get_cases}
 use Rattle.fabric_parts.specs.declared.cable.PortRef.{PortRef}
 use Rattle.updn_routes.specs.declared.link.Link.{Link}
 use Rattle.updn_routes.specs.declared.table.NextHop.{NextHop}
-use Rattle.updn_routes.specs.Cabling.{is_cabling, is_next_to, is_walk, leads, links_of, rises}
-use Rattle.updn_routes.specs.Choice.{AllChosen, is_route}
+use Rattle.updn_routes.specs.Cabling.{is_cabling, is_next_to, is_walk}
+use Rattle.updn_routes.specs.Choice.{is_route}
 use Rattle.updn_routes.specs.Fabric.{IsFabric}
 use Rattle.updn_routes.specs.Laws.{KeepsTheOrder}
-use Rattle.updn_routes.specs.Order.{AreDistances, AreRanks, IsDistance, IsOrder, is_first_root, is_root, place_of, precedes}
+use Rattle.updn_routes.specs.Order.{AreDistances, IsOrder, is_first_root, is_root, place_of, precedes}
 use Rattle.updn_routes.specs.Rounds.{is_marked}
-use Rattle.updn_routes.specs.Routes.{AllReached, AllRouted, AreRoutes, AreRoutesOf, IsFirstUnreached, IsPair, IsRouted, LeadsToLid, LegalPath, NoLegalPath, SwitchRoutesState, all_hang, carries, has_gap, home_of, hop_to, is_gap, next_hop, number_of, order_of, port_towards, routes_with}
+use Rattle.updn_routes.specs.Routes.{AllReached, AllRouted, AreRoutes, IsFirstUnreached, IsPair, LeadsToLid, LegalPath, NoLegalPath, SwitchRoutesState, all_hang, carries, has_gap, home_of, hop_to, is_gap, next_hop, number_of, port_towards, routes_with}
 use Rattle.updn_routes.specs.Tables.{AreTables, all_downs, all_ups, downs_at, place_at, places_of}
-use Rattle.updn_routes.specs.Tree.{AreDepths}
-use Rattle.updn_routes.specs.UpDown.{channel_number, channel_numbers, is_legal}
+use Rattle.updn_routes.specs.UpDown.{channel_number, is_legal}
 use Rattle.updn_routes.proofs.CablingLemmas.{ends, leads_there, next_leads}
 use Rattle.updn_routes.proofs.EntryLemmas.{place_is, places_count, places_keep, table_home, table_right}
-use Rattle.updn_routes.proofs.FabricLemmas.{FirstRoot, first_root}
+use Rattle.updn_routes.proofs.FabricLemmas.{first_root}
 use Rattle.updn_routes.proofs.NumberLemmas.{legal_numbers, legal_short}
 use Rattle.updn_routes.proofs.OrderLemmas.{ranks_order}
-use Rattle.updn_routes.proofs.RouteLemmas.{FirstStep, arrives, first_step, none_legal, route_legal, route_walks, step_first}
+use Rattle.updn_routes.proofs.RouteLemmas.{arrives, first_step, none_legal, route_legal, route_walks, step_first}
 
 not_both : (p : ℕ) → ◌≡◌ {A = Option ℕ} None (Some p) → ⊥
 not_both p h = cc

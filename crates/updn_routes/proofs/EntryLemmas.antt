@@ -1,9 +1,9 @@
 -- What the tables hold obeys the definition of the choice.
-use Rattle.std.proofs.Common.{◌≡◌, ◌≢◌, ℕ, zero, suc, ◌+◌, ◌<◌, ◌≤◌, ◌⊎◌, Bool, true, false, cond, ◌==◌, nat_lt, List, [], ◌∷◌, length, map, filter, get_or, position}
+use Rattle.std.proofs.Common.{◌≡◌, ◌≢◌, ℕ, suc, ◌+◌, ◌<◌, ◌≤◌, ◌⊎◌, Bool, true, false, cond, ◌==◌, nat_lt, List, [], ◌∷◌, length, map, filter}
 use Rattle.std.proofs.Common.{Option, Some, None, option_map, refl, sym, ap, subst, ◌∙◌, inl, inr, arith}
-use Rattle.std.specs.List.{fold, list_all, list_any, range_with_len}
+use Rattle.std.specs.List.{fold, list_all, list_any}
 use Rattle.std.specs.Option.{option_map_or}
-use Rattle.std.proofs.lemmas.Bool.{and_parts, and_from, or_cases, cases_lt, cases_order, eqb-true, eq-eqb, ne_eqb, lt-ltb, ltb-true, le-ltb, false≢true}
+use Rattle.std.proofs.lemmas.Bool.{and_parts, and_from, or_cases, cases_lt, cases_order, eqb-true, eq-eqb, ne_eqb, lt-ltb, ltb-true, false≢true}
 use Rattle.std.proofs.lemmas.List.FromFn.{get_or-map-range_with_len, length-map-range_with_len}
 use Rattle.std.proofs.lemmas.List.Sums.{position_or_len_is}
 use Rattle.updn_routes.specs.declared.link.Link.{Link}
@@ -13,12 +13,12 @@ use Rattle.updn_routes.specs.Choice.{AllChosen}
 use Rattle.updn_routes.specs.Laws.{KeepsTheOrder}
 use Rattle.updn_routes.specs.Order.{IsOrder, place_of, precedes}
 use Rattle.updn_routes.specs.Places.{placed_link}
-use Rattle.updn_routes.specs.Tables.{AllDown, AllUp, IsDownFrom, IsTable, IsUpTo, all_downs, all_ups, best_of, downs_at, entry_at, home, links_at, or_better, or_link, place_at, places_of, shorter, switch_at, ups_at}
+use Rattle.updn_routes.specs.Tables.{AllDown, AllUp, IsTable, all_downs, all_ups, best_of, downs_at, entry_at, home, links_at, or_better, or_link, place_at, places_of, switch_at, ups_at}
 use Rattle.updn_routes.specs.UpDown.{is_down, is_up}
 use Rattle.updn_routes.proofs.BestLemmas.{BestIn, NoneIn, pass_best, skip_best, take_best}
-use Rattle.updn_routes.proofs.CablingLemmas.{ends, goes, later_port, leads_next, links_within, row_rises}
+use Rattle.updn_routes.proofs.CablingLemmas.{ends, goes, later_port, leads_next, row_rises}
 use Rattle.updn_routes.proofs.PlaceLemmas.{keeps_order}
-use Rattle.updn_routes.proofs.TableLemmas.{Climbs, Falls, IsBest, IsEntry, NoneAt, Rests, same_some, table_chosen}
+use Rattle.updn_routes.proofs.TableLemmas.{IsBest, IsEntry, NoneAt, same_some, table_chosen}
 use Rattle.updn_routes.proofs.WriteLemmas.{past_end}
 
 not_hop : (hop : NextHop) → ◌≡◌ {A = Option NextHop} None (Some hop) → ⊥

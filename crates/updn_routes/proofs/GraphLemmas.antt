@@ -1,5 +1,5 @@
 -- Every graph whose switches are joined is a fabric, and its LIDs hang on its switches.
-use Rattle.std.proofs.Common.{◌≡◌, ℕ, zero, suc, ◌+◌, ◌<◌, ◌≤◌, ◌⊎◌, Bool, true, cond, not, ◌==◌, ◌&&◌, ◌||◌, nat_le, nat_lt, List, [], ◌∷◌, length, map, find, get_or, position}
+use Rattle.std.proofs.Common.{◌≡◌, ℕ, zero, suc, ◌+◌, ◌<◌, ◌≤◌, ◌⊎◌, Bool, true, cond, not, ◌==◌, ◌&&◌, nat_le, nat_lt, List, [], ◌∷◌, length, map, find, get_or, position}
 use Rattle.std.proofs.Common.{Option, Some, None, option_map, refl, sym, ap, subst, ◌∙◌, inl, inr, arith, length-append}
 use Rattle.std.specs.List.{list_all, list_any, position_or_len, range_with_len}
 use Rattle.std.specs.Option.{option_map_or}
@@ -206,9 +206,6 @@ module _ (graph : GraphState) (is : IsGraph graph) where
   all_hang_there [] = refl
   all_hang_there (guid ∷ lids) =
       and_from (nat_lt (home_in graph guid).node (length (rows_of graph))) (all_hang (homes_of graph lids) (length (rows_of graph))) (hangs_there guid) (all_hang_there lids)
-
-pub homes_count : (graph : GraphState) (lids : List ℕ) → length (homes_of graph lids) ≡ length lids
-homes_count graph lids = long_map (home_in graph) lids
 
 pub lids_count : (graph : GraphState) (lids : List ℕ) → AreLids (end_ports graph) lids
     → length lids ≡ length graph.switches + length graph.ports

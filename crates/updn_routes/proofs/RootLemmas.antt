@@ -1,7 +1,6 @@
 -- Roots are those that are named, or the switch of least GUID.
-use Rattle.std.proofs.Common.{◌≡◌, ℕ, true, false, ◌==◌, nat_le, List, [], ◌∷◌, length, get_or, refl, arith}
+use Rattle.std.proofs.Common.{◌≡◌, ℕ, ◌==◌, nat_le, List, [], ◌∷◌, length, get_or, refl, arith}
 use Rattle.std.specs.List.{list_all, list_any}
-use Rattle.std.proofs.lemmas.Bool.{false≢true}
 use Rattle.updn_routes.specs.Order.{is_root}
 
 pub root_least : (guids roots : List ℕ) (s : ℕ) → length roots ≡ 0

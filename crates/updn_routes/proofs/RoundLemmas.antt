@@ -3,7 +3,7 @@ use Rattle.std.proofs.Common.{◌≡◌, ℕ, zero, suc, ◌+◌, ◌<◌, ◌�
 use Rattle.std.proofs.Common.{sym, ap, subst, ◌∙◌, inl, inr, arith}
 use Rattle.std.specs.List.{list_any, range_with_len}
 use Rattle.std.specs.Option.{unwrap_or}
-use Rattle.std.proofs.lemmas.Bool.{and_parts, and_from, cases_lt, or_cases, eqb-true, eq-eqb, leb-true, le-leb, false≢true}
+use Rattle.std.proofs.lemmas.Bool.{and_parts, and_from, cases_lt, eqb-true, eq-eqb, leb-true, le-leb, false≢true}
 use Rattle.std.proofs.lemmas.List.{get_or-map}
 use Rattle.std.proofs.lemmas.List.FromFn.{get_or-map-range_with_len, length-range_with_len}
 use Rattle.result_words.proofs.ListLemmas.{list_any_weaker}
@@ -177,9 +177,6 @@ module _ (rows : List (List Link)) (passes : ℕ → Bool) (distances : List ℕ
       let own = (are.each s less).some in
       let long = own.4 in
       lesser k s own.0 own.1 less own.2 own.3 (sym long) (omega (arith, long, most))
-
-  within : ℕ → ℕ → Bool
-  within k t = nat_le (get_or distances t 0) k
 
   so_many : (k s : ℕ) → s < length rows → k ≤ get_or distances s 0
       → k < length (filter (λ t. nat_le (get_or distances t 0) k) (range_with_len 0 (length rows)))

@@ -132,9 +132,6 @@ module _ (rows : List (List Link)) (is_first : ℕ → Bool) (depths : List ℕ)
       by None h = absurd (false≢true h)
       by (Some top) h = ap (λ (v : ℕ). Some v) (eqb-true top s h)
 
-  below_within : (s t : ℕ) → t < length rows → under s t ≡ true → s < length rows
-  below_within s t less h = (reached (depth t - depth s) t s less (hops_of s t h)).0
-
   below_deeper : (s t : ℕ) → t < length rows → under s t ≡ true → depth s ≤ depth t
   below_deeper s t less h =
       let far = (reached (depth t - depth s) t s less (hops_of s t h)).1 in omega (arith, far)

@@ -152,17 +152,6 @@ down_more downs d p most table way all less there is so_far =
         (set_same table p way room ∙ (is ∙ sym (same_best p (omega arith))))
 
 -- ---- upwards
-pub up_first : (ups : List (List Link)) (most : ℕ) (down : List (Option NextHop)) → AllWithin most down
-    → IsUpTo ups down 0 most down
-up_first ups most down small =
-    record {
-      count = refl;
-      kept = λ p hop e. e;
-      waits = λ p low. refl;
-      right = λ p less. absurd (let no_room : ⊥ = omega (arith, less) in no_room);
-      small = small;
-    }
-
 not_both : (hop : NextHop) → ◌≡◌ {A = Option NextHop} None (Some hop) → ⊥
 not_both hop h = cc
 

@@ -1,6 +1,6 @@
 -- How routes are found: switches stand in rows by their places, those that links lead down to and those that they lead up
 -- to, and for each target there is a table of the hops that are left from each place.
-use Rattle.std.specs.Prelude.{ℕ, ◌≡◌, ◌+◌, ◌≤◌, ◌<◌, ◌≢◌, ◌==◌, nat_lt, true, if◌then◌else◌, List, [], map, filter, length, get_or, position, Option, Some, None, option_map, IfSome}
+use Rattle.std.specs.Prelude.{ℕ, ◌≡◌, ◌+◌, ◌≤◌, ◌<◌, ◌==◌, nat_lt, true, if◌then◌else◌, List, [], map, filter, length, get_or, position, Option, Some, None, IfSome}
 use Rattle.std.specs.List.{fold, list_all, range_with_len}
 use Rattle.std.specs.Option.{option_map_or}
 use Rattle.updn_routes.specs.declared.link.Link.{Link}

@@ -11,11 +11,22 @@ use std::marker::Model;
 use sweep::Graph;
 
 /// The routes of a graph, by its LIDs. A switch is told by its place in the graph.
-#[derive(Debug, Drop)]
+#[derive(Debug)]
 pub struct Routes {
     pub(crate) graph: Graph,
     pub(crate) lids: Lids,
     pub(crate) between: SwitchRoutes,
+}
+
+// As derived, but by one call: else what owns one is proved to let go of each of its parts, on each way out.
+impl Drop for Routes {
+    fn drop(self) {
+        let Routes {
+            graph: _,
+            lids: _,
+            between: _,
+        } = self;
+    }
 }
 
 impl Model for Routes {

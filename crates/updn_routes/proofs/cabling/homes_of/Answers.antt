@@ -1,4 +1,4 @@
-use Rattle.std.proofs.Common.{◌≡◌, ◌<◌, ℕ, ap, length, map, take, arith}
+use Rattle.std.proofs.Common.{◌≡◌, ◌<◌, ap, length, arith}
 use Rattle.std.proofs.lemmas.List.{map_more}
 use Rattle.updn_routes.specs.Subnet.{home_in}
 use Rattle.updn_routes.proofs.GraphLemmas.{lids_count}

@@ -1,5 +1,4 @@
-use Rattle.std.proofs.Common.{◌≡◌, ℕ, List, Option, length, map, sym, subst, ◌∙◌, ap, arith}
-use Rattle.std.specs.Option.{unwrap_or}
+use Rattle.std.proofs.Common.{◌≡◌, ℕ, List, Option, length, sym, subst, arith}
 use Rattle.std.proofs.lemmas.Result.{IfOk-weaker}
 use Rattle.updn_routes.specs.Order.{AreDistances}
 use Rattle.updn_routes.specs.Rounds.{AreFound, is_marked}

@@ -1,5 +1,4 @@
-use Rattle.std.proofs.Common.{◌≡◌, ℕ, ◌+◌, arith, map, ◌++◌, [], ◌∷◌}
-use Rattle.std.specs.List.{range_with_len}
+use Rattle.std.proofs.Common.{◌≡◌, ◌+◌, arith}
 use Rattle.std.proofs.lemmas.List.FromFn.{map-range_with_len_more}
 use Rattle.updn_routes.specs.Tables.{downs_at}
 use Rattle.updn_routes.proofs.place.all_downs.Goals as goal

@@ -1,8 +1,7 @@
-use Rattle.std.proofs.Common.{◌≡◌, ◌≤◌, ℕ, List, Option, length, refl, sym, subst, ◌∙◌, ap, arith}
+use Rattle.std.proofs.Common.{◌≡◌, ℕ, List, length, refl, subst, ◌∙◌, ap, arith}
 use Rattle.updn_routes.specs.declared.link.Link.{Link}
-use Rattle.updn_routes.specs.declared.table.NextHop.{NextHop}
 use Rattle.updn_routes.specs.Order.{AreRanks}
-use Rattle.updn_routes.specs.Tables.{AllDown, AllUp, AreTables, all_downs, all_ups, places_of}
+use Rattle.updn_routes.specs.Tables.{AreTables, all_downs, all_ups, places_of}
 use Rattle.updn_routes.specs.Tree.{AreDepths}
 use Rattle.updn_routes.proofs.AnswerLemmas.{downs_count, routes_right}
 use Rattle.updn_routes.proofs.EntryLemmas.{all_down, all_up, places_count}

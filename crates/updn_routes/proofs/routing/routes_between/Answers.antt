@@ -1,9 +1,4 @@
-use Rattle.std.proofs.Common.{◌≡◌, ◌≤◌, ℕ, List, length, true, sym, subst, arith}
-use Rattle.std.proofs.lemmas.Result.{IfOk-weaker}
-use Rattle.fabric_parts.specs.declared.cable.PortRef.{PortRef}
-use Rattle.updn_routes.specs.declared.link.Link.{Link}
-use Rattle.updn_routes.specs.Routes.{AllReached, SwitchRoutesState, order_of}
-use Rattle.updn_routes.proofs.GraphLemmas.{all_hang_there, graph_is_fabric, graph_is_small, homes_count}
+use Rattle.updn_routes.proofs.GraphLemmas.{all_hang_there, graph_is_fabric, graph_is_small}
 use Rattle.updn_routes.proofs.routing.routes_between.Goals as goal
 
 pub routes_over-requires-clause-fabric : goal.routes_over-requires-clause-fabric

@@ -1,4 +1,4 @@
-use Rattle.std.proofs.Common.{◌≡◌, ℕ, List, sym, subst}
+use Rattle.std.proofs.Common.{List, subst}
 use Rattle.fabric_parts.specs.declared.cable.PortRef.{PortRef}
 use Rattle.updn_routes.specs.declared.link.Link.{Link}
 use Rattle.updn_routes.specs.Routes.{AllReached, order_of}

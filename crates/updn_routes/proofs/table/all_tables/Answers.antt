@@ -1,5 +1,3 @@
-use Rattle.std.proofs.Common.{◌≡◌, ◌++◌, [], ◌∷◌}
-use Rattle.updn_routes.specs.Tables.{AreTables}
 use Rattle.updn_routes.proofs.WriteLemmas.{tables_more, tables_none}
 use Rattle.updn_routes.proofs.table.all_tables.Goals as goal
 
