@@ -67,7 +67,7 @@ audit_command = with_rule (with_rule (new_app (codes "audit")) (wanted (codes "T
 abbrev pub explain_command : App
 explain_command = with_rule (new_app (codes "explain")) (optional (codes "CODE"))
 
--- the program's words: one of its subcommands, with that one's arguments
+-- the command line: one of the subcommands, with that one's arguments
 abbrev pub fabric_top : App
 fabric_top = let app = new_app (codes "fabric") in record app { top = record app.top { has_version = true; subcommand_required = true } }
 

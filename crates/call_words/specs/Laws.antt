@@ -1,25 +1,25 @@
--- What holds of all words: the statements of the laws of `src/laws.rt`.
+-- What holds of all command lines: the statements of the laws of `src/laws.rt`.
 use Rattle.std.specs.Prelude.{◌≡◌, ◌∷◌, [], List, Ok, Some, codes}
 use Rattle.std.specs.List.{All}
 use Rattle.clap.specs.Words.{Row, Text, first_of}
 use Rattle.call_words.specs.Words.{Names, asked_by_clap, asked_in, opened_for}
 use Rattle.call_words.specs.declared.call.Call.{Call}
 
--- the name is the word of an argument, as it stands
+-- the name is the value of an argument, unchanged
 abbrev pub IsWordOf : List Row → Text → Type 0
 IsWordOf rows name = (argument : Text) × (first_of argument rows ≡ Some name)
 
--- each name that is opened is a word as clap found it, whatever stands in it
+-- each name that is opened is a value as clap found it, whatever it has in it
 abbrev pub FilesAreNamedAsGiven : Type 0
 FilesAreNamedAsGiven =
     (word : Text) (rows : List Row) (call : Call Names Text) → asked_in (Some (word, rows)) ≡ Ok call
     → All (IsWordOf rows) (opened_for (Ok call))
 
--- the names that are opened where the words behind the program's own are these
+-- the names that are opened if the arguments after the program's own name are these
 abbrev pub opened_by : List Text → List Text
 opened_by words = opened_for (asked_by_clap (codes "fabric" ∷ words))
 
--- a name with a blank in front of it or behind it is another name, and so is one in capitals
+-- a name with a blank before or after it is another name, and so is one in capitals
 pub record NamesKeepTheirBlanks : Type 0 where
   pub plain : opened_by (codes "check" ∷ codes "net" ∷ codes "-" ∷ []) ≡ codes "net" ∷ []
   pub before : opened_by (codes "check" ∷ codes " net" ∷ codes "-" ∷ []) ≡ codes " net" ∷ []
@@ -33,7 +33,7 @@ pub record NamesKeepTheirBlanks : Type 0 where
   pub audit : opened_by (codes "audit" ∷ codes "net " ∷ codes "-" ∷ []) ≡ codes "net " ∷ codes "-" ∷ []
   pub dash : opened_by (codes "diff" ∷ codes "net" ∷ codes "-" ∷ codes " -" ∷ []) ≡ codes "net" ∷ codes " -" ∷ []
 
--- of each command the file that its first word names is opened first, then the one that its second word names, and then scripts
+-- for each command the file of its first argument is opened first, then that of its second, and then scripts
 pub record FilesStandInOrder : Type 0 where
   pub check : opened_by (codes "check" ∷ codes "net" ∷ codes "parts" ∷ []) ≡ codes "net" ∷ codes "parts" ∷ []
   pub shares : opened_by (codes "shares" ∷ codes "net" ∷ codes "parts" ∷ codes "h1/1" ∷ []) ≡ codes "net" ∷ codes "parts" ∷ []

@@ -1,4 +1,4 @@
--- What the words of a call ask for.
+-- What the arguments of the program ask for.
 use Rattle.std.specs.Prelude.{List, [], ◌∷◌, ◌++◌, codes, map, string_bytes, Option, Some, None, option_map, Result, Ok, Err}
 use Rattle.std.specs.Prelude.{String}
 use Rattle.std.specs.Prelude.{if◌then◌else◌, ◌^◌, Bool, true, false, ℕ}
@@ -65,7 +65,7 @@ named_call (Import netdiscover manager) = Import netdiscover.now manager
 named_call (Audit topology dump) = Audit topology.now dump.now
 named_call (Explain code) = Explain code
 
--- what words ask for, or the text that they are refused with, where it is known
+-- what arguments ask for, or the text of their refusal, if it is known
 abbrev pub Asking : Type 0
 Asking = Result (Call Names Text) (Option Text)
 
@@ -73,8 +73,8 @@ abbrev pub named_found : Result (Call Asked (Bor Text)) (Bor Text) → Asking
 named_found (Ok call) = Ok (named_call call)
 named_found (Err text) = Err (Some text.now)
 
--- ---- the words of one command
--- `-` stands for no file
+-- ---- the arguments of one command
+-- `-` means no file
 abbrev pub file_in : Text → Option Text
 file_in word = if bytes_eq word (codes "-") then None else Some word
 
@@ -101,7 +101,7 @@ compare_by rows = scripts_by (first_of (codes "S1") rows) (first_of (codes "S2")
 abbrev pub u16_by : Option Text → Option ℕ
 u16_by word = option_and_then u16_in word
 
--- a look at this, after the commands of a script where a word names one: a script may be named `-`, and no word is no script
+-- a look at this, after the commands of a script if one is given: here `-` is the name of a script
 abbrev pub inspect_by : List Row → Option (Inspection Text) → Option (Work Text Text)
 inspect_by rows seen = option_map (λ what. Inspect what (first_of (codes "SCRIPT") rows)) seen
 
@@ -109,7 +109,7 @@ inspect_by rows seen = option_map (λ what. Inspect what (first_of (codes "SCRIP
 abbrev pub is_given : List Row → Text → Bool
 is_given rows name = option_map_or (λ value. bytes_eq value (codes "true")) (first_of name rows) false
 
--- a picture; one that tells cables apart takes no script
+-- a picture; with `--cuts` it takes no script
 abbrev pub graph_with : (cuts : Bool) → Option Text → Option (Work Text Text)
 graph_with true (Some script) = None
 graph_with true None = Some (Cuts Picture)
@@ -135,7 +135,7 @@ asked_by _ _ _ = None
 abbrev pub in_subnet : List Row → Option (Work Text Text) → Option (Call Names Text)
 in_subnet rows work = asked_by (first_of (codes "TOPO") rows) (first_of (codes "PARTS") rows) work
 
--- a GUID, as topologies write it; no word is none
+-- a GUID, as topologies write it, or none if it is not given
 abbrev pub guid_by : Option Text → Option (Option ℕ)
 guid_by None = Some None
 guid_by (Some word) = option_map (λ guid. Some guid) (if_under (2 ^ 64) (number_in word))
@@ -149,12 +149,12 @@ abbrev pub audit_by : Option Text → Option Text → Option (Call Names Text)
 audit_by (Some topology) (Some dump) = Some (Audit topology dump)
 audit_by _ _ = None
 
--- a word for a code that spells none asks for nothing
+-- an argument that is not a code asks for nothing
 abbrev pub explain_by : Option Text → Option (Call Names Text)
 explain_by None = Some (Explain None)
 explain_by (Some word) = option_map (λ code. Explain (Some code)) (code_of word)
 
--- `check` takes no more words than its subnet's, `shares` takes a port, and `tables`, `keys`, `trace` and `graph` take a script,
+-- `check` takes no more arguments than its subnet's, `shares` takes a port, and `tables`, `keys`, `trace` and `graph` take a script,
 -- `cuts` two ports;
 -- `diff` needs other partitions, `trace` a packet, `run` a script, and `compare` two scripts and a port; `import` needs a file of
 -- its own and takes a GUID, `audit` needs a topology and a dump, and `explain` takes a code
@@ -173,7 +173,7 @@ call_in command.Import rows = import_by (first_of (codes "NETDISCOVER") rows) (g
 call_in command.Audit rows = audit_by (first_of (codes "TOPO") rows) (first_of (codes "DUMP") rows)
 call_in command.Explain rows = explain_by (first_of (codes "CODE") rows)
 
--- ---- all words
+-- ---- the whole command line
 abbrev pub subcommand_in : Text → Option Subcommand
 subcommand_in word =
     if bytes_eq word (codes "check") then Some command.Check
@@ -191,8 +191,8 @@ subcommand_in word =
     else if bytes_eq word (codes "explain") then Some command.Explain
     else None
 
--- the text for a word that clap takes and that is none, that lacks another or does not go with it: in a trace that is a number, in
--- an import a GUID, of cuts a port, in a picture a script, and else a code
+-- the text for an argument that clap accepts and the command cannot take: in a trace it is not a number, in an import not a
+-- GUID, in cuts the second port is missing, in a picture `--cuts` has a script, and else it is not a code
 abbrev pub text_for : Subcommand → Text
 text_for command.Trace = NO_SUCH_NUMBER.now
 text_for command.Import = NO_SUCH_GUID.now
@@ -208,7 +208,7 @@ abbrev pub asked_by_command : Option Subcommand → List Row → Asking
 asked_by_command (Some command) rows = asked_or (text_for command) (call_in command rows)
 asked_by_command None rows = Err (Some NO_SUCH_CODE.now)
 
--- by what clap finds: the word for a command, and the arguments of that
+-- by what clap finds: the name of a command, and its arguments
 abbrev pub asked_in : Option (Text × List Row) → Asking
 asked_in (Some found) = asked_by_command (subcommand_in found.0) found.1
 asked_in None = Err (Some NO_SUCH_CODE.now)
@@ -217,14 +217,14 @@ abbrev pub unless_refused : Option Text → Kinds → Asking → Asking
 unless_refused shown [] asked = asked
 unless_refused shown (kind ∷ kinds) asked = Err shown
 
--- what the words ask for, the first of them the program's own name. Where clap refuses them, or help or the version is asked
--- for, they are refused with the text that `shown` says, where it says one; and where a word for a code or a number is none,
+-- what the arguments ask for, the first of them the program's own name. If clap refuses them, or help or the version is
+-- requested, they are refused with the text of `shown`, if there is one; if one is not the code or number that it has to be,
 -- with a text of the program's own
 unfoldable pub asked_of : (shown : List Text → Option Text) → List Text → Asking
 asked_of shown words =
     unless_refused (shown words) (fault_of fabric_command words) (asked_in (subcommand_of fabric_command words))
 
--- clap's own texts are known to no contract
+-- no contract knows clap's own texts
 abbrev pub asked_by_clap : List Text → Asking
 asked_by_clap words = asked_of (λ _. None) words
 
@@ -234,7 +234,7 @@ asking shown words = asked_of shown (map string_bytes words)
 abbrev pub asking_by_clap : List (String Global) → Asking
 asking_by_clap words = asked_by_clap (map string_bytes words)
 
--- ---- the words that a program is given, where all of them are text
+-- ---- the arguments of the process, if all of them are text
 abbrev pub given_items : {E : Type 0} → Result (IntoIter (String Global) Global) E → Option (List (String Global))
 given_items (Ok words) = Some (into_iter_items words)
 given_items (Err error) = None
@@ -242,7 +242,7 @@ given_items (Err error) = None
 abbrev pub given_texts : {E : Type 0} → Result (IntoIter (String Global) Global) E → Option (List Text)
 given_texts given = option_map (λ words. map string_bytes words) (given_items given)
 
--- words that are not text are refused with a text of the program's own
+-- arguments that are not text are refused with a text of the program's own
 abbrev pub asked_by_given : Option (List Text) → Asking
 asked_by_given None = Err (Some not_text_line)
 asked_by_given (Some words) = asked_by_clap words

@@ -1,4 +1,4 @@
-//! What a call is for.
+//! What a command line asks for.
 
 ghost use Rattle.std.specs.Prelude.{◌≡◌};
 ghost use Rattle.call_words.specs.declared.call.Refused.TheVariants.{NoMemory as IsNoMemory};
@@ -11,15 +11,15 @@ use std::alloc::{AllocError, AllocFailed};
 pub enum Subcommand {
     /// `check`, which lists a subnet.
     Check,
-    /// `shares`, which lists who may talk to whom in it.
+    /// `shares`, which lists which ports may talk to each other in it.
     Shares,
     /// `diff`, which lists what another partition file changes.
     Diff,
-    /// `tables`, which prints its forwarding tables.
+    /// `tables`, which prints its LFTs and MFTs.
     Tables,
-    /// `keys`, which prints its key tables.
+    /// `keys`, which prints its P_Key tables.
     Keys,
-    /// `trace`, which follows a packet.
+    /// `trace`, which prints the path of a packet.
     Trace,
     /// `graph`, which draws its fabric.
     Graph,
@@ -27,13 +27,13 @@ pub enum Subcommand {
     Run,
     /// `compare`, which compares two scripts for a port.
     Compare,
-    /// `cuts`, which tells what the loss of cables would do.
+    /// `cuts`, which prints what the loss of cables would do.
     Cuts,
-    /// `import`, which makes a topology of a real fabric.
+    /// `import`, which makes a topology from a real fabric.
     Import,
     /// `audit`, which judges the routes of a real fabric.
     Audit,
-    /// `explain`, which says what codes mean.
+    /// `explain`, which explains codes.
     Explain,
 }
 
@@ -42,81 +42,81 @@ pub enum Subcommand {
 pub enum Work<W, S> {
     /// List its ports and the members of its partitions.
     Check,
-    /// List which two ports may talk to one another; of one port alone, where a word names it.
+    /// List which ports may talk to each other; of one port alone, if it is given.
     Shares(Option<W>),
-    /// List what another partition file changes, or none where the word is `-`.
+    /// List what another partition file changes; none for `-`.
     Diff(Option<S>),
     /// Look at what its fabric holds.
     Inspect {
         /// What to look at.
         what: Inspection<W>,
-        /// The script after whose commands that is; where there is none, it is as the subnet comes up.
+        /// The script that runs before; without one, the state is that after bring-up.
         script: Option<S>,
     },
-    /// Tell what the loss of cables between switches would do.
+    /// Print what the loss of cables between switches would do.
     Cuts(CutView<W>),
     /// Run a script.
     Run(S),
-    /// Compare two scripts for a port, that a word names.
+    /// Compare two scripts for a port.
     Compare {
         /// The first script.
         first: S,
         /// The second.
         second: S,
-        /// The word for the port.
+        /// The argument that names the port.
         port: W,
     },
 }
 
-/// What to tell of the loss of cables.
+/// What to print about the loss of cables.
 #[derive(Clone, Copy)]
 pub enum CutView<W> {
-    /// What that of each cable between switches would do.
+    /// What the loss of each cable between switches would do.
     All,
-    /// What that of one would do, whose ends two words name.
+    /// What the loss of the cable between two ports would do.
     One {
-        /// The word for the one.
+        /// The argument that names the one port.
         first: W,
-        /// The word for the other.
+        /// The argument that names the other.
         second: W,
     },
-    /// A picture, in which the cables that the fabric can't do without are red.
+    /// A picture, in which the cables that the fabric cannot do without are red.
     Picture,
 }
 
 /// What to look at in the fabric of a subnet.
 #[derive(Drop)]
 pub enum Inspection<W> {
-    /// The linear forwarding tables of its switches.
+    /// The LFTs and MFTs of its switches.
     Tables,
-    /// The key tables of its ports.
+    /// The P_Key tables of its ports.
     Keys,
-    /// The way of a packet from a port, that a word names, to a LID under a key.
+    /// The path of a packet from a port to a LID, with a P_Key.
     Trace(W, u16, u16),
     /// A picture of its nodes and cables.
     Graph,
 }
 
-/// What a call is for.
+/// What a command line asks for.
 #[derive(Drop)]
 pub enum Call<A, W> {
     /// Something in a subnet.
     Subnet(A),
-    /// Make a topology of what `ibnetdiscover` printed of a real fabric.
+    /// Make a topology from what `ibnetdiscover` printed of a real fabric.
     Import {
         /// The file that has it.
         netdiscover: W,
-        /// The GUID of the subnet manager's port, if a word tells it.
+        /// The GUID of the SM port, if it is given.
         manager: Option<u64>,
     },
-    /// Judge the routes that stand in the switches of a real fabric.
+    /// Judge the LFTs of a real fabric.
     Audit {
         /// Its topology.
         topology: W,
-        /// The file that has its linear forwarding tables.
+        /// The file that has its LFTs.
         dump: W,
     },
-    /// Say what a code means, or which codes there are.
+    /// Explain a code, or list all codes.
     Explain(Option<Code>),
 }
 
@@ -125,18 +125,18 @@ pub enum Call<A, W> {
 pub struct Asked<'a> {
     /// The topology.
     pub topology: &'a str,
-    /// The partitions, or none where the word is `-`.
+    /// The partition file, or none for `-`.
     pub partitions: Option<&'a str>,
     /// What to do in the subnet of these.
     pub work: Work<&'a str, &'a str>,
 }
 
-/// Why words ask for nothing.
+/// Why arguments are refused.
 #[derive(Drop)]
 pub enum Refused<T> {
-    /// Memory was refused.
+    /// Out of memory.
     NoMemory,
-    /// The words are refused, or help or the version is asked for: the text that says so, or what has it.
+    /// The arguments are refused, or help or the version is requested: the text of that.
     Words(T),
 }
 

@@ -52,7 +52,7 @@ fn wanted_topology<'a>(alloc: Global) -> Arg<'a>
     wanted(
         alloc,
         "TOPO",
-        "The topology: switches, adapters, cables and the subnet manager",
+        "The topology file: switches, adapters, cables and the SM port",
     )
 }
 
@@ -64,7 +64,7 @@ fn wanted_partitions<'a>(alloc: Global) -> Arg<'a>
     wanted(
         alloc,
         "PARTS",
-        "The partitions and their members, or `-` for the default one alone",
+        "The partition file, or `-` for the default partition alone",
     )
 }
 
@@ -73,11 +73,7 @@ fn wanted_port<'a>(alloc: Global) -> Arg<'a>
     ensures rule { rule_of result ≡ wanted (codes "PORT") }
     ensures help { text_in result.help ≡ Some help_of_sender }
 {
-    wanted(
-        alloc,
-        "PORT",
-        "The port that sends, of a channel adapter: `h1/1`",
-    )
+    wanted(alloc, "PORT", "The CA port that sends: `h1/1`")
 }
 
 fn wanted_dlid<'a>(alloc: Global) -> Arg<'a>
@@ -100,7 +96,7 @@ fn wanted_key<'a>(alloc: Global) -> Arg<'a>
     wanted(
         alloc,
         "PKEY",
-        "The key under which it is sent: a number of 16 bits, as `0x8001`",
+        "The P_Key that it is sent with: a number of 16 bits, as `0x8001`",
     )
 }
 
@@ -137,11 +133,7 @@ fn wanted_compared<'a>(alloc: Global) -> Arg<'a>
     ensures rule { rule_of result ≡ wanted (codes "PORT") }
     ensures help { text_in result.help ≡ Some help_of_compared }
 {
-    wanted(
-        alloc,
-        "PORT",
-        "The port, of a channel adapter: `h1/1`; it may be the subnet manager's",
-    )
+    wanted(alloc, "PORT", "A CA port: `h1/1`; it may be the SM port")
 }
 
 fn optional_port<'a>(alloc: Global) -> Arg<'a>
@@ -161,7 +153,7 @@ fn optional_script<'a>(alloc: Global) -> Arg<'a>
 {
     Arg::new(alloc, "SCRIPT")
         .action(ArgAction::Set)
-        .help("A script: what has been done before")
+        .help("A script that is run before")
 }
 
 fn optional_first_end<'a>(alloc: Global) -> Arg<'a>
@@ -171,7 +163,7 @@ fn optional_first_end<'a>(alloc: Global) -> Arg<'a>
 {
     Arg::new(alloc, "PORT")
         .action(ArgAction::Set)
-        .help("A port of a switch, at one end of a cable: `A/3`")
+        .help("A switch port at one end of a cable: `A/3`")
 }
 
 fn optional_second_end<'a>(alloc: Global) -> Arg<'a>
@@ -181,7 +173,7 @@ fn optional_second_end<'a>(alloc: Global) -> Arg<'a>
 {
     Arg::new(alloc, "PORT2")
         .action(ArgAction::Set)
-        .help("The port of a switch at its other end")
+        .help("The switch port at its other end")
 }
 
 fn cuts_flag<'a>(alloc: Global) -> Arg<'a>
@@ -216,7 +208,7 @@ fn manager_option<'a>(alloc: Global) -> Arg<'a>
         .long("sm")
         .value_name("GUID")
         .action(ArgAction::Set)
-        .help("The GUID of the subnet manager's port: a number of 64 bits, as `0x101`")
+        .help("The GUID of the SM port: a number of 64 bits, as `0x101`")
 }
 
 fn wanted_dump<'a>(alloc: Global) -> Arg<'a>
@@ -224,11 +216,7 @@ fn wanted_dump<'a>(alloc: Global) -> Arg<'a>
     ensures rule { rule_of result ≡ wanted (codes "DUMP") }
     ensures help { text_in result.help ≡ Some help_of_dump }
 {
-    wanted(
-        alloc,
-        "DUMP",
-        "The linear forwarding tables, as dump_fts prints them",
-    )
+    wanted(alloc, "DUMP", "The LFTs, as dump_fts prints them")
 }
 
 fn optional_code<'a>(alloc: Global) -> Arg<'a>
@@ -238,7 +226,7 @@ fn optional_code<'a>(alloc: Global) -> Arg<'a>
 {
     Arg::new(alloc, "CODE")
         .action(ArgAction::Set)
-        .help("A code as it is told: `PF2`, or `memory`")
+        .help("A code as it is printed: `PF2`, or `memory`")
 }
 
 fn wanted_second_partitions<'a>(alloc: Global) -> Arg<'a>
@@ -249,7 +237,7 @@ fn wanted_second_partitions<'a>(alloc: Global) -> Arg<'a>
     wanted(
         alloc,
         "PARTS2",
-        "The partitions in place of those, or `-` for the default one alone",
+        "The partition file in its place, or `-` for the default partition alone",
     )
 }
 
@@ -273,7 +261,7 @@ fn check_command<'a>(alloc: Global) -> Result<Command<'a>, AllocError>
     Ok(command.about(ABOUT_CHECK).after_help(LISTING))
 }
 
-/// The command that lists who may talk to whom in a subnet.
+/// The command that lists which ports may talk to each other in a subnet.
 fn shares_command<'a>(alloc: Global) -> Result<Command<'a>, AllocError>
     ensures words { IfOk result (λ command. app_of command ≡ shares_command) }
     ensures about { IfOk result (λ command. text_in (fields_of command).about ≡ Some about_shares) }
@@ -293,7 +281,7 @@ fn diff_command<'a>(alloc: Global) -> Result<Command<'a>, AllocError>
     Ok(command.about(ABOUT_DIFF).after_help(CHANGES))
 }
 
-/// The command that prints linear forwarding tables.
+/// The command that prints LFTs and MFTs.
 fn tables_command<'a>(alloc: Global) -> Result<Command<'a>, AllocError>
     ensures words { IfOk result (λ command. app_of command ≡ tables_command) }
     ensures about { IfOk result (λ command. text_in (fields_of command).about ≡ Some about_tables) }
@@ -303,7 +291,7 @@ fn tables_command<'a>(alloc: Global) -> Result<Command<'a>, AllocError>
     Ok(command.about(ABOUT_TABLES).after_help(TABLES))
 }
 
-/// The command that prints key tables.
+/// The command that prints P_Key tables.
 fn keys_command<'a>(alloc: Global) -> Result<Command<'a>, AllocError>
     ensures words { IfOk result (λ command. app_of command ≡ keys_command) }
     ensures about { IfOk result (λ command. text_in (fields_of command).about ≡ Some about_keys) }
@@ -313,7 +301,7 @@ fn keys_command<'a>(alloc: Global) -> Result<Command<'a>, AllocError>
     Ok(command.about(ABOUT_KEYS).after_help(KEYS))
 }
 
-/// The command that follows a packet.
+/// The command that prints the path of a packet.
 fn trace_command<'a>(alloc: Global) -> Result<Command<'a>, AllocError>
     ensures words { IfOk result (λ command. app_of command ≡ trace_command) }
     ensures about { IfOk result (λ command. text_in (fields_of command).about ≡ Some about_trace) }
@@ -362,7 +350,7 @@ fn compare_command<'a>(alloc: Global) -> Result<Command<'a>, AllocError>
     Ok(command.about(ABOUT_COMPARE).after_help(COMPARISON))
 }
 
-/// The command that tells what the loss of cables would do.
+/// The command that prints what the loss of cables would do.
 fn cuts_command<'a>(alloc: Global) -> Result<Command<'a>, AllocError>
     ensures words { IfOk result (λ command. app_of command ≡ cuts_command) }
     ensures about { IfOk result (λ command. text_in (fields_of command).about ≡ Some about_cuts) }
@@ -374,7 +362,7 @@ fn cuts_command<'a>(alloc: Global) -> Result<Command<'a>, AllocError>
     Ok(command.about(ABOUT_CUTS).after_help(CUTS))
 }
 
-/// The command that makes a topology of a real fabric.
+/// The command that makes a topology from a real fabric.
 fn import_command<'a>(alloc: Global) -> Result<Command<'a>, AllocError>
     ensures words { IfOk result (λ command. app_of command ≡ import_command) }
     ensures about { IfOk result (λ command. text_in (fields_of command).about ≡ Some about_import) }
@@ -398,7 +386,7 @@ fn audit_command<'a>(alloc: Global) -> Result<Command<'a>, AllocError>
     Ok(command.about(ABOUT_AUDIT).after_help(AUDIT))
 }
 
-/// The command that says what codes mean.
+/// The command that explains codes.
 fn explain_command<'a>(alloc: Global) -> Result<Command<'a>, AllocError>
     ensures words { IfOk result (λ command. app_of command ≡ explain_command) }
     ensures about { IfOk result (λ command. text_in (fields_of command).about ≡ Some about_explain) }
@@ -435,17 +423,16 @@ fn fabric_command<'a>(alloc: Global) -> Result<Command<'a>, AllocError>
     Ok(command.version("0.1.0").about(ABOUT).after_help(STATUSES))
 }
 
-/// What takes the words of a call apart, by the program's commands and their arguments, or refuses them.
+/// What parses the arguments, by the program's commands, or refuses them.
 ///
-/// Its ghost member is what a contract may know of that: `shown` is the text that words are refused with, where it is
-/// known.
+/// Its ghost member is what a contract may know of that: `shown` is the text of a refusal, if it is known.
 pub trait Parser {
-    /// Why words are refused, or what is shown of help or the version: its text is for the user.
+    /// Why arguments are refused, or what is printed of help or the version: its text is for the user.
     type Error: Display + Drop;
 
     ghost shown: { Self → List (List ℕ) → Option (List ℕ) };
 
-    /// What stands in the words, the first of them the program's own name.
+    /// What is in the arguments, the first of them the program's own name.
     fn parse<'a>(
         &self,
         alloc: Global,
@@ -456,7 +443,7 @@ pub trait Parser {
         ensures refused { IfErr result (IsShown Self.Error.output (shown self.now) (map string_bytes words.entry.now)) };
 }
 
-/// The parser `clap`. The texts of its errors are its own, and no contract of it says which.
+/// The parser `clap`. The texts of its errors are its own, and no contract of it says what they are.
 #[derive(Clone, Copy)]
 pub struct Clap;
 

@@ -1,59 +1,59 @@
-//! The program's own texts in help, and for words that are refused.
+//! The program's own texts in help, and for arguments that are refused.
 
 pub(crate) const ABOUT: &str = "An InfiniBand subnet manager over a simulated fabric";
 
 pub(crate) const ABOUT_CHECK: &str =
-    "Lists the ports of a subnet by LID, and the members of each partition with their keys";
+    "Lists the ports of a subnet by LID, and the members of each partition with their P_Keys";
 
 pub(crate) const ABOUT_SHARES: &str =
-    "Lists which two ports may talk to one another, and in which partitions";
+    "Lists which ports may talk to each other, and in which partitions";
 
 pub(crate) const ABOUT_DIFF: &str =
-    "Lists what a second partition file in place of the first changes";
+    "Lists what changes if another partition file replaces the first";
 
 pub(crate) const ABOUT_TABLES: &str =
-    "Prints the forwarding tables of a subnet's switches, as dump_fts and dump_mfts do";
+    "Prints the LFTs and MFTs of a subnet's switches, as dump_fts and dump_mfts do";
 
-pub(crate) const ABOUT_KEYS: &str = "Prints the key tables of a subnet's ports";
+pub(crate) const ABOUT_KEYS: &str = "Prints the P_Key tables of a subnet's ports";
 
-pub(crate) const ABOUT_TRACE: &str = "Prints the way of one packet, and why it ends";
+pub(crate) const ABOUT_TRACE: &str = "Prints the path of one packet, and why it ends";
 
-pub(crate) const ABOUT_GRAPH: &str = "Draws a subnet's fabric, as a text for Graphviz";
+pub(crate) const ABOUT_GRAPH: &str = "Draws a subnet's fabric, as input for Graphviz";
 
 pub(crate) const ABOUT_RUN: &str = "Runs a script in a subnet, and prints what its ports receive";
 
 pub(crate) const ABOUT_COMPARE: &str =
-    "Tells whether two scripts agree for a port, and whether the same happens at it";
+    "Checks whether two scripts agree for a port, and whether its events are equal";
 
 pub(crate) const ABOUT_CUTS: &str =
-    "Tells what the loss of each cable between switches would do, before it is out";
+    "Prints what the loss of each cable between switches would do, before it is cut";
 
 pub(crate) const ABOUT_IMPORT: &str =
-    "Makes a topology of what ibnetdiscover printed of a real fabric";
+    "Makes a topology from what ibnetdiscover printed of a real fabric";
 
 pub(crate) const ABOUT_AUDIT: &str =
-    "Judges the routes that stand in the switches of a real fabric";
+    "Judges the LFTs of a real fabric: whether its routes are safe";
 
 pub(crate) const ABOUT_EXPLAIN: &str =
-    "Tells what the code of a fault or a refusal means, or lists all codes";
+    "Explains the code of an error or a refusal, or lists all codes";
 
-/// The help `$before`, then the exit statuses, of which 2 is also that of a call that asks for `$asked`,
-/// then `$after`, and at last where codes are explained.
+/// The help `$before`, then the exit statuses, of which 2 is also that of a request for `$asked`, then
+/// `$after`, and at last how codes are explained.
 macro_rules! with_statuses {
     ($($before:literal)+, $asked:literal, $after:literal) => {
         concat!(
             $($before,)+
             "Exit statuses:
-  0  complete
-  1  a fault in what is given, told on standard error by one line
-  2  the words are refused, or ",
+  0  success
+  1  an error in the input, printed on standard error in one line
+  2  the arguments are refused, or ",
             $asked,
-            " is asked for
-  3  want of memory, a file that is not read, or output that is not written",
+            " is requested
+  3  out of memory, a file cannot be read, or output cannot be written",
             $after,
             "
 
-`fabric explain CODE` tells what the CODE of a fault means, and `fabric explain` lists all codes."
+`fabric explain CODE` explains the CODE of an error, and `fabric explain` lists all codes."
         )
     };
 }
@@ -76,35 +76,39 @@ pub(crate) const STATUSES: &str = with_statuses!(
     "help or the version",
     "
 
-A fault is told as `fault CODE topology line L`, `fault CODE partitions line L`,
+LFTs are linear forwarding tables, MFTs multicast forwarding tables, a CA is a channel adapter (HCA),
+and the SM the subnet manager.
+
+An error is printed as `fault CODE topology line L`, `fault CODE partitions line L`,
 `fault CODE partitions2 line L`, `fault CODE script line L`, `fault CODE script2 line L`,
-`fault CODE netdiscover line L`, `fault CODE dump line L`, `fault CODE port`, `fault memory`,
-`fault read NAME` or `fault write`. An audit of routes that are not safe has the status 1 and no fault."
+`fault CODE netdiscover line L`, `fault CODE dump line L`, `fault CODE port`, `fault CODE`,
+`fault UR1 SWITCH PORT`, `fault memory`, `fault read NAME` or `fault write`. An audit of routes that
+are not safe has status 1, and prints no such line."
 );
 
-pub(crate) const NOT_TEXT: &str = "error: a word is not text\n";
+pub(crate) const NOT_TEXT: &str = "error: an argument is not UTF-8\n";
 
 pub(crate) const NO_SUCH_CODE: &str = "error: there is no such code
 
 For the list of all codes, try 'fabric explain'.
 ";
 
-pub(crate) const NO_SUCH_NUMBER: &str = "error: DLID or PKEY is no number of 16 bits
+pub(crate) const NO_SUCH_NUMBER: &str = "error: DLID or PKEY is not a number of 16 bits
 
-For what they are, try 'fabric trace --help'.
+For more information, try 'fabric trace --help'.
 ";
 
-pub(crate) const NO_SUCH_GUID: &str = "error: GUID is no number of 64 bits
+pub(crate) const NO_SUCH_GUID: &str = "error: GUID is not a number of 64 bits
 
-For what it is, try 'fabric import --help'.
+For more information, try 'fabric import --help'.
 ";
 
 pub(crate) const LISTING: &str = with_statuses!(
-    "The listing has a line for each end port by LID, then for each partition its line and one for
-each of its members by LID:
+    "There is a line for each end port by LID, then for each partition its line and one for each of
+its members by LID:
   port LID GUID PORT            an end port; port 0 of switch A is A/0
-  partition NUMBER BASE NAME    a partition; - stands for an empty name
-  member KEY PORT               a member; the key of a full member is 0x8000 or more
+  partition NUMBER BASE NAME    a partition; - for an empty name
+  member KEY PORT               a member; the P_Key of a full member is 0x8000 or more
 
 For example, for `P1=0x0001: 0x111=full, 0x121;` in PARTS:
   port 0x0004 0x0000000000000111 h1/1
@@ -119,10 +123,10 @@ For example, for `P1=0x0001: 0x111=full, 0x121;` in PARTS:
 
 pub(crate) const SHARES: &str = with_statuses!(
     "There is a line for each two end ports, by LID, and for each partition, by rising base, in which
-their keys match; the ports of switches and the subnet manager's count:
-  share PORT PORT BASE    both have a key of this base, and one of them is a full member
+their P_Keys match; the ports of switches and the SM port are included:
+  share PORT PORT BASE    both have a P_Key of this base, and one of them is a full member
 
-With PORT there are only the lines that name it.
+With PORT only the lines that name it are printed.
 
 For example, for `P1=0x0001: 0x111=full, 0x121, 0x131;` in PARTS:
   share h1/1 h2/1 0x0001
@@ -134,13 +138,13 @@ For example, for `P1=0x0001: 0x111=full, 0x121, 0x131;` in PARTS:
 );
 
 pub(crate) const CHANGES: &str = with_statuses!(
-    "A line tells what goes, behind -, or what comes, behind +, in four parts:
-  partition NUMBER BASE NAME          a partition, by base; - stands for an empty name
-  group BASE MGID QKEY MTU RATE SL    the group of a partition, by base
+    "A line with - goes, a line with + comes, in four parts:
+  partition NUMBER BASE NAME          a partition, by base; - for an empty name
+  group BASE MGID QKEY MTU RATE SL    the broadcast group of a partition, by base
   member KEY PORT                     a member, by base, then by LID
   share PORT PORT BASE                two ports that may talk, as `shares` lists them
 
-For example, where `P1=0x0001: 0x111=full, 0x121, 0x131;` gets `0x121=full`:
+For example, if `P1=0x0001: 0x111=full, 0x121, 0x131;` gets `0x121=full`:
   - member 0x0001 h2/1
   + member 0x8001 h2/1
   + share h2/1 h3/1 0x0001
@@ -151,9 +155,10 @@ For example, where `P1=0x0001: 0x111=full, 0x121, 0x131;` gets `0x121=full`:
 );
 
 pub(crate) const TABLES: &str = with_script!(
-    "For each switch, by LID, its table stands as `dump_fts` of infiniband-diags prints one: a line with
-LinearFDBTop, the path by which the sweep found it, its GUID and name; a line for each LID of an
-end port to which the table leads, with the port by which; and their count.
+    "For each switch, by LID, its LFT is printed as `dump_fts` of infiniband-diags prints one: a line with
+LinearFDBTop, the directed route by which discovery found the switch, its GUID and name; a line for
+each LID of an end port to which the LFT leads, with the port; and their count. MFTs that have a port
+follow, as `dump_mfts` prints them.
 
 For example, of switch B, which is two hops away:
   Unicast lids [0x0-0x6] of switch DR path slid 0; dlid 0; 0,1,3 guid 0x0000000000000020 (B):
@@ -166,9 +171,9 @@ For example, of switch B, which is two hops away:
 );
 
 pub(crate) const KEYS: &str = with_script!(
-    "There is a line for each end port, by LID, and behind a switch's own one for each of its ports that
-is cabled to a channel adapter, by number:
-  keys PORT KEY ..    the keys of its table, in their order; empty places are left out
+    "There is a line for each end port, by LID, and after that of a switch one for each of its ports that
+is cabled to a CA, by number:
+  keys PORT KEY ..    the P_Keys of its table, in their order; empty entries are left out
 
 For example, for `P1=0x0001: 0x111=full, 0x121;` in PARTS:
   keys A/2 0xffff 0x8001
@@ -179,23 +184,23 @@ For example, for `P1=0x0001: 0x111=full, 0x121;` in PARTS:
 );
 
 pub(crate) const TRACE: &str = with_script!(
-    "The first line tells what the port makes of the packet, and each other one what becomes of it where
-it comes in, to a multicast LID once for each port by which it would leave; the first of these
-reasons that holds ends its way there:
+    "The first line says whether the port sends the packet. Then there is a line for each port where it
+arrives, and for a multicast LID one for each port by which it leaves. The first of these lines that
+applies is printed, and the path ends there unless the packet goes on:
   PORT stamps SLID DLID PKEY        the port sends it
   PORT refuses CODE                 the port does not
-  NODE in IN drops inbound          the port lets nothing under this key in
+  NODE in IN drops inbound          port IN enforces partitions, and no P_Key matches
   NODE in IN drops top              the LID is over LinearFDBTop
-  NODE in IN drops entry ENTRY      the table's entry for it is no port of the switch
-  NODE in IN drops mask             no other port is in the masks of the multicast LID
-  NODE in IN takes                  the LID is the switch's own, or port 0 is in those masks
-  NODE in IN out OUT drops outbound the port lets nothing under this key out
-  NODE in IN out OUT no cable       the port leads nowhere
-  NODE in IN again                  it came in there before
-  NODE in IN out OUT again          a copy of it came in before where that port leads
+  NODE in IN drops entry ENTRY      the LFT entry is not a port of the switch
+  NODE in IN drops mask             the MFT entry has no other port
+  NODE in IN takes                  the LID is the switch's own, or the MFT entry has port 0
+  NODE in IN out OUT drops outbound port OUT enforces partitions, and no P_Key matches
+  NODE in IN out OUT no cable       port OUT has no cable
+  NODE in IN again                  it arrived there before
+  NODE in IN out OUT again          a copy of it arrived before where port OUT leads
   NODE in IN out OUT                it goes on
-  PORT accepts                      the port takes it
-  PORT drops key                    no key of the port matches this one
+  PORT accepts                      a P_Key of the port matches
+  PORT drops key                    none does
 
 For example, for `h1/1 5 0xffff`:
   h1/1 stamps 0x0004 0x0005 0xffff
@@ -204,25 +209,25 @@ For example, for `h1/1 5 0xffff`:
   h2/1 accepts
 
 ",
-    "; the packet is followed then"
+    "; the packet is sent then"
 );
 
 pub(crate) const GRAPH: &str = with_script!(
-    "The text is in DOT, and `dot` of Graphviz makes a picture of it:
+    "The output is in DOT, from which `dot` of Graphviz makes a picture:
   fabric graph TOPO PARTS | dot -Tsvg >fabric.svg
 
-Switches are boxes, by rank, the roots on top; channel adapters are ellipses with the LIDs of their
-ports, in the colours of their partitions, the default one aside. At the ends of cables stand the
-numbers of ports. The subnet manager's node has a double line.
+Switches are boxes, by rank, with the roots on top. CAs are ellipses with the LIDs of their ports, in
+the colours of their partitions, except the default one. The ends of cables have the numbers of
+ports. The SM's node has a double outline.
 
-With --cuts the cables that the fabric cannot do without are red: those of which `fabric cuts` says
-that it stops.
+With --cuts the cables that the fabric cannot do without are red: those for which `fabric cuts`
+prints `stops`.
 
-Four or more adapters of one port that hang on one switch and are in the same partitions stand in
-a list, which is one box: a line has the switch's port, the adapter and its LID.
+Four or more CAs of one port that are attached to one switch and are in the same partitions are a
+list, which is one box: a line has the switch's port, the CA and its LID.
 
 ",
-    "; cables that are cut are dashed"
+    "; cut cables are dashed"
 );
 
 pub(crate) const REPORT: &str = with_statuses!(
@@ -241,14 +246,14 @@ HEX leaves out the zero bytes at the end of the N bytes.
 );
 
 pub(crate) const COMPARISON: &str = with_statuses!(
-    "Each script is run on the subnet as it is brought up, and two lines are printed:
+    "Each script runs on the subnet as it is brought up, and two lines are printed:
   scripts agree: yes|no    the ports near PORT have the same commands in both, in the same order
-  events equal: yes|no     the same happens at PORT in both runs, in the same order
+  events equal: yes|no     PORT has the same events in both, in the same order
 
 The ports near PORT are PORT itself and each end port that shares a partition with it, as `shares`
-lists them. Commands are the same by what they ask for, however they are spelt; what all other
-ports do may differ, and which cables are cut. Where the scripts agree the events are equal: `no`
-behind `yes` is proved never to come.
+lists them. Commands are compared by their meaning, not by how they are written. What all other
+ports do may differ, and which cables are cut. If the scripts agree, the events are equal: it is
+proved that `no` never follows `yes`.
 
 ",
     "help",
@@ -256,31 +261,32 @@ behind `yes` is proved never to come.
 );
 
 pub(crate) const NO_SCRIPT_WITH_CUTS: &str =
-    "error: with --cuts the fabric is drawn as it is brought up, and no SCRIPT is taken
+    "error: --cuts draws the fabric as it is brought up, and takes no SCRIPT
 
-For what they are, try 'fabric graph --help'.
+For more information, try 'fabric graph --help'.
 ";
 
-pub(crate) const NO_SECOND_PORT: &str = "error: one PORT alone is the end of no cable
+pub(crate) const NO_SECOND_PORT: &str = "error: PORT2, the other end of the cable, is missing
 
-For what they are, try 'fabric cuts --help'.
+For more information, try 'fabric cuts --help'.
 ";
 
 pub(crate) const CUTS: &str = with_statuses!(
     "There is a line for each cable between two switches, in the order of the topology, and a last one
 with their numbers:
   cut PORT PORT keeps N entries N masks N switches
-                              without it all end ports stay joined; so many entries of linear
-                              forwarding tables differ then, and masks of groups of partitions
-  cut PORT PORT stops CODE    the fabric could not be brought up without it: TF9, switches are apart;
-                              SW3, a cable is too far away; UR1 SWITCH PORT, a pair has no way
+                              without it all end ports stay connected; so many LFT entries change,
+                              and MFT entries of partitions' broadcast groups, at so many switches
+  cut PORT PORT stops CODE    the fabric cannot be brought up without it: TF9, the switches are not
+                              connected; SW3, a cable is too far away; UR1 SWITCH PORT, a pair has
+                              no up/down path
   cables N keep N stop N
 
-With two ports there is the line of the cable between them, and behind it, where it keeps, one for
-each entry that differs, in the order of the tables; `none` is no port:
+With two ports the line of the cable between them is printed and, if it keeps, one for each LFT entry
+that changes, in the order of the tables; `none` is no port:
   SWITCH lid LID port OUT becomes OUT
 
-Nothing is cut: only planned, over the fabric as it is brought up.
+Nothing is cut: routes are planned over the fabric as it is brought up.
 
 ",
     "help",
@@ -288,20 +294,20 @@ Nothing is cut: only planned, over the fabric as it is brought up.
 );
 
 pub(crate) const IMPORT: &str = with_statuses!(
-    "The topology has the switches, the channel adapters' ports that have a cable, and the cables between
-them. Ports keep their GUIDs, since partition files name these: ports of consecutive GUIDs become one
-adapter, whose own GUID is one less. Names are spelt with the characters that a topology allows, and
-made different. A comment on each line tells which node, port and LID it was, and comments tell which
-routers were left out. The subnet manager is not marked in such a file: it is on the port of GUID,
-which `sminfo` prints, or else on the port at which ibnetdiscover ran, if a comment of it says so.
+    "The topology has the switches, the CA ports that have a cable, and the cables between them. Ports keep
+their GUIDs, since partition files name them: ports of consecutive GUIDs become one CA, whose own GUID
+is one less. Names get the characters that a topology allows, and are made different. A comment on
+each line has the node, port and LID in the fabric, and comments name the routers that are left out.
+ibnetdiscover does not mark the SM. The SM port is the one with the GUID of --sm, which `sminfo`
+prints, or else the port at which ibnetdiscover ran, if a comment of it says so.
 
-For example, for a fabric of one's own and the partition file that it is to have:
+For example, for your own fabric and the partition file that it is to have:
   ibnetdiscover >discovered
   fabric import discovered >topology
   fabric check topology partitions.conf
 
-A line that ibnetdiscover does not print is refused, and so is what contradicts itself, and a fabric
-that no topology describes.
+A line that ibnetdiscover does not print is refused, and so are lines that contradict each other, and
+a fabric that no topology describes.
 
 ",
     "help",
@@ -309,32 +315,47 @@ that no topology describes.
 );
 
 pub(crate) const AUDIT: &str = with_statuses!(
-    "The tables are looked at as they stand, whichever subnet manager wrote them; nothing is brought up.
-Routes are safe, and the status is 0, where from each switch the LID of each adapter's port leads
-there, and along these LIDs no channels wait for one another in a circle; else it is 1, and nothing
-stands on standard error. What the two files lack of one another is told first:
+    "The LFTs are judged as they are, whichever SM wrote them; nothing is brought up. Routes are safe, and
+the status is 0, if and only if
+  - each CA port that has a cable has a LID,
+  - from every switch to which a CA is attached, the LFTs lead to each of these LIDs,
+  - there is no credit loop along all LIDs except the switches' own,
+  - the dump and the topology have the same switches and CA ports.
+Otherwise the status is 1, and nothing is written on standard error. Credit loops are judged as if all
+packets used one virtual lane; multicast is not judged.
+
+First comes what one file has and the other lacks:
   no-table SWITCH             the dump has no table of this switch
   no-switch GUID              the dump has a table of a switch that the topology lacks
   no-port LID GUID            the LID is of a port that the topology lacks
-  no-lid PORT                 no row names a LID of this adapter's port, which has a cable
-  untold LID                  dump_fts leaves out the last LID, where it is a multiple of 64
+  no-lid PORT                 no row has a LID of this CA port, which has a cable
+  untold LID                  dump_fts leaves out the last LID of a table if it is a multiple of 64
 
-Then what each switch does wrong itself, for each LID of an end port:
+Then what is wrong at each switch, LID by LID:
   hole SWITCH LID             it has no port for the LID
   nowhere SWITCH LID port P   that port has no cable
   wrong SWITCH LID PORT       it leads to another end port, PORT
-  loop LID SWITCH SWITCH ..   what goes round these switches never ends
+  loop LID SWITCH SWITCH ..   the entries form a loop through these switches
   stray SWITCH LID            it has a port for a LID that is nobody's
 
-Then, where channels can wait for one another in a circle, the ports of one such circle in turn:
-  deadlock PORT PORT ..              along LIDs of adapters' ports
-  deadlock switch-lids PORT PORT ..  along LIDs of switches, too, but not without them
+Then, if there is one, a credit loop, as the ports along it:
+  deadlock PORT PORT ..              along all LIDs except the switches' own
+  deadlock switch-lids PORT PORT ..  along all LIDs, if there is none without those; decides nothing
 
-At last, for LIDs of adapters' ports, of switches, and of both, how many pairs of a switch and such a
-LID there are, and what a packet comes to that starts there:
+Last come counts of pairs of a switch and a LID, by what happens to a packet from there:
   adapters: N pairs, N reached, N holes, N nowhere, N wrong, N loops, N unknown, no deadlock
+  transit: N pairs, ..
+  switches: N pairs, ..
+  audit: N pairs, ..
+  verdict: safe, as if all packets used one virtual lane; multicast is not judged
 
-For example, for a fabric of one's own:
+The pairs of `adapters:` are of a switch to which a CA is attached and a CA's LID, and only these
+decide; those of `transit:` are of another switch and a CA's LID; those of `switches:` are of a
+switch's LID; those of `audit:` are all. If routes are not safe, the last line begins with
+`verdict: not safe (REASON, ..), as if`; the reasons are no-lid, unreached, deadlock and mismatch,
+for the four conditions above.
+
+For example, for your own fabric:
   ibnetdiscover >discovered
   fabric import discovered >topology
   dump_fts >tables
@@ -346,21 +367,21 @@ For example, for a fabric of one's own:
 );
 
 pub(crate) const CODES: &str = with_statuses!(
-    "A code stands behind `fault` where a call does not complete, and behind `refused` in a report:
-  TF1 to TF12            a fault of the topology
-  PF1 to PF9             a fault of a partition file
-  SF1 to SF7             a fault of a script, or of a PORT of `shares`, `trace`, `compare` or `cuts`
+    "A code follows `fault` if a command does not complete, and `refused` in a report:
+  TF1 to TF12            an error in the topology
+  PF1 to PF9             an error in a partition file
+  SF1 to SF7             an error in a script, or in a PORT of `shares`, `trace`, `compare` or `cuts`
   AR1 to AR4             why a port refuses to send a packet
-  ND1 to ND7             a fault of what ibnetdiscover printed, in `import`
-  FT1 to FT7             a fault of dumped forwarding tables, in `audit`
+  ND1 to ND7             an error in what ibnetdiscover printed, in `import`
+  FT1 to FT7             an error in dumped LFTs, in `audit`
   SW1 to SW4, UR1, TP1 to TP3
-                         why the fabric of a topology is not brought up
-  memory, read, write    what the machine refuses
+                         why the fabric of a topology cannot be brought up
+  memory, read, write    an error of the machine
 
-With CODE that one is told: its cause, what exactly is asked, a text that has it, and that text
-mended. Without CODE there is a line for each code, with its cause.
+With CODE its cause is printed, the exact rule, an input that has it, and the same input corrected.
+Without CODE there is a line for each code, with its cause.
 
-For example, `fabric explain PF2` says what a line as `fault PF2 partitions line 3` means.
+For example, `fabric explain PF2` explains a line as `fault PF2 partitions line 3`.
 
 ",
     "help",

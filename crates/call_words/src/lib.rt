@@ -1,8 +1,8 @@
-//! The words of a call of the program `fabric`: which commands and arguments there are, with their help, and what the
-//! words of one call ask for. No subnet and no fabric is known here.
+//! The command line of the program `fabric`: its commands and arguments, with their help, and what the arguments of one
+//! invocation ask for. No subnet and no fabric is known here.
 //!
-//! [`read_words`] reads them by a [`Parser`], which is [`Clap`] in the program, and [`given_words`] those that the
-//! machine gives it. `specs/CommandLine.antt` has the commands, and `specs/Words.antt` what their words ask for.
+//! [`read_words`] reads arguments by a [`Parser`], which is [`Clap`] in the program, and [`given_words`] returns those of
+//! the process. `specs/CommandLine.antt` has the commands, and `specs/Words.antt` what their arguments ask for.
 #![tactic(auto)]
 
 mod call;

@@ -1,4 +1,4 @@
-//! What the words of a call ask for.
+//! What the command line asks for.
 
 ghost use Rattle.std.specs.Prelude.{◌≡◌, ◌^◌, Ok, Some, map, string_bytes, option_map, IfOk, IfErr};
 ghost use Rattle.clap.specs.Words.{first_of, found_of, rows_of, subcommand_rows_of};
@@ -22,7 +22,7 @@ use std::fmt::Display;
 use std::io;
 use text_words::{number_in, u16_in};
 
-/// The words that the program is given, its own name first: all of them. Words that are not text are refused.
+/// The arguments of the program, its own name first: all of them. They are refused if one is not UTF-8.
 pub fn given_words(alloc: Global, given: io::Result<Args>) -> Result<Vec<String>, Refused<String>>
     ensures all { IfOk result (λ words. given_items given ≡ Some words.items) }
     ensures refused { IfErr result (IsOfGiven given) }
@@ -34,7 +34,7 @@ pub fn given_words(alloc: Global, given: io::Result<Args>) -> Result<Vec<String>
     }
 }
 
-/// What the words ask for, the first of them the program's own name. Words that a parser refuses are refused with the
+/// What the arguments ask for, the first of them the program's own name. If the parser refuses them, the refusal has the
 /// text of its error.
 pub fn read_words<'a, P: Parser>(
     alloc: Global,
@@ -54,7 +54,7 @@ pub fn read_words<'a, P: Parser>(
     }
 }
 
-/// The refusal with the text by which the error shows itself, whatever that is.
+/// The refusal with the text that the error displays, whatever that is.
 fn shown<E: Display>(alloc: Global, error: &E) -> Refused<String>
     ensures { TellsAll (E.output error.now) result }
 {
@@ -64,7 +64,7 @@ fn shown<E: Display>(alloc: Global, error: &E) -> Refused<String>
     }
 }
 
-/// What is asked for in what was found, or the text for a word that is no code, no number or no GUID.
+/// What the parsed arguments ask for, or the text for one that is not a code, a number or a GUID.
 fn call_in<'a>(matches: &ArgMatches<'a>) -> Result<Call<Asked<'a>, &'a str>, &'static str>
     ensures { named_found result ≡ asked_in (subcommand_rows_of matches.now) }
 {
@@ -102,7 +102,7 @@ fn subcommand_in(word: &str) -> Option<Subcommand>
     }
 }
 
-/// The text for a word of a command that is none.
+/// The text for an argument that this command cannot take.
 fn text_for(command: Subcommand) -> &'static str
     ensures { result.now ≡ text_for command }
 {
@@ -115,7 +115,7 @@ fn text_for(command: Subcommand) -> &'static str
     }
 }
 
-/// What a command with these arguments is for; nothing where a word for a code, a number or a GUID is none.
+/// What a command with these arguments asks for; nothing if one is not the code, number or GUID that it has to be.
 fn call_of<'a>(command: Subcommand, found: &ArgMatches<'a>) -> Option<Call<Asked<'a>, &'a str>>
     ensures { option_map named_call result ≡ call_in command (rows_of (found_of found.now)) }
 {
@@ -139,7 +139,7 @@ fn call_of<'a>(command: Subcommand, found: &ArgMatches<'a>) -> Option<Call<Asked
     }
 }
 
-/// The word for an argument, if there is one.
+/// The value of an argument, if it is given.
 fn word_of<'a>(found: &ArgMatches<'a>, name: &str) -> Option<&'a str>
     ensures { option_map (λ word. word.now) result ≡ first_of name.now (rows_of (found_of found.now)) }
 {
@@ -173,7 +173,7 @@ fn diff_by(second: Option<&str>) -> Option<Work<&str, &str>>
     Some(Work::Diff(file_in(second?)))
 }
 
-/// The loss of all cables, or of the one that two words name; nothing where there is one word alone.
+/// The loss of all cables, or of the one between two given ports; nothing if one port alone is given.
 fn cuts_by<'a>(first: Option<&'a str>, second: Option<&'a str>) -> Option<Work<&'a str, &'a str>>
     ensures { option_map named_work result ≡ cuts_by (option_map (λ word. word.now) first.entry) (option_map (λ word. word.now) second.entry) }
 {
@@ -190,7 +190,7 @@ fn run_by(script: Option<&str>) -> Option<Work<&str, &str>>
     Some(Work::Run(script?))
 }
 
-/// A look at this, after the commands of a script where a word names one.
+/// A look at this, after the commands of a script if one is given.
 fn inspect_by<'a>(
     found: &ArgMatches<'a>,
     what: Option<Inspection<&'a str>>,
@@ -203,7 +203,7 @@ fn inspect_by<'a>(
     })
 }
 
-/// A picture; one that tells cables apart is of the fabric as it is brought up, and takes no script.
+/// A picture; with `--cuts` it is of the fabric as it is brought up, and takes no script.
 fn graph_by<'a>(found: &ArgMatches<'a>) -> Option<Work<&'a str, &'a str>>
     ensures { option_map named_work result ≡ graph_by (rows_of (found_of found.now)) }
 {
@@ -260,7 +260,7 @@ fn u16_by(word: Option<&str>) -> Option<u16>
     u16_in(word?.as_bytes())
 }
 
-/// A topology of this file, if the word for the subnet manager's port is a GUID, or there is none.
+/// A topology of this file, if the argument for the SM port is a GUID, or is not given.
 fn import_by<'a>(
     netdiscover: Option<&'a str>,
     manager: Option<&str>,
@@ -274,7 +274,7 @@ fn import_by<'a>(
     })
 }
 
-/// The GUID that a word spells, or none where there is no word.
+/// The GUID of an argument, or none if it is not given.
 fn guid_by(word: Option<&str>) -> Option<Option<u64>>
     ensures { result ≡ guid_by (option_map (λ word. word.now) word.entry) }
 {
@@ -290,7 +290,7 @@ fn guid_in(word: &str) -> Option<u64>
     u64::try_from(number_in(word.as_bytes())?).ok()
 }
 
-/// The routes of a topology's fabric, by a dump of its tables.
+/// The routes of a topology's fabric, by a dump of its LFTs.
 fn audit_by<'a>(
     topology: Option<&'a str>,
     dump: Option<&'a str>,
@@ -303,7 +303,7 @@ fn audit_by<'a>(
     })
 }
 
-/// The code that a word spells, or none where there is no word.
+/// The code of an argument, or none if it is not given.
 fn explain_by<'a>(word: Option<&str>) -> Option<Call<Asked<'a>, &'a str>>
     ensures { option_map named_call result ≡ explain_by (option_map (λ word. word.now) word.entry) }
 {

@@ -1,10 +1,10 @@
-//! Calls of the program over files and outputs in memory.
+//! Runs of the program with files and outputs in memory.
 
 use crate::memory::{Manner, Refusal, Shelf, Sink, Source};
 use fabric_cli::serve;
 use std::alloc::{AllocError, Global};
 
-/// What a call answers.
+/// The result of a run of the program.
 #[derive(Drop)]
 pub struct Answer {
     pub status: u8,
@@ -13,7 +13,7 @@ pub struct Answer {
     pub opened: Option<Vec<String>>,
 }
 
-/// What the program answers to these words, over these files.
+/// What the program returns and prints for these arguments and files.
 pub fn told<'a>(
     alloc: Global,
     words: &[&str],
@@ -59,7 +59,7 @@ pub fn sink(alloc: Global, writes: usize, refusal: Refusal, flushes: bool) -> Si
 
 pub const RUN: [&str; 5] = ["fabric", "run", "net.topo", "-", "sends"];
 
-/// What a run of a topology and a script answers.
+/// What it returns and prints for a run of a topology and a script.
 pub fn told_of(alloc: Global, topology: &str, script: &str) -> Result<Answer, AllocError> {
     let files = [
         ("net.topo", plain(topology.as_bytes())),

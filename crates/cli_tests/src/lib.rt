@@ -1,5 +1,5 @@
-//! Tests of the program over memory: files and outputs that fail, words that are refused. Whole texts through the
-//! program stand in `tests/`.
+//! Tests of the program in memory: files and outputs that fail, arguments that are refused. End-to-end tests are in
+//! `tests/`.
 #![tactic(auto)]
 
 #[cfg(test)]

@@ -1,4 +1,4 @@
-//! Files and writers in memory, some of which fail. All of them say what they hold.
+//! Files and writers in memory, some of which fail. The contents of all of them are known to contracts.
 
 ghost use Rattle.std.specs.Prelude.{◌≡◌, false, [], ◌∷◌, Some, find, map, option_map, string_bytes};
 ghost use Rattle.std.specs.Str.{bytes_eq};
@@ -82,7 +82,7 @@ fn source_of<'a>(files: &[(&str, Source<'a>)], name: &str) -> Option<Source<'a>>
         .map(|known| known.1)
 }
 
-/// The names with one more, where all of them could be kept.
+/// The names with one more, if all of them could be kept.
 fn noted(alloc: Global, names: Option<Vec<String>>, name: &str) -> Option<Vec<String>>
     ensures { OpensAll (option_map (λ all. map string_bytes all.items) names)
         (option_map (λ all. map string_bytes all.items) result) (name.now ∷ []) }
@@ -92,7 +92,7 @@ fn noted(alloc: Global, names: Option<Vec<String>>, name: &str) -> Option<Vec<St
     Some(names)
 }
 
-/// How a writer refuses.
+/// How a writer fails.
 #[derive(Clone, Copy)]
 pub enum Refusal {
     Nothing,
@@ -100,7 +100,7 @@ pub enum Refusal {
     Broken,
 }
 
-/// Takes eight bytes a write, until it refuses.
+/// Takes eight bytes a write, until it fails.
 #[derive(Drop)]
 pub struct Sink {
     pub bytes: Vec<u8>,

@@ -1,4 +1,4 @@
-//! Files, outputs and words that are refused.
+//! Files and outputs that fail, and arguments that are refused.
 
 use crate::calls::{RUN, plain, read_so, sink, told};
 use crate::fixtures::{FAULTY, FIRST, REPORT, SENDS};
@@ -93,10 +93,10 @@ fn is_answered(
 /// The report is of 94 bytes: eleven writes of eight bytes, and one of the rest.
 const LAST: usize = 11;
 
-/// What is told of the faulty script is of 47 bytes: six writes.
+/// The report of the script with an error is of 47 bytes: six writes.
 const LAST_OF_FIRST: usize = 6;
 
-/// After how many writes an output refuses, how, whether it can be flushed, and the status.
+/// After how many writes an output fails, how, whether it can be flushed, and the status.
 const WRITTEN: [(usize, Refusal, bool, u8); 9] = [
     (0, Refusal::Broken, true, 3),
     (0, Refusal::Nothing, true, 3),
@@ -131,7 +131,7 @@ fn output_that_is_not_written(rt: HostRuntime) -> Result<(), Fail> {
     Ok(())
 }
 
-/// After how many writes an output refuses the report of a script with a fault; the status, and why.
+/// After how many writes an output fails, for the report of a script with an error; the status, and why.
 const BROKEN: [(usize, u8, &str); 3] = [
     (0, 3, "fault write\n"),
     (LAST_OF_FIRST - 1, 3, "fault write\n"),
@@ -159,7 +159,7 @@ fn output_up_to_a_fault_that_is_not_written(rt: HostRuntime) -> Result<(), Fail>
     Ok(())
 }
 
-/// Words, and a part of the text that says what is wrong with them.
+/// Arguments, and a part of the text that says what is wrong with them.
 const REFUSED: [(&[&str], &str); 13] = [
     (&["fabric"], "Usage:"),
     (&["fabric", "run"], "TOPO"),

@@ -1,4 +1,4 @@
--- The codes that the program prints for faults and refusals, and how they are spelt.
+-- The codes that the program prints for errors and refusals, and how they are printed.
 use Rattle.std.specs.Prelude.{ℕ, List, [], ◌∷◌, ◌++◌, codes, Option}
 use Rattle.std.specs.List.{find, flat_map}
 use Rattle.std.specs.Str.{bytes_eq}
@@ -71,11 +71,11 @@ spelling Memory = codes "memory"
 spelling Read = codes "read"
 spelling Write = codes "write"
 
--- the code that a word spells
+-- the code that is printed as this word
 abbrev pub code_of : List ℕ → Option Code
 code_of word = find (λ code. bytes_eq (spelling code) word) ALL
 
--- the codes as they are listed, each with a blank after it
+-- the codes in the order of the list, each with a blank after it
 abbrev pub codes_listed : List ℕ
 codes_listed = flat_map (λ code. spelling code ++ 32 ∷ []) ALL
 

@@ -1,4 +1,4 @@
--- What is said of each code. The texts themselves stand in the code, and here what holds of them.
+-- The text of each code. The texts themselves are in the program; here is what holds of them.
 use Rattle.std.specs.Prelude.{ℕ, Bool, List, ◌∷◌, [], ◌++◌, ◌==◌, length, take, Option, Some, None}
 use Rattle.std.specs.Str.{bytes_eq}
 use Rattle.std.specs.List.{before_first, flat_map}
@@ -92,7 +92,7 @@ line_of code = first_line (text_of code) ++ 10 ∷ []
 abbrev pub listing : List ℕ
 listing = flat_map line_of ALL
 
--- what is said of a code, or a line for each
+-- the text of a code, or a line for each
 abbrev pub explained : Option Code → List ℕ
 explained None = listing
 explained (Some code) = text_of code

@@ -12,13 +12,13 @@ use crate::partition_texts::{PF1, PF2, PF3, PF4, PF5, PF6, PF7, PF8, PF9};
 use crate::script_texts::{AR1, AR2, AR3, AR4, SF1, SF2, SF3, SF4, SF5, SF6, SF7};
 use crate::topology_texts::{TF1, TF2, TF3, TF4, TF5, TF6, TF7, TF8, TF9, TF10, TF11, TF12};
 
-/// A code that stands for the cause of a fault, or of a refusal: a letter or two of the text that it is a fault of and
-/// a number, or a word. Each variant says what is wrong.
+/// A code for the cause of an error, or of a refusal: two letters for the input that has the error and a number, or a
+/// word. Each variant says what is wrong.
 #[derive(Clone, Copy, Debug, PartialEq, Eq)]
 pub enum Code {
     /// A malformed line.
     Tf1,
-    /// A name that is there already.
+    /// A name that is used already.
     Tf2,
     /// A GUID that is used already.
     Tf3,
@@ -30,23 +30,23 @@ pub enum Code {
     Tf6,
     /// A cable between the wrong ends.
     Tf7,
-    /// A subnet manager nowhere, twice, or on a switch.
+    /// An SM port that is missing, named twice, or on a switch.
     Tf8,
-    /// Switches that no cables join.
+    /// Switches that are not connected.
     Tf9,
-    /// A switch or an adapter port too many.
+    /// A switch or a CA port too many.
     Tf10,
-    /// A subnet manager's port without a cable.
+    /// An SM port without a cable.
     Tf11,
-    /// A root that is no switch.
+    /// A root that is not a switch.
     Tf12,
-    /// A character that may not stand there.
+    /// A character that is not allowed there.
     Pf1,
-    /// A word that is no number of its kind.
+    /// A P_Key, an item or a value that is not a number of its kind.
     Pf2,
-    /// Base 0, or `Default` without a PKey.
+    /// Base 0, or `Default` without a P_Key.
     Pf3,
-    /// A flag that there is not.
+    /// An unknown flag.
     Pf4,
     /// The membership `both`.
     Pf5,
@@ -54,25 +54,25 @@ pub enum Code {
     Pf6,
     /// A partition too many.
     Pf7,
-    /// A definition that is unfinished.
+    /// A definition that is incomplete.
     Pf8,
     /// A flag twice, or with a value that it does not take.
     Pf9,
     /// A malformed line.
     Sf1,
-    /// A port that there is not.
+    /// An unknown port.
     Sf2,
-    /// The subnet manager's port.
+    /// The SM port.
     Sf3,
     /// A port without a cable.
     Sf4,
     /// A payload over 256 bytes.
     Sf5,
-    /// A misspelt field, or one out of its range.
+    /// An argument that is malformed or out of range.
     Sf6,
-    /// A cable between two switches that there is not.
+    /// No such cable between two switches.
     Sf7,
-    /// A partition key that the port does not hold.
+    /// A P_Key that the port does not hold.
     Ar1,
     /// Queue pair 0.
     Ar2,
@@ -80,55 +80,55 @@ pub enum Code {
     Ar3,
     /// A port that is not Active.
     Ar4,
-    /// A line that is none.
+    /// A line that ibnetdiscover does not print.
     Nd1,
     /// A port that the node does not have.
     Nd2,
-    /// A GUID that is told already.
+    /// A GUID that is used already.
     Nd3,
-    /// A cable that stands otherwise at its other end.
+    /// A cable whose two ends disagree.
     Nd4,
-    /// An adapter's GUID that is a switch's.
+    /// A CA's GUID that is 0 or a switch's.
     Nd5,
-    /// A subnet manager's port that is none.
+    /// An SM port that is not named, or not in the fabric.
     Nd6,
-    /// A topology that is read as another.
+    /// A topology that describes another fabric.
     Nd7,
-    /// A line of dumped tables that is none.
+    /// A line that dump_fts does not print, or not there.
     Ft1,
-    /// A row that does not tell whose its LID is.
+    /// A row that does not say whose its LID is.
     Ft2,
     /// A table of a switch that has one already.
     Ft3,
     /// A LID that does not rise.
     Ft4,
-    /// A table of another number of rows.
+    /// A table with another number of rows.
     Ft5,
-    /// Dumped tables that end within one.
+    /// A dump that ends within a table, or has none.
     Ft6,
-    /// A LID that is another end port's.
+    /// A LID that an earlier row has for another end port.
     Ft7,
-    /// A request of a sweep without a reply.
+    /// A discovery request without a reply.
     Sw1,
-    /// A wrong reply to a sweep.
+    /// A wrong discovery reply.
     Sw2,
     /// A cable too many hops away.
     Sw3,
-    /// A switch or an adapter port too many in a sweep.
+    /// A switch or a CA port too many in discovery.
     Sw4,
-    /// A switch from which no legal path leads to a port.
+    /// A switch from which no up/down path leads to a CA port.
     Ur1,
     /// A Set without a reply.
     Tp1,
     /// A Set that is refused.
     Tp2,
-    /// A reply that is not what was set.
+    /// A reply to a Set with other data.
     Tp3,
-    /// Memory that was refused.
+    /// Out of memory.
     Memory,
-    /// A file that is not read.
+    /// A file that cannot be read.
     Read,
-    /// An output that is not written.
+    /// An output that cannot be written.
     Write,
 }
 
@@ -259,15 +259,15 @@ impl Code {
         }
     }
 
-    /// The code that a word spells.
+    /// The code that is printed as this word.
     pub fn read(word: &str) -> Option<Code>
         ensures { result ≡ code_of word.now }
     {
         ALL.iter().copied().find(|code| code.spelling() == word)
     }
 
-    /// What is said of the code: its cause on a line that begins with it, what exactly is asked, a text that has it
-    /// and that text mended, if there is one.
+    /// The explanation of the code: a line with the code and its cause, the rule, and, if there is one, an input that
+    /// has it and the same input corrected.
     #[tactic(auto, using(crate::proofs::TextLemmas::begins_with_code))]
     pub fn text(self) -> &'static str
         ensures is { result.now ≡ text_of self }

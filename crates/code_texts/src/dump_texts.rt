@@ -1,13 +1,13 @@
-//! What is said of the faults of linear forwarding tables as they are dumped.
+//! Errors in dumped LFTs (linear forwarding tables).
 
-/// The text `$before`, then tables over a topology of a switch and two adapters: the fault that they have, themselves, and
-/// what they are mended.
+/// The text `$before`, then tables for a topology of a switch and two CAs: what the program prints for them, the tables,
+/// and the tables corrected.
 macro_rules! with_tables {
-    ($before:literal, $told:literal, $tables:literal) => {
+    ($before:literal, $printed:literal, $tables:literal) => {
         concat!(
             $before,
             "
-Over this topology
+With this topology
 
     switch A 0x10 4
     adapter h 0x20 1
@@ -16,14 +16,14 @@ Over this topology
     cable A/2 i/1
     sm h/1
 
-these tables are told as `",
-            $told,
+for these tables the program prints `",
+            $printed,
             "`:
 
 ",
             $tables,
             "
-Mended:
+Corrected:
 
     Unicast lids [0x0-0x3] of switch Lid 2 guid 0x0000000000000010 (A):
       Lid  Out   Destination
@@ -39,12 +39,12 @@ Mended:
 
 pub const FT1: &str = with_tables!(
     "\
-FT1: the line is none that dump_fts prints, or stands where it cannot
+FT1: dump_fts prints no such line, or not here
 
 A table is a heading, two lines of titles, rows and the count of these, as dump_fts and ibroute of
-infiniband-diags print them, with their option -a or without, and as `fabric tables` does. Between
-tables there may be multicast tables, and anywhere comments and empty lines. What OpenSM writes of
-itself is another format.
+infiniband-diags print them, with their option -a or without, and as `fabric tables` does. Multicast
+tables are allowed between tables, and comments and empty lines anywhere. The file that OpenSM
+itself writes has another format.
 ",
     "fault FT1 dump line 4",
     "    Unicast lids [0x0-0x3] of switch Lid 2 guid 0x0000000000000010 (A):
@@ -59,10 +59,10 @@ itself is another format.
 
 pub const FT2: &str = with_tables!(
     "\
-FT2: the row does not tell whose its LID is
+FT2: the row does not say whose its LID is
 
-Each row tells whose its LID is, since else nobody knows where its entries are to lead. The option -n
-of dump_fts leaves that out: dump the tables without it.
+Each row says whose its LID is; without that, nobody knows where its entries have to lead. The
+option -n of dump_fts leaves it out: dump the tables without -n.
 ",
     "fault FT2 dump line 4",
     "    Unicast lids [0x0-0x3] of switch Lid 2 guid 0x0000000000000010 (A):
@@ -103,8 +103,8 @@ pub const FT4: &str = with_tables!(
     "\
 FT4: the LID does not rise, or is above the top of its table
 
-In a table the LIDs rise from row to row, and none is above the top, which is the second number of the
-heading.
+In a table the LIDs rise from row to row, and none is above the top, which is the second number of
+the heading.
 ",
     "fault FT4 dump line 6",
     "    Unicast lids [0x0-0x3] of switch Lid 2 guid 0x0000000000000010 (A):
@@ -121,7 +121,7 @@ pub const FT5: &str = with_tables!(
     "\
 FT5: the table has another number of rows
 
-The last line of a table counts its rows: `N valid lids dumped` those that have another port than 255,
+The last line of a table counts its rows: `N valid lids dumped` those with another port than 255,
 `N lids dumped` all of them.
 ",
     "fault FT5 dump line 6",
@@ -136,9 +136,9 @@ The last line of a table counts its rows: `N valid lids dumped` those that have 
 
 pub const FT6: &str = with_tables!(
     "\
-FT6: the text ends within a table, or has none
+FT6: the file ends within a table, or has none
 
-There is a table, and each table ends with its count. Line 0 is told.
+There is a table, and each table ends with its count. Line 0 is reported.
 ",
     "fault FT6 dump line 0",
     "    Unicast lids [0x0-0x3] of switch Lid 2 guid 0x0000000000000010 (A):
@@ -152,10 +152,10 @@ There is a table, and each table ends with its count. Line 0 is told.
 
 pub const FT7: &str = with_tables!(
     "\
-FT7: the LID is another end port's by a row before
+FT7: an earlier row has the LID for another end port
 
-All rows of a LID that tell a GUID tell the same one, in all tables. Tables that were dumped at different
-times may disagree.
+All rows of a LID that have a GUID have the same one, in all tables. Tables that were dumped at
+different times may disagree.
 ",
     "fault FT7 dump line 12",
     "    Unicast lids [0x0-0x3] of switch Lid 2 guid 0x0000000000000010 (A):

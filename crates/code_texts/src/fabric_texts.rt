@@ -1,30 +1,30 @@
-//! What is said where the fabric of a topology cannot be brought up: by the sweep that finds it (SW), by its routes
-//! (UR), and by the push that sets its ports and tables (TP).
+//! Why bring-up of a topology's fabric fails: in discovery (SW), in routing (UR), and when the SM sets ports and tables
+//! (TP).
 
 pub const SW1: &str = "\
-SW1: no reply came back to what was asked
+SW1: a discovery request has no reply
 
-The subnet manager finds the fabric by asking each node, along a path of ports, what it is and which
-of its ports have cables. Each of these requests has a reply. In the simulated fabric it has, so no
-topology gives this code. The status is 3.
+The SM discovers the fabric: along directed routes it asks each node what it is and which of its
+ports have cables. Each of these requests has a reply. The simulated fabric always replies, so no
+topology leads to this code. The status is 3.
 ";
 
 pub const SW2: &str = "\
-SW2: a reply is refused, of another request, or contradicts an earlier one
+SW2: a discovery reply is refused, of another request, or contradicts an earlier one
 
-Each reply that the subnet manager gets while it finds the fabric is of its request, has the status
-0, shows what a node can be, and agrees with the replies before. In the simulated fabric that is so,
-and no topology gives this code. The status is 3.
+Each reply in discovery is of its request, has the status 0, describes a possible node, and agrees
+with the replies before. In the simulated fabric that is so, and no topology leads to this code. The
+status is 3.
 ";
 
 pub const SW3: &str = "\
 SW3: a cable is more than 63 hops away
 
-Each cable has an end on a switch that is at most 62 hops away from the subnet manager's port: the
-switch on which that port hangs is one hop away, and a cable between switches is one hop more. A
-request cannot go further than 63.
+Each cable has an end on a switch that is at most 62 hops away from the SM port: the switch to which
+that port is attached is one hop away, and a cable between switches is one hop more. A request
+cannot go further than 63.
 
-This topology, where `...` stands for the lines between, is told as `fault SW3`:
+For this topology, in which `...` is the lines between, the program prints `fault SW3`:
 
     adapter h 100 1
     switch s1 1 2
@@ -38,7 +38,7 @@ This topology, where `...` stands for the lines between, is told as `fault SW3`:
     cable s63/2 s64/1
     sm h/1
 
-Mended:
+Corrected:
 
     adapter h 100 1
     switch s1 1 2
@@ -54,21 +54,22 @@ Mended:
 ";
 
 pub const SW4: &str = "\
-SW4: the fabric has more than 64 switches, or more than 256 adapter ports
+SW4: the fabric has more than 64 switches, or more than 256 CA ports
 
-The subnet manager finds no more than that. A topology with more is TF10 before it is brought up, so
-none gives this code. The status is 3.
+Discovery finds no more than that. A topology with more is TF10 before it is brought up, so none
+leads to this code. The status is 3.
 ";
 
 pub const UR1: &str = "\
-UR1: no legal path leads from a switch to a port
+UR1: no up/down path leads from a switch to a CA port
 
-From each switch that an adapter hangs on a way leads to each adapter's port that goes up, towards a
-root, then down, and never up again. A switch that is as near to a root as another is above it where
-its GUID is the smaller one. The first pair without such a way is told, by the LID of the switch,
-then by that of the port.
+From each switch to which a CA is attached, an up/down path leads to each CA port: it goes up,
+towards a root, then down, and never up again. Of two switches that are equally near to the roots,
+the one with the smaller GUID is above the other. The first pair without such a path is reported, by
+the LID of the switch, then by that of the port.
 
-This topology is told as `fault UR1 R i/1`, since the way from R down to L would go up to S again:
+For this topology the program prints `fault UR1 R i/1`, since the path from R down to L would go up
+to S again:
 
     switch R 0x10 4
     switch S 0x20 4
@@ -83,7 +84,7 @@ This topology is told as `fault UR1 R i/1`, since the way from R down to L would
     root S
     sm h/1
 
-Mended, so that R is the only root:
+Corrected, with R as the only root:
 
     switch R 0x10 4
     switch S 0x20 4
@@ -99,22 +100,22 @@ Mended, so that R is the only root:
 ";
 
 pub const TP1: &str = "\
-TP1: no reply came back to what was set
+TP1: a Set has no reply
 
-The subnet manager sets ports and tables of each node, along a path of ports. Each of these requests
-has a reply. In the simulated fabric it has, so no topology gives this code. The status is 3.
+The SM sets the ports and tables of each node, along directed routes. Each of these requests has a
+reply. The simulated fabric always replies, so no topology leads to this code. The status is 3.
 ";
 
 pub const TP2: &str = "\
-TP2: a node refuses what is set
+TP2: a node refuses a Set
 
-Each node takes what the subnet manager sets: its reply has the status 0. In the simulated fabric
-that is so, and no topology gives this code. The status is 3.
+Each node takes what the SM sets: its reply has the status 0. In the simulated fabric that is so,
+and no topology leads to this code. The status is 3.
 ";
 
 pub const TP3: &str = "\
-TP3: a reply is not what was set, or of another request
+TP3: a reply to a Set has other data, or is of another request
 
-Each reply to what the subnet manager sets is of its request, and carries what was set. In the
-simulated fabric that is so, and no topology gives this code. The status is 3.
+Each reply to a Set is of its request, and carries what was set. In the simulated fabric that is so,
+and no topology leads to this code. The status is 3.
 ";

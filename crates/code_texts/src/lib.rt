@@ -1,8 +1,7 @@
-//! What each code means that the program prints for a fault or a refusal: the texts of `fabric explain`.
+//! What each code means that the program prints for an error or a refusal: the texts of `fabric explain`.
 //!
-//! A [`Code`] is spelt as it is printed, and [`Code::text`] says of it what its cause is, what exactly is asked, and
-//! how a text that has the fault is mended. [`explained`] prints that, or a line for each. The texts stand in the
-//! modules of the texts that they are about.
+//! [`Code::text`] is the explanation of a [`Code`]: its cause, the rule, and an input that has it with its correction.
+//! [`explained`] returns that text, or a line for each code. The texts are in modules by kind of input.
 #![tactic(auto)]
 
 mod code;

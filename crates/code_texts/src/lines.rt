@@ -1,4 +1,4 @@
-//! What is said of codes.
+//! The output of `fabric explain`.
 
 ghost use Rattle.std.specs.Prelude.{◌≡◌, ◌≤◌, ◌<◌, ◌==◌, ◌++◌, length, position, IfOk, IfSome, OnOk};
 ghost use Rattle.std.specs.List.{flat_map, position_or_len};
@@ -7,7 +7,7 @@ ghost use Rattle.code_texts.specs.Texts.{explained, first_line, line_of, listing
 use crate::code::{ALL, Code};
 use std::alloc::{AllocError, Global};
 
-/// The text of a code, or without one a line for each. Memory alone can be refused.
+/// The text of a code, or without one a line for each. It fails only if an allocation fails.
 pub fn explained(alloc: Global, code: Option<Code>) -> Result<Vec<u8>, AllocError>
     ensures { IfOk result (λ text. text.items ≡ explained code) }
 {
@@ -19,7 +19,7 @@ pub fn explained(alloc: Global, code: Option<Code>) -> Result<Vec<u8>, AllocErro
     Ok(text)
 }
 
-/// A line for each code, in their order: the first of its text. Memory alone can be refused.
+/// A line for each code, in order: the first of its text. It fails only if an allocation fails.
 fn listing(alloc: Global) -> Result<Vec<u8>, AllocError>
     ensures { IfOk result (λ text. text.items ≡ listing) }
 {
@@ -45,14 +45,14 @@ fn push_line(text: &mut Vec<u8>, code: Code) -> Result<(), AllocError>
     Ok(())
 }
 
-/// What stands before the first LF.
+/// The part before the first LF.
 fn first_line(text: &[u8]) -> &[u8]
     ensures { result.now ≡ first_line text.now }
 {
     &text[..line_end(text)]
 }
 
-/// Where the first LF stands, or the length.
+/// The index of the first LF, or the length.
 fn line_end(text: &[u8]) -> usize
     ensures value { result ≡ position_or_len (λ byte. byte == 10) text.now }
     ensures within { result ≤ length text.now }

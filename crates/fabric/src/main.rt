@@ -1,7 +1,7 @@
 //! The program `fabric`: an InfiniBand subnet manager over a simulated fabric.
 //!
-//! [`fabric_cli::serve_given`] does all the work, over any words, any files and any two writers; `main` gives it the
-//! machine's.
+//! [`fabric_cli::serve_given`] does all the work, for any arguments, any files and any two writers; `main` gives it those
+//! of the process.
 #![tactic(auto)]
 
 use fabric_cli::{MachineFiles, serve_given};

@@ -8,7 +8,7 @@ use Rattle.fabric_cli.specs.Faults.{line_of}
 use Rattle.fabric_cli.specs.declared.faults.Stop.{Stop}
 use Rattle.fabric_cli.specs.declared.faults.Stop.TheVariants.{Words}
 
--- as the word of `fabric explain` it is read as a code, and the text of that begins with the word
+-- as the argument of `fabric explain` it is read as a code, and the text of that begins with it
 pub record IsExplained (word : List ℕ) : Type 0 where
   pub code : Code
   pub read : code_of word ≡ Some code
@@ -18,11 +18,11 @@ pub record IsExplained (word : List ℕ) : Type 0 where
 abbrev pub ends_word : ℕ → Bool
 ends_word byte = (byte == 32) || (byte == 10)
 
--- the word behind `fault `
+-- the token after `fault `
 abbrev pub told_word : List ℕ → List ℕ
 told_word line = before_first ends_word (drop 6 line)
 
--- what standard error gains has a code behind `fault `, unless it is the text of refused words
+-- the line on standard error has a code after `fault `, unless it is the text of refused arguments
 pub record TellsCode (line : List ℕ) : Type 0 where
   pub begins : begins_with (codes "fault ") line ≡ true
   pub explained : IsExplained (told_word line)

@@ -1,4 +1,4 @@
--- Why a call does not complete: the line that says so, and the exit status.
+-- Errors of the program: the line of each, and its exit status.
 use Rattle.std.specs.Prelude.{ℕ, Bool, List, ◌++◌, codes, decimal, Option, Some, None, String, string_bytes}
 use Rattle.std.specs.Option.{option_map_or}
 use Rattle.std.specs.Borrow.{Bor}
@@ -53,7 +53,7 @@ abbrev pub no_path_line : List ℕ → List ℕ → ℕ → List ℕ
 no_path_line switch node number =
     codes "fault UR1 " ++ (switch ++ (codes " " ++ (node ++ (codes "/" ++ (decimal number ++ codes "\n")))))
 
--- `fault CODE port`, of a word
+-- `fault CODE port`, of an argument
 abbrev pub port_line : List ℕ → List ℕ
 port_line code = codes "fault " ++ (code ++ codes " port\n")
 
@@ -65,7 +65,7 @@ netdiscover_line code number = codes "fault " ++ (code ++ (codes " netdiscover l
 abbrev pub dump_line : List ℕ → ℕ → List ℕ
 dump_line code number = codes "fault " ++ (code ++ (codes " dump line " ++ (decimal number ++ codes "\n")))
 
--- with the GUID of a port, and that which its adapter would have
+-- with the GUID of a port, and the one that its CA would have
 abbrev pub guid_word : ℕ → List ℕ
 guid_word guid = codes " " ++ hex_text (to_be_bytes w64 guid)
 
@@ -100,7 +100,7 @@ run_line (run.SecondScript line cause) = second_script_line (script_code cause) 
 run_line run.Read = unread_line (codes "script")
 run_line run.Write = unwritten_line
 
--- of a topology's own fabric a sweep finds all but what is too far, and nothing refuses a push
+-- in a topology's own fabric discovery finds all except what is too far, and no node refuses a Set
 abbrev pub sweep_status : SweepFault → ℕ
 sweep_status TooManyHops = 1
 sweep_status _ = 3
@@ -113,7 +113,7 @@ run_status run.Read = 3
 run_status run.Write = 3
 run_status _ = 1
 
--- what standard error gains: one line, or where the words are refused, the text that goes with that
+-- what standard error gets: one line, or the text of refused arguments
 abbrev pub line_of : Stop → List ℕ
 line_of (Words text) = string_bytes text
 line_of NoMemory = memory_line
@@ -132,12 +132,12 @@ status_of (Run fault) = run_status fault
 status_of (Second line cause) = 1
 status_of (Foreign line cause) = 1
 
--- words that ask for nothing
+-- refused arguments
 abbrev pub stop_of : Refused (String Global) → Stop
 stop_of (refused.Words text) = Words text
 stop_of refused.NoMemory = NoMemory
 
--- of a run that reads the script of this name and writes its report
+-- an error of a run that reads the script of this name and writes its report
 abbrev pub run_stop : Bor (List ℕ) → RunFault → Stop
 run_stop script run.NoMemory = NoMemory
 run_stop script run.Read = Unread script
@@ -150,7 +150,7 @@ IsOfFiles NoMemory = Unit {0}
 IsOfFiles (Unread name) = Unit {0}
 IsOfFiles _ = ⊥
 
--- what is made of texts that were read ends only in these
+-- the output for files that were read ends only in these
 abbrev pub IsOfRun : Stop → Type 0
 IsOfRun NoMemory = Unit {0}
 IsOfRun (Run fault) = Unit {0}
@@ -158,13 +158,13 @@ IsOfRun (Second line cause) = Unit {0}
 IsOfRun (Foreign line cause) = Unit {0}
 IsOfRun _ = ⊥
 
--- a stop for a file that is not read names the file at which reading stopped
+-- a stop for a file that cannot be read names the file at which reading stopped
 abbrev pub NamesUnread : Option Contents → Bool → Opened → Opened → List (List ℕ) → Stop → Type 0
 NamesUnread None reads old new names stop = Unit {0}
 NamesUnread (Some file) reads old new names (Unread name) = StopsAt file reads old new names name.now
 NamesUnread (Some file) reads old new names _ = Unit {0}
 
--- where a stop says that a file is not read, it is so of that file's name
+-- if a stop says that a file cannot be read, this holds of that file's name
 abbrev pub LeavesUnread : (List ℕ → Type 0) → Stop → Type 0
 LeavesUnread Is (Unread name) = Is name.now
 LeavesUnread Is _ = Unit {0}

@@ -1,18 +1,18 @@
--- Files that say what they hold: the bytes behind each name, and the names opened so far.
+-- Files whose contents are known: the bytes behind each name, and the names opened so far.
 use Rattle.std.specs.Prelude.{ℕ, ◌≡◌, ◌⊎◌, Bool, true, List, [], ◌∷◌, ◌++◌, take, Option}
 use Rattle.std.specs.Prelude.{Some, None, is_some, IfSome, option_map}
 use Rattle.std.specs.List.{list_all}
 use Rattle.text_streams.specs.Reading.{IsEndless}
 
--- the bytes that each name opens to, or that it opens to nothing
+-- the bytes to which each name opens, or that there is no such file
 abbrev pub Contents : Type 0
 Contents = List ℕ → Option (List ℕ)
 
--- the names opened so far, where they are known
+-- the names opened so far, if they are known
 abbrev pub Opened : Type 0
 Opened = Option (List (List ℕ))
 
--- where the names opened are known still, these were opened last, one after the other, and no other
+-- if the opened names are still known, these were opened last, one after the other, and no other
 abbrev pub OpensAll : Opened → Opened → List (List ℕ) → Type 0
 OpensAll old new names = (new ≡ None) ⊎ (new ≡ option_map (λ opened. opened ++ names) old)
 
@@ -20,7 +20,7 @@ OpensAll old new names = (new ≡ None) ⊎ (new ≡ option_map (λ opened. open
 abbrev pub OpensInOrder : Opened → Opened → List (List ℕ) → Type 0
 OpensInOrder old new names = (k : ℕ) × OpensAll old new (take k names)
 
--- where the files say what they hold, a name opens to its bytes
+-- if the contents of the files are known, a name opens to its bytes
 abbrev pub Opens : {I : Type 0} → (I → Option (List ℕ)) → Option Contents → List ℕ → Option I → Type 0
 Opens remaining told name input = IfSome told (λ file. option_map remaining input ≡ option_map Some (file name))
 
@@ -28,8 +28,8 @@ Opens remaining told name input = IfSome told (λ file. option_map remaining inp
 abbrev pub all_open : Contents → List (List ℕ) → Bool
 all_open file names = list_all (λ name. is_some (file name)) names
 
--- of these names this one was opened last, and those before it open to bytes: reading stopped here,
--- which where no read fails it does only at a name that opens to nothing, or to bytes without an end
+-- of these names this one was opened last, and those before it open to bytes: reading stopped here. If no read fails, it
+-- stops only at a name without a file, or at bytes without an end
 pub record StopsAt (file : Contents) (reads : Bool) (old new : Opened) (names : List (List ℕ)) (name : List ℕ) : Type 0 where
   pub before : List (List ℕ)
   pub after : List (List ℕ)

@@ -1,4 +1,4 @@
--- What is printed of one port by a run.
+-- What a run prints of one port.
 use Rattle.std.specs.Prelude.{ℕ, ◌≡◌, List, ◌++◌, codes, filter, map, nat_eq, Option, Some, Ok}
 use Rattle.std.specs.List.{starts_with}
 use Rattle.line_parts.specs.Parts.{port_text}
@@ -27,12 +27,12 @@ APortsLinesAreItsEvents =
     → roster_of topology partitions ≡ Ok roster → port_with_guid roster.configuration.ports p ≡ Some port
     → lines_at port (report_text roster.configuration.ports events) ≡ map (line_text roster.configuration.ports) (events_at p events)
 
--- the commands of the ports near a port that a script gives, up to its first fault
+-- the commands of the ports near a port in a script, up to its first error
 abbrev pub near_commands : RosterState → ℕ → List ℕ → List Command
 near_commands roster p script =
     commands_of (is_near roster.configuration.ports p) (commands_before_fault roster.plan (lines script))
 
--- where two scripts give the same of these, runs of them print the same lines of that port, byte for byte
+-- if two scripts have the same of these, their runs print the same lines of that port, byte for byte
 abbrev pub PrintedLinesKeepPartitionsApart : Type 0
 PrintedLinesKeepPartitionsApart =
     (topology : List ℕ) (partitions : Option (List ℕ)) (stop : Option RunFault) (roster : RosterState) (p : ℕ) (port : SubnetPort)

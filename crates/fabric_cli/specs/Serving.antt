@@ -1,4 +1,4 @@
--- What a call answers, from its words, the bytes of its files, and what becomes of the fabric that they describe.
+-- The result of an invocation, from its arguments, the bytes of its files, and what becomes of the fabric that they describe.
 use Rattle.std.specs.Prelude.{ℕ, ◌≡◌, ◌≢◌, ◌⊎◌, Bool, true, List, [], Option, Some, None, is_some, option_map, unwrap_or, Vec}
 use Rattle.std.specs.Prelude.{codes, if◌then◌else◌, string_bytes, ◌++◌, IfOk, IfSome, Result, Ok, Err}
 use Rattle.std.specs.Io.KnownBytes.{Appends, Keeps}
@@ -78,8 +78,9 @@ use Rattle.fabric_cli.specs.Faults.{unread_line, unwritten_line}
 use Rattle.fabric_cli.specs.Files.{Contents, Opened, StopsAt}
 use Rattle.call_words.specs.Words.{Asking, Names, named_inspection, named_view, opened_for}
 
--- how a call ends: the words are refused, with this text where it is known; or a fault's status and line; or a whole output;
--- or a whole output that tells of what is not as it should be; or the line of a script's fault, behind what the lines before it tell
+-- how an invocation ends: the arguments are refused, with this text if it is known; or an error's status and line; or a
+-- whole output; or the whole audit of routes that are not safe; or the line of a script's error, after the report of the
+-- lines before it
 pub data Ending : Type 0 where
   refused : Option (List ℕ) → Ending
   faulted : ℕ → List ℕ → Ending
@@ -93,7 +94,7 @@ pub record Bytes : Type 0 where
   pub partitions : Option (List ℕ)
   pub work : Work (List ℕ) (List ℕ)
 
--- the work, with the bytes of its files; of a script that is to be run, which is open and not read, with these
+-- the work, with the bytes of its files; with these for a script that is to be run, which is open and not read
 abbrev pub task_work : {I : Type 0} → List ℕ → Task I → Work (List ℕ) (List ℕ)
 task_work script task.Check = work.Check
 task_work script (task.Shares port) = work.Shares (option_map (λ word. word.now) port)
@@ -110,25 +111,25 @@ texts_in script texts = record {
   work = task_work script texts.task;
 }
 
--- the bytes of the script that is open, where they are known, or none where none is
+-- the bytes of the open script, if they are known, or none if no script is open
 abbrev pub left_in : {I : Type 0} → (I → Option (List ℕ)) → Task I → Option (List ℕ)
 left_in remaining (task.Run name input) = remaining input
 left_in remaining _ = Some []
 
--- these bytes, where they are known
+-- these bytes, if they are known
 abbrev pub script_in : {I : Type 0} → (I → Option (List ℕ)) → Task I → List ℕ
 script_in remaining open_task = unwrap_or (left_in remaining open_task) []
 
--- the script of this name is open, and reading it stops only where a read of it may fail, or at bytes without an end
+-- the script of this name is open, and reading it stops only if a read of it may fail, or at bytes without an end
 abbrev pub IsOpenScript : {I : Type 0} → (I → Option (List ℕ)) → (I → Bool) → Task I → List ℕ → Type 0
 IsOpenScript remaining is_sure (task.Run name input) word = (word ≡ name.now) × (is_sure input ≡ true → IsEndless (remaining input))
 IsOpenScript remaining is_sure _ word = ⊥
 
--- these texts, to be judged
+-- these contents, to be checked
 abbrev pub texts_with : List ℕ → Option (List ℕ) → Work (List ℕ) (List ℕ) → Result Bytes Ending
 texts_with topology partitions work = Ok (record { topology = topology; partitions = partitions; work = work })
 
--- a name that opens to nothing is not read
+-- a name without a file cannot be read
 abbrev pub opened_bytes : List ℕ → Option (List ℕ) → Result (List ℕ) Ending
 opened_bytes name None = Err (faulted 3 (unread_line name))
 opened_bytes name (Some bytes) = Ok bytes
@@ -152,7 +153,7 @@ work_of file (work.Compare first second port) = do
   others ← bytes_of file second
   Ok (work.Compare bytes others port)
 
--- all files are read before any of them is judged
+-- all files are read before any of them is checked
 abbrev pub texts_of : Contents → Names → Result Bytes Ending
 texts_of file names = do
   topology ← bytes_of file names.topology
@@ -160,7 +161,7 @@ texts_of file names = do
   work ← work_of file names.work
   Ok (record { topology = topology; partitions = partitions; work = work })
 
--- the listing of a subnet, and the report of a script in it, unless this fault stops its fabric
+-- the listing of a subnet, and the report of a script in it, unless this error stops bring-up
 abbrev pub listed : List ℕ → Option (List ℕ) → Option RunFault → Result (List ℕ) RunFault
 listed topology partitions stop =
     up_from (roster_of topology partitions) stop >>= λ roster. Ok (listing_text roster.configuration)
@@ -169,7 +170,7 @@ abbrev pub reported : List ℕ → Option (List ℕ) → List ℕ → Option Run
 reported topology partitions script stop =
     report_of topology partitions script stop >>= λ told. Ok (report_text told.ports told.events)
 
--- ---- a script, whose lines are told one after the other: all of them, or those before the first that is at fault
+-- ---- a script, whose lines are reported one after the other: all of them, or those before the first with an error
 abbrev pub script_told : List ℕ → Result (List Command) (AtLine ScriptCause) → Ending
 script_told output (Ok commands) = complete output
 script_told output (Err at) = broken_off (script_line (script_code at.cause) at.line) output
@@ -187,16 +188,16 @@ comparison_text comparison =
     codes "scripts agree: "
     ++ (yes_or_no comparison.scripts_agree ++ (codes "\nevents equal: " ++ (yes_or_no comparison.events_equal ++ codes "\n")))
 
--- where there are two runs, they are compared so
+-- if there are two runs, they are compared so
 abbrev pub compared : Result TwoRunsState RunFault → Comparison → Result (List ℕ) RunFault
 compared given comparison = given >>= λ runs. Ok (comparison_text comparison)
 
--- ---- of a fault its line alone is printed, and an output comes whole
+-- ---- of an error only its line is printed, and an output is whole
 abbrev pub ending_by : Result (List ℕ) RunFault → Ending
 ending_by (Ok output) = complete output
 ending_by (Err fault) = faulted (run_status fault) (run_line fault)
 
--- the GUID of the port that a word names, if there is a word
+-- the GUID of the port that an argument names, if it is given
 abbrev pub asked_port : TopologyState → Option (List ℕ) → Result (Option ℕ) ScriptCause
 asked_port plan None = Ok None
 asked_port plan (Some word) = named_port plan word >>= λ guid. Ok (Some guid)
@@ -205,12 +206,12 @@ abbrev pub shares_told : List SubnetPort → Result (Option ℕ) ScriptCause →
 shares_told ports (Ok asked) = complete (shares_text asked ports)
 shares_told ports (Err cause) = faulted 1 (port_line (script_code cause))
 
--- the shares in a subnet: the texts are judged before the word for a port
+-- the shares in a subnet: the files are checked before the argument for a port
 abbrev pub shares_in : Result RosterState RunFault → Option (List ℕ) → Ending
 shares_in (Ok roster) port = shares_told roster.configuration.ports (asked_port roster.plan port)
 shares_in (Err fault) port = faulted (run_status fault) (run_line fault)
 
--- what changes from one subnet to the other: the second partition file is judged after the first
+-- what changes from one subnet to the other: the second partition file is checked after the first
 abbrev pub second_told : RunFault → Ending
 second_told (run.Partitions line cause) = faulted 1 (second_line (partitions_code cause) line)
 second_told fault = faulted (run_status fault) (run_line fault)
@@ -221,7 +222,7 @@ changes_in (Ok before) (Err fault) = second_told fault
 changes_in (Err fault) after = faulted (run_status fault) (run_line fault)
 
 -- ---- what the fabric of a subnet holds, by its routes
--- the way of a packet: the fabric is brought up, and a script read, before the word for its port is judged
+-- the path of a packet: the fabric is brought up, and a script read, before the argument for its port is checked
 abbrev pub traced : RosterState → BroughtUpState → (dlid p_key : ℕ) → Result PortRef ScriptCause → Ending
 traced roster up dlid p_key (Ok from) = complete (trace_text roster.plan.nodes up.fabric from dlid p_key)
 traced roster up dlid p_key (Err cause) = faulted 1 (port_line (script_code cause))
@@ -232,7 +233,7 @@ looked_at roster up Keys = complete (keys_text roster.plan.nodes roster.configur
 looked_at roster up (Trace port dlid p_key) = traced roster up dlid p_key (adapter_place roster.plan port)
 looked_at roster up Graph = complete (graph_text roster.plan roster.configuration up.routes up.fabric [])
 
--- what a script left of it, or the fault of that
+-- what a script left of it, or the script's error
 abbrev pub looked_after : RosterState → BroughtUpState → Inspection (List ℕ) → Result (List Command) (AtLine ScriptCause) → Ending
 looked_after roster up what (Ok commands) = looked_at roster up what
 looked_after roster up what (Err at) = faulted 1 (script_line (script_code at.cause) at.line)
@@ -249,7 +250,7 @@ abbrev pub inspected : Result RosterState RunFault → Inspection (List ℕ) →
 inspected (Ok roster) what script outcome = looked_in roster what script outcome
 inspected (Err fault) what script outcome = faulted (run_status fault) (run_line fault)
 
--- ---- a topology of what another program printed, which is of no subnet
+-- ---- a topology from the output of another program, without a subnet
 abbrev pub imported_as : Result (List ℕ) (AtLine ImportCause) → Ending
 imported_as (Ok text) = complete text
 imported_as (Err at) = faulted 1 (foreign_line (Import at.cause) at.line)
@@ -261,7 +262,7 @@ imported_from manager (Err at) = faulted 1 (foreign_line (Discovery at.cause) at
 abbrev pub imported : Option ℕ → List ℕ → Ending
 imported manager text = imported_from manager (discovery_of text)
 
--- ---- the routes that stand in the switches of a topology's fabric, which is not brought up
+-- ---- the LFTs of a topology's fabric, which is not brought up
 abbrev pub audit_ending : AuditState → Ending
 audit_ending found = if found.is_safe then complete found.text else warned found.text
 
@@ -269,7 +270,7 @@ abbrev pub audited_by : TopologyState → Result DumpState (AtLine DumpCause) �
 audited_by plan (Ok dump) = audit_ending (audit plan dump)
 audited_by plan (Err at) = faulted 1 (foreign_line (Dump at.cause) at.line)
 
--- the topology is judged before the dump
+-- the topology is checked before the dump
 abbrev pub audited_over : Result TopologyState (AtLine TopologyCause) → List ℕ → Ending
 audited_over (Ok plan) dump = audited_by plan (dump_of dump)
 audited_over (Err at) dump = faulted 1 (topology_line (topology_code at.cause) at.line)
@@ -277,8 +278,8 @@ audited_over (Err at) dump = faulted 1 (topology_line (topology_code at.cause) a
 abbrev pub audited : List ℕ → List ℕ → Ending
 audited topology dump = audited_over (topology_of topology) dump
 
--- ---- what the loss of cables would do: the fabric is brought up before the words for one are judged
--- of all cables, of the one that words name, or as a picture
+-- ---- what the loss of cables would do: the fabric is brought up before the arguments for one are checked
+-- of all cables, of the one between two given ports, or as a picture
 abbrev pub cut_judged : List ℕ → Result Cable ScriptCause → Ending
 cut_judged told (Ok cable) = complete told
 cut_judged told (Err cause) = faulted 1 (port_line (script_code cause))
@@ -292,31 +293,31 @@ abbrev pub cuts_in : Result RosterState RunFault → CutView (List ℕ) → List
 cuts_in (Ok roster) view told = cut_told roster.plan told view
 cuts_in (Err fault) view told = faulted (run_status fault) (run_line fault)
 
--- the picture, with the cables in red that the fabric can't do without
+-- the picture, with the cables in red that the fabric cannot do without
 pub record ShowsNeeded (roster : RosterState) (up : BroughtUpState) (told : List ℕ) : Type 0 where
   pub needed : List Bool
   pub are : AreNeeded roster.plan roster.plan.cables needed
   pub is : told ≡ graph_text roster.plan roster.configuration up.routes up.fabric needed
 
--- these routes brought the fabric up, and this is what is told of its cables
+-- these routes brought the fabric up, and this is printed about its cables
 abbrev pub TellsCuts : RosterState → BroughtUpState → CutView (List ℕ) → List ℕ → Type 0
 TellsCuts roster up All told = TellsAll roster.plan roster.configuration up.routes told
 TellsCuts roster up (One first second) told =
     IfOk (named_cable roster.plan first second) (λ cable. TellsOne roster.plan roster.configuration up.routes cable told)
 TellsCuts roster up Picture told = ShowsNeeded roster up told
 
--- where there is no fabric nothing is asked
+-- without a fabric this holds of nothing
 abbrev pub CutsAreTold : Result RosterState RunFault → Result BroughtUpState RunFault → CutView (List ℕ) → List ℕ → Type 0
 CutsAreTold (Ok roster) (Ok up) view told = TellsCuts roster up view told
 CutsAreTold _ _ view told = Unit {0}
 
 -- ---- all of it
--- what is found over a fabric, besides what it is: what two runs are compared as, and what is told of cables
+-- what depends on a fabric besides its state: the comparison of two runs, and what is printed about cables
 pub record Finding : Type 0 where
   pub comparison : Comparison
   pub cuts : List ℕ
 
--- by what becomes of the fabric: it is up, or this fault stops it; and by what is found over it
+-- by what becomes of the fabric: it is up, or this error stops bring-up; and by what depends on it
 abbrev pub ending_over : List ℕ → Option (List ℕ) → Work (List ℕ) (List ℕ) → Result BroughtUpState RunFault → Finding → Ending
 ending_over topology partitions work.Check outcome finding = ending_by (listed topology partitions (stop_of outcome))
 ending_over topology partitions (work.Shares port) outcome finding = shares_in (roster_of topology partitions) port
@@ -331,7 +332,7 @@ ending_over topology partitions (work.Run script) outcome finding =
 ending_over topology partitions (work.Compare first second port) outcome finding =
     ending_by (compared (two_runs_of topology partitions first second port (stop_of outcome)) finding.comparison)
 
--- shares and changes take no fabric
+-- shares and changes need no fabric
 abbrev pub Comes : List ℕ → Option (List ℕ) → Work (List ℕ) (List ℕ) → Result BroughtUpState RunFault → Finding → Type 0
 Comes topology partitions work.Check outcome finding = Turns (roster_of topology partitions) outcome
 Comes topology partitions (work.Shares port) outcome finding = Unit {0}
@@ -344,19 +345,19 @@ Comes topology partitions (work.Compare first second port) outcome finding =
     Turns (roster_of topology partitions) outcome
     × IfOk (two_runs_of topology partitions first second port (stop_of outcome)) (λ runs. Compares runs finding.comparison)
 
--- it is so of what comes of these texts and of their fabric
+-- this holds of the ending for these files and their fabric
 pub record ForTexts (texts : Bytes) (Is : Ending → Type 0) : Type 0 where
   pub outcome : Result BroughtUpState RunFault
   pub finding : Finding
   pub comes : Comes texts.topology texts.partitions texts.work outcome finding
   pub is : Is (ending_over texts.topology texts.partitions texts.work outcome finding)
 
--- it is so of how a call ends: over these texts, or in an ending that is known without them
+-- this holds of how an invocation ends: for these files, or in an ending that is known without them
 abbrev pub ForEnding : Result Bytes Ending → (Ending → Type 0) → Type 0
 ForEnding (Ok texts) Is = ForTexts texts Is
 ForEnding (Err ending) Is = Is ending
 
--- what is judged in a call that asks for this, where each name opens to the bytes that `file` says
+-- what is checked in an invocation that asks for this, if each name opens to the bytes of `file`
 abbrev pub judged_for : Contents → Asking → Result Bytes Ending
 judged_for file (Err shown) = Err (refused shown)
 judged_for file (Ok (Subnet names)) = texts_of file names
@@ -367,7 +368,7 @@ judged_for file (Ok (call.Audit topology dump)) = do
   Err (audited plan tables)
 judged_for file (Ok (Explain code)) = Err (complete (explained code))
 
--- what is to be done, whatever stands in its files
+-- what is to be done, whatever its files contain
 abbrev pub without_files : {W S : Type 0} → Work W S → Work W (Unit {0})
 without_files work.Check = work.Check
 without_files (work.Shares port) = work.Shares port
@@ -377,11 +378,11 @@ without_files (work.Cuts view) = work.Cuts view
 without_files (work.Run script) = work.Run tt
 without_files (work.Compare first second port) = work.Compare tt tt port
 
--- bytes for each of the files that are asked for, and for no other
+-- bytes for each of the files that are needed, and for no other
 abbrev pub AreFor : Names → Bytes → Type 0
 AreFor names texts = (is_some texts.partitions ≡ is_some names.partitions) × (without_files texts.work ≡ without_files names.work)
 
--- it is so where each file that is asked for had some bytes; one name that is asked for twice may have had two
+-- this holds if each needed file had some bytes; a name that is needed twice may have had two contents
 abbrev pub ForSomeBytes : Asking → (Result Bytes Ending → Type 0) → Type 0
 ForSomeBytes (Err shown) Is = Is (Err (refused shown))
 ForSomeBytes (Ok (Subnet names)) Is = (texts : Bytes) × AreFor names texts × Is (Ok texts)
@@ -389,15 +390,15 @@ ForSomeBytes (Ok (call.Import netdiscover manager)) Is = (text : List ℕ) × Is
 ForSomeBytes (Ok (call.Audit topology dump)) Is = (plan tables : List ℕ) × Is (Err (audited plan tables))
 ForSomeBytes (Ok (Explain code)) Is = Is (Err (complete (explained code)))
 
--- the text is the one that is known
+-- the text is the known one
 abbrev pub IsKnown : Option (List ℕ) → List ℕ → Type 0
 IsKnown shown text = IfSome shown (λ known. text ≡ known)
 
--- the contents grew by one text, which is the one that is known
+-- the contents grew by one text, which is the known one
 abbrev pub AppendsKnown : Option (List ℕ) → Option (List ℕ) → Option (List ℕ) → Type 0
 AppendsKnown shown old new = (text : List ℕ) × IsKnown shown text × Appends old new text
 
--- the exit status, and how the two outputs grow. Where the words are refused, standard error gains one text
+-- the exit status, and how the two outputs grow. If the arguments are refused, standard error gets one text
 abbrev pub Ends : Ending → ℕ → Option (List ℕ) → Option (List ℕ) → Option (List ℕ) → Option (List ℕ) → Type 0
 Ends (refused shown) status out out' err err' = (status ≡ 2) × Keeps out out' × AppendsKnown shown err err'
 Ends (faulted fault line) status out out' err err' = (status ≡ fault) × Keeps out out' × Appends err err' line
@@ -405,11 +406,11 @@ Ends (complete output) status out out' err err' = (status ≡ 0) × Appends out 
 Ends (warned output) status out out' err err' = (status ≡ 1) × Appends out out' output × Keeps err err'
 Ends (broken_off fault output) status out out' err err' = (status ≡ 1) × Appends out out' output × Appends err err' fault
 
--- so a call ends in which this is judged
+-- an invocation that checks this ends so
 abbrev pub EndsAs : Result Bytes Ending → ℕ → (out out' err err' : Option (List ℕ)) → Type 0
 EndsAs judged status out out' err err' = ForEnding judged (λ ending. Ends ending status out out' err err')
 
--- what goes to the output where all of it goes out
+-- what goes to standard output if all of it can be written
 abbrev pub output_in : Ending → List ℕ
 output_in (refused shown) = []
 output_in (faulted fault line) = []
@@ -417,13 +418,13 @@ output_in (complete output) = output
 output_in (warned output) = output
 output_in (broken_off fault output) = output
 
--- and this has gone out, whatever was refused: nothing, or a beginning of the output
+-- and this was written, whatever failed: nothing, or a beginning of the output
 abbrev pub AppendsSome : Result Bytes Ending → Option (List ℕ) → Option (List ℕ) → Type 0
 AppendsSome judged out out' = Keeps out out' ⊎ ForEnding judged (λ ending. AppendsPart out out' (output_in ending))
 
--- the line that is printed, whole or in part, where a call could not end so: that an output that may refuse
--- did not go out, whole or as far as a script was told; or the line of the fault itself, at which standard error
--- refused (after all of it was written too: a flush that fails looks so); where the words are refused, their text
+-- the line that is printed, completely or in part, if an invocation could not end so: that an output which may fail was not
+-- written, completely or up to a script's error; or the line of the error itself, at which standard error failed (also after
+-- all of it was written, if the flush fails); if the arguments are refused, the text of that
 abbrev pub IsLineOf : (out_is_sure err_is_sure : Bool) → Ending → List ℕ → Type 0
 IsLineOf out_is_sure err_is_sure (refused shown) line = IsKnown shown line × (err_is_sure ≢ true)
 IsLineOf out_is_sure err_is_sure (faulted status fault) line = (line ≡ fault) × (err_is_sure ≢ true)
@@ -432,12 +433,12 @@ IsLineOf out_is_sure err_is_sure (warned output) line = (line ≡ unwritten_line
 IsLineOf out_is_sure err_is_sure (broken_off fault output) line =
     ((line ≡ fault) × (err_is_sure ≢ true)) ⊎ ((line ≡ unwritten_line) × (out_is_sure ≢ true))
 
--- the line of a file at which reading stopped
+-- the line for a file at which reading stopped
 abbrev pub IsUnreadLine : Contents → Bool → Opened → Opened → List (List ℕ) → List ℕ → Type 0
 IsUnreadLine file reads old new names line = (name : List ℕ) × StopsAt file reads old new names name × (line ≡ unread_line name)
 
--- status 3: standard error has some beginning of a line, and all of it where it refuses nothing: the line
--- that says that memory, a file or the output was refused, or the line of a fault at which it refused itself
+-- status 3: standard error has some beginning of a line, and all of it if it does not fail: the line for out of memory, for a
+-- file that cannot be read or for output that cannot be written, or the line of an error at which it failed itself
 pub record IsRefused (file : Contents) (reads : Bool) (old new : Opened) (names : List (List ℕ))
     (judged : Result Bytes Ending) (out_is_sure err_is_sure : Bool) (err err' : Option (List ℕ)) : Type 0 where
   pub line : List ℕ
@@ -445,17 +446,17 @@ pub record IsRefused (file : Contents) (reads : Bool) (old new : Opened) (names 
       ⊎ (IsUnreadLine file reads old new names line ⊎ ForEnding judged (λ ending. IsLineOf out_is_sure err_is_sure ending line))
   pub told : Writes err_is_sure err err' line
 
--- why the output is not made, unless the machine refuses; no fault of a text or of its fabric has another status than 1
+-- why there is no output, unless the machine fails; every error of a file or of its fabric has status 1
 abbrev pub RunStops : Result Bytes Ending → RunFault → Type 0
 RunStops judged run.NoMemory = Unit {0}
 RunStops judged fault = (run_status fault ≡ 1) × ForEnding judged (λ ending. ending ≡ faulted 1 (run_line fault))
 
--- a fault of the second partitions, which only they have
+-- an error of the second partition file, which has no other
 abbrev pub second_stop : RunFault → Stop
 second_stop (run.Partitions line cause) = Second line cause
 second_stop fault = Run fault
 
--- a fault of what another program printed
+-- an error in the output of another program
 abbrev pub discovery_stop : DiscoveryFault → Stop
 discovery_stop discovery.NoMemory = NoMemory
 discovery_stop (discovery.At line cause) = Foreign line (Discovery cause)
@@ -464,7 +465,7 @@ abbrev pub import_stop : ImportError → Stop
 import_stop import.NoMemory = NoMemory
 import_stop (import.At line cause) = Foreign line (Import cause)
 
--- a fault of a topology whose fabric is not brought up
+-- an error of a topology whose fabric is not brought up
 abbrev pub topology_stop : TopoFault → Stop
 topology_stop topology.NoMemory = NoMemory
 topology_stop (topology.At line cause) = Run (run.Topology line cause)
@@ -473,7 +474,7 @@ abbrev pub dump_stop : DumpFault → Stop
 dump_stop dump.NoMemory = NoMemory
 dump_stop (dump.At line cause) = Foreign line (Dump cause)
 
--- words are refused, with this text
+-- arguments are refused, with this text
 abbrev pub IsRefusal : Ending → List ℕ → Type 0
 IsRefusal (refused shown) text = IsKnown shown text
 IsRefusal _ text = ⊥
@@ -487,12 +488,12 @@ Stops judged (Run fault) = RunStops judged fault
 Stops judged (Second line cause) = ForEnding judged (λ ending. ending ≡ faulted 1 (second_line (partitions_code cause) line))
 Stops judged (Foreign line cause) = ForEnding judged (λ ending. ending ≡ faulted 1 (foreign_line cause line))
 
--- of a stop its line is printed, and with its status where the line can go out
+-- of a stop its line is printed, and with its status if the line can be written
 pub record TellsStop (stop : Stop) (answer : ℕ) (is_sure : Bool) (err err' : Option (List ℕ)) : Type 0 where
   pub told : Writes is_sure err err' (line_of stop)
   pub status : is_sure ≡ true → answer ≡ status_of stop
 
--- files are read to their end before anything is said of them
+-- files are read to their end before anything is printed about them
 abbrev pub IsToldStop : Stop → Type 0
 IsToldStop (Words text) = Unit {0}
 IsToldStop (Run fault) = Unit {0}
@@ -504,16 +505,16 @@ abbrev pub IsTold : {X : Type 0} → Result X Stop → Type 0
 IsTold (Ok output) = Unit {0}
 IsTold (Err stop) = IsToldStop stop
 
--- what is made comes as this ending, and a stop by its line
+-- an output has this ending, and a stop its line
 abbrev pub EndsIn : {X : Type 0} → (X → Ending) → Result Bytes Ending → Result X Stop → Type 0
 EndsIn view judged (Ok made) = ForEnding judged (λ ending. ending ≡ view made)
 EndsIn view judged (Err stop) = Stops judged stop
 
--- an output comes as it is
+-- an output as it is
 abbrev pub ComesTo : {X : Type 0} → (X → List ℕ) → Result Bytes Ending → Result X Stop → Type 0
 ComesTo view judged result = EndsIn (λ output. complete (view output)) judged result
 
--- no cable is between the ports that words name, whatever would be told of one
+-- no cable connects the given ports, whatever would be printed about one
 pub record NamesNoCable (plan : TopologyState) (view : CutView (List ℕ)) (stop : Stop) : Type 0 where
   pub cause : ScriptCause
   pub stop_is : stop ≡ Run (run.Port cause)
@@ -522,13 +523,13 @@ pub record NamesNoCable (plan : TopologyState) (view : CutView (List ℕ)) (stop
   pub view_is : view ≡ One first second
   pub named : named_cable plan first second ≡ Err cause
 
--- over a fabric that is up its cables are told of, unless memory is refused or no cable is named
+-- the cables of a fabric that is up are reported, unless an allocation fails or no cable is named
 abbrev pub CutComes : RosterState → BroughtUpState → CutView (List ℕ) → Result (Vec ℕ Global) Stop → Type 0
 CutComes roster up view (Ok text) = TellsCuts roster up view text.items × (cut_told roster.plan text.items view ≡ complete text.items)
 CutComes roster up view (Err stop) = (stop ≡ NoMemory) ⊎ NamesNoCable roster.plan view stop
 
 -- ---- and with the output written
--- a whole output, by how it is answered
+-- a whole output, by its result
 abbrev pub ending_of : Answer → List ℕ → Ending
 ending_of Complete output = complete output
 ending_of Warned output = warned output
@@ -537,25 +538,25 @@ abbrev pub status_in : Answer → ℕ
 status_in Complete = 0
 status_in Warned = 1
 
--- all of it has gone out, and is answered so
+-- all of it was written, with this result
 abbrev pub GoesOut : Answer → Ending → (out out' : Option (List ℕ)) → Type 0
 GoesOut Complete (complete output) out out' = Appends out out' output
 GoesOut Warned (warned output) out out' = Appends out out' output
 GoesOut _ _ out out' = ⊥
 
--- a beginning of it has
+-- a beginning of it was
 abbrev pub GoesPartly : Ending → (out out' : Option (List ℕ)) → Type 0
 GoesPartly (complete output) out out' = AppendsPart out out' output
 GoesPartly (warned output) out out' = AppendsPart out out' output
 GoesPartly (broken_off fault output) out out' = AppendsPart out out' output
 GoesPartly _ out out' = ⊥
 
--- it ends with this stop, behind what has gone out
+-- it ends with this stop, after what was written
 abbrev pub BreaksOff : Stop → Ending → (out out' : Option (List ℕ)) → Type 0
 BreaksOff stop (broken_off fault output) out out' = (line_of stop ≡ fault) × (status_of stop ≡ 1) × Appends out out' output
 BreaksOff stop _ out out' = ⊥
 
--- it stops, with the output written as far as it went
+-- it stops, with the output up to there written
 abbrev pub StopsBehind : Result Bytes Ending → Stop → (out_is_sure : Bool) → (out out' : Option (List ℕ)) → Type 0
 StopsBehind judged NoMemory out_is_sure out out' = AppendsSome judged out out'
 StopsBehind judged (Unread name) out_is_sure out out' = AppendsSome judged out out'
@@ -563,16 +564,16 @@ StopsBehind judged Unwritten out_is_sure out out' = (out_is_sure ≢ true) × Fo
 StopsBehind judged stop out_is_sure out out' =
     (Stops judged stop × Keeps out out') ⊎ ForEnding judged (λ ending. BreaksOff stop ending out out')
 
--- it is answered so, with the output written: all of it, or as far as it went
+-- it has this result, with the output written: all of it, or up to the stop
 abbrev pub Answers : Result Bytes Ending → Result Answer Stop → (out_is_sure : Bool) → (out out' : Option (List ℕ)) → Type 0
 Answers judged (Ok answer) out_is_sure out out' = ForEnding judged (λ ending. GoesOut answer ending out out')
 Answers judged (Err stop) out_is_sure out out' = StopsBehind judged stop out_is_sure out out'
 
--- it is so of some script, and of this one where its bytes are known
+-- this holds of some script, and of this one if its bytes are known
 abbrev pub OfScript : Option (List ℕ) → (List ℕ → Type 0) → Type 0
 OfScript known Is = (script : List ℕ) × IfSome known (λ all. script ≡ all) × Is script
 
--- ---- of a call that asks for this, where the files say what they hold
+-- ---- of an invocation that asks for this, if the contents of the files are known
 abbrev pub EndsFor : Asking → Option Contents → ℕ → (out out' err err' : Option (List ℕ)) → Type 0
 EndsFor asked told status out out' err err' = IfSome told (λ file. EndsAs (judged_for file asked) status out out' err err')
 

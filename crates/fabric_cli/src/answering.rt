@@ -1,5 +1,5 @@
-//! What is answered of texts: an output that is made whole and then written, or the report of a script, which is written
-//! while the script is read.
+//! The output for the files: made completely and then written, or the report of a script, which is written while the
+//! script is read.
 
 ghost use Rattle.std.specs.Prelude.{◌≡◌, true, Ok, Result, List, ℕ, option_copied, option_map, IfErr};
 ghost use Rattle.call_words.specs.declared.call.Work.TheVariants as work;
@@ -16,12 +16,12 @@ use std::alloc::Global;
 use subnet_core::run_stream;
 use text_streams::{Output, Reader, write_whole};
 
-/// How a call is answered whose output is written.
+/// The result once the output is written.
 #[derive(Clone, Copy)]
 pub enum Answer {
-    /// The output says all.
+    /// Success.
     Complete,
-    /// What was judged is not as it should be, as the output tells.
+    /// The routes that were judged are not safe, as the output says.
     Warned,
 }
 
@@ -37,7 +37,7 @@ impl Answer {
     }
 }
 
-/// Writes what is asked for of these texts.
+/// Writes the output for these files.
 pub fn answered_of_texts<'a, I: Reader + Drop, O: Output>(
     alloc: Global,
     texts: Texts<'a, I>,
@@ -83,7 +83,7 @@ pub fn answered_of_texts<'a, I: Reader + Drop, O: Output>(
     }
 }
 
-/// Writes an output that is made.
+/// Writes an output.
 pub fn written<'a, O: Output>(
     out: &mut O,
     made: Result<Vec<u8>, Stop<'a>>,
@@ -98,7 +98,7 @@ pub fn written<'a, O: Output>(
     }
 }
 
-/// Writes an audit that is made.
+/// Writes an audit.
 pub fn written_audit<'a, O: Output>(
     out: &mut O,
     made: Result<Audit, Stop<'a>>,
@@ -123,7 +123,7 @@ fn answer_of(audit: &Audit) -> Answer
     }
 }
 
-/// Writes an output that is answered so.
+/// Writes an output that has this result.
 fn written_as<'a, O: Output>(out: &mut O, text: &[u8], answer: Answer) -> Result<Answer, Stop<'a>>
     ensures exact { (judged : Result Bytes Ending) → ForEnding judged (λ ending. ending ≡ ending_of answer text.now)
         → Answers judged result (O.is_sure out.old) (O.contents out.old) (O.contents out.new) }
@@ -157,7 +157,7 @@ fn streamed<'a, R: Reader, O: Output>(
     }
 }
 
-/// The bytes, if there are any to read.
+/// The bytes, if there is a file.
 fn slice_of(bytes: &Option<Vec<u8>>) -> Option<&[u8]>
     ensures { option_copied result ≡ option_map (λ items. items.items) bytes.now }
 {

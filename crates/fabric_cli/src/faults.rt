@@ -1,4 +1,4 @@
-//! Why a call does not complete, and the line that says so.
+//! Errors of the program: the line of each, and its exit status.
 
 ghost use Rattle.std.specs.Prelude.{◌≡◌, ◌++◌, IfOk, OnOk, option_map};
 ghost use Rattle.std.specs.Option.{option_map_or};
@@ -19,60 +19,60 @@ use subnet_core::{RunFault, ScriptCause};
 use sweep::SweepFault;
 use topology_import::ImportCause;
 
-/// The exit status of a call that completes.
+/// The exit status of success.
 pub const COMPLETE: u8 = 0;
-/// The exit status of a fault in a file, and of an output that tells of what is not as it should be.
+/// The exit status of an error in a file, and of an audit of routes that are not safe.
 pub const FAULT: u8 = 1;
-/// The exit status where the words are refused.
+/// The exit status if the arguments are refused.
 pub const WORDS_REFUSED: u8 = 2;
-/// The exit status where the machine refuses: memory, a file, or the output.
+/// The exit status if the machine fails: out of memory, a file that cannot be read, or output that cannot be written.
 pub const REFUSED: u8 = 3;
 
-/// What standard error gains where memory was refused.
+/// The line for out of memory.
 pub const MEMORY_LINE: &str = "fault memory\n";
 
-/// Why a call does not complete.
+/// Why the program stops.
 #[derive(Drop)]
 pub enum Stop<'a> {
-    /// The words are refused, or help or the version is asked for: the text that says so.
+    /// The arguments are refused, or help or the version is requested: the text of that.
     Words(String),
-    /// Memory was refused.
+    /// Out of memory.
     NoMemory,
-    /// The file of this name is not read.
+    /// The file of this name cannot be read.
     Unread(&'a str),
-    /// The output does not go out whole.
+    /// The output cannot be written completely.
     Unwritten,
-    /// A text faults.
+    /// A file has an error, or the fabric cannot be brought up.
     Run(RunFault),
-    /// The second partition file has a fault.
+    /// The second partition file has an error.
     Second {
-        /// The line of the fault's place, counted from 1.
+        /// The line of the error, from 1.
         line: usize,
         /// What is wrong there.
         cause: PartitionCause,
     },
-    /// What another program printed has a fault, or is of nothing that is printed here.
+    /// The output of another program has an error, or describes nothing that is printed here.
     Foreign {
-        /// The line of the fault's place, counted from 1; 0 where it is of no line.
+        /// The line of the error, from 1; 0 if it belongs to no line.
         line: usize,
         /// What is wrong there.
         cause: ForeignCause,
     },
 }
 
-/// What is wrong with a text that another program printed.
+/// What is wrong with the output of another program.
 #[derive(Clone, Copy)]
 pub enum ForeignCause {
-    /// With what `ibnetdiscover` printed.
+    /// In the output of `ibnetdiscover`.
     Discovery(DiscoveryCause),
-    /// No topology is made of it.
+    /// No topology describes it.
     Import(ImportCause),
-    /// With linear forwarding tables as they were dumped.
+    /// In dumped LFTs.
     Dump(DumpCause),
 }
 
 impl<'a> Stop<'a> {
-    /// Words ask for nothing.
+    /// The stop for refused arguments.
     pub fn of_words(refused: Refused<String>) -> Self
         ensures { result ≡ stop_of refused }
     {
@@ -82,7 +82,7 @@ impl<'a> Stop<'a> {
         }
     }
 
-    /// The stop for a fault of a run that reads the script of this name and writes its report.
+    /// The stop for an error of a run that reads the script of this name and writes its report.
     pub fn of_run(script: &'a str, fault: RunFault) -> Self
         ensures { result ≡ run_stop script.entry fault }
     {
@@ -106,7 +106,7 @@ impl<'a> Stop<'a> {
         }
     }
 
-    /// What standard error gains.
+    /// The line on standard error.
     pub fn line(&self, alloc: Global) -> Result<Vec<u8>, AllocError>
         ensures { IfOk result (λ text. text.items ≡ line_of self.now) }
     {
@@ -256,7 +256,7 @@ fn dump_line(alloc: Global, code: &str, line: usize) -> Result<Vec<u8>, AllocErr
     Ok(format!(in alloc; "fault {code} dump line {line}\n")?.into_bytes())
 }
 
-/// The line of a port's GUID and of that which its adapter would have.
+/// The line with a port's GUID and the one that its CA would have.
 fn guids_line(alloc: Global, line: usize, port: u64, guid: u64) -> Result<Vec<u8>, AllocError>
     ensures { IfOk result (λ text. text.items ≡ guids_line line port guid) }
 {

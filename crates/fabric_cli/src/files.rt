@@ -1,4 +1,4 @@
-//! Where the program's files come from.
+//! The source of the program's files.
 
 ghost use Rattle.fabric_cli.specs.Files.{Contents, Opens, OpensAll};
 ghost use Rattle.std.specs.Prelude.{◌≡◌, List, [], ◌∷◌, ℕ, Bool, true, false, Option, None, IfSome};
@@ -6,13 +6,13 @@ ghost use Rattle.std.specs.Prelude.{◌≡◌, List, [], ◌∷◌, ℕ, Bool, t
 use std::{fs, rt};
 use text_streams::Reader;
 
-/// A place that opens names to readers.
+/// A source that opens names to readers.
 ///
-/// Its ghost members are what a contract may know of it: `told` is which bytes each name opens to, or
-/// that it opens to nothing; `opened` the names opened so far. Each may be `None`: nothing is known, or
+/// Its ghost members are what a contract may know of it: `told` says to which bytes each name opens, or
+/// that there is no such file; `opened` has the names opened so far. Each may be `None`: nothing is known, or
 /// the names could not be kept. `reads` is whether no read of any of the files fails.
 pub trait Files {
-    /// What an opened file is read by.
+    /// The reader of an open file.
     type Input: Reader + Drop;
 
     ghost told: { Self → Option Contents };
@@ -21,7 +21,7 @@ pub trait Files {
 
     ghost reads: { Self → Bool };
 
-    /// Opens a name, or answers `None` where there is no such file to read.
+    /// Opens a name, or returns `None` if there is no such file to read.
     fn open(&mut self, name: &str) -> Option<Self::Input>
         ensures noted { OpensAll (opened self.old) (opened self.new) (name.now ∷ []) }
         ensures same { told self.new ≡ told self.old }
@@ -30,14 +30,14 @@ pub trait Files {
         ensures bytes { Opens Self.Input.remaining (told self.old) name.now result };
 }
 
-/// The machine's files. Nothing is known of them.
+/// The machine's files. Contracts know nothing of their contents.
 #[derive(Drop)]
 pub struct MachineFiles<'a, R: rt::Files> {
     rt: &'a R,
 }
 
 impl<'a, R: rt::Files> MachineFiles<'a, R> {
-    /// The files that a runtime opens.
+    /// The files that the runtime opens.
     pub fn new(rt: &'a R) -> Self
         ensures { result.rt ≡ rt.entry }
     {

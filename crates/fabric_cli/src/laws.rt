@@ -1,5 +1,5 @@
-//! That the program's codes are explained, by which names it asks for files, what a run of a script ends in, and on what the
-//! lines of a port depend that it prints.
+//! Laws: the program's codes are explained; by which names it opens files; how a run of a script ends; on what the printed
+//! lines of a port depend.
 
 ghost use Rattle.std.specs.Prelude.{◌≡◌};
 ghost use Rattle.data_packet.specs.Refusal.{code_of as refusal_code};
@@ -9,27 +9,26 @@ ghost use Rattle.fabric_cli.specs.Laws.{FilesThatAgreeAreJudgedAlike, OneEndingC
 ghost use Rattle.fabric_cli.specs.Printed.{APortsLinesAreItsEvents, PrintedLinesKeepPartitionsApart};
 ghost use Rattle.fabric_cli.specs.declared.faults.Stop.{Stop as AnyStop};
 
-/// Behind `fault`, in every line that is printed where a call does not complete, stands a code that `fabric explain`
-/// explains; and so is every code for which a port refuses a packet in a report. Where `clap` refuses the words, the
-/// text has no code.
+/// Every line that is printed for an error has after `fault` a code that `fabric explain` explains. It also explains every
+/// code for which a port refuses a packet in a report. If `clap` refuses the arguments, the text has no code.
 pub fn every_code_that_is_told_is_explained()
     ensures faults { (stop : AnyStop) → NamesCode stop }
     ensures refusals { (refusal : AnyRefusal) → IsExplained (refusal_code refusal) }
 {}
 
-/// What is judged depends on the bytes behind those names alone that are asked for, each as it stands in the words
-/// (`files_are_named_as_given` of `call_words`): files that agree on these names are judged alike.
+/// The result depends only on the bytes of the files that are needed, each by its name in the arguments
+/// (`files_are_named_as_given` of `call_words`): two sources of files that agree on these names have the same result.
 pub fn files_that_agree_are_judged_alike()
     ensures { FilesThatAgreeAreJudgedAlike }
 {}
 
-/// A run whose script is carried out while it is read ends as one that is reported once its whole script is read: in the
-/// same report, or at the same fault; of a script with a fault the lines before it are told first.
+/// A run that carries out its script while it reads it ends as one that reads the whole script first: with the same report,
+/// or with the same error, after the report of the lines before it.
 pub fn runs_end_as_reports()
     ensures { RunsEndAsReports }
 {}
 
-/// In a report the lines that begin with the name of a port, and a blank, are those of its own events: one for each, in order.
+/// In a report the lines that begin with the name of a port and a blank are those of its own events: one for each, in order.
 pub fn a_ports_lines_are_its_events()
     ensures { APortsLinesAreItsEvents }
 {}
@@ -40,8 +39,8 @@ pub fn printed_lines_keep_partitions_apart()
     ensures { PrintedLinesKeepPartitionsApart }
 {}
 
-/// What is asked of a subnet, but for what its fabric holds and what the loss of a cable would do to it, ends in one way: its
-/// status and both its outputs, want of memory and refused files aside, are one function of the words and of the texts.
+/// Commands on a subnet, except those that look at its fabric or at the loss of a cable, have one result: unless the status
+/// is 3, the status and both outputs are one function of the arguments and of the files' contents.
 pub fn one_ending_comes_of_texts()
     ensures { OneEndingComesOfTexts }
 {}

@@ -1,15 +1,7 @@
 //! What the program `fabric` does.
 //!
-//! `fabric check TOPO PARTS` brings up the subnet of a topology under a partition file, and lists its
-//! ports and the members of its partitions. `fabric shares TOPO PARTS [PORT]` lists who may talk to whom in
-//! it, and `fabric diff TOPO PARTS PARTS2` what another partition file changes. `fabric tables TOPO PARTS`, `fabric keys
-//! TOPO PARTS` and `fabric trace TOPO PARTS PORT DLID PKEY` print what its fabric holds, and the way of a packet through
-//! that, `fabric graph TOPO PARTS` a picture of it, and `fabric cuts TOPO PARTS` what the loss of each of its cables would
-//! do. `fabric run TOPO PARTS SCRIPT` runs a script of commands in it, and prints what its ports receive; `fabric compare`
-//! compares two scripts for a port. `fabric import NETDISCOVER` makes a topology of a real fabric, and `fabric audit TOPO
-//! DUMP` judges the routes that stand in one. `fabric explain CODE` says what the code of a fault or a refusal means.
-//! [`serve`] is the one call: it does all the work, over any words, any files and any two writers,
-//! and its contract says what it answers of the words and the bytes alone.
+//! `docs/FORMATS.md` has the commands. [`serve`] is the one call: it does all the work, for any arguments, any files and any
+//! two writers, and its contract says what the status and both outputs are, from the arguments and the bytes alone.
 #![tactic(auto)]
 
 mod answering;

@@ -1,4 +1,4 @@
-//! What is printed of texts that were read.
+//! What is printed for files that were read.
 
 ghost use Rattle.std.specs.Prelude.{◌≡◌, Err, Ok, Some, None, option_copied, option_map, IfErr, IfOk, IsErr};
 ghost use Rattle.cable_cuts.specs.Fate.{HaveBroughtUp};
@@ -52,7 +52,7 @@ pub fn listed<'a>(
     }
 }
 
-/// The shares in a subnet, of one port alone where a word names it.
+/// The shares in a subnet, of one port alone if it is given.
 pub fn shared<'a>(
     alloc: Global,
     topology: &[u8],
@@ -79,7 +79,7 @@ fn shares_in<'a>(alloc: Global, roster: &Roster, port: Option<&str>) -> Result<V
     }
 }
 
-/// The GUID of the port that a word names, if there is a word.
+/// The GUID of the port that an argument names, if it is given.
 fn asked_port(roster: &Roster, port: Option<&str>) -> Result<Option<u64>, ScriptCause>
     ensures { result ≡ asked_port roster.now.plan (option_map (λ word. word.now) port.entry) }
 {
@@ -89,7 +89,7 @@ fn asked_port(roster: &Roster, port: Option<&str>) -> Result<Option<u64>, Script
     }
 }
 
-/// What the second partitions in place of the first change.
+/// What changes if the second partition file replaces the first.
 pub fn changed<'a>(
     alloc: Global,
     topology: &[u8],
@@ -126,7 +126,7 @@ fn changes_from<'a>(
     }
 }
 
-/// The stop for a fault of a subnet with the second partitions: the topology is the same.
+/// The stop for an error of a subnet with the second partition file: the topology is the same.
 fn second_stop<'a>(fault: RunFault) -> Stop<'a>
     ensures told { result ≡ second_stop fault }
     ensures fault { IsOfRun result }
@@ -172,7 +172,7 @@ fn looked_at<'a>(
     }
 }
 
-/// The forwarding tables, with the paths of the sweep that brought the fabric up.
+/// The LFTs and MFTs, with the directed routes of the discovery that brought the fabric up.
 fn tabled<'a>(alloc: Global, subnet: &Subnet) -> Result<Vec<u8>, Stop<'a>>
     ensures exact { ComesTo (λ text. text.items) (Err (looked_at subnet.now.roster (up_in subnet.now) IsTables)) result }
     ensures fault { IfErr result IsOfRun }
@@ -183,7 +183,7 @@ fn tabled<'a>(alloc: Global, subnet: &Subnet) -> Result<Vec<u8>, Stop<'a>>
     text_or_stop(tables_text(alloc, roster.topology(), ports, graph, subnet.fabric()))
 }
 
-/// The key tables.
+/// The P_Key tables.
 fn keyed<'a>(alloc: Global, subnet: &Subnet) -> Result<Vec<u8>, Stop<'a>>
     ensures exact { ComesTo (λ text. text.items) (Err (looked_at subnet.now.roster (up_in subnet.now) IsKeys)) result }
     ensures fault { IfErr result IsOfRun }
@@ -209,7 +209,7 @@ fn drawn<'a>(alloc: Global, subnet: &Subnet) -> Result<Vec<u8>, Stop<'a>>
     ))
 }
 
-/// The way of a packet from the port that a word names.
+/// The path of a packet from the port that an argument names.
 fn traced<'a>(
     alloc: Global,
     subnet: &Subnet,
@@ -295,7 +295,7 @@ fn cut_of<'a>(
     }
 }
 
-/// The picture with the cables in red that the fabric can't do without.
+/// The picture with the cables in red that the fabric cannot do without.
 fn needed_drawn<'a>(alloc: Global, subnet: &Subnet) -> Result<Vec<u8>, Stop<'a>>
     requires { HaveBroughtUp subnet.now.roster.plan subnet.now.routes }
     ensures exact { CutComes subnet.now.roster (up_in subnet.now) CutPicture result }
@@ -315,7 +315,7 @@ fn needed_drawn<'a>(alloc: Global, subnet: &Subnet) -> Result<Vec<u8>, Stop<'a>>
     ))
 }
 
-/// What two scripts in a subnet have in common for the port that a word names.
+/// The comparison of two scripts for the port that an argument names.
 pub fn compared<'a>(
     alloc: Global,
     topology: &[u8],
@@ -334,7 +334,7 @@ pub fn compared<'a>(
     }
 }
 
-/// A topology of what `ibnetdiscover` printed, with the subnet manager on the port of that GUID, if one is given.
+/// A topology from what `ibnetdiscover` printed, with the SM on the port of that GUID, if one is given.
 pub fn imported<'a>(
     alloc: Global,
     netdiscover: &[u8],
@@ -389,7 +389,7 @@ fn import_stop<'a>(error: ImportError) -> Stop<'a>
     }
 }
 
-/// What an audit finds of the tables that a dump shows over a topology.
+/// The audit of a dump's LFTs for a topology.
 pub fn audited<'a>(alloc: Global, topology: &[u8], dump: &[u8]) -> Result<Audit, Stop<'a>>
     ensures exact { EndsIn audit_ending (Err (audited topology.now dump.now)) result }
     ensures fault { IfErr result IsOfRun }
@@ -448,7 +448,7 @@ fn yes_or_no(truth: bool) -> &'static str
     if truth { "yes" } else { "no" }
 }
 
-/// A text that is made, or that memory for it is refused.
+/// A text, or out of memory.
 pub fn text_or_stop<'a>(text: Result<Vec<u8>, AllocError>) -> Result<Vec<u8>, Stop<'a>>
     ensures made { IfOk result (λ made. text ≡ Ok made) }
     ensures fault { IfErr result (λ stop. (stop ≡ NoMemory) × IsErr text) }

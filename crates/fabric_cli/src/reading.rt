@@ -1,4 +1,4 @@
-//! Files opened, and read to their end.
+//! Files that are opened, and read to their end.
 
 ghost use Rattle.std.specs.Prelude.{ℕ, ◌≡◌, true, List, [], ◌∷◌, Option, Some, IfOk, IfErr, IfSome, OnOk, option_map};
 ghost use Rattle.fabric_cli.specs.Files.{OpensAll, OpensInOrder};
@@ -9,7 +9,7 @@ use crate::files::Files;
 use std::alloc::Global;
 use text_streams::read_to_end;
 
-/// What a named file is read by, which is opened once.
+/// The reader of a named file, which is opened once.
 pub fn open_file<'a, F: Files>(files: &mut F, name: &'a str) -> Result<F::Input, Stop<'a>>
     ensures opened { OpensAll (F.opened files.old) (F.opened files.new) (name.entry.now ∷ []) }
     ensures same { F.told files.new ≡ F.told files.old }

@@ -1,4 +1,4 @@
-//! The program's work, over any words, any files and any two writers.
+//! The program's work, for any arguments, any files and any two writers.
 
 ghost use Rattle.std.specs.Prelude.{◌≡◌, ◌≢◌, ◌⊎◌, ◌∷◌, [], Ok, IfErr, IfSome};
 ghost use Rattle.std.specs.Io.KnownBytes.{Appends};
@@ -25,8 +25,8 @@ use std::io;
 use std::process::ExitCode;
 use text_streams::{Output, write_whole};
 
-/// Does what the words of the machine ask for, as [`serve`] does, and answers the exit status; words that are not text
-/// are refused.
+/// Does what the arguments of the process ask for, as [`serve`] does, and returns the exit status; arguments that are not
+/// text are refused.
 pub fn serve_given<F: Files, O: Output, E: Output>(
     alloc: Global,
     given: io::Result<Args>,
@@ -51,12 +51,12 @@ pub fn serve_given<F: Files, O: Output, E: Output>(
     }
 }
 
-/// Does what the words ask for, the first of them the program's own name, and answers the exit
-/// status: 0 where the whole output went to `out`; 1 where a file has a fault, 2 where the words are
-/// refused, and 3 where memory, a file or a writer refuses, as `err` is to say.
+/// Does what the arguments ask for, the first of them the program's own name, and returns the exit status: 0 if the whole
+/// output went to `out`; 1 if a file has an error or routes are not safe; 2 if the arguments are refused; 3 if the program
+/// is out of memory, a file cannot be read or output cannot be written. `err` gets one line, unless it fails itself.
 ///
-/// The files are opened in the order of the words, and each is read to its end, before any is judged, but for a script that
-/// is run: that is opened then, and carried out line by line while it is read.
+/// The files are opened in the order of the arguments, and each is read to its end before any is checked, except a script
+/// that is run: that is opened then, and carried out line by line while it is read.
 pub fn serve<F: Files, O: Output, E: Output>(
     alloc: Global,
     words: &[String],
@@ -77,8 +77,8 @@ pub fn serve<F: Files, O: Output, E: Output>(
     serve_by(alloc, &Clap, words, files, out, err)
 }
 
-/// Does what the words ask for, as [`serve`] does, by any parser. Where that refuses the words, `err` is shown the text of
-/// its error: of a parser whose texts are known the contract says which that is.
+/// Does what the arguments ask for, as [`serve`] does, with any parser. If that refuses the arguments, `err` gets the text
+/// of its error; for a parser whose texts are known the contract says which one.
 pub fn serve_by<P: Parser, F: Files, O: Output, E: Output>(
     alloc: Global,
     parser: &P,
@@ -103,8 +103,8 @@ pub fn serve_by<P: Parser, F: Files, O: Output, E: Output>(
     }
 }
 
-/// Writes why a call does not complete, and answers the exit status. Where memory is refused, that is
-/// written, and where the whole line does not go out, the status is that of output not written.
+/// Writes the line of an error, and returns the exit status. If an allocation fails, it writes that line instead; if the
+/// whole line cannot be written, the status is that of output that cannot be written.
 fn told_stop<E: Output>(alloc: Global, stop: &Stop<'_>, err: &mut E) -> u8
     ensures whole { result ≢ 3
         → (result ≡ status_of stop.now) × Appends (E.contents err.old) (E.contents err.new) (line_of stop.now) }
@@ -126,7 +126,7 @@ fn told_stop<E: Output>(alloc: Global, stop: &Stop<'_>, err: &mut E) -> u8
     }
 }
 
-/// Writes what the words ask for.
+/// Writes what the arguments ask for.
 fn answered<'a, P: Parser, F: Files, O: Output>(
     alloc: Global,
     parser: &P,
@@ -161,7 +161,7 @@ fn answered<'a, P: Parser, F: Files, O: Output>(
     }
 }
 
-/// Writes the topology of what `ibnetdiscover` printed, which a file has.
+/// Writes the topology for a file that `ibnetdiscover` printed.
 fn answered_of_discovery<'a, F: Files, O: Output>(
     alloc: Global,
     netdiscover: &'a str,
@@ -183,7 +183,7 @@ fn answered_of_discovery<'a, F: Files, O: Output>(
     }
 }
 
-/// Writes what an audit of a topology and a dump finds, which two files have.
+/// Writes the audit of a topology and a dump, which are two files.
 fn answered_of_dump<'a, F: Files, O: Output>(
     alloc: Global,
     topology: &'a str,
@@ -209,7 +209,8 @@ fn answered_of_dump<'a, F: Files, O: Output>(
     }
 }
 
-/// Writes what is asked for of these files, which are all opened, and but for a script that is run read, before any is judged.
+/// Writes what is asked for of these files: all are opened, and all except a script that is run are read, before any is
+/// checked.
 fn answered_of_files<'a, F: Files, O: Output>(
     alloc: Global,
     asked: &Asked<'a>,

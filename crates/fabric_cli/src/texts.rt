@@ -1,4 +1,4 @@
-//! The files of a call, each read in its turn, but for a script that is run: that is opened.
+//! The files of an invocation, each read in its turn, except a script that is run: that is only opened.
 
 ghost use Rattle.std.specs.Prelude.{◌≡◌, ℕ, List, Ok, true, is_some, option_copied, option_map, IfErr, IfOk, IfSome, OnOk};
 ghost use Rattle.std.specs.Option.{option_to_list};
@@ -14,38 +14,38 @@ use crate::reading::{open_file, read_file};
 use call_words::{Asked, CutView, Inspection, Work};
 use std::alloc::Global;
 
-/// What to do, with the bytes of the files that this takes.
+/// What to do, with the bytes of its files.
 #[derive(Drop)]
 pub enum Task<'a, I> {
     /// List the ports and the members of the partitions.
     Check,
-    /// List which two ports may talk to one another; of one port alone, where a word names it.
+    /// List which ports may talk to each other; of one port alone, if it is given.
     Shares(Option<&'a str>),
-    /// List what these partitions change, or that there is no file of them.
+    /// List what this partition file changes, or what none changes.
     Diff(Option<Vec<u8>>),
     /// Look at what the fabric holds.
     Inspect {
-        /// At which part of it.
+        /// What to look at.
         what: Inspection<&'a str>,
-        /// The script that is carried out before, if there is one.
+        /// The script that runs before, if there is one.
         script: Option<Vec<u8>>,
     },
-    /// Tell what the loss of cables between switches would do.
+    /// Print what the loss of cables between switches would do.
     Cuts(CutView<&'a str>),
     /// Run a script.
     Run {
         /// Its name.
         name: &'a str,
-        /// What it is read by; nothing of it is read yet.
+        /// Its reader; nothing of it is read yet.
         input: I,
     },
-    /// Compare two scripts for a port, that a word names.
+    /// Compare two scripts for a port.
     Compare {
         /// The first script.
         first: Vec<u8>,
         /// The second.
         second: Vec<u8>,
-        /// The word for the port.
+        /// The argument that names the port.
         port: &'a str,
     },
 }
@@ -55,13 +55,13 @@ pub enum Task<'a, I> {
 pub struct Texts<'a, I> {
     /// Of the topology.
     pub topology: Vec<u8>,
-    /// Of the partitions, if there is a file of them.
+    /// Of the partition file, if there is one.
     pub partitions: Option<Vec<u8>>,
     /// What to do, with its own files.
     pub task: Task<'a, I>,
 }
 
-/// The bytes of the files that are asked for, each read in its turn; a script that is to be run is opened last.
+/// The bytes of the files that are needed, each read in its turn; a script that is to be run is opened last.
 pub fn read_texts<'a, F: Files>(
     alloc: Global,
     asked: &Asked<'a>,
