@@ -716,7 +716,8 @@ fn has_circle(topology: &Topology, tables: &[Vec<u8>], lids: &[usize]) -> bool {
     gone < channels
 }
 
-/// The counts of an audit, where each switch has a table and each LID is of the topology; no other line is told.
+/// The counts and the verdict of an audit, if each switch has a table, each CA port a LID, and each LID a port of the
+/// topology. Prints no other line.
 fn audit(topology: &Topology, dump: &Dumped) -> String {
     let tables: Vec<Vec<u8>> = (0..topology.nodes.len())
         .map(|n| dump.tables.get(&n).cloned().unwrap_or_default())
@@ -726,32 +727,31 @@ fn audit(topology: &Topology, dump: &Dumped) -> String {
         .iter()
         .map(|it| (it.guid, (it.node, it.port)))
         .collect();
-    let mut text = String::new();
-    let mut all = [0usize; 5];
-    let mut lids: Vec<Vec<usize>> = vec![Vec::new(), Vec::new()];
-    let mut lines = Vec::new();
-    for (kind, what) in ["adapters", "switches"].into_iter().enumerate() {
-        let mut counts = [0usize; 5];
-        for (lid, guid) in dump.guids.iter().enumerate() {
-            let Some(&end) = guid.as_ref().and_then(|it| by_guid.get(it)) else {
-                continue;
-            };
-            if topology.nodes[end.0].is_switch != (kind == 1) {
-                continue;
-            }
-            lids[kind].push(lid);
-            for ends in follow(topology, &tables, lid, end).into_iter().flatten() {
-                counts[ends as usize] += 1;
-                all[ends as usize] += 1;
-            }
+    let carries: Vec<bool> = topology
+        .far
+        .iter()
+        .map(|ports| ports.iter().flatten().any(|end| !topology.nodes[end.0].is_switch))
+        .collect();
+    // by `adapters`, `transit` and `switches`, and in all
+    let mut counts = [[0usize; 5]; 4];
+    let mut lids: [Vec<usize>; 2] = [Vec::new(), Vec::new()];
+    for (lid, guid) in dump.guids.iter().enumerate() {
+        let Some(&end) = guid.as_ref().and_then(|it| by_guid.get(it)) else {
+            continue;
+        };
+        let is_own = topology.nodes[end.0].is_switch;
+        lids[usize::from(is_own)].push(lid);
+        for (node, ends) in follow(topology, &tables, lid, end).into_iter().enumerate() {
+            let Some(ends) = ends else { continue };
+            let kind = if is_own { 2 } else { usize::from(!carries[node]) };
+            counts[kind][ends as usize] += 1;
+            counts[3][ends as usize] += 1;
         }
-        lines.push((what, counts));
     }
-    lines.push(("audit", all));
     let is_circle = has_circle(topology, &tables, &lids[0]);
-    let every: Vec<usize> = lids.concat();
-    let is_any = is_circle || has_circle(topology, &tables, &every);
-    for (what, it) in lines {
+    let is_any = is_circle || has_circle(topology, &tables, &lids.concat());
+    let mut text = String::new();
+    for (what, it) in ["adapters", "transit", "switches", "audit"].into_iter().zip(counts) {
         let pairs: usize = it.iter().sum();
         let _ = write!(
             text,
@@ -761,11 +761,23 @@ fn audit(topology: &Topology, dump: &Dumped) -> String {
         let circle = match what {
             "adapters" if is_circle => ", deadlock",
             "audit" if is_any => ", deadlock",
-            "switches" => "",
+            "transit" | "switches" => "",
             _ => ", no deadlock",
         };
         let _ = writeln!(text, "{circle}");
     }
+    let is_lost = counts[0][1..].iter().any(|count| *count > 0);
+    let reasons: Vec<&str> = [(is_lost, "unreached"), (is_circle, "deadlock")]
+        .iter()
+        .filter(|it| it.0)
+        .map(|it| it.1)
+        .collect();
+    let verdict = if reasons.is_empty() {
+        "safe".to_string()
+    } else {
+        format!("not safe ({})", reasons.join(", "))
+    };
+    let _ = writeln!(text, "verdict: {verdict}, as if all packets used one virtual lane; multicast is not judged");
     text
 }
 

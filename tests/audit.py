@@ -9,7 +9,7 @@ import re
 import sys
 
 Node = collections.namedtuple("Node", "is_switch name guid ports")
-Row = collections.namedtuple("Row", "port guid is_nobodys")
+Row = collections.namedtuple("Row", "port guid kind")
 
 
 def read_topology(file):
@@ -36,7 +36,8 @@ def read_dump(file):
             tables[int(heading[2], 16)] = int(heading[1], 16), rows
         elif row and rows is not None:
             guid = re.search(r"portguid (0x[0-9a-f]+)", row[3])
-            rows[int(row[1], 16)] = Row(int(row[2]), int(guid[1], 16) if guid else None, "not available" in row[3])
+            kind = re.match(r"Channel Adapter|Switch|Router|node info not available", row[3])
+            rows[int(row[1], 16)] = Row(int(row[2]), int(guid[1], 16) if guid else None, kind[0] if kind else None)
     return tables
 
 
@@ -56,7 +57,20 @@ class Net:
             for lid, row in rows.items():
                 if row.guid is not None:
                     self.guids.setdefault(lid, row.guid)
-        self.ends = {lid: ports[guid] for lid, guid in self.guids.items() if guid in ports}
+        # a row that calls a LID a channel adapter's or a switch's is believed: then its port is one of that kind
+        self.ends = {lid: ports[guid] for lid, guid in self.guids.items() if guid in ports and self.fits(lid, ports[guid])}
+        self.attached = [place for place in self.switches if any(at[0] == place and not self.is_switch(end[0]) for at, end in self.far.items())]
+
+    def is_switch(self, place):
+        return self.nodes[place].is_switch
+
+    def kinds(self, lid):
+        """What the rows of the switches of the topology say of the LID."""
+        tables = [self.tables[self.nodes[place].guid][1] for place in self.switches if self.nodes[place].guid in self.tables]
+        return {rows[lid].kind for rows in tables if lid in rows}
+
+    def fits(self, lid, end):
+        return not self.kinds(lid) & ({"Channel Adapter", "Router"} if self.is_switch(end[0]) else {"Switch"})
 
     def port(self, at):
         return f"{self.nodes[at[0]].name}/{at[1]}"
@@ -122,19 +136,21 @@ class Net:
             yield f"untold {top}"
 
     def trouble(self, place, lid):
-        if lid not in self.ends:
+        kind, what = self.turn(place, lid)
+        if lid not in self.guids:
             _, rows = self.tables.get(self.nodes[place].guid, (0, {}))
             row = rows.get(lid)
-            return f"stray {self.name(place)} {lid}" if lid not in self.guids and row and row.is_nobodys and row.port != 255 else None
-        kind, what = self.turn(place, lid)
-        if kind == "hole":
-            return f"hole {self.name(place)} {lid}"
-        if kind == "nowhere":
-            return f"nowhere {self.name(place)} {lid} port {what}"
-        if kind == "arrives" and what != self.ends[lid]:
-            return f"wrong {self.name(place)} {lid} {self.port(what)}"
+            if row and row.kind == "node info not available" and row.port != 255:
+                yield f"stray {self.name(place)} {lid}"
+        elif kind == "hole":
+            yield f"hole {self.name(place)} {lid}"
+        if lid in self.ends and kind == "nowhere":
+            yield f"nowhere {self.name(place)} {lid} port {what}"
+        if lid in self.ends and kind == "arrives" and what != self.ends[lid]:
+            yield f"wrong {self.name(place)} {lid} {self.port(what)}"
         ring = self.loop(place, lid) if kind == "goes" else None
-        return f"loop {lid} {' '.join(map(self.name, ring))}" if ring and min(ring) == place else None
+        if ring and min(ring) == place:
+            yield f"loop {lid} {' '.join(map(self.name, ring))}"
 
     def circle(self, lids):
         """The shortest circle through the least channel that is on one, by the least channel at each step."""
@@ -161,28 +177,46 @@ class Net:
                 return ring
         return None
 
+    def lacks(self, lid):
+        """A row gives the LID to a channel adapter or a switch that the topology lacks."""
+        return lid not in self.ends and self.kinds(lid) & {"Channel Adapter", "Switch"}
+
     def audit(self):
         """The lines, and the status."""
+        adapters = [lid for lid in self.lids if lid in self.ends and not self.is_switch(self.ends[lid][0])]
+        own = [lid for lid in self.lids if lid in self.ends and self.is_switch(self.ends[lid][0])]
+        ring = self.circle([lid for lid in self.lids if lid not in own])
+        other = None if ring else self.circle(self.lids)
         lines = list(self.files())
         unnamed = any(line.startswith("no-lid") for line in lines)
-        troubles = [self.trouble(place, lid) for place in self.switches for lid in self.lids]
-        adapters = [lid for lid in self.lids if lid in self.ends and not self.nodes[self.ends[lid][0]].is_switch]
-        known = [lid for lid in self.lids if lid in self.ends]
-        ring = self.circle(adapters)
-        other = None if ring else self.circle(known)
-        lines += [line for line in troubles if line]
+        lines += [line for place in self.switches for lid in self.lids for line in self.trouble(place, lid)]
         lines += [f"deadlock {' '.join(map(self.port, ring))}"] if ring else []
         lines += [f"deadlock switch-lids {' '.join(map(self.port, other))}"] if other else []
-        rest = [lid for lid in known if lid not in adapters]
-        for title, lids, waits in ("adapters", adapters, ring), ("switches", rest, None), ("audit", known, ring or other):
-            fates = collections.Counter(self.fate(place, lid) for place in self.switches for lid in lids)
+        transit = [place for place in self.switches if place not in self.attached]
+        groups = [
+            ("adapters", [(place, lid) for place in self.attached for lid in adapters], ", deadlock" if ring else ", no deadlock"),
+            ("transit", [(place, lid) for place in transit for lid in adapters], ""),
+            ("switches", [(place, lid) for place in self.switches for lid in own], ""),
+        ]
+        groups.append(("audit", [pair for _, pairs, _ in groups for pair in pairs], ", deadlock" if ring or other else ", no deadlock"))
+        for title, pairs, words in groups:
+            fates = collections.Counter(self.fate(place, lid) for place, lid in pairs)
             kinds = [("reached", "reached"), ("hole", "holes"), ("nowhere", "nowhere"), ("wrong", "wrong"), ("loop", "loops"), ("unknown", "unknown")]
-            told = ", ".join(f"{fates[kind]} {word}" for kind, word in kinds)
-            words = "" if title == "switches" else ", deadlock" if waits else ", no deadlock"
-            lines.append(f"{title}: {len(self.switches) * len(lids)} pairs, {told}{words}")
-        reached = all(self.fate(place, lid) == "reached" for place in self.switches for lid in adapters)
-        whole = self.tables and all(self.nodes[place].guid in self.tables for place in self.switches)
-        return lines, 0 if whole and reached and not unnamed and not ring else 1
+            lines.append(f"{title}: {len(pairs)} pairs, " + ", ".join(f"{fates[kind]} {word}" for kind, word in kinds) + words)
+        guids = {self.nodes[place].guid for place in self.switches}
+        reasons = [
+            word
+            for word, holds in [
+                ("no-lid", not unnamed),
+                ("unreached", all(self.fate(*pair) == "reached" for pair in groups[0][1])),
+                ("deadlock", not ring),
+                ("mismatch", self.tables and guids == set(self.tables) and not any(map(self.lacks, self.lids))),
+            ]
+            if not holds
+        ]
+        safe = f"not safe ({', '.join(reasons)})" if reasons else "safe"
+        lines.append(f"verdict: {safe}, as if all packets used one virtual lane; multicast is not judged")
+        return lines, 1 if reasons else 0
 
 
 if __name__ == "__main__":

@@ -2,7 +2,8 @@
 use Rattle.std.proofs.Common.{refl}
 use Rattle.std.specs.Fmt.{digits}
 use Rattle.route_audit.specs.Audit.{count_line, counts_by, lost_part, other_part, reached_part}
-use Rattle.route_audit.specs.Examples.{CountsAreTold, EntriesAreTold, LacksAreTold, PortsAreFound, TroublesAreTold}
+use Rattle.route_audit.specs.Verdict.{reasons, safe_words, verdict_line}
+use Rattle.route_audit.specs.Examples.{AttachedAreTold, CountsAreTold, EntriesAreTold, KindsAreTold, LacksAreTold, PortsAreFound, TroublesAreTold, VerdictsAreTold}
 
 pub entries_are_told : EntriesAreTold
 entries_are_told = record {
@@ -30,11 +31,21 @@ ports_are_found = record {
 
 pub troubles_are_told : TroublesAreTold
 unfolding digits
-troubles_are_told = record { hole = refl; loop = refl; wrong = refl; nowhere = refl; none = refl; stray = refl; closed_stray = refl }
+troubles_are_told = record { hole = refl; loop = refl; wrong = refl; nowhere = refl; none = refl; stray = refl; closed_stray = refl; hole_to_a_router = refl; loop_to_a_router = refl; last_hop_to_a_router = refl }
 
 pub lacks_are_told : LacksAreTold
 unfolding digits
 lacks_are_told = record { table = refl; has_table = refl; switch = refl; has_switch = refl; end_port = refl; lid = refl; has_lid = refl }
+
+pub kinds_are_told : KindsAreTold
+kinds_are_told = record { switch = refl; further = refl; adapter = refl; router = refl; lacking = refl; not_lacking = refl; router_lacking = refl }
+
+pub attached_are_told : AttachedAreTold
+attached_are_told = record { first = refl; second = refl }
+
+pub verdicts_are_told : VerdictsAreTold
+unfolding reasons safe_words verdict_line
+verdicts_are_told = record { safe = refl; lids = refl; reached = refl; free = refl; same = refl; none = refl }
 
 pub counts_are_told : CountsAreTold
 unfolding count_line counts_by digits lost_part other_part reached_part

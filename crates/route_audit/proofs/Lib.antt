@@ -4,6 +4,7 @@ pub mod FollowingLemmas
 pub mod LidLemmas
 pub mod ChannelLemmas
 pub mod LineLemmas
+pub mod AttachedLemmas
 pub mod RoundLemmas
 pub mod EndlessLemmas
 pub mod TroubleLemmas

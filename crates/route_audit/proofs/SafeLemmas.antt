@@ -1,30 +1,38 @@
 -- What is told to be safe is.
-use Rattle.std.proofs.Common.{◌≡◌, ◌∙◌, inl, inr, ap, ap₂, refl, subst, sym, ℕ, zero, suc, ◌+◌, ◌<◌, ◌≤◌, nat_lt, Bool, true, false, ◌==◌, ◌&&◌, List, [], ◌∷◌, ◌++◌, filter, map, flat_map, arith}
+use Rattle.std.proofs.Common.{◌≡◌, ◌∙◌, inl, inr, ap, ap₂, refl, subst, sym, ℕ, zero, suc, ◌+◌, ◌<◌, ◌≤◌, nat_lt, Bool, true, false, not, ◌==◌, if◌then◌else◌, List, [], ◌∷◌, ◌++◌, filter, map, flat_map, slice_get, arith}
 use Rattle.std.proofs.Common.{Option, Some, None, is_none}
 use Rattle.std.specs.List.{list_all, list_any, range_with_len}
 use Rattle.std.specs.Option.{option_and_then, option_map_or}
-use Rattle.std.proofs.lemmas.Bool.{and_parts, cases_Bool, false≢true, or_right}
+use Rattle.std.proofs.lemmas.Bool.{and_from, and_parts, cases_Bool, eqb-true, false≢true, not-true, or_left, or_right}
 use Rattle.std.proofs.lemmas.Bool.Decides.{nat_tests}
-use Rattle.std.proofs.lemmas.Option.{same_Some}
+use Rattle.std.proofs.lemmas.List.Folds.{list_any-append}
+use Rattle.std.proofs.lemmas.Option.{none-some, same_Some}
+use Rattle.dump_file.specs.declared.destination.Destination.{Destination}
+use Rattle.dump_file.specs.declared.destination.Destination.TheVariants.{ChannelAdapter, Switch, Router, FurtherLid, Nobody, NotTold}
 use Rattle.dump_file.specs.declared.row.Row.{Row}
+use Rattle.dump_file.specs.declared.table.Table.{Table}
 use Rattle.dump_file.specs.Row.{end_of}
-use Rattle.dump_file.specs.Table.{rows_of}
+use Rattle.dump_file.specs.Table.{place_of, rows_of}
 use Rattle.fabric_parts.specs.Cable.{ends_at, is_cabled, is_same_port, port}
 use Rattle.fabric_parts.specs.declared.cable.Cable.{Cable}
 use Rattle.fabric_parts.specs.declared.cable.PortRef.{PortRef}
+use Rattle.result_words.proofs.ListLemmas.{all_there, any_map, list_any_weaker}
 use Rattle.topo_file.specs.Connectivity.{switches}
-use Rattle.topo_file.specs.Node.{is_switch_at}
+use Rattle.topo_file.specs.Node.{is_switch_at, ports_at}
+use Rattle.topo_file.specs.declared.node.Node.{Node}
 use Rattle.route_audit.specs.declared.following.Fate.TheVariants as fates
 use Rattle.route_audit.specs.declared.following.Turn.{Turn}
 use Rattle.route_audit.specs.declared.following.Turn.TheVariants as turns
 use Rattle.route_audit.specs.declared.lids.Aim.{Aim}
 use Rattle.route_audit.specs.declared.pairs.Pair.{Pair}
-use Rattle.route_audit.specs.Audit.{adapters_ring, audit_of, has_table}
+use Rattle.route_audit.specs.Attached.{carries_adapter, leads_to_adapter}
+use Rattle.route_audit.specs.Audit.{audit_of, credit_loop}
 use Rattle.route_audit.specs.Following.{end_from, fate_by, switch_total}
-use Rattle.route_audit.specs.Laws.{AreSafe, EndsBy, IsAdaptersEnd, adapter_lids, end_port_of, says_safe}
-use Rattle.route_audit.specs.Lids.{aim_of, aims, all_lids, has_lid, have_lids, is_named, is_of, named_lids, port_of}
-use Rattle.route_audit.specs.Net.{NetState}
-use Rattle.route_audit.specs.Pairs.{all_reached, is_fate, pair_at, pair_to, pairs_at, pairs_by, to_adapters}
+use Rattle.route_audit.specs.Laws.{AreSafe, CarriesAnAdapter, EndsBy, IsAdaptersEnd, IsOfKind, NameTheSame, end_port_of, other_lids, says_safe}
+use Rattle.route_audit.specs.Lids.{aim_of, aims, all_lids, end_by, has_lid, have_lids, if_of_kind, is_lacking, is_named, is_of, is_of_fabric, is_of_kind, named_lids, port_of, says_kind, says_of_fabric}
+use Rattle.route_audit.specs.Net.{NetState, row_at, row_of, table_of}
+use Rattle.route_audit.specs.Pairs.{all_reached, between_adapters, is_between_adapters, is_fate, pair_at, pair_to, pairs_at, pairs_by}
+use Rattle.route_audit.specs.Verdict.{has_table, have_tables, is_known, name_the_same}
 use Rattle.route_audit.proofs.CircleLawLemmas.{no_circle_is_missed}
 use Rattle.route_audit.proofs.EndlessLemmas.{in_kept, in_range, is_listed, way_there}
 
@@ -32,24 +40,24 @@ abbrev is_reached : Pair → Bool
 is_reached pair = is_fate fates.Reached pair.fate
 
 -- ---- parts of a list all of which are reached
-left_reached : (one other : List Pair) → all_reached (to_adapters (one ++ other)) ≡ true → all_reached (to_adapters one) ≡ true
+left_reached : (one other : List Pair) → all_reached (between_adapters (one ++ other)) ≡ true → all_reached (between_adapters one) ≡ true
 left_reached [] other all = refl
-left_reached (pair ∷ one) other all = elim (cases_Bool pair.to_switch) [
-  | inl switch ↦ rw switch (left_reached one other (rw switch at all))
-  | inr adapter ↦ let parts = and_parts (is_reached pair) _ (rw adapter at all) in rw (adapter, parts.0) (left_reached one other parts.1)
+left_reached (pair ∷ one) other all = elim (cases_Bool (is_between_adapters pair)) [
+  | inl kept ↦ let parts = and_parts (is_reached pair) _ (rw kept at all) in rw (kept, parts.0) (left_reached one other parts.1)
+  | inr left ↦ rw left (left_reached one other (rw left at all))
 ]
 
-right_reached : (one other : List Pair) → all_reached (to_adapters (one ++ other)) ≡ true → all_reached (to_adapters other) ≡ true
+right_reached : (one other : List Pair) → all_reached (between_adapters (one ++ other)) ≡ true → all_reached (between_adapters other) ≡ true
 right_reached [] other all = all
-right_reached (pair ∷ one) other all = elim (cases_Bool pair.to_switch) [
-  | inl switch ↦ right_reached one other (rw switch at all)
-  | inr adapter ↦ let parts = and_parts (is_reached pair) _ (rw adapter at all) in right_reached one other parts.1
+right_reached (pair ∷ one) other all = elim (cases_Bool (is_between_adapters pair)) [
+  | inl kept ↦ let parts = and_parts (is_reached pair) _ (rw kept at all) in right_reached one other parts.1
+  | inr left ↦ right_reached one other (rw left at all)
 ]
 
-each_reached : (f : ℕ → List Pair) (xs : List ℕ) (x : ℕ) → list_any (λ y. y == x) xs ≡ true → all_reached (to_adapters (flat_map f xs)) ≡ true → all_reached (to_adapters (f x)) ≡ true
+each_reached : (f : ℕ → List Pair) (xs : List ℕ) (x : ℕ) → list_any (λ y. y == x) xs ≡ true → all_reached (between_adapters (flat_map f xs)) ≡ true → all_reached (between_adapters (f x)) ≡ true
 each_reached f [] x there all = absurd (false≢true there)
 each_reached f (y ∷ ys) x there all = elim (cases_Bool (y == x)) [
-  | inl here ↦ let same : y ≡ x = grind (arith, nat_tests, here) in subst (λ (n : ℕ). all_reached (to_adapters (f n)) ≡ true) same (left_reached (f y) (flat_map f ys) all)
+  | inl here ↦ let same : y ≡ x = grind (arith, nat_tests, here) in subst (λ (n : ℕ). all_reached (between_adapters (f n)) ≡ true) same (left_reached (f y) (flat_map f ys) all)
   | inr other ↦ each_reached f ys x (rw other at there) (right_reached (f y) (flat_map f ys) all)
 ]
 
@@ -68,7 +76,7 @@ said_named lid (row ∷ rows) guid said = elim (cases_Bool (row.lid == lid)) [
 pub has_end : (net : NetState) (lid : ℕ) (end : PortRef) → (aim_of net lid).end ≡ Some end → is_named (rows_of net.dump.tables) lid ≡ true
 has_end net lid end is = by (end_of lid (rows_of net.dump.tables)) refl is
   where
-    by : (o : Option ℕ) → end_of lid (rows_of net.dump.tables) ≡ o → option_and_then (port_of net.plan.nodes) o ≡ Some end → is_named (rows_of net.dump.tables) lid ≡ true
+    by : (o : Option ℕ) → end_of lid (rows_of net.dump.tables) ≡ o → end_by net lid o ≡ Some end → is_named (rows_of net.dump.tables) lid ≡ true
     by (Some guid) said found = said_named lid (rows_of net.dump.tables) guid said
     by None said found = cc
 
@@ -95,13 +103,19 @@ reached_by end (Some (turns.Arrives there)) is = elim (cases_Bool (is_same_port 
   | inr apart ↦ absurd (false≢true (rw apart at is))
 ]
 
+-- packets that reach the end port of a LID end there
+pub comes_there : (net : NetState) (place lid : ℕ) (end : PortRef) → all_reached (pair_to net place lid (Some end)) ≡ true → EndsBy net lid place (turns.Arrives end)
+comes_there net place lid end all =
+    way_there net lid (switch_total net) place (turns.Arrives end)
+    (reached_by end (end_from net lid place) (and_parts (is_fate fates.Reached (fate_by end (end_from net lid place))) true all).0)
+
 pair_reached : (net : NetState) (place lid : ℕ) (o : Option PortRef) (end : PortRef) → o ≡ Some end → is_switch_at net.plan.nodes end.node ≡ false
-    → all_reached (to_adapters (pair_to net place lid o)) ≡ true → end_from net lid place ≡ Some (turns.Arrives end)
-pair_reached net place lid None end is adapter all = cc
-pair_reached net place lid (Some there) end is adapter all =
+    → carries_adapter net place ≡ true → all_reached (between_adapters (pair_to net place lid o)) ≡ true → end_from net lid place ≡ Some (turns.Arrives end)
+pair_reached net place lid None end is adapter carries all = cc
+pair_reached net place lid (Some there) end is adapter carries all =
     let same : there ≡ end = same_Some there end is in
     let at_adapter : is_switch_at net.plan.nodes there.node ≡ false = ap (λ (at : PortRef). is_switch_at net.plan.nodes at.node) same ∙ adapter in
-    let parts = and_parts (is_fate fates.Reached (fate_by there (end_from net lid place))) _ (rw at_adapter at all) in
+    let parts = and_parts (is_fate fates.Reached (fate_by there (end_from net lid place))) _ (rw (at_adapter, carries) at all) in
     reached_by there (end_from net lid place) parts.0 ∙ ap (λ (at : PortRef). Some (turns.Arrives at)) same
 
 -- ---- what has a LID is named by a row
@@ -154,16 +168,156 @@ names net end have is =
     let has = of_cables net (aims net) end net.plan.cables is.1 have in
     lid_of_port net end (named_lids net.dump) (names_below net) (rw is.0 at has)
 
+-- ---- what carries an adapter
+pub carries : (net : NetState) (place : ℕ) → CarriesAnAdapter net place → carries_adapter net place ≡ true
+carries net place is =
+    let low = is.low in
+    let high = is.high in
+    let leads : leads_to_adapter net (port place is.number) ≡ true =
+    ap (λ (o : Option PortRef). option_map_or (λ there. not (is_switch_at net.plan.nodes there.node)) o false) is.cable ∙ ap not is.adapter in
+    any_map (leads_to_adapter net) (port place) (range_with_len 1 (ports_at net.plan.nodes place))
+    ∙ list_any_weaker (λ n. n == is.number) (λ n. leads_to_adapter net (port place n))
+    (λ n same. ap (λ (m : ℕ). leads_to_adapter net (port place m)) (eqb-true n is.number same) ∙ leads) (range_with_len 1 (ports_at net.plan.nodes place))
+    (in_range is.number 1 (ports_at net.plan.nodes place) low (omega (arith, high)))
+
+-- ---- the dump and the topology name the same
+each_listed : (p : ℕ → Bool) (xs : List ℕ) (x : ℕ) → list_any (λ n. n == x) xs ≡ true → list_all p xs ≡ true → p x ≡ true
+each_listed p [] x there all = absurd (false≢true there)
+each_listed p (y ∷ ys) x there all =
+    let parts = and_parts (p y) _ all in
+    elim (cases_Bool (y == x)) [
+      | inl here ↦ let same : x ≡ y = grind (arith, nat_tests, here) in ap p same ∙ parts.0
+      | inr other ↦ each_listed p ys x (rw other at there) parts.1
+    ]
+
+-- a row that is found is one of those
+found_row : (lid : ℕ) (rows : List Row) (row : Row) → row_of lid rows ≡ Some row → is_named rows lid ≡ true
+found_row lid [] row is = cc
+found_row lid (first ∷ rows) row is = elim (cases_Bool (first.lid == lid)) [
+  | inl here ↦ rw here refl
+  | inr other ↦ or_right (first.lid == lid) _ (found_row lid rows row (rw other at is))
+]
+
+in_tables : (lid k : ℕ) (tables : List Table) (table : Table) → slice_get tables k ≡ Some table → is_named table.rows lid ≡ true → is_named (rows_of tables) lid ≡ true
+in_tables lid k [] table there named = absurd (none-some table there)
+in_tables lid zero (first ∷ tables) table there named =
+    let same : first ≡ table = same_Some first table there in
+    list_any-append (λ (row : Row). row.lid == lid) first.rows (rows_of tables)
+    ∙ or_left (is_named first.rows lid) _ (ap (λ (one : Table). is_named one.rows lid) same ∙ named)
+in_tables lid (suc k) (first ∷ tables) table there named =
+    list_any-append (λ (row : Row). row.lid == lid) first.rows (rows_of tables)
+    ∙ or_right (is_named first.rows lid) _ (in_tables lid k tables table there named)
+
+table_named : (lid : ℕ) (row : Row) (tables : List Table) (o : Option ℕ) → option_and_then (λ table. row_of lid table.rows) (option_and_then (λ k. slice_get tables k) o) ≡ Some row
+    → is_named (rows_of tables) lid ≡ true
+table_named lid row tables None is = cc
+table_named lid row tables (Some k) is = by (slice_get tables k) refl is
+  where
+    by : (o : Option Table) → slice_get tables k ≡ o → option_and_then (λ table. row_of lid table.rows) o ≡ Some row → is_named (rows_of tables) lid ≡ true
+    by None there found = cc
+    by (Some table) there found = in_tables lid k tables table there (found_row lid table.rows row found)
+
+-- a LID of which a switch has a row is named
+row_named : (net : NetState) (place lid : ℕ) (row : Row) → row_at net lid place ≡ Some row → is_named (rows_of net.dump.tables) lid ≡ true
+row_named net place lid row is = by (slice_get net.plan.nodes place) is
+  where
+    by : (o : Option Node) → option_and_then (λ table. row_of lid table.rows) (option_and_then (λ (node : Node). table_of node.guid net.dump.tables) o) ≡ Some row
+        → is_named (rows_of net.dump.tables) lid ≡ true
+    by None found = cc
+    by (Some node) found = table_named lid row net.dump.tables (place_of node.guid net.dump.tables) found
+
+pub is_named_lid : (net : NetState) (lid : ℕ) → lid < 65536 → is_named (rows_of net.dump.tables) lid ≡ true → list_any (λ n. n == lid) (named_lids net.dump) ≡ true
+is_named_lid net lid below named = in_kept (is_named (rows_of net.dump.tables)) lid all_lids named (in_lids lid below)
+
+-- the end port that a LID has is of the kind that each row says
+kept_end : (b : Bool) (end other : PortRef) → (if b then Some end else None) ≡ Some other → (b ≡ true) × (end ≡ other)
+kept_end true end other is = (refl, same_Some end other is)
+kept_end false end other is = cc
+
+pub end_kind : (net : NetState) (lid : ℕ) (guid : Option ℕ) (end : PortRef) → end_by net lid guid ≡ Some end
+    → (option_and_then (port_of net.plan.nodes) guid ≡ Some end) × (list_all (says_kind net lid (is_switch_at net.plan.nodes end.node)) (switches net.plan.nodes) ≡ true)
+end_kind net lid guid end is = by (option_and_then (port_of net.plan.nodes) guid) is
+  where
+    by : (o : Option PortRef) → option_and_then (if_of_kind net lid) o ≡ Some end
+        → (o ≡ Some end) × (list_all (says_kind net lid (is_switch_at net.plan.nodes end.node)) (switches net.plan.nodes) ≡ true)
+    by None found = cc
+    by (Some at) found =
+        let kept = kept_end (list_all (says_kind net lid (is_switch_at net.plan.nodes at.node)) (switches net.plan.nodes)) at end found in (
+          ap (λ (p : PortRef). Some p) kept.1,
+          subst (λ (p : PortRef). list_all (says_kind net lid (is_switch_at net.plan.nodes p.node)) (switches net.plan.nodes) ≡ true) kept.1 kept.0,
+        )
+
+of_kind : (net : NetState) (lid : ℕ) (end : PortRef) (destination : Destination) → end_port_of net lid ≡ Some end
+    → is_of_kind (is_switch_at net.plan.nodes end.node) destination ≡ true → IsOfKind net lid destination
+of_kind net lid end (ChannelAdapter guid) is kind = (end, is, not-true (is_switch_at net.plan.nodes end.node) kind)
+of_kind net lid end (Switch guid) is kind = (end, is, kind)
+of_kind net lid end (Router guid) is kind = tt
+of_kind net lid end (FurtherLid guid) is kind = tt
+of_kind net lid end Nobody is kind = tt
+of_kind net lid end NotTold is kind = tt
+
+of_no_kind : (net : NetState) (lid : ℕ) (destination : Destination) → is_of_fabric destination ≡ false → IsOfKind net lid destination
+of_no_kind net lid (ChannelAdapter guid) is = absurd (false≢true (sym is))
+of_no_kind net lid (Switch guid) is = absurd (false≢true (sym is))
+of_no_kind net lid (Router guid) is = tt
+of_no_kind net lid (FurtherLid guid) is = tt
+of_no_kind net lid Nobody is = tt
+of_no_kind net lid NotTold is = tt
+
+not_lacking : (p : Aim → Bool) (f : ℕ → Aim) (xs : List ℕ) (x : ℕ) → list_any (λ n. n == x) xs ≡ true → not (list_any p (map f xs)) ≡ true → p (f x) ≡ false
+not_lacking p f [] x there none = absurd (false≢true there)
+not_lacking p f (y ∷ ys) x there none = elim (cases_Bool (p (f y))) [
+  | inl one ↦ absurd (false≢true (rw one at none))
+  | inr fails ↦ elim (cases_Bool (y == x)) [
+    | inl here ↦ let same : x ≡ y = grind (arith, nat_tests, here) in ap (λ (n : ℕ). p (f n)) same ∙ fails
+    | inr other ↦ not_lacking p f ys x (rw other at there) (rw fails at none)
+  ]
+]
+
+ends_are : (net : NetState) → not (list_any (is_lacking net) (aims net)) ≡ true → (place lid : ℕ) (row : Row) → is_switch_at net.plan.nodes place ≡ true → lid < 65536
+    → row_at net lid place ≡ Some row → IsOfKind net lid row.destination
+ends_are net none place lid row switch below is = by (end_port_of net lid) refl
+  where
+    lacks : is_lacking net (aim_of net lid) ≡ false
+    lacks = not_lacking (is_lacking net) (aim_of net) (named_lids net.dump) lid (is_named_lid net lid below (row_named net place lid row is)) none
+
+    by : (o : Option PortRef) → end_port_of net lid ≡ o → IsOfKind net lid row.destination
+    by (Some end) has =
+        let kinds = (end_kind net lid (aim_of net lid).guid end has).1 in
+        let kind = each_listed (says_kind net lid (is_switch_at net.plan.nodes end.node)) (switches net.plan.nodes) place (is_listed net.plan.nodes place switch) kinds in
+        of_kind net lid end row.destination has (rw is at kind)
+    by None has = elim (cases_Bool (is_of_fabric row.destination)) [
+      | inr other ↦ of_no_kind net lid row.destination other
+      | inl named ↦
+          let says : says_of_fabric net lid place ≡ true = rw is named in
+          let some : list_any (says_of_fabric net lid) (switches net.plan.nodes) ≡ true =
+          list_any_weaker (λ n. n == place) (says_of_fabric net lid) (λ n same. ap (says_of_fabric net lid) (eqb-true n place same) ∙ says) (switches net.plan.nodes)
+          (is_listed net.plan.nodes place switch) in
+          let lacking : is_lacking net (aim_of net lid) ≡ true = and_from (is_none (end_port_of net lid)) _ (ap (λ (o : Option PortRef). is_none o) has) some in
+          absurd (false≢true (sym lacks ∙ lacking))
+    ]
+
+names_same : (net : NetState) → name_the_same net (aims net) ≡ true → NameTheSame net
+names_same net same =
+    let parts = and_parts (have_tables net) _ same in
+    let tables = and_parts (list_all (has_table net) (switches net.plan.nodes)) _ parts.0 in
+    let known = and_parts (list_all (is_known net) net.dump.tables) _ parts.1 in
+    record {
+      tables = λ place switch. each_listed (has_table net) (switches net.plan.nodes) place (is_listed net.plan.nodes place switch) tables.0;
+      switches = λ k table there. all_there (is_known net) net.dump.tables k table known.0 there;
+      ends = ends_are net known.1;
+    }
+
 -- ---- what is told to be safe is
-reaches : (net : NetState) → all_reached (to_adapters (pairs_by net (aims net))) ≡ true → (place lid : ℕ) (end : PortRef) → is_switch_at net.plan.nodes place ≡ true → lid < 65536
+reaches : (net : NetState) → all_reached (between_adapters (pairs_by net (aims net))) ≡ true → (place lid : ℕ) (end : PortRef) → CarriesAnAdapter net place → lid < 65536
     → end_port_of net lid ≡ Some end → is_switch_at net.plan.nodes end.node ≡ false → EndsBy net lid place (turns.Arrives end)
-reaches net all place lid end is_switch below has_port adapter =
-    let here = each_reached (pairs_at net (aims net)) (switches net.plan.nodes) place (is_listed net.plan.nodes place is_switch) all in
-    let named : list_any (λ n. n == lid) (named_lids net.dump) ≡ true =
-    in_kept (is_named (rows_of net.dump.tables)) lid all_lids (has_end net lid end has_port) (in_lids lid below) in
+reaches net all place lid end carrying below has_port adapter =
+    let here = each_reached (pairs_at net (aims net)) (switches net.plan.nodes) place (is_listed net.plan.nodes place carrying.switch) all in
+    let named = is_named_lid net lid below (has_end net lid end has_port) in
     let pair = each_reached (λ n. pair_at net place (aim_of net n)) (named_lids net.dump) lid named
-    (ap (λ (pairs : List Pair). all_reached (to_adapters pairs)) (sym (flat_mapped (pair_at net place) (aim_of net) (named_lids net.dump))) ∙ here) in
-    way_there net lid (switch_total net) place (turns.Arrives end) (pair_reached net place lid (aim_of net lid).end end has_port adapter pair)
+    (ap (λ (pairs : List Pair). all_reached (between_adapters pairs)) (sym (flat_mapped (pair_at net place) (aim_of net) (named_lids net.dump))) ∙ here) in
+    way_there net lid (switch_total net) place (turns.Arrives end)
+    (pair_reached net place lid (aim_of net lid).end end has_port adapter (carries net place carrying) pair)
 
 no_ring : (o : Option (List PortRef)) → is_none o ≡ true → o ≡ None
 no_ring None is = refl
@@ -172,12 +326,12 @@ no_ring (Some ring) is = absurd (false≢true is)
 pub told_is_safe : (net : NetState) → says_safe net ≡ true → AreSafe net
 unfolding audit_of
 told_is_safe net safe =
-    let tables = and_parts (list_all (has_table net) (switches net.plan.nodes)) _ safe in
-    let some = and_parts _ (list_all (have_lids net (aims net)) net.plan.cables && (all_reached (to_adapters (pairs_by net (aims net))) && is_none (adapters_ring net (aims net)))) tables.1 in
-    let lids = and_parts (list_all (have_lids net (aims net)) net.plan.cables) _ some.1 in
-    let all = and_parts (all_reached (to_adapters (pairs_by net (aims net)))) _ lids.1 in
+    let lids = and_parts (list_all (have_lids net (aims net)) net.plan.cables) _ safe in
+    let all = and_parts (all_reached (between_adapters (pairs_by net (aims net)))) _ lids.1 in
+    let free = and_parts (is_none (credit_loop net (aims net))) _ all.1 in
     record {
       named = λ end is. names net end lids.0 is;
       reached = reaches net all.0;
-      free = no_circle_is_missed net (adapter_lids net) (no_ring (adapters_ring net (aims net)) all.1);
+      free = no_circle_is_missed net (other_lids net) (no_ring (credit_loop net (aims net)) free.0);
+      same = names_same net free.1;
     }

@@ -1,28 +1,34 @@
 -- What is safe is told to be.
-use Rattle.std.proofs.Common.{◌≡◌, ◌∙◌, inl, inr, ap, refl, sym, ℕ, zero, suc, ◌+◌, ◌<◌, Bool, true, false, not, ◌==◌, List, [], ◌∷◌, ◌++◌, length, filter, map, flat_map, arith}
+use Rattle.std.proofs.Common.{◌≡◌, ◌∙◌, inl, inr, ap, refl, sym, ℕ, zero, suc, ◌+◌, ◌<◌, ◌≤◌, Bool, true, false, not, ◌==◌, List, [], ◌∷◌, ◌++◌, length, filter, map, flat_map, slice_get, arith}
 use Rattle.std.proofs.Common.{Option, Some, None, is_none}
 use Rattle.std.specs.List.{list_all, list_any, range_with_len}
 use Rattle.std.specs.Option.{option_map_or}
-use Rattle.std.proofs.lemmas.Bool.{and_from, cases_Bool, eq-eqb, false≢true, or_right}
+use Rattle.std.proofs.lemmas.Bool.{and_from, cases_Bool, eq-eqb, false≢true, not-true, or_right}
 use Rattle.std.proofs.lemmas.Bool.Decides.{nat_tests}
+use Rattle.std.proofs.lemmas.Option.{none-some}
 use Rattle.dump_file.specs.Table.{rows_of}
+use Rattle.dump_file.specs.declared.destination.Destination.{Destination}
+use Rattle.dump_file.specs.declared.destination.Destination.TheVariants.{ChannelAdapter, Switch, Router, FurtherLid, Nobody, NotTold}
+use Rattle.dump_file.specs.declared.row.Row.{Row}
 use Rattle.dump_file.specs.declared.table.Table.{Table}
-use Rattle.fabric_parts.specs.Cable.{ends_at, is_cabled, is_same_port}
+use Rattle.fabric_parts.specs.Cable.{ends_at, far_end, is_cabled, is_same_port, port}
 use Rattle.fabric_parts.specs.declared.cable.Cable.{Cable}
 use Rattle.fabric_parts.specs.declared.cable.PortRef.{PortRef}
 use Rattle.topo_file.specs.Connectivity.{switches}
-use Rattle.topo_file.specs.Node.{is_switch_at}
+use Rattle.topo_file.specs.Node.{is_switch_at, ports_at}
 use Rattle.route_audit.specs.declared.following.Fate.TheVariants as fates
 use Rattle.route_audit.specs.declared.following.Turn.TheVariants as turns
+use Rattle.route_audit.specs.declared.lids.Aim.{Aim}
 use Rattle.route_audit.specs.declared.pairs.Pair.{Pair}
-use Rattle.route_audit.specs.declared.entry.Entry.TheVariants.{Untold}
-use Rattle.route_audit.specs.Audit.{adapters_ring, audit_of, has_table}
+use Rattle.route_audit.specs.Attached.{carries_adapter, leads_to_adapter}
+use Rattle.route_audit.specs.Audit.{audit_of, credit_loop}
 use Rattle.route_audit.specs.Channels.{deadlock}
-use Rattle.route_audit.specs.Following.{end_from, fate_by, turn, turn_by}
-use Rattle.route_audit.specs.Laws.{AreSafe, EndsBy, IsAdaptersEnd, IsWay, SafeRoutesAreTold, adapter_lids, end_port_of, says_safe}
-use Rattle.route_audit.specs.Lids.{aim_of, aims, all_lids, has_lid, have_lids, is_named, is_of, named_lids}
-use Rattle.route_audit.specs.Net.{NetState, entry_in, table_at}
-use Rattle.route_audit.specs.Pairs.{all_reached, is_fate, pair_at, pair_to, pairs_at, pairs_by, to_adapters}
+use Rattle.route_audit.specs.Following.{end_from, fate_by}
+use Rattle.route_audit.specs.Laws.{AreSafe, CarriesAnAdapter, IsAdaptersEnd, IsOfKind, NameTheSame, SafeRoutesAreTold, end_port_of, other_lids, says_safe}
+use Rattle.route_audit.specs.Lids.{aim_of, aims, all_lids, has_lid, have_lids, is_lacking, is_named, is_of, is_of_fabric, named_lids, says_of_fabric}
+use Rattle.route_audit.specs.Net.{NetState, row_at}
+use Rattle.route_audit.specs.Pairs.{all_reached, between_adapters, is_between_adapters, is_fate, pair_at, pair_to, pairs_at, pairs_by}
+use Rattle.route_audit.specs.Verdict.{has_table, have_tables, is_known, name_the_same}
 use Rattle.route_audit.proofs.CircleLawLemmas.{told_circles_wait}
 use Rattle.route_audit.proofs.EndlessLemmas.{in_kept, ways_are_followed}
 use Rattle.route_audit.proofs.SafeLemmas.{flat_mapped, has_end, in_lids, told_is_safe}
@@ -33,24 +39,7 @@ itself at =
     let number : (at.port == at.port) ≡ true = eq-eqb at.port at.port refl in
     rw (node, number) refl
 
--- ---- each switch has a table, and there is one
-no_way : (net : NetState) (lid place : ℕ) (end : PortRef) → table_at net place ≡ None → (way : List ℕ) → IsWay net lid place way (turns.Arrives end) → ⊥
-no_way net lid place end none way is = by way is
-  where
-    unknown : turn net lid place ≡ turns.Unknown
-    unknown = ap (λ (o : Option Table). turn_by net place (option_map_or (entry_in lid) o Untold)) none
-
-    by : (w : List ℕ) → IsWay net lid place w (turns.Arrives end) → ⊥
-    by [] at = let e : turns.Unknown ≡ turns.Arrives end = sym unknown ∙ at.0 in cc
-    by (next ∷ rest) at = let e : turns.Unknown ≡ turns.Goes next = sym unknown ∙ at.0 in cc
-
-table_there : (net : NetState) (lid place : ℕ) (end : PortRef) → EndsBy net lid place (turns.Arrives end) → has_table net place ≡ true
-table_there net lid place end way = by (table_at net place) refl
-  where
-    by : (o : Option Table) → table_at net place ≡ o → has_table net place ≡ true
-    by (Some table) is = rw is refl
-    by None is = absurd (no_way net lid place end is way.0 way.1)
-
+-- ---- the dump and the topology name the same
 all_kept : (p test : ℕ → Bool) (xs : List ℕ) → ((x : ℕ) → test x ≡ true → p x ≡ true) → list_all p (filter test xs) ≡ true
 all_kept p test [] each = refl
 all_kept p test (x ∷ xs) each = elim (cases_Bool (test x)) [
@@ -66,6 +55,68 @@ some_table net lid end is = by net.dump.tables refl
     by (table ∷ tables) some =
         let more : (suc (length tables) == 0) ≡ false = grind (arith, nat_tests) in
         rw some (ap not more)
+
+all_tables : (net : NetState) → NameTheSame net → list_all (has_table net) (switches net.plan.nodes) ≡ true
+all_tables net same = all_kept (has_table net) (is_switch_at net.plan.nodes) (range_with_len 0 (length net.plan.nodes)) same.tables
+
+each_table : (p : Table → Bool) (tables : List Table) → ((k : ℕ) (table : Table) → slice_get tables k ≡ Some table → p table ≡ true) → list_all p tables ≡ true
+each_table p [] each = refl
+each_table p (table ∷ tables) each = and_from (p table) _ (each 0 table refl) (each_table p tables (λ k one there. each (suc k) one there))
+
+none_kept : (p : Aim → Bool) (f : ℕ → Aim) (test : ℕ → Bool) (first count : ℕ) → ((x : ℕ) → x < first + count → p (f x) ≡ false)
+    → list_any p (map f (filter test (range_with_len first count))) ≡ false
+none_kept p f test first zero each = refl
+none_kept p f test first (suc count) each =
+    let rest = none_kept p f test (first + 1) count (λ x below. each x (omega (arith, below))) in
+    elim (cases_Bool (test first)) [
+      | inl kept ↦ rw (kept, each first (omega arith)) rest
+      | inr left ↦ rw left rest
+    ]
+
+none_says : (p test : ℕ → Bool) (xs : List ℕ) → ((x : ℕ) → test x ≡ true → p x ≡ false) → list_any p (filter test xs) ≡ false
+none_says p test [] each = refl
+none_says p test (x ∷ xs) each = elim (cases_Bool (test x)) [
+  | inl kept ↦ rw (kept, each x kept) (none_says p test xs each)
+  | inr left ↦ rw left (none_says p test xs each)
+]
+
+has_no_end : (net : NetState) (lid : ℕ) (end : PortRef) → end_port_of net lid ≡ None → end_port_of net lid ≡ Some end → ⊥
+has_no_end net lid end none some = none-some end (sym none ∙ some)
+
+kind_lacks : (net : NetState) (lid : ℕ) (destination : Destination) → end_port_of net lid ≡ None → IsOfKind net lid destination → is_of_fabric destination ≡ false
+kind_lacks net lid (ChannelAdapter guid) none kind = absurd (has_no_end net lid kind.0 none kind.1)
+kind_lacks net lid (Switch guid) none kind = absurd (has_no_end net lid kind.0 none kind.1)
+kind_lacks net lid (Router guid) none kind = refl
+kind_lacks net lid (FurtherLid guid) none kind = refl
+kind_lacks net lid Nobody none kind = refl
+kind_lacks net lid NotTold none kind = refl
+
+not_said : (net : NetState) (lid : ℕ) → lid < 65536 → NameTheSame net → end_port_of net lid ≡ None → (place : ℕ) → is_switch_at net.plan.nodes place ≡ true
+    → says_of_fabric net lid place ≡ false
+not_said net lid below same none place switch = by (row_at net lid place) refl
+  where
+    by : (o : Option Row) → row_at net lid place ≡ o → option_map_or (λ row. is_of_fabric row.destination) o false ≡ false
+    by None is = refl
+    by (Some row) is = kind_lacks net lid row.destination none (same.ends place lid row switch below is)
+
+not_lacking : (net : NetState) (lid : ℕ) → lid < 65536 → NameTheSame net → is_lacking net (aim_of net lid) ≡ false
+not_lacking net lid below same = by (end_port_of net lid) refl
+  where
+    by : (o : Option PortRef) → end_port_of net lid ≡ o → is_lacking net (aim_of net lid) ≡ false
+    by (Some end) is = rw is refl
+    by None is =
+        rw is
+        (none_says (says_of_fabric net lid) (is_switch_at net.plan.nodes) (range_with_len 0 (length net.plan.nodes)) (not_said net lid below same is))
+
+none_lacks : (net : NetState) → NameTheSame net → not (list_any (is_lacking net) (aims net)) ≡ true
+unfolding all_lids
+none_lacks net same =
+    ap not (none_kept (is_lacking net) (aim_of net) (is_named (rows_of net.dump.tables)) 0 65536 (λ lid below. not_lacking net lid below same))
+
+all_same : (net : NetState) (lid : ℕ) (end : PortRef) → end_port_of net lid ≡ Some end → NameTheSame net → name_the_same net (aims net) ≡ true
+all_same net lid end is same =
+    and_from (have_tables net) _ (and_from (list_all (has_table net) (switches net.plan.nodes)) _ (all_tables net same) (some_table net lid end is))
+    (and_from (list_all (is_known net) net.dump.tables) _ (each_table (is_known net) net.dump.tables same.switches) (none_lacks net same))
 
 -- ---- each port of an adapter that has a cable has a LID
 in_mapped : (net : NetState) (end : PortRef) (lid : ℕ) (lids : List ℕ) → list_any (λ n. n == lid) lids ≡ true → is_of end (aim_of net lid) ≡ true
@@ -102,20 +153,21 @@ cables_have net safe =
     (port_has net cable.first safe (ends cable.first (rw (itself cable.first) refl)))
     (port_has net cable.second safe (ends cable.second (or_right (is_same_port cable.first cable.second) _ (itself cable.second)))))
 
--- ---- all pairs are reached
-both_reached : (one other : List Pair) → all_reached (to_adapters one) ≡ true → all_reached (to_adapters other) ≡ true → all_reached (to_adapters (one ++ other)) ≡ true
+-- ---- all pairs between adapters are reached
+both_reached : (one other : List Pair) → all_reached (between_adapters one) ≡ true → all_reached (between_adapters other) ≡ true
+    → all_reached (between_adapters (one ++ other)) ≡ true
 both_reached [] other is also = also
-both_reached (pair ∷ one) other is also = elim (cases_Bool pair.to_switch) [
-  | inl switch ↦ rw switch (both_reached one other (rw switch at is) also)
-  | inr adapter ↦ elim (cases_Bool (is_fate fates.Reached pair.fate)) [
-    | inl reached ↦ rw (adapter, reached) (both_reached one other (rw (adapter, reached) at is) also)
-    | inr lost ↦ absurd (false≢true (rw (adapter, lost) at is))
+both_reached (pair ∷ one) other is also = elim (cases_Bool (is_between_adapters pair)) [
+  | inr left ↦ rw left (both_reached one other (rw left at is) also)
+  | inl kept ↦ elim (cases_Bool (is_fate fates.Reached pair.fate)) [
+    | inl reached ↦ rw (kept, reached) (both_reached one other (rw (kept, reached) at is) also)
+    | inr lost ↦ absurd (false≢true (rw (kept, lost) at is))
   ]
 ]
 
 each_in_range : (f : ℕ → List Pair) (test : ℕ → Bool) (first count : ℕ)
-    → ((x : ℕ) → x < first + count → test x ≡ true → all_reached (to_adapters (f x)) ≡ true)
-    → all_reached (to_adapters (flat_map f (filter test (range_with_len first count)))) ≡ true
+    → ((x : ℕ) → x < first + count → test x ≡ true → all_reached (between_adapters (f x)) ≡ true)
+    → all_reached (between_adapters (flat_map f (filter test (range_with_len first count)))) ≡ true
 each_in_range f test first zero each = refl
 each_in_range f test first (suc count) each =
     let rest = each_in_range f test (first + 1) count (λ x below is. each x (omega (arith, below)) is) in
@@ -125,47 +177,78 @@ each_in_range f test first (suc count) each =
     ]
 
 pair_fine : (net : NetState) (place lid : ℕ) (o : Option PortRef)
-    → ((end : PortRef) → o ≡ Some end → is_switch_at net.plan.nodes end.node ≡ false → end_from net lid place ≡ Some (turns.Arrives end))
-    → all_reached (to_adapters (pair_to net place lid o)) ≡ true
+    → ((end : PortRef) → o ≡ Some end → is_switch_at net.plan.nodes end.node ≡ false → carries_adapter net place ≡ true
+    → end_from net lid place ≡ Some (turns.Arrives end))
+    → all_reached (between_adapters (pair_to net place lid o)) ≡ true
 pair_fine net place lid None ends = refl
 pair_fine net place lid (Some end) ends = elim (cases_Bool (is_switch_at net.plan.nodes end.node)) [
   | inl switch ↦ rw switch refl
-  | inr adapter ↦
-      let reached : is_fate fates.Reached (fate_by end (end_from net lid place)) ≡ true = rw (ends end refl adapter, itself end) refl in
-      rw (adapter, reached) refl
+  | inr adapter ↦ elim (cases_Bool (carries_adapter net place)) [
+    | inr none ↦ rw (adapter, none) refl
+    | inl carrying ↦
+        let reached : is_fate fates.Reached (fate_by end (end_from net lid place)) ≡ true = rw (ends end refl adapter carrying, itself end) refl in
+        rw (adapter, carrying, reached) refl
+  ]
 ]
 
-all_pairs : (net : NetState) → AreSafe net → all_reached (to_adapters (pairs_by net (aims net))) ≡ true
+-- a switch that carries an adapter has a port with a cable to one
+some_port : (test : PortRef → Bool) (place first count : ℕ) → list_any test (map (port place) (range_with_len first count)) ≡ true
+    → (number : ℕ) × (first ≤ number) × (number < first + count) × (test (port place number) ≡ true)
+some_port test place first zero some = absurd (false≢true some)
+some_port test place first (suc count) some = elim (cases_Bool (test (port place first))) [
+  | inl here ↦ (first, omega arith, omega arith, here)
+  | inr other ↦
+      let rest = some_port test place (first + 1) count (rw other at some) in
+      (rest.0, (let low = rest.1 in omega (arith, low)), (let high = rest.2 in omega (arith, high)), rest.3)
+]
+
+pub carried : (net : NetState) (place : ℕ) → is_switch_at net.plan.nodes place ≡ true → carries_adapter net place ≡ true → CarriesAnAdapter net place
+carried net place switch some = by found.0 found.1 found.2 (far_end net.plan.cables (port place found.0)) refl found.3
+  where
+    found : (number : ℕ) × (1 ≤ number) × (number < 1 + ports_at net.plan.nodes place) × (leads_to_adapter net (port place number) ≡ true)
+    found = some_port (leads_to_adapter net) place 1 (ports_at net.plan.nodes place) some
+
+    by : (number : ℕ) → 1 ≤ number → number < 1 + ports_at net.plan.nodes place → (o : Option PortRef) → far_end net.plan.cables (port place number) ≡ o
+        → option_map_or (λ there. not (is_switch_at net.plan.nodes there.node)) o false ≡ true → CarriesAnAdapter net place
+    by number low high None far leads = absurd (false≢true leads)
+    by number low high (Some at) far leads = record {
+      switch = switch;
+      number = number;
+      low = low;
+      high = omega (arith, high);
+      at = at;
+      cable = far;
+      adapter = not-true (is_switch_at net.plan.nodes at.node) leads;
+    }
+
+all_pairs : (net : NetState) → AreSafe net → all_reached (between_adapters (pairs_by net (aims net))) ≡ true
 unfolding all_lids
 all_pairs net safe =
     each_in_range (pairs_at net (aims net)) (is_switch_at net.plan.nodes) 0 (length net.plan.nodes)
     (λ place within switch.
-    ap (λ (pairs : List Pair). all_reached (to_adapters pairs)) (flat_mapped (pair_at net place) (aim_of net) (named_lids net.dump))
+    ap (λ (pairs : List Pair). all_reached (between_adapters pairs)) (flat_mapped (pair_at net place) (aim_of net) (named_lids net.dump))
     ∙ each_in_range (λ n. pair_at net place (aim_of net n)) (is_named (rows_of net.dump.tables)) 0 65536
     (λ lid below named. pair_fine net place lid (aim_of net lid).end
-    (λ end is adapter. ways_are_followed.told net lid place (turns.Arrives end) switch (safe.reached place lid end switch below is adapter))))
+    (λ end is adapter carrying. ways_are_followed.told net lid place (turns.Arrives end) switch
+    (safe.reached place lid end (carried net place switch carrying) below is adapter))))
 
 -- ---- and no circle is told
-no_ring : (net : NetState) → AreSafe net → is_none (adapters_ring net (aims net)) ≡ true
-no_ring net safe = by (deadlock net (adapter_lids net)) refl
+no_ring : (net : NetState) → AreSafe net → is_none (credit_loop net (aims net)) ≡ true
+no_ring net safe = by (deadlock net (other_lids net)) refl
   where
-    by : (o : Option (List PortRef)) → deadlock net (adapter_lids net) ≡ o → is_none o ≡ true
+    by : (o : Option (List PortRef)) → deadlock net (other_lids net) ≡ o → is_none o ≡ true
     by None is = refl
     by (Some ring) is =
-        let circle = told_circles_wait net (adapter_lids net) ring is in
+        let circle = told_circles_wait net (other_lids net) ring is in
         absurd (false≢true (sym (safe.free ring circle.0) ∙ circle.1))
 
 safe_is_told : (net : NetState) (end : PortRef) → IsAdaptersEnd net end → AreSafe net → says_safe net ≡ true
 unfolding audit_of
 safe_is_told net end is safe =
     let named = safe.named end is in
-    let tables : list_all (has_table net) (switches net.plan.nodes) ≡ true =
-    all_kept (has_table net) (is_switch_at net.plan.nodes) (range_with_len 0 (length net.plan.nodes))
-    (λ place switch. table_there net named.0 place end (safe.reached place named.0 end switch named.1 named.2 is.0)) in
-    and_from (list_all (has_table net) (switches net.plan.nodes)) _ tables
-    (and_from (not (length net.dump.tables == 0)) _ (some_table net named.0 end named.2)
-    (and_from (list_all (have_lids net (aims net)) net.plan.cables) _ (cables_have net safe)
-    (and_from (all_reached (to_adapters (pairs_by net (aims net)))) _ (all_pairs net safe) (no_ring net safe))))
+    and_from (list_all (have_lids net (aims net)) net.plan.cables) _ (cables_have net safe)
+    (and_from (all_reached (between_adapters (pairs_by net (aims net)))) _ (all_pairs net safe)
+    (and_from (is_none (credit_loop net (aims net))) _ (no_ring net safe) (all_same net named.0 end named.2 safe.same)))
 
 pub safe_routes_are_told : SafeRoutesAreTold
 safe_routes_are_told = record { safe = told_is_safe; told = safe_is_told }

@@ -17,7 +17,7 @@ use Rattle.route_audit.specs.declared.following.Fate.TheVariants as fates
 use Rattle.route_audit.specs.Following.{back, end_from, end_within, fate_by, if_goes, loop_from, switch_total, then_end, turn}
 use Rattle.route_audit.specs.Laws.{ComesBy, EndsBy, HasItsLine, IsWay, NeverEnds, EachTroubleHasALine}
 use Rattle.route_audit.specs.Lids.{aim_of}
-use Rattle.route_audit.specs.Lines.{is_least, line_by, loop_line, name_word, trouble_line, trouble_to}
+use Rattle.route_audit.specs.Lines.{is_least, line_by, loop_line, name_word, nobodys_line, stray_line, trouble_line, trouble_to, unplaced_line}
 use Rattle.route_audit.specs.Net.{NetState}
 use Rattle.route_audit.proofs.EndlessLemmas.{is_listed, loops_never_end, turn_goes, way_there}
 
@@ -280,40 +280,59 @@ module _ (net : NetState) (lid : ℕ) where
       let later = ends_there next rest turned (turn_goes net lid place next is.0) is.1 in
       record { there = later.there; of_switch = later.of_switch; way = next ∷ later.way; comes = (is.0, later.comes); is = later.is }
 
+  has_line : (place : ℕ) (turned : Turn) → Ends place turned → ((there : ℕ) → turn net lid there ≡ turned → trouble_line net there (aim_of net lid) ≡ [] → ⊥)
+      → HasItsLine trouble_line net lid place
+  has_line place turned ends some =
+      record { there = ends.there; of_switch = ends.of_switch; way = ends.way; comes = ends.comes; told = some ends.there ends.is }
+
+  -- ---- what goes on has the line of the loop, whosever the LID is
+  second_empty : (xs ys : List ℕ) → xs ++ ys ≡ [] → ys ≡ []
+  second_empty [] ys none = none
+  second_empty (x ∷ xs) ys none = cc
+
+  goes_line : (there next : ℕ) (guid : Option ℕ) (end : Option PortRef) → turn net lid there ≡ turns.Goes next → trouble_to net there lid guid end ≡ []
+      → loop_line net there lid (loop_from net lid there) ≡ []
+  goes_line there next guid (Some end) goes none = sym (ap (line_by net there lid end) goes) ∙ none
+  goes_line there next (Some guid) None goes none = sym (ap (unplaced_line net there lid) goes) ∙ none
+  goes_line there next None None goes none =
+      sym (ap (nobodys_line net there lid) goes) ∙ second_empty (stray_line net there lid) (nobodys_line net there lid (turn net lid there)) none
+
+  loop_line_told : (place : ℕ) → GoesOn place → HasItsLine trouble_line net lid place
+  loop_line_told place on =
+      let again = comes_again place on in
+      let few = again.few in
+      let home = round_from (walk again.before place) again.rest (walk_on again.before place on) (omega (arith, few)) again.again in
+      let way = comes_by (again.before + home.0) place on in
+      let there = walk_add again.before home.0 place in
+      let at = walk home.0 (walk again.before place) in
+      let one = steps at home.1.on in
+      record {
+        there = at;
+        of_switch = home.1.on.of_switch;
+        way = way.0;
+        comes = subst (ComesBy net lid place way.0) there way.1;
+        told = λ none. some_line at (loop_from net lid at) (loop_told at home.1) (goes_line at (step at) (aim_of net lid).guid (aim_of net lid).end one.goes none);
+      }
+
+  -- ---- packets to a port that the topology lacks end at a switch without an entry
+  hole_shown : (there guid : ℕ) (end : Option PortRef) → turn net lid there ≡ turns.Hole → trouble_to net there lid (Some guid) end ≡ [] → ⊥
+  hole_shown there guid (Some end) hole none = let empty = sym (ap (line_by net there lid end) hole) ∙ none in cc
+  hole_shown there guid None hole none = let empty = sym (ap (unplaced_line net there lid) hole) ∙ none in cc
+
+  hole_told : (place guid : ℕ) → is_switch_at net.plan.nodes place ≡ true → (aim_of net lid).guid ≡ Some guid → EndsBy net lid place turns.Hole
+      → HasItsLine trouble_line net lid place
+  hole_told place guid switch named way =
+      has_line place turns.Hole (ends_there place way.0 turns.Hole switch way.1)
+      (λ there hole none. hole_shown there guid (aim_of net lid).end hole (sym (ap (λ (o : Option ℕ). trouble_to net there lid o (aim_of net lid).end) named) ∙ none))
+
+  -- ---- packets to an end port of the topology
   module _ (end : PortRef) (named : (aim_of net lid).end ≡ Some end) where
     line_is : (there : ℕ) → trouble_line net there (aim_of net lid) ≡ line_by net there lid end (turn net lid there)
     line_is there = ap (trouble_to net there lid (aim_of net lid).guid) named
 
-    told_by : (there : ℕ) (turned : Turn) → turn net lid there ≡ turned → (line_by net there lid end turned ≡ [] → ⊥)
+    told_by : (turned : Turn) → ((there : ℕ) → line_by net there lid end turned ≡ [] → ⊥) → (there : ℕ) → turn net lid there ≡ turned
         → trouble_line net there (aim_of net lid) ≡ [] → ⊥
-    told_by there turned is some none = some (sym (ap (line_by net there lid end) is) ∙ (sym (line_is there) ∙ none))
-
-    has_line : (place : ℕ) (turned : Turn) → Ends place turned → ((there : ℕ) → line_by net there lid end turned ≡ [] → ⊥)
-        → HasItsLine trouble_line net lid place
-    has_line place turned ends some = record {
-      there = ends.there;
-      of_switch = ends.of_switch;
-      way = ends.way;
-      comes = ends.comes;
-      told = told_by ends.there turned ends.is (some ends.there);
-    }
-
-    loop_line_told : (place : ℕ) → GoesOn place → HasItsLine trouble_line net lid place
-    loop_line_told place on =
-        let again = comes_again place on in
-        let few = again.few in
-        let home = round_from (walk again.before place) again.rest (walk_on again.before place on) (omega (arith, few)) again.again in
-        let way = comes_by (again.before + home.0) place on in
-        let there = walk_add again.before home.0 place in
-        let one = steps (walk home.0 (walk again.before place)) home.1.on in
-        record {
-          there = walk home.0 (walk again.before place);
-          of_switch = home.1.on.of_switch;
-          way = way.0;
-          comes = subst (ComesBy net lid place way.0) there way.1;
-          told = told_by (walk home.0 (walk again.before place)) (turns.Goes (step (walk home.0 (walk again.before place)))) one.goes
-              (some_line (walk home.0 (walk again.before place)) (loop_from net lid (walk home.0 (walk again.before place))) (loop_told (walk home.0 (walk again.before place)) home.1));
-        }
+    told_by turned some there is none = some there (sym (ap (line_by net there lid end) is) ∙ (sym (line_is there) ∙ none))
 
     wrong_told : (there : PortRef) → (is_same_port there end ≡ true → ⊥) → (at : ℕ) → line_by net at lid end (turns.Arrives there) ≡ [] → ⊥
     wrong_told there other at none = elim (cases_Bool (is_same_port there end)) [
@@ -335,11 +354,17 @@ module _ (net : NetState) (lid : ℕ) where
             goes_on_still place (one ∷ rest) next is = goes_on_still one rest next is.1
         by (turns.Arrives there) way reached unknown =
             has_line place (turns.Arrives there) (ends_there place way.0 (turns.Arrives there) switch way.1)
-            (wrong_told there (λ same. reached (rw same refl)))
-        by turns.Hole way reached unknown = has_line place turns.Hole (ends_there place way.0 turns.Hole switch way.1) (λ at none. cc)
+            (told_by (turns.Arrives there) (wrong_told there (λ same. reached (rw same refl))))
+        by turns.Hole way reached unknown =
+            has_line place turns.Hole (ends_there place way.0 turns.Hole switch way.1) (told_by turns.Hole (λ at none. cc))
         by (turns.Nowhere number) way reached unknown =
-            has_line place (turns.Nowhere number) (ends_there place way.0 (turns.Nowhere number) switch way.1) (λ at none. cc)
+            has_line place (turns.Nowhere number) (ends_there place way.0 (turns.Nowhere number) switch way.1)
+            (told_by (turns.Nowhere number) (λ at none. cc))
         by turns.Unknown way reached unknown = absurd (unknown refl)
 
 pub each_trouble_has_a_line : EachTroubleHasALine
-each_trouble_has_a_line net lid place end switch named reached unknown = by_end net lid end named place (end_from net lid place) switch refl reached unknown
+each_trouble_has_a_line = record {
+  lost = λ net lid place end switch named reached unknown. by_end net lid end named place (end_from net lid place) switch refl reached unknown;
+  ended = λ net lid place guid switch named way. hole_told net lid place guid switch named way;
+  endless = λ net lid place switch never. loop_line_told net lid place (record { of_switch = switch; never = never });
+}

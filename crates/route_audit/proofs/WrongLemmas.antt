@@ -1,20 +1,33 @@
 -- What wrong rules tell of two switches.
-use Rattle.std.proofs.Common.{◌≡◌, ◌∙◌, ◌==◌, ℕ, zero, suc, true, false, List, Some, ap, filter, lit<, map, refl, sym, [], ◌∷◌}
+use Rattle.std.proofs.Common.{◌≡◌, ◌∙◌, ◌==◌, ◌≤◌, ◌+◌, inl, inr, ℕ, zero, suc, nat_lt, true, false, List, Some, None, ap, filter, lit<, lit≤, map, refl, sym, [], ◌∷◌}
 use Rattle.std.proofs.Common.{arith}
-use Rattle.std.proofs.lemmas.Bool.{false≢true}
+use Rattle.std.specs.List.{list_all, range_with_len}
+use Rattle.std.proofs.lemmas.Bool.{cases_Bool, false≢true}
+use Rattle.std.proofs.lemmas.Bool.Decides.{nat_tests}
+use Rattle.dump_file.specs.Table.{rows_of}
+use Rattle.dump_file.specs.declared.row.Row.{Row}
 use Rattle.fabric_parts.specs.Cable.{port}
+use Rattle.result_words.proofs.ListLemmas.{none_passes}
 use Rattle.route_audit.specs.declared.following.Fate.TheVariants as fates
 use Rattle.route_audit.specs.declared.following.Turn.TheVariants as turns
 use Rattle.topo_file.specs.Node.{is_switch_at}
-use Rattle.route_audit.specs.Laws.{ComesBy, IsWay}
+use Rattle.route_audit.specs.Audit.{audit_of}
+use Rattle.route_audit.specs.Channels.{depends}
+use Rattle.route_audit.specs.Following.{end_within}
+use Rattle.route_audit.specs.Laws.{CarriesAnAdapter, ComesBy, IsWay, is_circle, other_lids, says_safe}
 use Rattle.route_audit.specs.Lids.{aim_of, aims, all_lids, is_named}
-use Rattle.route_audit.specs.WrongRules.{FirstPortsAreChannels, HolesAreCounted, HolesHaveALine, LoopsBeginWhereTold, LoopsHaveALine, NamedLidsAreNotEnough, OtherLidsDoNotCount, TablesAreNotEnough, TheLastWaitsForTheFirst, TwoMakeACircle, WaysAreLonger, a_hole, a_loop, is_going, is_hole, named_are_reached, no_lids, silent_where, two_switches}
+use Rattle.route_audit.specs.Net.{NetState}
+use Rattle.route_audit.specs.WrongRules.{FirstPortsAreChannels, HolesAreCounted, HolesHaveALine, LidsAreAsked, LoopsBeginWhereTold, LoopsHaveALine, NobodysLoopsHaveALine, OtherLidsDecide}
+use Rattle.route_audit.specs.WrongRules.{OtherLidsDoNotCount, OtherPortsDecide, OtherTablesDecide, OthersHolesHaveALine, TheLastWaitsForTheFirst, TransitDecidesNothing, TwoMakeACircle, WaysAreAsked}
+use Rattle.route_audit.specs.WrongRules.{WaysAreLonger, a_hole, a_hole_at_home, a_loop, a_nobodys_loop, a_routers_hole, a_routers_loop, a_third_table, adapters_row, another_adapter, another_row, by_adapters_lids}
+use Rattle.route_audit.specs.WrongRules.{from_each_switch, is_going, is_hole, no_lids, silent_of_nobody, silent_where, two_switches, two_with, with_other_ports, with_other_tables, with_rows, without_lids, without_ways}
+use Rattle.route_audit.proofs.SafeLemmas.{told_is_safe}
 
 pub ways_are_longer : WaysAreLonger
 ways_are_longer law = let none = law (two_switches 1 0) 1 0 refl refl 2 in cc
 
 pub holes_are_counted : HolesAreCounted
-holes_are_counted law = let none : ◌≡◌ {A = ℕ} 0 1 = law (record { to_switch = false; fate = fates.Hole } ∷ []) in cc
+holes_are_counted law = let none : ◌≡◌ {A = ℕ} 0 1 = law (record { from_adapters = true; to_switch = false; fate = fates.Hole } ∷ []) in cc
 
 pub first_ports_are_channels : FirstPortsAreChannels
 first_ports_are_channels law =
@@ -36,26 +49,80 @@ loops_begin_where_told law =
     let first : ◌≡◌ {A = ℕ} 1 0 = cc in
     false≢true (sym (ap (λ (n : ℕ). n == 1) first) ∙ refl)
 
-hole_ends : (way : List ℕ) → IsWay a_hole 1 1 way (turns.Arrives (port 2 1)) → ⊥
+-- ---- LIDs that few rows name
+none_named : (rows : List Row) (bound first many : ℕ) → bound ≤ first → list_all (λ (row : Row). nat_lt row.lid bound) rows ≡ true
+    → filter (is_named rows) (range_with_len first many) ≡ []
+none_named rows bound first zero past below = refl
+none_named rows bound first (suc many) past below =
+    let none : is_named rows first ≡ false =
+    none_passes (λ (row : Row). nat_lt row.lid bound) (λ (row : Row). row.lid == first) (λ row less. grind (arith, nat_tests, less, past)) rows below in
+    rw none (none_named rows bound (first + 1) many (omega (arith, past)) below)
+
+few_named : (rows : List Row) (bound first few many : ℕ) → few ≤ many → bound ≤ first + few → list_all (λ (row : Row). nat_lt row.lid bound) rows ≡ true
+    → filter (is_named rows) (range_with_len first many) ≡ filter (is_named rows) (range_with_len first few)
+few_named rows bound first zero many less past below = none_named rows bound first many (omega (arith, past)) below
+few_named rows bound first (suc few) zero less past below = absurd (omega (arith, less))
+few_named rows bound first (suc few) (suc many) less past below =
+    let rest = few_named rows bound (first + 1) few many (omega (arith, less)) (omega (arith, past)) below in
+    elim (cases_Bool (is_named rows first)) [
+      | inl named ↦ rw named (ap (λ (lids : List ℕ). first ∷ lids) rest)
+      | inr other ↦ rw other rest
+    ]
+
+few_aims : (net : NetState) → list_all (λ (row : Row). nat_lt row.lid 3) (rows_of net.dump.tables) ≡ true
+    → aims net ≡ map (aim_of net) (filter (is_named (rows_of net.dump.tables)) (range_with_len 0 3))
+unfolding all_lids
+few_aims net below = ap (map (aim_of net)) (few_named (rows_of net.dump.tables) 3 0 3 65536 (lit≤ tt) (lit≤ tt) below)
+
+-- ---- what the verdict asks
+pub lids_are_asked : LidsAreAsked
+lids_are_asked law =
+    let told : without_lids no_lids ≡ true = rw (few_aims no_lids refl) refl in
+    let named = (law.safe no_lids told).named (port 2 1) (refl, refl) in
+    let is : (aim_of no_lids named.0).end ≡ Some (port 2 1) = named.2 in
+    cc
+
+first_carries : (first second : List Row) → CarriesAnAdapter (two_with first second) 0
+first_carries first second = record { switch = refl; number = 1; low = omega arith; high = omega arith; at = port 2 1; cable = refl; adapter = refl }
+
+hole_ends : (way : List ℕ) → IsWay a_hole_at_home 1 0 way (turns.Arrives (port 2 1)) → ⊥
 hole_ends [] is = let e : turns.Hole ≡ turns.Arrives (port 2 1) = is.0 in cc
 hole_ends (next ∷ way) is = let e : turns.Hole ≡ turns.Goes next = is.0 in cc
 
-pub tables_are_not_enough : TablesAreNotEnough
-tables_are_not_enough law = let way = (law.safe a_hole refl).reached 1 1 (port 2 1) refl (lit< tt) refl refl in hole_ends way.0 way.1
+pub ways_are_asked : WaysAreAsked
+ways_are_asked law =
+    let told : without_ways a_hole_at_home ≡ true = rw (few_aims a_hole_at_home refl) refl in
+    let way = (law.safe a_hole_at_home told).reached 0 1 (port 2 1) (first_carries _ _) (lit< tt) refl refl in
+    hole_ends way.0 way.1
 
--- ---- of tables without rows
-none_named : (lids : List ℕ) → filter (is_named []) lids ≡ []
-none_named [] = refl
-none_named (lid ∷ lids) = none_named lids
+hole_is_safe : says_safe a_hole ≡ true
+unfolding audit_of
+hole_is_safe = rw (few_aims a_hole refl) refl
 
-no_aims : aims no_lids ≡ []
-no_aims = ap (map (aim_of no_lids)) (none_named all_lids)
+hole_is_asked : from_each_switch a_hole ≡ false
+hole_is_asked = rw (few_aims a_hole refl) refl
 
-pub named_lids_are_not_enough : NamedLidsAreNotEnough
-named_lids_are_not_enough law =
-    let told : named_are_reached no_lids ≡ true = rw no_aims refl in
-    let named = (law.safe no_lids told).named (port 2 1) (refl, refl) in
-    let is : (aim_of no_lids named.0).end ≡ Some (port 2 1) = named.2 in
+pub transit_decides_nothing : TransitDecidesNothing
+transit_decides_nothing law = false≢true (sym hole_is_asked ∙ law.told a_hole (port 2 1) (refl, refl) (told_is_safe a_hole hole_is_safe))
+
+pub other_lids_decide : OtherLidsDecide
+other_lids_decide law =
+    let told : by_adapters_lids a_routers_loop ≡ true = rw (few_aims a_routers_loop refl) refl in
+    let free = (law.safe a_routers_loop told).free (port 0 2 ∷ port 1 1 ∷ []) refl in
+    let waits : is_circle (depends a_routers_loop (other_lids a_routers_loop)) (port 0 2 ∷ port 1 1 ∷ []) ≡ true = rw (few_aims a_routers_loop refl) refl in
+    false≢true (sym free ∙ waits)
+
+pub other_tables_decide : OtherTablesDecide
+other_tables_decide law =
+    let told : with_other_tables a_third_table ≡ true = rw (few_aims a_third_table refl) refl in
+    let known = (law.safe a_third_table told).same.switches 2 (with_rows 48 (adapters_row 1 ∷ [])) refl in
+    false≢true known
+
+pub other_ports_decide : OtherPortsDecide
+other_ports_decide law =
+    let told : with_other_ports another_adapter ≡ true = rw (few_aims another_adapter refl) refl in
+    let end = (law.safe another_adapter told).same.ends 0 2 another_row refl (lit< tt) refl in
+    let is : (aim_of another_adapter 2).end ≡ Some end.0 = end.1 in
     cc
 
 -- ---- lines that are lacking
@@ -67,7 +134,7 @@ loop_is_silent (suc (suc (suc n))) switch = absurd (false≢true switch)
 
 pub loops_have_a_line : LoopsHaveALine
 loops_have_a_line law =
-    let line = law a_loop 1 0 (port 2 1) refl refl (λ r. let e : fates.Loop ≡ fates.Reached = r in cc) (λ u. let e : fates.Loop ≡ fates.Unknown = u in cc) in
+    let line = law.lost a_loop 1 0 (port 2 1) refl refl (λ r. let e : fates.Loop ≡ fates.Reached = r in cc) (λ u. let e : fates.Loop ≡ fates.Unknown = u in cc) in
     line.told (loop_is_silent line.there line.of_switch)
 
 hole_is_silent : (there : ℕ) (way : List ℕ) → ComesBy a_hole 1 1 way there → silent_where is_hole a_hole there (aim_of a_hole 1) ≡ []
@@ -76,5 +143,25 @@ hole_is_silent there (next ∷ way) comes = absurd (let e : turns.Hole ≡ turns
 
 pub holes_have_a_line : HolesHaveALine
 holes_have_a_line law =
-    let line = law a_hole 1 1 (port 2 1) refl refl (λ r. let e : fates.Hole ≡ fates.Reached = r in cc) (λ u. let e : fates.Hole ≡ fates.Unknown = u in cc) in
+    let line = law.lost a_hole 1 1 (port 2 1) refl refl (λ r. let e : fates.Hole ≡ fates.Reached = r in cc) (λ u. let e : fates.Hole ≡ fates.Unknown = u in cc) in
     line.told (hole_is_silent line.there line.way line.comes)
+
+pub others_holes_have_a_line : OthersHolesHaveALine
+others_holes_have_a_line law =
+    let line = law.ended a_routers_hole 2 0 999 refl refl ([], (refl, λ next same. let e : turns.Hole ≡ turns.Goes next = same in cc)) in
+    line.told refl
+
+nobodys_never_end : (count : ℕ) → (end_within a_nobodys_loop 2 count 0 ≡ None) × (end_within a_nobodys_loop 2 count 1 ≡ None)
+nobodys_never_end zero = (refl, refl)
+nobodys_never_end (suc count) = let later = nobodys_never_end count in (later.1, later.0)
+
+nobodys_is_silent : (there : ℕ) → is_switch_at a_nobodys_loop.plan.nodes there ≡ true → silent_of_nobody a_nobodys_loop there (aim_of a_nobodys_loop 2) ≡ []
+nobodys_is_silent zero switch = refl
+nobodys_is_silent (suc zero) switch = refl
+nobodys_is_silent (suc (suc zero)) switch = absurd (false≢true switch)
+nobodys_is_silent (suc (suc (suc n))) switch = absurd (false≢true switch)
+
+pub nobodys_loops_have_a_line : NobodysLoopsHaveALine
+nobodys_loops_have_a_line law =
+    let line = law.endless a_nobodys_loop 2 0 refl (λ count. (nobodys_never_end count).0) in
+    line.told (nobodys_is_silent line.there line.of_switch)

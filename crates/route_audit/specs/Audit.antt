@@ -1,38 +1,37 @@
--- The audit of a dump over a topology: what is printed, and whether the routes to adapters are sound.
-use Rattle.std.specs.Prelude.{ℕ, ◌==◌, ◌&&◌, ◌||◌, Bool, true, false, not, List, [], ◌∷◌, ◌++◌, codes, decimal, filter, flat_map, length, map, is_none, is_some, Option, Some, None}
-use Rattle.std.specs.List.{list_all}
+-- The audit of a dump over a topology: what is printed, and whether the routes are safe.
+use Rattle.std.specs.Prelude.{ℕ, ◌||◌, Bool, true, false, List, [], ◌∷◌, ◌++◌, codes, decimal, filter, flat_map, length, map, is_some, Option, Some, None}
 use Rattle.dump_file.specs.Dump.{DumpState}
 use Rattle.fabric_parts.specs.declared.cable.PortRef.{PortRef}
-use Rattle.topo_file.specs.Connectivity.{switches}
 use Rattle.topo_file.specs.Topology.{TopologyState}
 use Rattle.route_audit.specs.declared.following.Fate.TheVariants as fates
 use Rattle.route_audit.specs.declared.lids.Aim.{Aim}
 use Rattle.route_audit.specs.declared.pairs.Pair.{Pair}
 use Rattle.route_audit.specs.Channels.{deadlock}
-use Rattle.route_audit.specs.Lids.{aims, have_lids, is_adapters, is_told}
+use Rattle.route_audit.specs.Lids.{aims, is_others}
 use Rattle.route_audit.specs.Lines.{files_by, port_text, troubles_by}
-use Rattle.route_audit.specs.Net.{NetState, table_at}
-use Rattle.route_audit.specs.Pairs.{all_reached, count_of, pairs_by, to_adapters, to_switches}
+use Rattle.route_audit.specs.Net.{NetState}
+use Rattle.route_audit.specs.Pairs.{between_adapters, count_of, in_transit, pairs_by, to_switches}
+use Rattle.route_audit.specs.Verdict.{verdict_by, verdict_is_safe, verdict_line}
 
--- what is found: the lines, and whether the routes to adapters are sound
+-- what is found: the lines, and whether the routes are safe
 pub record AuditState : Type 0 where
   pub text : List ℕ
   pub is_safe : Bool
 
--- ---- circles of channels
+-- ---- credit loops
 abbrev pub lids_of : List Aim → List ℕ
 lids_of all = map (λ aim. aim.lid) all
 
--- along the LIDs of adapter ports; and along all LIDs of end ports, where those alone make none
-abbrev pub adapters_ring : NetState → List Aim → Option (List PortRef)
-adapters_ring net all = deadlock net (lids_of (filter (is_adapters net) all))
+-- along all LIDs but the switches' own; and along all LIDs, where those alone make none
+abbrev pub credit_loop : NetState → List Aim → Option (List PortRef)
+credit_loop net all = deadlock net (lids_of (filter (is_others net) all))
 
 abbrev pub if_none : {X : Type 0} → Option X → Option X → Option X
 if_none None other = other
 if_none (Some x) other = None
 
-abbrev pub switches_ring : NetState → List Aim → Option (List PortRef)
-switches_ring net all = if_none (adapters_ring net all) (deadlock net (lids_of (filter is_told all)))
+abbrev pub switches_credit_loop : NetState → List Aim → Option (List PortRef)
+switches_credit_loop net all = if_none (credit_loop net all) (deadlock net (lids_of all))
 
 -- `deadlock s6/3 s8/2`, `deadlock switch-lids s2/3 s3/3`
 abbrev pub port_word : NetState → PortRef → List ℕ
@@ -63,30 +62,23 @@ unfoldable pub count_line : List ℕ → List Pair → List ℕ → List ℕ
 count_line title pairs words = title ++ reached_part pairs ++ lost_part pairs ++ other_part pairs ++ words ++ 10 ∷ []
 
 unfoldable pub counts_by : List Pair → Bool → Bool → List ℕ
-counts_by pairs adapters switches =
-    count_line (codes "adapters: ") (to_adapters pairs) (deadlock_words adapters) ++ count_line (codes "switches: ") (to_switches pairs) []
-    ++ count_line (codes "audit: ") pairs (deadlock_words (adapters || switches))
+counts_by pairs others switches =
+    count_line (codes "adapters: ") (between_adapters pairs) (deadlock_words others) ++ count_line (codes "transit: ") (in_transit pairs) []
+    ++ count_line (codes "switches: ") (to_switches pairs) [] ++ count_line (codes "audit: ") pairs (deadlock_words (others || switches))
 
 -- ---- the whole
+abbrev pub lines_by : NetState → List Aim → Option (List PortRef) → Option (List PortRef) → List ℕ
+lines_by net all others switches =
+    files_by net all ++ troubles_by net all ++ ring_line net (codes "deadlock") others ++ ring_line net (codes "deadlock switch-lids") switches
+
 unfoldable pub text_by : NetState → List Aim → Option (List PortRef) → Option (List PortRef) → List ℕ
-text_by net all adapters switches =
-    files_by net all ++ troubles_by net all ++ ring_line net (codes "deadlock") adapters ++ ring_line net (codes "deadlock switch-lids") switches
-    ++ counts_by (pairs_by net all) (is_some adapters) (is_some switches)
-
--- ---- each switch has a table and there is one, each adapter port that has a cable has a LID, all these are reached from each
--- switch, and along them no channels wait for one another in a circle
-abbrev pub has_table : NetState → ℕ → Bool
-has_table net place = is_some (table_at net place)
-
-abbrev pub safe_by : NetState → List Aim → Option (List PortRef) → Bool
-safe_by net all adapters =
-    list_all (has_table net) (switches net.plan.nodes) && (not (length net.dump.tables == 0)
-    && (list_all (have_lids net all) net.plan.cables && (all_reached (to_adapters (pairs_by net all)) && is_none adapters)))
+text_by net all others switches =
+    lines_by net all others switches ++ counts_by (pairs_by net all) (is_some others) (is_some switches) ++ verdict_line (verdict_by net all others)
 
 unfoldable pub audit_of : NetState → AuditState
 audit_of net = record {
-  text = text_by net (aims net) (adapters_ring net (aims net)) (switches_ring net (aims net));
-  is_safe = safe_by net (aims net) (adapters_ring net (aims net));
+  text = text_by net (aims net) (credit_loop net (aims net)) (switches_credit_loop net (aims net));
+  is_safe = verdict_is_safe (verdict_by net (aims net) (credit_loop net (aims net)));
 }
 
 abbrev pub audit : TopologyState → DumpState → AuditState

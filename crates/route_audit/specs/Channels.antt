@@ -1,14 +1,15 @@
 -- The channels of a fabric, and which depend on which. A channel is a port of a switch that is cabled to a switch; it has to
 -- wait for another where some LID is forwarded out of it and, by the switch behind it, out of the other.
 use Rattle.std.specs.Prelude.{ℕ, ◌==◌, ◌&&◌, Bool, false, List, map, filter, flat_map, get_or, Option, option_map}
-use Rattle.std.specs.List.{enumerate_from, list_any, range_with_len}
+use Rattle.std.specs.List.{enumerate_from, list_any}
 use Rattle.std.specs.Option.{option_map_or}
 use Rattle.fabric_parts.specs.Cable.{far_end, port}
 use Rattle.fabric_parts.specs.declared.cable.PortRef.{PortRef}
 use Rattle.topo_file.specs.Connectivity.{switches}
-use Rattle.topo_file.specs.Node.{is_switch_at, ports_at}
+use Rattle.topo_file.specs.Node.{is_switch_at}
 use Rattle.route_audit.specs.declared.entry.Entry.{Entry}
 use Rattle.route_audit.specs.declared.entry.Entry.TheVariants.{Out, Missing, Untold}
+use Rattle.route_audit.specs.Attached.{ports_of}
 use Rattle.route_audit.specs.Circle.{circle}
 use Rattle.route_audit.specs.Net.{NetState, entry}
 
@@ -17,7 +18,7 @@ is_channel net at = option_map_or (λ there. is_switch_at net.plan.nodes there.n
 
 -- in the order of switches, and then of ports
 abbrev pub channels_of : NetState → ℕ → List PortRef
-channels_of net place = filter (is_channel net) (map (port place) (range_with_len 1 (ports_at net.plan.nodes place)))
+channels_of net place = filter (is_channel net) (ports_of net place)
 
 abbrev pub channels : NetState → List PortRef
 channels net = flat_map (channels_of net) (switches net.plan.nodes)

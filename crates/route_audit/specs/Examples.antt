@@ -1,18 +1,22 @@
 -- What entries, ports and lines are, in examples.
-use Rattle.std.specs.Prelude.{ℕ, ◌≡◌, true, false, [], ◌∷◌, ◌++◌, codes, Some, None}
-use Rattle.dump_file.specs.declared.destination.Destination.TheVariants.{Nobody}
+use Rattle.std.specs.Prelude.{ℕ, ◌≡◌, Bool, true, false, List, [], ◌∷◌, ◌++◌, codes, Some, None}
+use Rattle.dump_file.specs.declared.destination.Destination.{Destination}
+use Rattle.dump_file.specs.declared.destination.Destination.TheVariants.{ChannelAdapter as AdapterKind, FurtherLid, Nobody, Router, Switch as SwitchKind}
 use Rattle.dump_file.specs.declared.table.Table.{Table}
 use Rattle.fabric_parts.specs.Cable.{port}
 use Rattle.fabric_parts.specs.declared.node_type.NodeType.TheVariants.{ChannelAdapter}
 use Rattle.topo_file.specs.declared.node.Node.{Node}
 use Rattle.route_audit.specs.declared.entry.Entry.TheVariants.{Out, Missing, Untold}
 use Rattle.route_audit.specs.declared.lids.Aim.{Aim}
+use Rattle.route_audit.specs.declared.verdict.Verdict.{Verdict}
+use Rattle.route_audit.specs.Attached.{carries_adapter}
 use Rattle.route_audit.specs.Audit.{count_line, counts_by, deadlock_words}
-use Rattle.route_audit.specs.Lids.{number_in, port_of}
-use Rattle.route_audit.specs.Lines.{guid_text, leaves_out, no_lid_lines, no_port_line, no_switch_line, no_table_line, stray_line, troubles_by}
+use Rattle.route_audit.specs.Lids.{aim_of, is_lacking, number_in, port_of}
+use Rattle.route_audit.specs.Lines.{guid_text, leaves_out, no_lid_lines, no_port_line, no_switch_line, no_table_line, stray_line, trouble_line, troubles_by}
 use Rattle.route_audit.specs.Net.{NetState, entry, entry_in}
 use Rattle.route_audit.specs.Pairs.{pairs_by}
-use Rattle.route_audit.specs.WrongRules.{a_hole, a_switch, a_table}
+use Rattle.route_audit.specs.Verdict.{verdict_line}
+use Rattle.route_audit.specs.WrongRules.{a_hole, a_routers_hole, a_routers_loop, a_row, a_switch, a_table, two_with}
 
 -- ---- entries: 255 leads nowhere, as no row does, but for a top that is a multiple of 64
 abbrev topped : ℕ → Table
@@ -65,6 +69,10 @@ pub record TroublesAreTold : Type 0 where
   pub none : troubles_by (with_entries 1 1) (an_aim ∷ []) ≡ []
   pub stray : stray_line (astray 2) 0 21 ≡ codes "stray A 21\n"
   pub closed_stray : stray_line (astray 255) 0 21 ≡ []
+  -- of a router's LID a hole has its line, and where packets leave the switches they know of none
+  pub hole_to_a_router : troubles_by a_routers_hole (aim_of a_routers_hole 2 ∷ []) ≡ codes "hole A 2\n"
+  pub loop_to_a_router : troubles_by a_routers_loop (aim_of a_routers_loop 2 ∷ []) ≡ codes "loop 2 A B\n"
+  pub last_hop_to_a_router : trouble_line a_routers_hole 1 (aim_of a_routers_hole 2) ≡ []
 
 -- what the files lack of one another
 pub record LacksAreTold : Type 0 where
@@ -76,11 +84,45 @@ pub record LacksAreTold : Type 0 where
   pub lid : no_lid_lines a_hole [] (record { first = port 0 1; second = port 2 1 }) ≡ codes "no-lid h/1\n"
   pub has_lid : no_lid_lines a_hole (an_aim ∷ []) (record { first = port 0 1; second = port 2 1 }) ≡ []
 
--- and counts
+-- ---- a LID that a row gives to a channel adapter, or to a switch, is no other kind of port
+abbrev says_of_b : (ℕ → Destination) → NetState
+says_of_b kind = two_with (a_row 2 2 (kind 32) ∷ []) (a_row 2 0 (kind 32) ∷ [])
+
+pub record KindsAreTold : Type 0 where
+  pub switch : (aim_of (says_of_b SwitchKind) 2).end ≡ Some (port 1 0)
+  pub further : (aim_of (says_of_b FurtherLid) 2).end ≡ Some (port 1 0)
+  pub adapter : (aim_of (says_of_b AdapterKind) 2).end ≡ None
+  pub router : (aim_of (says_of_b Router) 2).end ≡ None
+  pub lacking : is_lacking (says_of_b AdapterKind) (aim_of (says_of_b AdapterKind) 2) ≡ true
+  pub not_lacking : is_lacking (says_of_b SwitchKind) (aim_of (says_of_b SwitchKind) 2) ≡ false
+  pub router_lacking : is_lacking (says_of_b Router) (aim_of (says_of_b Router) 2) ≡ false
+
+-- ---- an adapter is attached to the first switch, and none to the second
+pub record AttachedAreTold : Type 0 where
+  pub first : carries_adapter a_hole 0 ≡ true
+  pub second : carries_adapter a_hole 1 ≡ false
+
+-- ---- counts
 pub record CountsAreTold : Type 0 where
   pub of_a_hole : count_line (codes "audit: ") (pairs_by (with_entries 1 255) (an_aim ∷ [])) (deadlock_words false)
       ≡ codes "audit: 2 pairs, 1 reached, 1 holes, 0 nowhere, 0 wrong, 0 loops, 0 unknown, no deadlock\n"
   pub of_a_loop : counts_by (pairs_by (with_entries 2 1) (an_aim ∷ [])) false true
-      ≡ codes "adapters: 2 pairs, 0 reached, 0 holes, 0 nowhere, 0 wrong, 2 loops, 0 unknown, no deadlock\n"
+      ≡ codes "adapters: 1 pairs, 0 reached, 0 holes, 0 nowhere, 0 wrong, 1 loops, 0 unknown, no deadlock\n"
+      ++ codes "transit: 1 pairs, 0 reached, 0 holes, 0 nowhere, 0 wrong, 1 loops, 0 unknown\n"
       ++ codes "switches: 0 pairs, 0 reached, 0 holes, 0 nowhere, 0 wrong, 0 loops, 0 unknown\n"
       ++ codes "audit: 2 pairs, 0 reached, 0 holes, 0 nowhere, 0 wrong, 2 loops, 0 unknown, deadlock\n"
+
+-- ---- the last line
+abbrev a_verdict : Bool → Bool → Bool → Bool → Verdict
+a_verdict lids reached free same = record { has_lids = lids; is_reached = reached; is_free = free; is_same = same }
+
+abbrev the_rest : List ℕ
+the_rest = codes ", as if all packets used one virtual lane; multicast is not judged\n"
+
+pub record VerdictsAreTold : Type 0 where
+  pub safe : verdict_line (a_verdict true true true true) ≡ codes "verdict: safe" ++ the_rest
+  pub lids : verdict_line (a_verdict false true true true) ≡ codes "verdict: not safe (no-lid)" ++ the_rest
+  pub reached : verdict_line (a_verdict true false true true) ≡ codes "verdict: not safe (unreached)" ++ the_rest
+  pub free : verdict_line (a_verdict true true false true) ≡ codes "verdict: not safe (deadlock)" ++ the_rest
+  pub same : verdict_line (a_verdict true true true false) ≡ codes "verdict: not safe (mismatch)" ++ the_rest
+  pub none : verdict_line (a_verdict false false false false) ≡ codes "verdict: not safe (no-lid, unreached, deadlock, mismatch)" ++ the_rest

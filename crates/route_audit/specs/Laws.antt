@@ -1,7 +1,11 @@
 -- What is so of all fabrics and dumps: the statements of the laws of `src/laws.rt`.
-use Rattle.std.specs.Prelude.{ℕ, ◌≡◌, ◌<◌, ◌≤◌, ◌+◌, ◌↔◌, Bool, true, false, ◌&&◌, List, [], ◌∷◌, filter, length, Option, Some, None}
+use Rattle.std.specs.Prelude.{ℕ, ◌≡◌, ◌<◌, ◌≤◌, ◌+◌, ◌↔◌, Bool, true, false, ◌&&◌, List, [], ◌∷◌, filter, length, slice_get, Option, Some, None, is_some}
 use Rattle.std.specs.List.{list_all, list_any}
-use Rattle.fabric_parts.specs.Cable.{far_end, is_cabled, is_same_port}
+use Rattle.dump_file.specs.declared.destination.Destination.{Destination}
+use Rattle.dump_file.specs.declared.destination.Destination.TheVariants.{ChannelAdapter, Switch, Router, FurtherLid, Nobody, NotTold}
+use Rattle.dump_file.specs.declared.row.Row.{Row}
+use Rattle.dump_file.specs.declared.table.Table.{Table}
+use Rattle.fabric_parts.specs.Cable.{far_end, is_cabled, is_same_port, port}
 use Rattle.fabric_parts.specs.declared.cable.PortRef.{PortRef}
 use Rattle.topo_file.specs.Node.{is_switch_at, ports_at}
 use Rattle.route_audit.specs.declared.following.Fate.{Fate}
@@ -13,9 +17,9 @@ use Rattle.route_audit.specs.declared.pairs.Pair.{Pair}
 use Rattle.route_audit.specs.Audit.{audit_of, lids_of}
 use Rattle.route_audit.specs.Channels.{channels, deadlock, depends}
 use Rattle.route_audit.specs.Following.{end_from, end_within, fate, loop_from, turn}
-use Rattle.route_audit.specs.Lids.{aim_of, aims, is_adapters}
-use Rattle.route_audit.specs.Lines.{trouble_line}
-use Rattle.route_audit.specs.Net.{NetState}
+use Rattle.route_audit.specs.Lids.{aim_of, aims, is_others}
+use Rattle.route_audit.specs.Lines.{has_switch, trouble_line}
+use Rattle.route_audit.specs.Net.{NetState, row_at, table_at}
 use Rattle.route_audit.specs.Pairs.{count_of}
 
 -- ---- following entries
@@ -103,12 +107,16 @@ pub record HasItsLine (line : NetState → ℕ → Aim → List ℕ) (net : NetS
   pub comes : ComesBy net lid place way there
   pub told : line net there (aim_of net lid) ≡ [] → ⊥
 
--- so it is with each switch and each LID of an end port, unless packets from there come to that port, or to an entry of which
--- nothing is known
-abbrev pub TellsTroubles : (NetState → ℕ → Aim → List ℕ) → Type 0
-TellsTroubles line =
-    (net : NetState) (lid place : ℕ) (end : PortRef) → is_switch_at net.plan.nodes place ≡ true → end_port_of net lid ≡ Some end
-    → (fate net lid end place ≡ fates.Reached → ⊥) → (fate net lid end place ≡ fates.Unknown → ⊥) → HasItsLine line net lid place
+pub record TellsTroubles (line : NetState → ℕ → Aim → List ℕ) : Type 0 where
+  -- so it is with each switch and each LID of an end port, unless packets from there come to that port, or to an entry of which
+  -- nothing is known
+  pub lost : (net : NetState) (lid place : ℕ) (end : PortRef) → is_switch_at net.plan.nodes place ≡ true → end_port_of net lid ≡ Some end
+      → (fate net lid end place ≡ fates.Reached → ⊥) → (fate net lid end place ≡ fates.Unknown → ⊥) → HasItsLine line net lid place
+  -- with each LID of a port that the topology lacks, if packets come to a switch that has no entry
+  pub ended : (net : NetState) (lid place guid : ℕ) → is_switch_at net.plan.nodes place ≡ true → (aim_of net lid).guid ≡ Some guid
+      → EndsBy net lid place turns.Hole → HasItsLine line net lid place
+  -- and with whichever LID, if packets never end
+  pub endless : (net : NetState) (lid place : ℕ) → is_switch_at net.plan.nodes place ≡ true → NeverEnds net lid place → HasItsLine line net lid place
 
 abbrev pub EachTroubleHasALine : Type 0
 EachTroubleHasALine = TellsTroubles trouble_line
@@ -150,18 +158,49 @@ NoCircleIsMissed = MissesNone deadlock
 abbrev pub IsAdaptersEnd : NetState → PortRef → Type 0
 IsAdaptersEnd net end = (is_switch_at net.plan.nodes end.node ≡ false) × (is_cabled net.plan.cables end ≡ true)
 
--- the LIDs of adapter ports
-abbrev pub adapter_lids : NetState → List ℕ
-adapter_lids net = lids_of (filter (is_adapters net) (aims net))
+-- a cable joins a port of the switch there and a port of an adapter
+pub record CarriesAnAdapter (net : NetState) (place : ℕ) : Type 0 where
+  pub switch : is_switch_at net.plan.nodes place ≡ true
+  pub number : ℕ
+  pub low : 1 ≤ number
+  pub high : number ≤ ports_at net.plan.nodes place
+  pub at : PortRef
+  pub cable : far_end net.plan.cables (port place number) ≡ Some at
+  pub adapter : is_switch_at net.plan.nodes at.node ≡ false
+
+-- all LIDs that rows name but the switches' own: those of adapters, of ports that the topology lacks, and of nobody
+abbrev pub other_lids : NetState → List ℕ
+other_lids net = lids_of (filter (is_others net) (aims net))
+
+-- the LID is that of a port of the topology, of the kind that the row says: an adapter's or a switch's
+abbrev pub IsOfKind : NetState → ℕ → Destination → Type 0
+IsOfKind net lid (ChannelAdapter guid) = (end : PortRef) × (end_port_of net lid ≡ Some end) × (is_switch_at net.plan.nodes end.node ≡ false)
+IsOfKind net lid (Switch guid) = (end : PortRef) × (end_port_of net lid ≡ Some end) × (is_switch_at net.plan.nodes end.node ≡ true)
+IsOfKind net lid (Router guid) = Unit {0}
+IsOfKind net lid (FurtherLid guid) = Unit {0}
+IsOfKind net lid Nobody = Unit {0}
+IsOfKind net lid NotTold = Unit {0}
+
+-- the dump and the topology name the same switches and ports of adapters
+pub record NameTheSame (net : NetState) : Type 0 where
+  -- each switch has a table
+  pub tables : (place : ℕ) → is_switch_at net.plan.nodes place ≡ true → is_some (table_at net place) ≡ true
+  -- each table is of a switch
+  pub switches : (k : ℕ) (table : Table) → slice_get net.dump.tables k ≡ Some table → has_switch table.guid net.plan.nodes ≡ true
+  -- and each LID that a row gives to an adapter or a switch is that of such a port
+  pub ends : (place lid : ℕ) (row : Row) → is_switch_at net.plan.nodes place ≡ true → lid < 65536 → row_at net lid place ≡ Some row
+      → IsOfKind net lid row.destination
 
 pub record AreSafe (net : NetState) : Type 0 where
   -- each port of an adapter that has a cable has a LID
   pub named : (end : PortRef) → IsAdaptersEnd net end → (lid : ℕ) × (lid < 65536) × (end_port_of net lid ≡ Some end)
-  -- from each switch a way leads to the adapter port of each LID
-  pub reached : (place lid : ℕ) (end : PortRef) → is_switch_at net.plan.nodes place ≡ true → lid < 65536 → end_port_of net lid ≡ Some end
+  -- from each switch to which an adapter is attached a way leads to the adapter port of each LID
+  pub reached : (place lid : ℕ) (end : PortRef) → CarriesAnAdapter net place → lid < 65536 → end_port_of net lid ≡ Some end
       → is_switch_at net.plan.nodes end.node ≡ false → EndsBy net lid place (turns.Arrives end)
-  -- and along these LIDs no channels wait for one another in a circle, however long
-  pub free : (ring : List PortRef) → are_channels net ring ≡ true → is_circle (depends net (adapter_lids net)) ring ≡ false
+  -- along all LIDs but the switches' own no channels wait for one another in a circle, however long
+  pub free : (ring : List PortRef) → are_channels net ring ≡ true → is_circle (depends net (other_lids net)) ring ≡ false
+  -- and the dump is of the topology's fabric
+  pub same : NameTheSame net
 
 -- this says so exactly where routes are safe, if some adapter's port has a cable, as the subnet manager's
 pub record TellsSafe (says : NetState → Bool) : Type 0 where

@@ -4,10 +4,12 @@ pub mod FarEnds
 pub mod Net
 pub mod Following
 pub mod Lids
+pub mod Attached
 pub mod Channels
 pub mod Exits
 pub mod Pairs
 pub mod Lines
+pub mod Verdict
 pub mod Audit
 pub mod Laws
 pub mod WrongRules

@@ -1,7 +1,9 @@
 -- The LIDs that a dump names, and the end ports of the topology that have them.
-use Rattle.std.specs.Prelude.{ℕ, ◌+◌, ◌-◌, ◌==◌, ◌&&◌, ◌||◌, nat_le, nat_lt, Bool, false, not, List, [], ◌∷◌, map, flat_map, filter, if◌then◌else◌, Option, Some, None, option_map, is_some}
-use Rattle.std.specs.List.{list_any, range_with_len}
+use Rattle.std.specs.Prelude.{ℕ, ◌+◌, ◌-◌, ◌==◌, ◌&&◌, ◌||◌, nat_le, nat_lt, Bool, true, false, not, List, [], ◌∷◌, map, flat_map, filter, if◌then◌else◌, Option, Some, None, option_map, is_none}
+use Rattle.std.specs.List.{list_all, list_any, range_with_len}
 use Rattle.std.specs.Option.{option_and_then, option_map_or, option_or}
+use Rattle.dump_file.specs.declared.destination.Destination.{Destination}
+use Rattle.dump_file.specs.declared.destination.Destination.TheVariants.{ChannelAdapter, Switch, Router, FurtherLid, Nobody, NotTold}
 use Rattle.dump_file.specs.declared.row.Row.{Row}
 use Rattle.dump_file.specs.Dump.{DumpState}
 use Rattle.dump_file.specs.Row.{end_of}
@@ -9,10 +11,11 @@ use Rattle.dump_file.specs.Table.{rows_of}
 use Rattle.fabric_parts.specs.Cable.{is_same_port, port}
 use Rattle.fabric_parts.specs.declared.cable.Cable.{Cable}
 use Rattle.fabric_parts.specs.declared.cable.PortRef.{PortRef}
+use Rattle.topo_file.specs.Connectivity.{switches}
 use Rattle.topo_file.specs.declared.node.Node.{Node}
 use Rattle.topo_file.specs.Node.{is_switch, is_switch_at}
 use Rattle.route_audit.specs.declared.lids.Aim.{Aim}
-use Rattle.route_audit.specs.Net.{NetState}
+use Rattle.route_audit.specs.Net.{NetState, row_at}
 
 -- ---- a row of some table is of this LID
 abbrev pub is_named : List Row → ℕ → Bool
@@ -38,12 +41,46 @@ port_from guid place (node ∷ rest) = option_or (option_map (port place) (numbe
 abbrev pub port_of : List Node → ℕ → Option PortRef
 port_of nodes guid = port_from guid 0 nodes
 
+-- ---- whose a row says that its LID is
+-- an end port, a switch's or not, is of the kind that is said, where one is
+abbrev pub is_of_kind : Bool → Destination → Bool
+is_of_kind of_switch (ChannelAdapter guid) = not of_switch
+is_of_kind of_switch (Switch guid) = of_switch
+is_of_kind of_switch (Router guid) = not of_switch
+is_of_kind of_switch (FurtherLid guid) = true
+is_of_kind of_switch Nobody = true
+is_of_kind of_switch NotTold = true
+
+-- a channel adapter's, or a switch's
+abbrev pub is_of_fabric : Destination → Bool
+is_of_fabric (ChannelAdapter guid) = true
+is_of_fabric (Switch guid) = true
+is_of_fabric (Router guid) = false
+is_of_fabric (FurtherLid guid) = false
+is_of_fabric Nobody = false
+is_of_fabric NotTold = false
+
+-- the row of the switch there, if it has one, says nothing else of the LID
+abbrev pub says_kind : NetState → ℕ → Bool → ℕ → Bool
+says_kind net lid of_switch place = option_map_or (λ row. is_of_kind of_switch row.destination) (row_at net lid place) true
+
+abbrev pub says_of_fabric : NetState → ℕ → ℕ → Bool
+says_of_fabric net lid place = option_map_or (λ row. is_of_fabric row.destination) (row_at net lid place) false
+
 -- ---- what is known of each LID, as LIDs rise
+-- this port, if it is of the kind that each switch's row says
+abbrev pub if_of_kind : NetState → ℕ → PortRef → Option PortRef
+if_of_kind net lid end =
+    if list_all (says_kind net lid (is_switch_at net.plan.nodes end.node)) (switches net.plan.nodes) then Some end else None
+
+abbrev pub end_by : NetState → ℕ → Option ℕ → Option PortRef
+end_by net lid guid = option_and_then (if_of_kind net lid) (option_and_then (port_of net.plan.nodes) guid)
+
 abbrev pub aim_of : NetState → ℕ → Aim
 aim_of net lid = record {
   lid = lid;
   guid = end_of lid (rows_of net.dump.tables);
-  end = option_and_then (port_of net.plan.nodes) (end_of lid (rows_of net.dump.tables));
+  end = end_by net lid (end_of lid (rows_of net.dump.tables));
 }
 
 abbrev pub aims : NetState → List Aim
@@ -56,12 +93,17 @@ aim_if net test lid = if test lid then aim_of net lid ∷ [] else []
 abbrev pub aims_below : NetState → (ℕ → Bool) → ℕ → List Aim
 aims_below net test count = flat_map (aim_if net test) (range_with_len 0 count)
 
--- its end port is one of the topology's, and an adapter's
-abbrev pub is_told : Aim → Bool
-is_told aim = is_some aim.end
+-- its end port is a switch's
+abbrev pub is_switchs : NetState → Aim → Bool
+is_switchs net aim = option_map_or (λ end. is_switch_at net.plan.nodes end.node) aim.end false
 
-abbrev pub is_adapters : NetState → Aim → Bool
-is_adapters net aim = option_map_or (λ end. not (is_switch_at net.plan.nodes end.node)) aim.end false
+-- it is another LID: of an adapter's port, of a port that the topology lacks, or of nobody
+abbrev pub is_others : NetState → Aim → Bool
+is_others net aim = not (is_switchs net aim)
+
+-- a row says that it is a channel adapter's or a switch's, and the topology has no such port
+abbrev pub is_lacking : NetState → Aim → Bool
+is_lacking net aim = is_none aim.end && list_any (says_of_fabric net aim.lid) (switches net.plan.nodes)
 
 -- ---- an adapter's port that has a cable is to have a LID
 abbrev pub is_of : PortRef → Aim → Bool

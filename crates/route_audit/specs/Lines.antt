@@ -121,10 +121,26 @@ abbrev pub stray_line : NetState → ℕ → ℕ → List ℕ
 stray_line net place lid =
     if option_map_or (is_stray lid) (table_at net place) false then codes "stray " ++ name_text net place ++ codes " " ++ decimal lid ++ 10 ∷ [] else []
 
+-- of a LID whose port the topology lacks the last hop is not judged
+abbrev pub unplaced_line : NetState → ℕ → ℕ → Turn → List ℕ
+unplaced_line net place lid (turns.Goes next) = loop_line net place lid (loop_from net lid place)
+unplaced_line net place lid (turns.Arrives there) = []
+unplaced_line net place lid turns.Hole = hole_line net place lid
+unplaced_line net place lid (turns.Nowhere number) = []
+unplaced_line net place lid turns.Unknown = []
+
+-- to a LID of nobody nothing has to lead, but nothing may go round
+abbrev pub nobodys_line : NetState → ℕ → ℕ → Turn → List ℕ
+nobodys_line net place lid (turns.Goes next) = loop_line net place lid (loop_from net lid place)
+nobodys_line net place lid (turns.Arrives there) = []
+nobodys_line net place lid turns.Hole = []
+nobodys_line net place lid (turns.Nowhere number) = []
+nobodys_line net place lid turns.Unknown = []
+
 abbrev pub trouble_to : NetState → ℕ → ℕ → Option ℕ → Option PortRef → List ℕ
 trouble_to net place lid guid (Some end) = line_by net place lid end (turn net lid place)
-trouble_to net place lid (Some guid) None = []
-trouble_to net place lid None None = stray_line net place lid
+trouble_to net place lid (Some guid) None = unplaced_line net place lid (turn net lid place)
+trouble_to net place lid None None = stray_line net place lid ++ nobodys_line net place lid (turn net lid place)
 
 abbrev pub trouble_line : NetState → ℕ → Aim → List ℕ
 trouble_line net place aim = trouble_to net place aim.lid aim.guid aim.end

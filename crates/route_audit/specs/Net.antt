@@ -37,6 +37,10 @@ entry_by table lid None = if is_left_out table lid then Untold else Missing
 abbrev pub entry_in : ℕ → Table → Entry
 entry_in lid table = entry_by table lid (row_of lid table.rows)
 
+-- the row of the LID in the table of the switch there
+abbrev pub row_at : NetState → ℕ → ℕ → Option Row
+row_at net lid place = option_and_then (λ table. row_of lid table.rows) (table_at net place)
+
 -- of a switch of which there is no table nothing is known
 abbrev pub entry : NetState → ℕ → ℕ → Entry
 entry net lid place = option_map_or (entry_in lid) (table_at net place) Untold

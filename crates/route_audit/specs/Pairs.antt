@@ -1,5 +1,5 @@
 -- What packets come to from each switch to each LID that is an end port's.
-use Rattle.std.specs.Prelude.{ℕ, Bool, true, false, not, List, [], ◌∷◌, filter, flat_map, count_by, Option, Some, None}
+use Rattle.std.specs.Prelude.{ℕ, ◌&&◌, Bool, true, false, not, List, [], ◌∷◌, filter, flat_map, count_by, Option, Some, None}
 use Rattle.std.specs.List.{list_all}
 use Rattle.topo_file.specs.Connectivity.{switches}
 use Rattle.topo_file.specs.Node.{is_switch_at}
@@ -8,6 +8,7 @@ use Rattle.route_audit.specs.declared.following.Fate.{Fate}
 use Rattle.route_audit.specs.declared.following.Fate.TheVariants as fates
 use Rattle.route_audit.specs.declared.lids.Aim.{Aim}
 use Rattle.route_audit.specs.declared.pairs.Pair.{Pair}
+use Rattle.route_audit.specs.Attached.{carries_adapter}
 use Rattle.route_audit.specs.Following.{fate}
 use Rattle.route_audit.specs.Lids.{aims}
 use Rattle.route_audit.specs.Net.{NetState}
@@ -24,7 +25,11 @@ is_fate _ _ = false
 
 -- ---- a switch and a LID; of LIDs whose end port the topology lacks there is none
 abbrev pub pair_to : NetState → ℕ → ℕ → Option PortRef → List Pair
-pair_to net place lid (Some end) = record { to_switch = is_switch_at net.plan.nodes end.node; fate = fate net lid end place } ∷ []
+pair_to net place lid (Some end) = record {
+  from_adapters = carries_adapter net place;
+  to_switch = is_switch_at net.plan.nodes end.node;
+  fate = fate net lid end place;
+} ∷ []
 pair_to net place lid None = []
 
 abbrev pub pair_at : NetState → ℕ → Aim → List Pair
@@ -39,10 +44,18 @@ pairs_by net all = flat_map (pairs_at net all) (switches net.plan.nodes)
 abbrev pub pairs : NetState → List Pair
 pairs net = pairs_by net (aims net)
 
--- those of LIDs of adapter ports, and those of LIDs of switches
-abbrev pub to_adapters : List Pair → List Pair
-to_adapters all = filter (λ pair. not pair.to_switch) all
+-- those from switches to which an adapter is attached to LIDs of adapter ports: packets between adapters go so
+abbrev pub is_between_adapters : Pair → Bool
+is_between_adapters pair = not pair.to_switch && pair.from_adapters
 
+abbrev pub between_adapters : List Pair → List Pair
+between_adapters all = filter is_between_adapters all
+
+-- those from the other switches to LIDs of adapter ports
+abbrev pub in_transit : List Pair → List Pair
+in_transit all = filter (λ pair. not pair.to_switch && not pair.from_adapters) all
+
+-- and those to LIDs of switches
 abbrev pub to_switches : List Pair → List Pair
 to_switches all = filter (λ pair. pair.to_switch) all
 

@@ -1,27 +1,33 @@
 -- Wrong rules for what is told, and the law that each breaks.
-use Rattle.std.specs.Prelude.{ℕ, nat_lt, ◌&&◌, Bool, true, false, not, List, [], ◌∷◌, codes, count_by, filter, is_none, length, if◌then◌else◌, Option, Some, None, option_map}
+use Rattle.std.specs.Prelude.{ℕ, nat_lt, ◌&&◌, Bool, true, false, not, List, [], ◌∷◌, codes, count_by, filter, is_some, length, if◌then◌else◌, Option, Some, None, option_map}
+use Rattle.std.specs.List.{list_all, list_any}
+use Rattle.std.specs.Option.{option_map_or}
+use Rattle.dump_file.specs.declared.destination.Destination.{Destination}
 use Rattle.dump_file.specs.declared.destination.Destination.TheVariants as destinations
+use Rattle.dump_file.specs.declared.row.Row.{Row}
 use Rattle.dump_file.specs.declared.table.Table.{Table}
 use Rattle.fabric_parts.specs.Cable.{port}
 use Rattle.fabric_parts.specs.declared.cable.PortRef.{PortRef}
 use Rattle.fabric_parts.specs.declared.node_type.NodeType.TheVariants.{ChannelAdapter, Switch}
+use Rattle.topo_file.specs.Node.{is_switch_at}
+use Rattle.topo_file.specs.Topology.{TopologyState}
 use Rattle.topo_file.specs.declared.node.Node.{Node}
 use Rattle.route_audit.specs.declared.following.Fate.{Fate}
 use Rattle.route_audit.specs.declared.following.Fate.TheVariants as fates
 use Rattle.route_audit.specs.declared.following.Turn.{Turn}
-use Rattle.route_audit.specs.declared.pairs.Pair.{Pair}
-use Rattle.route_audit.specs.Channels.{channels, deadlock}
 use Rattle.route_audit.specs.declared.following.Turn.TheVariants as turns
 use Rattle.route_audit.specs.declared.lids.Aim.{Aim}
+use Rattle.route_audit.specs.declared.pairs.Pair.{Pair}
+use Rattle.route_audit.specs.declared.verdict.Verdict.{Verdict}
+use Rattle.route_audit.specs.Audit.{credit_loop, lids_of}
+use Rattle.route_audit.specs.Channels.{channels, deadlock}
 use Rattle.route_audit.specs.Following.{end_within, loop_from, turn}
 use Rattle.route_audit.specs.Laws.{AddUp, MissesNone, TellsChannels, TellsCircles, TellsEndless, TellsLoops, TellsSafe, TellsTroubles}
-use Rattle.route_audit.specs.Lines.{trouble_line}
+use Rattle.route_audit.specs.Lids.{aims, is_lacking}
+use Rattle.route_audit.specs.Lines.{stray_line, trouble_line}
 use Rattle.route_audit.specs.Net.{NetState}
-use Rattle.route_audit.specs.Audit.{adapters_ring, has_table}
-use Rattle.route_audit.specs.Lids.{aims}
-use Rattle.route_audit.specs.Pairs.{all_reached, is_fate, pairs_by, to_adapters}
-use Rattle.topo_file.specs.Connectivity.{switches}
-use Rattle.std.specs.List.{list_all}
+use Rattle.route_audit.specs.Pairs.{all_reached, is_fate, pairs_by}
+use Rattle.route_audit.specs.Verdict.{have_tables, is_known, verdict_by, verdict_is_safe}
 
 -- ---- two switches with a cable, and their entries for LID 1
 abbrev pub a_switch : List ℕ → ℕ → Node
@@ -108,38 +114,110 @@ not_round net lids = cut_short (deadlock net lids)
 abbrev pub TheLastWaitsForTheFirst : Type 0
 TheLastWaitsForTheFirst = TellsCircles not_round → ⊥
 
--- ---- each switch has a table, and that is enough
-abbrev pub have_tables : NetState → Bool
-have_tables net = list_all (has_table net) (switches net.plan.nodes)
-
-abbrev pub TablesAreNotEnough : Type 0
-TablesAreNotEnough = TellsSafe have_tables → ⊥
-
--- an adapter at the first of two switches; the second has no entry for its LID
-abbrev pub a_hole : NetState
-a_hole = record {
-  plan = record {
-    nodes = a_switch (codes "A") 16 ∷ a_switch (codes "B") 32 ∷ record { name = codes "h"; node_type = ChannelAdapter; guid = 256; ports = 1 } ∷ [];
-    cables = record { first = port 0 1; second = port 2 1 } ∷ record { first = port 0 2; second = port 1 1 } ∷ [];
-    roots = [];
-    sm = port 2 1;
-  };
-  dump = record { tables = a_table 16 1 ∷ a_table 32 255 ∷ [] };
+-- ---- an adapter at port 1 of the first of two switches, whose port 2 has a cable to port 1 of the second, and their rows
+abbrev pub a_plan : TopologyState
+a_plan = record {
+  nodes = a_switch (codes "A") 16 ∷ a_switch (codes "B") 32 ∷ record { name = codes "h"; node_type = ChannelAdapter; guid = 256; ports = 1 } ∷ [];
+  cables = record { first = port 0 1; second = port 2 1 } ∷ record { first = port 0 2; second = port 1 1 } ∷ [];
+  roots = [];
+  sm = port 2 1;
 }
 
--- ---- all LIDs that rows name are reached, and that is enough
-abbrev pub named_are_reached : NetState → Bool
-named_are_reached net = have_tables net && (all_reached (to_adapters (pairs_by net (aims net))) && is_none (adapters_ring net (aims net)))
+abbrev pub a_row : ℕ → ℕ → Destination → Row
+a_row lid number destination = record { line = 4; lid = lid; port = number; destination = destination }
 
-abbrev pub NamedLidsAreNotEnough : Type 0
-NamedLidsAreNotEnough = TellsSafe named_are_reached → ⊥
+-- LID 1 is the adapter's
+abbrev pub adapters_row : ℕ → Row
+adapters_row number = a_row 1 number (destinations.ChannelAdapter 257)
 
--- the same fabric; no row names a LID
-abbrev pub no_rows : ℕ → Table
-no_rows guid = record { line = 1; guid = guid; top = 1; rows = [] }
+abbrev pub with_rows : ℕ → List Row → Table
+with_rows guid rows = record { line = 1; guid = guid; top = 2; rows = rows }
+
+abbrev pub two_with : List Row → List Row → NetState
+two_with first second = record { plan = a_plan; dump = record { tables = with_rows 16 first ∷ with_rows 32 second ∷ [] } }
+
+-- the second switch has no entry for the adapter's LID, and no packet to it comes there
+abbrev pub a_hole : NetState
+a_hole = two_with (adapters_row 1 ∷ []) (adapters_row 255 ∷ [])
+
+-- ---- what the verdict asks, and what it does not
+abbrev pub verdict_of : NetState → Verdict
+verdict_of net = verdict_by net (aims net) (credit_loop net (aims net))
+
+-- an adapter's port need not have a LID
+abbrev pub without_lids : NetState → Bool
+without_lids net = (verdict_of net).is_reached && ((verdict_of net).is_free && (verdict_of net).is_same)
+
+abbrev pub LidsAreAsked : Type 0
+LidsAreAsked = TellsSafe without_lids → ⊥
 
 abbrev pub no_lids : NetState
-no_lids = record { plan = a_hole.plan; dump = record { tables = no_rows 16 ∷ no_rows 32 ∷ [] } }
+no_lids = two_with [] []
+
+-- LIDs need not be reached
+abbrev pub without_ways : NetState → Bool
+without_ways net = (verdict_of net).has_lids && ((verdict_of net).is_free && (verdict_of net).is_same)
+
+abbrev pub WaysAreAsked : Type 0
+WaysAreAsked = TellsSafe without_ways → ⊥
+
+-- the first switch, to which the adapter is attached, has no entry for its LID
+abbrev pub a_hole_at_home : NetState
+a_hole_at_home = two_with (adapters_row 255 ∷ []) (adapters_row 1 ∷ [])
+
+-- LIDs have to be reached from each switch, also from those to which no adapter is attached
+abbrev pub from_each_switch : NetState → Bool
+from_each_switch net = all_reached (filter (λ pair. not pair.to_switch) (pairs_by net (aims net))) && verdict_is_safe (verdict_of net)
+
+abbrev pub TransitDecidesNothing : Type 0
+TransitDecidesNothing = TellsSafe from_each_switch → ⊥
+
+-- credit loops are looked for along the LIDs of adapters alone
+abbrev pub is_adapters : NetState → Aim → Bool
+is_adapters net aim = option_map_or (λ end. not (is_switch_at net.plan.nodes end.node)) aim.end false
+
+abbrev pub by_adapters_lids : NetState → Bool
+by_adapters_lids net = verdict_is_safe (verdict_by net (aims net) (deadlock net (lids_of (filter (is_adapters net) (aims net)))))
+
+abbrev pub OtherLidsDecide : Type 0
+OtherLidsDecide = TellsSafe by_adapters_lids → ⊥
+
+-- each switch sends the LID of a router to the other
+abbrev pub a_routers_row : ℕ → Row
+a_routers_row number = a_row 2 number (destinations.Router 999)
+
+abbrev pub a_routers_loop : NetState
+a_routers_loop = two_with (adapters_row 1 ∷ a_routers_row 2 ∷ []) (adapters_row 1 ∷ a_routers_row 1 ∷ [])
+
+-- the dump may have a table of a switch that the topology lacks
+abbrev pub with_other_tables : NetState → Bool
+with_other_tables net =
+    (verdict_of net).has_lids && ((verdict_of net).is_reached && ((verdict_of net).is_free
+    && (have_tables net && not (list_any (is_lacking net) (aims net)))))
+
+abbrev pub OtherTablesDecide : Type 0
+OtherTablesDecide = TellsSafe with_other_tables → ⊥
+
+abbrev pub a_third_table : NetState
+a_third_table = record {
+  plan = a_plan;
+  dump = record { tables = with_rows 16 (adapters_row 1 ∷ []) ∷ with_rows 32 (adapters_row 1 ∷ []) ∷ with_rows 48 (adapters_row 1 ∷ []) ∷ [] };
+}
+
+-- and a LID of an adapter that it lacks
+abbrev pub with_other_ports : NetState → Bool
+with_other_ports net =
+    (verdict_of net).has_lids && ((verdict_of net).is_reached && ((verdict_of net).is_free
+    && (have_tables net && list_all (is_known net) net.dump.tables)))
+
+abbrev pub OtherPortsDecide : Type 0
+OtherPortsDecide = TellsSafe with_other_ports → ⊥
+
+abbrev pub another_row : Row
+another_row = a_row 2 1 (destinations.ChannelAdapter 777)
+
+abbrev pub another_adapter : NetState
+another_adapter = two_with (adapters_row 1 ∷ another_row ∷ []) (adapters_row 1 ∷ another_row ∷ [])
 
 -- ---- what goes on has no line, or what is a hole
 abbrev pub is_going : Turn → Bool
@@ -153,12 +231,33 @@ is_hole _ = false
 abbrev pub silent_where : (Turn → Bool) → NetState → ℕ → Aim → List ℕ
 silent_where test net place aim = if test (turn net aim.lid place) then [] else trouble_line net place aim
 
--- the fabric with the hole, where each switch sends the LID to the other one
+-- the same fabric, where each switch sends the LID to the other one
 abbrev pub a_loop : NetState
-a_loop = record { plan = a_hole.plan; dump = record { tables = a_table 16 2 ∷ a_table 32 1 ∷ [] } }
+a_loop = two_with (adapters_row 2 ∷ []) (adapters_row 1 ∷ [])
 
 abbrev pub LoopsHaveALine : Type 0
 LoopsHaveALine = TellsTroubles (silent_where is_going) → ⊥
 
 abbrev pub HolesHaveALine : Type 0
 HolesHaveALine = TellsTroubles (silent_where is_hole) → ⊥
+
+-- ---- a LID whose port the topology lacks has no line
+abbrev pub silent_of_others : NetState → ℕ → Aim → List ℕ
+silent_of_others net place aim = if is_some aim.end then trouble_line net place aim else []
+
+-- the first switch has no entry for the router's LID
+abbrev pub a_routers_hole : NetState
+a_routers_hole = two_with (adapters_row 1 ∷ []) (adapters_row 1 ∷ a_routers_row 1 ∷ [])
+
+abbrev pub OthersHolesHaveALine : Type 0
+OthersHolesHaveALine = TellsTroubles silent_of_others → ⊥
+
+-- ---- nor a loop, if no row says whose the LID is
+abbrev pub silent_of_nobody : NetState → ℕ → Aim → List ℕ
+silent_of_nobody net place aim = if is_some aim.guid then trouble_line net place aim else stray_line net place aim.lid
+
+abbrev pub a_nobodys_loop : NetState
+a_nobodys_loop = two_with (a_row 2 2 destinations.NotTold ∷ []) (a_row 2 1 destinations.NotTold ∷ [])
+
+abbrev pub NobodysLoopsHaveALine : Type 0
+NobodysLoopsHaveALine = TellsTroubles silent_of_nobody → ⊥

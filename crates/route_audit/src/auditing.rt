@@ -1,18 +1,16 @@
 //! The audit of a dump over a topology.
 
 ghost use Rattle.std.specs.Prelude.{◌≡◌, ◌++◌, filter, flat_map, is_some, IfOk, OnOk, option_map};
-ghost use Rattle.std.specs.List.{list_all};
-ghost use Rattle.route_audit.specs.Audit.{adapters_ring, audit, audit_of, count_line, counts_by, deadlock_words, has_table, lost_part, other_part};
-ghost use Rattle.route_audit.specs.Audit.{lids_of, port_word, reached_part, ring_line, safe_by, switches_ring, text_by};
-ghost use Rattle.route_audit.specs.Lids.{have_lids, is_adapters, is_told};
-ghost use Rattle.route_audit.specs.Pairs.{pairs_by};
-ghost use Rattle.topo_file.specs.Connectivity.{switches};
+ghost use Rattle.route_audit.specs.Audit.{audit, audit_of, count_line, counts_by, credit_loop, deadlock_words, lids_of, lines_by, lost_part, other_part};
+ghost use Rattle.route_audit.specs.Audit.{port_word, reached_part, ring_line, switches_credit_loop, text_by};
+ghost use Rattle.route_audit.specs.Lids.{is_others};
 
 use crate::following::Fate;
 use crate::lids::Aim;
 use crate::net::Net;
 use crate::outcome::Audit;
-use crate::pairs::{Pair, all_reached, count_of, to_adapters, to_switches};
+use crate::pairs::{Pair, between_adapters, count_of, in_transit, to_switches};
+use crate::verdict::push_verdict;
 use dump_file::Dump;
 use fabric_parts::PortRef;
 use line_parts::push_decimal;
@@ -23,15 +21,6 @@ fn lids_of(alloc: Global, aims: &[Aim]) -> Result<Vec<u16>, AllocError>
     ensures { IfOk result (λ lids. lids.items ≡ lids_of aims.now) }
 {
     aims.iter().map(|aim| aim.lid).collect(alloc)
-}
-
-fn told(alloc: Global, aims: &[Aim]) -> Result<Vec<Aim>, AllocError>
-    ensures { IfOk result (λ some. some.items ≡ filter is_told aims.now) }
-{
-    aims.iter()
-        .copied()
-        .filter(|aim| aim.end.is_some())
-        .collect(alloc)
 }
 
 fn deadlock_words(locks: bool) -> &'static [u8]
@@ -99,64 +88,60 @@ fn push_counts(
     alloc: Global,
     text: &mut Vec<u8>,
     pairs: &[Pair],
-    adapters: bool,
+    others: bool,
     switches: bool,
 ) -> Result<(), AllocError>
-    ensures { OnOk result (text.new.items ≡ text.old.items ++ counts_by pairs.now adapters switches) }
+    ensures { OnOk result (text.new.items ≡ text.old.items ++ counts_by pairs.now others switches) }
 {
-    let some = to_adapters(alloc, pairs)?;
-    push_count_line(text, b"adapters: ", &some, deadlock_words(adapters))?;
-    let others = to_switches(alloc, pairs)?;
-    push_count_line(text, b"switches: ", &others, b"")?;
-    push_count_line(
-        text,
-        b"audit: ",
-        pairs,
-        deadlock_words(adapters || switches),
-    )
+    let deciding = between_adapters(alloc, pairs)?;
+    push_count_line(text, b"adapters: ", &deciding, deadlock_words(others))?;
+    let transit = in_transit(alloc, pairs)?;
+    push_count_line(text, b"transit: ", &transit, b"")?;
+    let own = to_switches(alloc, pairs)?;
+    push_count_line(text, b"switches: ", &own, b"")?;
+    push_count_line(text, b"audit: ", pairs, deadlock_words(others || switches))
 }
 
 impl<'a> Net<'a> {
-    fn is_adapters(&self, aim: &Aim) -> bool
-        ensures { result ≡ is_adapters self.now aim.now }
+    fn is_others(&self, aim: &Aim) -> bool
+        ensures { result ≡ is_others self.now aim.now }
     {
         match aim.end {
             Some(end) => !self.is_switch_at(end.node),
-            None => false,
+            None => true,
         }
     }
 
-    fn of_adapters(&self, alloc: Global, aims: &[Aim]) -> Result<Vec<Aim>, AllocError>
-        ensures { IfOk result (λ some. some.items ≡ filter (is_adapters self.now) aims.now) }
+    fn others(&self, alloc: Global, aims: &[Aim]) -> Result<Vec<Aim>, AllocError>
+        ensures { IfOk result (λ some. some.items ≡ filter (is_others self.now) aims.now) }
     {
         aims.iter()
             .copied()
-            .filter(|aim| self.is_adapters(aim))
+            .filter(|aim| self.is_others(aim))
             .collect(alloc)
     }
 
-    fn adapters_ring(&self, alloc: Global, aims: &[Aim]) -> Result<Option<Vec<PortRef>>, AllocError>
-        ensures { IfOk result (λ found. option_map (λ ring. ring.items) found ≡ adapters_ring self.now aims.now) }
+    fn credit_loop(&self, alloc: Global, aims: &[Aim]) -> Result<Option<Vec<PortRef>>, AllocError>
+        ensures { IfOk result (λ found. option_map (λ ring. ring.items) found ≡ credit_loop self.now aims.now) }
     {
-        let some = self.of_adapters(alloc, aims)?;
+        let some = self.others(alloc, aims)?;
         let lids = lids_of(alloc, &some)?;
         self.deadlock(alloc, &lids)
     }
 
-    fn switches_ring(
+    fn switches_credit_loop(
         &self,
         alloc: Global,
         aims: &[Aim],
-        of_adapters: bool,
+        of_others: bool,
     ) -> Result<Option<Vec<PortRef>>, AllocError>
-        requires { of_adapters ≡ is_some (adapters_ring self.now aims.now) }
-        ensures { IfOk result (λ found. option_map (λ ring. ring.items) found ≡ switches_ring self.now aims.now) }
+        requires { of_others ≡ is_some (credit_loop self.now aims.now) }
+        ensures { IfOk result (λ found. option_map (λ ring. ring.items) found ≡ switches_credit_loop self.now aims.now) }
     {
-        if of_adapters {
+        if of_others {
             return Ok(None);
         }
-        let some = told(alloc, aims)?;
-        let lids = lids_of(alloc, &some)?;
+        let lids = lids_of(alloc, aims)?;
         self.deadlock(alloc, &lids)
     }
 
@@ -192,87 +177,54 @@ impl<'a> Net<'a> {
         Ok(())
     }
 
-    fn all_have_lids(&self, aims: &[Aim]) -> bool
-        ensures { result ≡ list_all (have_lids self.now aims.now) self.now.plan.cables }
-    {
-        self.cables()
-            .iter()
-            .all(|cable| self.have_lids(aims, *cable))
-    }
-
-    fn have_tables(&self) -> bool
-        ensures { result ≡ list_all (has_table self.now) (switches self.now.plan.nodes) }
-    {
-        self.switches()
-            .iter()
-            .all(|place| self.table_at(*place).is_some())
-    }
-
-    #[tactic(auto, unfolding(crate::specs::Audit::text_by))]
-    fn text_by(
+    fn push_lines(
         &self,
         alloc: Global,
+        text: &mut Vec<u8>,
         aims: &[Aim],
-        pairs: &[Pair],
-        adapters: &Option<Vec<PortRef>>,
+        others: &Option<Vec<PortRef>>,
         switches: &Option<Vec<PortRef>>,
-    ) -> Result<Vec<u8>, AllocError>
-        requires { pairs.now ≡ pairs_by self.now aims.now }
-        ensures { IfOk result (λ text. text.items
-            ≡ text_by self.now aims.now (option_map (λ ports. ports.items) adapters.now) (option_map (λ ports. ports.items) switches.now)) }
+    ) -> Result<(), AllocError>
+        ensures { OnOk result (text.new.items
+            ≡ text.old.items ++ lines_by self.now aims.now (option_map (λ ports. ports.items) others.now) (option_map (λ ports. ports.items) switches.now)) }
     {
-        let mut text = Vec::new(alloc);
-        self.push_files(&mut text, aims)?;
-        self.push_troubles(alloc, &mut text, aims)?;
-        self.push_ring_line(&mut text, b"deadlock", adapters)?;
-        self.push_ring_line(&mut text, b"deadlock switch-lids", switches)?;
-        push_counts(
-            alloc,
-            &mut text,
-            pairs,
-            adapters.is_some(),
-            switches.is_some(),
-        )?;
-        Ok(text)
+        self.push_files(text, aims)?;
+        self.push_troubles(alloc, text, aims)?;
+        self.push_ring_line(text, b"deadlock", others)?;
+        self.push_ring_line(text, b"deadlock switch-lids", switches)
     }
 
-    fn is_safe_by(
-        &self,
-        alloc: Global,
-        aims: &[Aim],
-        pairs: &[Pair],
-        adapters: &Option<Vec<PortRef>>,
-    ) -> Result<bool, AllocError>
-        requires { pairs.now ≡ pairs_by self.now aims.now }
-        ensures { IfOk result (λ answer. answer ≡ safe_by self.now aims.now (option_map (λ ports. ports.items) adapters.now)) }
-    {
-        let some = to_adapters(alloc, pairs)?;
-        Ok(
-            self.have_tables()
-                && (!self.dump().tables().is_empty()
-                    && (self.all_have_lids(aims) && (all_reached(&some) && adapters.is_none()))),
-        )
-    }
-
-    #[tactic(auto, unfolding(crate::specs::Audit::audit_of))]
+    #[tactic(auto, unfolding(crate::specs::Audit::audit_of, crate::specs::Audit::text_by))]
     fn audited(&self, alloc: Global) -> Result<Audit, AllocError>
         ensures { IfOk result (λ found. found ≡ audit_of self.now) }
     {
         let aims = self.aims(alloc)?;
+        let others = self.credit_loop(alloc, &aims)?;
+        let switches = self.switches_credit_loop(alloc, &aims, others.is_some())?;
+        let mut text = Vec::new(alloc);
+        self.push_lines(alloc, &mut text, &aims, &others, &switches)?;
         let pairs = self.pairs(alloc, &aims)?;
-        let adapters = self.adapters_ring(alloc, &aims)?;
-        let switches = self.switches_ring(alloc, &aims, adapters.is_some())?;
-        let text = self.text_by(alloc, &aims, &pairs, &adapters, &switches)?;
-        let is_safe = self.is_safe_by(alloc, &aims, &pairs, &adapters)?;
-        Ok(Audit { text, is_safe })
+        push_counts(
+            alloc,
+            &mut text,
+            &pairs,
+            others.is_some(),
+            switches.is_some(),
+        )?;
+        let verdict = self.verdict(alloc, &aims, &pairs, &others)?;
+        push_verdict(alloc, &mut text, verdict)?;
+        Ok(Audit {
+            text,
+            is_safe: verdict.is_safe(),
+        })
     }
 }
 
 /// Judges the routes that a dump shows over a topology. Memory alone can be refused.
 ///
 /// What is told is stated in `specs/Audit.antt`: first what the two lack of one another, then what is wrong at each
-/// switch with each LID, then a circle of channels that wait for one another, and counts. Time is that of following
-/// each LID from each switch, and of looking for circles among the channels that are on one or lead to one.
+/// switch with each LID, then a circle of channels that wait for one another, counts, and the verdict. Time is that of
+/// following each LID from each switch, and of looking for circles among the channels that are on one or lead to one.
 pub fn audit(alloc: Global, plan: &Topology, dump: &Dump) -> Result<Audit, AllocError>
     ensures { IfOk result (λ found. found ≡ audit plan.now dump.now) }
 {

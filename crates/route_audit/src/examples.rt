@@ -1,6 +1,6 @@
 //! What entries, ports and lines are, computed. Each function does nothing: its contract is the example.
 
-ghost use Rattle.route_audit.specs.Examples.{CountsAreTold, EntriesAreTold, LacksAreTold, PortsAreFound, TroublesAreTold};
+ghost use Rattle.route_audit.specs.Examples.{AttachedAreTold, CountsAreTold, EntriesAreTold, KindsAreTold, LacksAreTold, PortsAreFound, TroublesAreTold, VerdictsAreTold};
 
 /// The entries of a table.
 pub fn entries_are_told()
@@ -22,7 +22,22 @@ pub fn lacks_are_told()
     ensures { LacksAreTold }
 {}
 
-/// The last lines.
+/// Whose a LID is.
+pub fn kinds_are_told()
+    ensures { KindsAreTold }
+{}
+
+/// Which switches an adapter is attached to.
+pub fn attached_are_told()
+    ensures { AttachedAreTold }
+{}
+
+/// The verdict.
+pub fn verdicts_are_told()
+    ensures { VerdictsAreTold }
+{}
+
+/// The lines of counts.
 pub fn counts_are_told()
     ensures { CountsAreTold }
 {}

@@ -2,10 +2,11 @@
 //!
 //! [`audit`] takes a topology and the linear forwarding tables that `dump_file` read. What a switch does with a LID is stated in
 //! `specs/Net.antt` and `specs/Following.antt`; which channels wait for one another, in `specs/Channels.antt` and
-//! `specs/Circle.antt`; what is printed, in `specs/Lines.antt` and `specs/Audit.antt`. `src/laws.rt` says what that means of
-//! ways along entries, however long, and of circles.
+//! `specs/Circle.antt`; what is printed, in `specs/Lines.antt` and `specs/Audit.antt`; when routes are safe, in
+//! `specs/Verdict.antt`. `src/laws.rt` says what that means of ways along entries, however long, and of circles.
 #![tactic(auto)]
 
+mod attached;
 mod auditing;
 mod channels;
 mod circle;
@@ -18,6 +19,7 @@ mod lines;
 mod net;
 mod outcome;
 mod pairs;
+mod verdict;
 mod wrong_rules;
 
 pub use crate::auditing::audit;

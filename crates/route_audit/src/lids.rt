@@ -1,15 +1,19 @@
 //! The LIDs that a dump names, and the end ports of the topology that have them.
 
 ghost use Rattle.std.specs.Prelude.{◌≡◌, ◌≤◌, ◌<◌, ◌||◌, ◌==◌, ◌++◌, ◌∷◌, [], true, false, if◌then◌else◌, length, IfOk, OnOk, ℕ};
-ghost use Rattle.std.specs.List.{list_any};
+ghost use Rattle.std.specs.List.{list_all, list_any};
 ghost use Rattle.dump_file.specs.Row.{end_of};
 ghost use Rattle.dump_file.specs.Table.{rows_of};
-ghost use Rattle.route_audit.specs.Lids.{aim_of, aims, aims_below, has_lid, have_lids, is_named, is_of, number_in, port_of};
+ghost use Rattle.route_audit.specs.Lids.{aim_of, aims, aims_below, end_by, has_lid, have_lids, if_of_kind, is_lacking, is_named, is_of, is_of_fabric, is_of_kind};
+ghost use Rattle.route_audit.specs.Lids.{number_in, port_of, says_kind, says_of_fabric};
 ghost use Rattle.route_audit.specs.Marks.{is_marked};
+ghost use Rattle.route_audit.specs.Net.{row_at};
+ghost use Rattle.topo_file.specs.Connectivity.{switches};
+ghost use Rattle.topo_file.specs.Node.{is_switch_at};
 
 use crate::circle::is_marked;
 use crate::net::Net;
-use dump_file::{Row, Table};
+use dump_file::{Destination, Row, Table};
 use fabric_parts::{Cable, PortRef};
 use std::alloc::{AllocError, Global};
 use topo_file::Node;
@@ -20,7 +24,7 @@ pub(crate) struct Aim {
     pub(crate) lid: u16,
     /// The GUID of the end port that has it, if a row says one.
     pub(crate) guid: Option<u64>,
-    /// The end port of this GUID, if the topology has it.
+    /// The end port of this GUID, if the topology has it, of the kind that rows say.
     pub(crate) end: Option<PortRef>,
 }
 
@@ -52,6 +56,27 @@ fn port_of(nodes: &[Node], guid: u64) -> Option<PortRef>
         }
     }
     None
+}
+
+/// Whether an end port, a switch's or not, is of the kind that is said.
+fn is_of_kind(of_switch: bool, destination: Destination) -> bool
+    ensures { result ≡ is_of_kind of_switch destination }
+{
+    match destination {
+        Destination::ChannelAdapter { .. } | Destination::Router { .. } => !of_switch,
+        Destination::Switch { .. } => of_switch,
+        Destination::FurtherLid { .. } | Destination::Nobody | Destination::NotTold => true,
+    }
+}
+
+/// Whether it is a channel adapter's or a switch's.
+fn is_of_fabric(destination: Destination) -> bool
+    ensures { result ≡ is_of_fabric destination }
+{
+    matches!(
+        destination,
+        Destination::ChannelAdapter { .. } | Destination::Switch { .. }
+    )
 }
 
 fn is_of(port: PortRef, aim: &Aim) -> bool
@@ -108,15 +133,75 @@ fn marks_of(alloc: Global, tables: &[Table], count: usize) -> Result<Vec<bool>, 
 }
 
 impl<'a> Net<'a> {
+    fn says_kind(&self, lid: u16, of_switch: bool, place: usize) -> bool
+        ensures { result ≡ says_kind self.now lid of_switch place }
+    {
+        match self.row_at(lid, place) {
+            Some(row) => is_of_kind(of_switch, row.destination),
+            None => true,
+        }
+    }
+
+    fn all_say_kind(&self, lid: u16, of_switch: bool) -> bool
+        ensures { result ≡ list_all (says_kind self.now lid of_switch) (switches self.now.plan.nodes) }
+    {
+        self.switches()
+            .iter()
+            .all(|place| self.says_kind(lid, of_switch, *place))
+    }
+
+    /// The port, if it is of the kind that each switch's row says.
+    fn if_of_kind(&self, lid: u16, end: PortRef) -> Option<PortRef>
+        ensures { result ≡ if_of_kind self.now lid end }
+    {
+        if self.all_say_kind(lid, self.is_switch_at(end.node)) {
+            Some(end)
+        } else {
+            None
+        }
+    }
+
+    fn end_by(&self, lid: u16, guid: Option<u64>) -> Option<PortRef>
+        ensures { result ≡ end_by self.now lid guid }
+    {
+        let end = port_of(self.nodes(), guid?)?;
+        self.if_of_kind(lid, end)
+    }
+
     fn aim_of(&self, lid: u16) -> Aim
         ensures { result ≡ aim_of self.now lid }
     {
         let guid = self.dump().end_of(lid);
-        let end = match guid {
-            Some(guid) => port_of(self.nodes(), guid),
-            None => None,
-        };
-        Aim { lid, guid, end }
+        Aim {
+            lid,
+            guid,
+            end: self.end_by(lid, guid),
+        }
+    }
+
+    fn says_of_fabric(&self, lid: u16, place: usize) -> bool
+        ensures { result ≡ says_of_fabric self.now lid place }
+    {
+        match self.row_at(lid, place) {
+            Some(row) => is_of_fabric(row.destination),
+            None => false,
+        }
+    }
+
+    fn some_say_of_fabric(&self, lid: u16) -> bool
+        ensures { result ≡ list_any (says_of_fabric self.now lid) (switches self.now.plan.nodes) }
+    {
+        self.switches()
+            .iter()
+            .any(|place| self.says_of_fabric(lid, *place))
+    }
+
+    /// Whether a row says that it is a channel adapter's or a switch's, and the topology has no such port.
+    pub(crate) fn is_lacking(&self, aim: &Aim) -> bool
+        ensures { result ≡ is_lacking self.now aim.now }
+    {
+        let aim = *aim;
+        aim.end.is_none() && self.some_say_of_fabric(aim.lid)
     }
 
     fn push_aim(&self, aims: &mut Vec<Aim>, marks: &[bool], lid: usize) -> Result<(), AllocError>

@@ -8,7 +8,7 @@ ghost use Rattle.route_audit.specs.Lids.{is_named};
 ghost use Rattle.route_audit.specs.Net.{table_at};
 ghost use Rattle.dump_file.specs.Sound.{is_rising};
 ghost use Rattle.route_audit.specs.Lines.{files_by, guid_text, has_switch, hole_line, is_least, is_nobodys, is_stray, lacking_line, leaves_out};
-ghost use Rattle.route_audit.specs.Lines.{line_by, loop_line, name_text, name_word, no_lid_line, no_lid_lines, no_port_line, no_switch_line, no_table_line};
+ghost use Rattle.route_audit.specs.Lines.{line_by, loop_line, name_text, name_word, nobodys_line, unplaced_line, no_lid_line, no_lid_lines, no_port_line, no_switch_line, no_table_line};
 ghost use Rattle.route_audit.specs.Lines.{nowhere_line, port_text, stray_line, trouble_line, troubles_at, troubles_by, untold_line, untold_lines, wrong_line};
 ghost use Rattle.topo_file.specs.Connectivity.{switches};
 
@@ -27,7 +27,8 @@ fn push_guid(text: &mut Vec<u8>, guid: u64) -> Result<(), AllocError>
     push_hex(text, &guid.to_be_bytes())
 }
 
-fn has_switch(guid: u64, nodes: &[Node]) -> bool
+/// Whether a switch of these has the GUID.
+pub(crate) fn has_switch(guid: u64, nodes: &[Node]) -> bool
     ensures { result ≡ has_switch guid nodes.now }
 {
     nodes
@@ -363,6 +364,37 @@ impl<'a> Net<'a> {
         }
     }
 
+    fn push_unplaced(
+        &self,
+        alloc: Global,
+        text: &mut Vec<u8>,
+        place: usize,
+        lid: u16,
+    ) -> Result<(), AllocError>
+        ensures { OnOk result (text.new.items ≡ text.old.items ++ unplaced_line self.now place lid (turn self.now lid place)) }
+    {
+        match self.turn(lid, place) {
+            Turn::Goes(_) => self.push_loop(alloc, text, place, lid),
+            Turn::Hole => self.push_hole(text, place, lid),
+            Turn::Arrives(_) | Turn::Nowhere(_) | Turn::Unknown => Ok(()),
+        }
+    }
+
+    fn push_nobodys(
+        &self,
+        alloc: Global,
+        text: &mut Vec<u8>,
+        place: usize,
+        lid: u16,
+    ) -> Result<(), AllocError>
+        ensures { OnOk result (text.new.items ≡ text.old.items ++ nobodys_line self.now place lid (turn self.now lid place)) }
+    {
+        match self.turn(lid, place) {
+            Turn::Goes(_) => self.push_loop(alloc, text, place, lid),
+            _ => Ok(()),
+        }
+    }
+
     fn is_stray_at(&self, place: usize, lid: u16) -> bool
         ensures { result ≡ option_map_or (is_stray lid) (table_at self.now place) false }
     {
@@ -397,8 +429,11 @@ impl<'a> Net<'a> {
         let aim = *aim;
         match (aim.guid, aim.end) {
             (_, Some(end)) => self.push_line(alloc, text, place, aim.lid, end),
-            (Some(_), None) => Ok(()),
-            (None, None) => self.push_stray(text, place, aim.lid),
+            (Some(_), None) => self.push_unplaced(alloc, text, place, aim.lid),
+            (None, None) => {
+                self.push_stray(text, place, aim.lid)?;
+                self.push_nobodys(alloc, text, place, aim.lid)
+            }
         }
     }
 

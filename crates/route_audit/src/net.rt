@@ -8,7 +8,7 @@ ghost use Rattle.dump_file.specs.Sound.{is_rising, rise};
 ghost use Rattle.topo_file.specs.Connectivity.{switches};
 ghost use Rattle.topo_file.specs.Node.{is_switch_at};
 ghost use Rattle.route_audit.specs.FarEnds.{KnowsFarEnds};
-ghost use Rattle.route_audit.specs.Net.{entry, entry_by, entry_in, is_left_out, row_of, table_at};
+ghost use Rattle.route_audit.specs.Net.{entry, entry_by, entry_in, is_left_out, row_at, row_of, table_at};
 
 use crate::entry::Entry;
 use dump_file::{Dump, Row, Table};
@@ -103,6 +103,14 @@ impl<'a> Net<'a> {
         let node = self.plan.nodes().get(place)?;
         let table = self.dump.place_of(node.guid)?;
         self.dump.tables().get(table)
+    }
+
+    /// The row of a LID in the table of the switch there, if there is one.
+    pub(crate) fn row_at(&self, lid: u16, place: usize) -> Option<&Row>
+        ensures { option_copied result ≡ row_at self.now lid place }
+    {
+        let table = self.table_at(place)?;
+        row_of(table.rows.as_slice(), lid, table.top)
     }
 
     /// The entry of a LID in the table of the switch there.

@@ -27,8 +27,9 @@ impl Audit {
         self.text.as_slice()
     }
 
-    /// Whether each switch has a table and there is one, each port of an adapter that has a cable has a LID, all these
-    /// are reached from each switch, and along them no channels wait for one another in a circle.
+    /// Whether the routes are safe: each port of an adapter that has a cable has a LID, all these are reached from each
+    /// switch to which an adapter is attached, there is no credit loop along LIDs other than the switches' own, and the dump
+    /// and the topology name the same switches and ports of adapters.
     pub fn is_safe(&self) -> bool
         ensures { result ≡ self.now.is_safe }
     {

@@ -1,7 +1,8 @@
 //! What packets come to from each switch to each LID that is an end port's.
 
 ghost use Rattle.std.specs.Prelude.{◌≡◌, ◌++◌, true, filter, IfOk, OnOk};
-ghost use Rattle.route_audit.specs.Pairs.{all_reached, count_of, is_fate, pair_at, pairs_at, pairs_by, to_adapters, to_switches};
+ghost use Rattle.route_audit.specs.Pairs.{all_reached, between_adapters, count_of, in_transit, is_between_adapters, is_fate, pair_at, pairs_at, pairs_by, to_switches};
+ghost use Rattle.route_audit.specs.Attached.{carries_adapter};
 
 use crate::following::Fate;
 use crate::lids::Aim;
@@ -11,6 +12,8 @@ use std::alloc::{AllocError, Global};
 /// A switch and a LID of an end port.
 #[derive(Clone, Copy)]
 pub(crate) struct Pair {
+    /// Whether an adapter is attached to the switch.
+    pub(crate) from_adapters: bool,
     /// Whether the end port is a switch's.
     pub(crate) to_switch: bool,
     /// What packets come to.
@@ -18,12 +21,20 @@ pub(crate) struct Pair {
 }
 
 impl<'a> Net<'a> {
-    fn push_pair(&self, pairs: &mut Vec<Pair>, place: usize, aim: &Aim) -> Result<(), AllocError>
+    fn push_pair(
+        &self,
+        pairs: &mut Vec<Pair>,
+        place: usize,
+        from_adapters: bool,
+        aim: &Aim,
+    ) -> Result<(), AllocError>
+        requires { from_adapters ≡ carries_adapter self.now place }
         ensures { OnOk result (pairs.new.items ≡ pairs.old.items ++ pair_at self.now place aim.now) }
     {
         let aim = *aim;
         if let Some(end) = aim.end {
             pairs.push(Pair {
+                from_adapters,
                 to_switch: self.is_switch_at(end.node),
                 fate: self.fate(aim.lid, end, place),
             })?;
@@ -39,8 +50,9 @@ impl<'a> Net<'a> {
     ) -> Result<(), AllocError>
         ensures { OnOk result (pairs.new.items ≡ pairs.old.items ++ pairs_at self.now aims.now place) }
     {
+        let from_adapters = self.carries_adapter(place);
         for aim in aims {
-            self.push_pair(pairs, place, aim)?;
+            self.push_pair(pairs, place, from_adapters, aim)?;
         }
         Ok(())
     }
@@ -71,14 +83,25 @@ fn is_fate(a: Fate, b: Fate) -> bool
     }
 }
 
-/// The pairs whose LIDs are adapter ports'.
-pub(crate) fn to_adapters(alloc: Global, pairs: &[Pair]) -> Result<Vec<Pair>, AllocError>
-    ensures { IfOk result (λ some. some.items ≡ to_adapters pairs.now) }
+/// The pairs from switches to which an adapter is attached to LIDs of adapter ports.
+pub(crate) fn between_adapters(alloc: Global, pairs: &[Pair]) -> Result<Vec<Pair>, AllocError>
+    ensures { IfOk result (λ some. some.items ≡ between_adapters pairs.now) }
 {
     pairs
         .iter()
         .copied()
-        .filter(|pair| !pair.to_switch)
+        .filter(|pair| !pair.to_switch && pair.from_adapters)
+        .collect(alloc)
+}
+
+/// The pairs from the other switches to LIDs of adapter ports.
+pub(crate) fn in_transit(alloc: Global, pairs: &[Pair]) -> Result<Vec<Pair>, AllocError>
+    ensures { IfOk result (λ some. some.items ≡ in_transit pairs.now) }
+{
+    pairs
+        .iter()
+        .copied()
+        .filter(|pair| !pair.to_switch && !pair.from_adapters)
         .collect(alloc)
 }
 

@@ -1,8 +1,9 @@
 //! Wrong rules for what is told, and the law that each breaks, so that a reader sees that the laws say something. Each
 //! function does nothing: its contract says that with this rule the law is false.
 
-ghost use Rattle.route_audit.specs.WrongRules.{FirstPortsAreChannels, HolesAreCounted, HolesHaveALine, LoopsBeginWhereTold, LoopsHaveALine, NamedLidsAreNotEnough};
-ghost use Rattle.route_audit.specs.WrongRules.{OtherLidsDoNotCount, TablesAreNotEnough, TheLastWaitsForTheFirst, TwoMakeACircle, WaysAreLonger};
+ghost use Rattle.route_audit.specs.WrongRules.{FirstPortsAreChannels, HolesAreCounted, HolesHaveALine, LidsAreAsked, LoopsBeginWhereTold, LoopsHaveALine};
+ghost use Rattle.route_audit.specs.WrongRules.{NobodysLoopsHaveALine, OtherLidsDecide, OtherLidsDoNotCount, OtherPortsDecide, OtherTablesDecide, OthersHolesHaveALine};
+ghost use Rattle.route_audit.specs.WrongRules.{TheLastWaitsForTheFirst, TransitDecidesNothing, TwoMakeACircle, WaysAreAsked, WaysAreLonger};
 
 /// Where what does not end at the first switch is told to be endless, it may end at the second.
 pub fn ways_are_longer()
@@ -39,14 +40,34 @@ pub fn the_last_waits_for_the_first()
     ensures { TheLastWaitsForTheFirst }
 {}
 
-/// Where it is enough that each switch has a table, one may have a hole.
-pub fn tables_are_not_enough()
-    ensures { TablesAreNotEnough }
+/// If a port of an adapter need not have a LID, one has none.
+pub fn lids_are_asked()
+    ensures { LidsAreAsked }
 {}
 
-/// Where it is enough that all LIDs which rows name are reached, rows may name none, and a port of an adapter has none.
-pub fn named_lids_are_not_enough()
-    ensures { NamedLidsAreNotEnough }
+/// If LIDs need not be reached, a switch to which an adapter is attached has a hole.
+pub fn ways_are_asked()
+    ensures { WaysAreAsked }
+{}
+
+/// If LIDs have to be reached from each switch, routes are not called safe though packets of adapters come everywhere.
+pub fn transit_decides_nothing()
+    ensures { TransitDecidesNothing }
+{}
+
+/// If the LIDs of adapters alone count, packets to a router go round.
+pub fn other_lids_decide()
+    ensures { OtherLidsDecide }
+{}
+
+/// If the dump may have a table of a switch that the topology lacks, it is of another fabric.
+pub fn other_tables_decide()
+    ensures { OtherTablesDecide }
+{}
+
+/// If the dump may name an adapter that the topology lacks, it is of another fabric.
+pub fn other_ports_decide()
+    ensures { OtherPortsDecide }
 {}
 
 /// Where what goes on has no line, packets go round and none tells it.
@@ -57,4 +78,14 @@ pub fn loops_have_a_line()
 /// Where a hole has no line, packets end there and none tells it.
 pub fn holes_have_a_line()
     ensures { HolesHaveALine }
+{}
+
+/// If a LID whose port the topology lacks has no line, packets to it end and none tells it.
+pub fn others_holes_have_a_line()
+    ensures { OthersHolesHaveALine }
+{}
+
+/// If a loop of a LID that is nobody's has no line, packets go round and none tells it.
+pub fn nobodys_loops_have_a_line()
+    ensures { NobodysLoopsHaveALine }
 {}

@@ -53,18 +53,18 @@ module _ (plan : TopologyState) (sound : IsSound plan) (keys : List (List ℕ)) 
   good_up = subst IsGood (sym up.is) up.pushed.linear.good
 
   -- ---- the node of the topology
-  record IsPlannedSwitch (place : ℕ) (held : SwitchState) : Type 0 where
-    node : PlannedNode
-    there : slice_get plan.nodes place ≡ Some node
-    switch : is_switch node ≡ true
-    guid_is : node.guid ≡ held.node_guid
+  pub record IsPlannedSwitch (place : ℕ) (held : SwitchState) : Type 0 where
+    pub node : PlannedNode
+    pub there : slice_get plan.nodes place ≡ Some node
+    pub switch : is_switch node ≡ true
+    pub guid_is : node.guid ≡ held.node_guid
 
   of_type : (of : NodeType) (place : ℕ) (node : PlannedNode) (held : SwitchState) → with_all routes keys (node_of_type of plan.cables place node) ≡ Switch held
       → (is_switch_type of ≡ true) × (node.guid ≡ held.node_guid)
   of_type node_type.Switch place node held is = (refl, ap node_guid is)
   of_type node_type.ChannelAdapter place node held is = absurd (false≢true (ap is_switch_node is))
 
-  planned_there : (place : ℕ) (held : SwitchState) → slice_get fabric.nodes place ≡ Some (Switch held) → IsPlannedSwitch place held
+  pub planned_there : (place : ℕ) (held : SwitchState) → slice_get fabric.nodes place ≡ Some (Switch held) → IsPlannedSwitch place held
   planned_there place held there =
       by (slice_get plan.nodes place) refl
       (ap (option_map (with_all routes keys)) (sym (node_at plan.cables plan.nodes place)) ∙ sym (node_after routes keys was place)
@@ -87,7 +87,7 @@ module _ (plan : TopologyState) (sound : IsSound plan) (keys : List (List ℕ)) 
       ∙ (table_is held.node_guid net.dump.tables ∙ table_found plan.nodes routes.lids fabric.nodes place held good_up.node_guids.own there)
 
   -- ---- a LID with an entry is that of a GUID
-  named_lid : (place lid : ℕ) (held : SwitchState) → slice_get fabric.nodes place ≡ Some (Switch held) → held_entry held lid ≢ 255
+  pub named_lid : (place lid : ℕ) (held : SwitchState) → slice_get fabric.nodes place ≡ Some (Switch held) → held_entry held lid ≢ 255
       → (guid : ℕ) × (guid_in routes.lids lid ≡ Some guid)
   named_lid place lid held there some =
       let one = planned_there place held there in

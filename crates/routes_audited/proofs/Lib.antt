@@ -10,6 +10,7 @@ pub mod ReachLemmas
 pub mod PassLemmas
 pub mod ShownLemmas
 pub mod DumpLemmas
+pub mod KindLemmas
 pub mod NameLemmas
 pub mod SafeLemmas
 pub mod WrongLemmas

@@ -1,7 +1,7 @@
 -- The dump of what the switches hold names each adapter port that has a cable.
 use Rattle.std.proofs.Common.{ℕ, ◌≡◌, ◌≢◌, ◌-◌, ◌<◌, ◌==◌, ◌&&◌, ◌||◌, ◌∙◌, ap, refl, sym, Bool, true, false, if◌then◌else◌, List, [], ◌∷◌, slice_get, is_some, unwrap_or, Option, Some, None, arith}
 use Rattle.std.specs.List.{list_any}
-use Rattle.std.specs.Option.{option_and_then, option_or}
+use Rattle.std.specs.Option.{option_or}
 use Rattle.std.proofs.lemmas.Bool.{and_from, eq-eqb, false≢true, ne_eqb}
 use Rattle.std.proofs.lemmas.Option.{same_Some, slice_get_within}
 use Rattle.agent_rules.specs.declared.power_up.TheConstants.{LINEAR_TABLE}
@@ -17,7 +17,6 @@ use Rattle.fabric_wire.specs.OfTopology.{fabric_of}
 use Rattle.lid_assign.specs.Lids.{guid_in}
 use Rattle.result_words.proofs.ListLemmas.{any_flat}
 use Rattle.route_audit.specs.Laws.{end_port_of}
-use Rattle.route_audit.specs.Lids.{port_of}
 use Rattle.smp_wire.specs.FabricState.{FabricState}
 use Rattle.smp_wire.specs.declared.node.Node.{Node}
 use Rattle.smp_wire.specs.declared.node.Node.TheVariants.{Switch}
@@ -40,6 +39,7 @@ use Rattle.routes_audited.specs.Shown.{held_entry}
 use Rattle.routes_audited.proofs.DumpLemmas.{has_place}
 use Rattle.routes_audited.proofs.EndLemmas.{Hung, adapter_hung, planned}
 use Rattle.routes_audited.proofs.HeldLemmas.{Holds, few_lids, holds}
+use Rattle.routes_audited.proofs.KindLemmas.{end_told}
 use Rattle.routes_audited.proofs.FreeLemmas.{home_there}
 use Rattle.routes_audited.proofs.GuidLemmas.{port_of_end}
 use Rattle.routes_audited.proofs.ReachLemmas.{HasHome, is_end, port_home_of}
@@ -88,6 +88,16 @@ module _ (plan : TopologyState) (sound : IsSound plan) (keys : List (List ℕ)) 
       one true is = refl
       one false is = absurd (false≢true is)
 
+  pub said_there : (place lid guid : ℕ) (held : SwitchState) → slice_get fabric.nodes place ≡ Some (Switch held) → guid_in routes.lids lid ≡ Some guid
+      → held_entry held lid ≢ 255 → end_of lid (rows_of tables) ≡ Some guid
+  said_there place lid guid held there named some =
+      let said = said_by lid (rows_of tables) (all_say place lid guid held there named some) in
+      let told = told_of plan.nodes routes.lids lid (rows_of tables) said.0 (all_told plan.nodes routes.lids fabric.nodes) said.1 in
+      said.1 ∙ told_sym said.0 told
+    where
+      told_sym : (other : ℕ) → guid_in routes.lids lid ≡ Some other → Some other ≡ Some guid
+      told_sym other told = sym told ∙ named
+
   low_lid : (lid : ℕ) (home : PortRef) → home_of routes.between.homes lid ≡ Some home → lid < 65536
   low_lid lid home is =
       let count : LINEAR_TABLE ≡ 512 = refl in
@@ -115,12 +125,11 @@ module _ (plan : TopologyState) (sound : IsSound plan) (keys : List (List ℕ)) 
       let entry : held_entry has.held lid ≡ hung.number = has.entry_is lid ∙ ap (λ (o : Option ℕ). unwrap_or o 255) hop in
       let said = said_by lid (rows_of tables) (all_say hung.node lid guid has.held has.there named (λ top. omega (arith, top, entry, low))) in
       let told = told_of plan.nodes routes.lids lid (rows_of tables) said.0 (all_told plan.nodes routes.lids fabric.nodes) said.1 in
-      let same : said.0 ≡ guid = same_Some said.0 guid (sym told ∙ named) in
-      (lid, low_lid lid (port hung.place hung.number) hangs, end_by lid guid said.0 end said.1 same (port_of_end plan sound end ends))
-    where
-      end_by : (lid guid other : ℕ) (end : PortRef) → end_of lid (rows_of tables) ≡ Some other → other ≡ guid → port_of plan.nodes guid ≡ Some end
-          → option_and_then (port_of plan.nodes) (end_of lid (rows_of tables)) ≡ Some end
-      end_by lid guid other end said same is = ap (option_and_then (port_of plan.nodes)) (said ∙ ap (λ (g : ℕ). Some g) same) ∙ is
+      let same : said.0 ≡ guid = same_Some said.0 guid (sym told ∙ named) in (
+        lid,
+        low_lid lid (port hung.place hung.number) hangs,
+        end_told plan sound keys routes fabric up lid guid end (said.1 ∙ ap (λ (g : ℕ). Some g) same) named (port_of_end plan sound end ends),
+      )
 
   names : (end : PortRef) → is_switch_at plan.nodes end.node ≡ false → (near : PortRef) → far_end plan.cables end ≡ Some near → HasLid end
   names end adapter near cable =

@@ -12,7 +12,7 @@ use Rattle.lid_assign.proofs.LawLemmas.{lids_and_guids_name_each_other}
 use Rattle.lid_assign.specs.Lids.{adapter_end as port_end, end_ports, guid_in, lid_in, switch_end}
 use Rattle.pkey_rules.specs.declared.end_port.EndPort.{EndPort}
 use Rattle.result_words.proofs.ListLemmas.{all_have}
-use Rattle.route_audit.specs.Laws.{end_port_of}
+use Rattle.route_audit.specs.Laws.{CarriesAnAdapter, end_port_of}
 use Rattle.route_audit.specs.Net.{NetState}
 use Rattle.smp_wire.specs.FabricState.{FabricState}
 use Rattle.subnet_fabric.specs.BringUp.{IsBroughtUpBy}
@@ -37,7 +37,7 @@ use Rattle.updn_routes.specs.Routes.{IsPair, carries, home_of, next_hop, order_o
 use Rattle.updn_routes.specs.Subnet.{RoutesState, home_in, homes_of, rows_of}
 use Rattle.updn_routes.specs.UpDown.{is_legal}
 use Rattle.updn_routes.specs.declared.link.Link.{Link}
-use Rattle.routes_audited.specs.Laws.{CarriesAnAdapter, comes_to, over}
+use Rattle.routes_audited.specs.Laws.{comes_to, over}
 use Rattle.routes_audited.specs.Shown.{Shows}
 use Rattle.routes_audited.proofs.EndLemmas.{Ends, Hangs, adapter_hung}
 use Rattle.routes_audited.proofs.FreeLemmas.{home_there}
@@ -111,8 +111,8 @@ module _ (plan : TopologyState) (sound : IsSound plan) (keys : List (List ℕ)) 
       refl (port_home graph index one up.home.graph there)
 
   -- ---- the switch carries an adapter
-  carried : (node place : ℕ) → Stands all node place → CarriesAnAdapter plan node → carries homes place ≡ true
-  carried node place stands carrying =
+  carried : (dump : DumpState) (node place : ℕ) → Stands all node place → CarriesAnAdapter (over plan dump) node → carries homes place ≡ true
+  carried dump node place stands carrying =
       let near = port node carrying.number in
       let at = carrying.at in
       let hung = adapter_hung plan sound keys routes fabric up at (planned_port plan at) (is_end near at carrying.cable carrying.adapter) carrying.adapter in
@@ -146,7 +146,7 @@ module _ (plan : TopologyState) (sound : IsSound plan) (keys : List (List ℕ)) 
             ∙ is_switch_there plan sound graph up.are.found.of h.node h.place h.stands)
         by (inr out) = omega (arith, none, out.0)
 
-    pub reached : (node : ℕ) → CarriesAnAdapter plan node → is_switch_at plan.nodes end.node ≡ false → comes_to net node lid end ≡ true
+    pub reached : (node : ℕ) → CarriesAnAdapter net node → is_switch_at plan.nodes end.node ≡ false → comes_to net node lid end ≡ true
     reached node carrying adapter =
         let at = place_for plan sound graph up.are.found.of node carrying.switch in by at.0 at.1 (next_hop routes.between at.0 lid) refl
       where
@@ -158,7 +158,7 @@ module _ (plan : TopologyState) (sound : IsSound plan) (keys : List (List ℕ)) 
             record {
               port = hung_at.number;
               switch = own.is;
-              carried = carried node place stands carrying;
+              carried = carried dump node place stands carrying;
               adapter = ap (λ (some : List PortRef). home_of some lid) (sym up.home.of.homes_are) ∙ hung_at.home;
               is_port = no_switch hung_at adapter;
             } in

@@ -28,6 +28,7 @@ use Rattle.updn_routes.specs.Routes.{IsRouted, next_hop}
 use Rattle.updn_routes.specs.Subnet.{RoutesState}
 use Rattle.routes_audited.specs.Laws.{comes_to, over}
 use Rattle.routes_audited.specs.Shown.{HasRow, Shows}
+use Rattle.route_audit.proofs.SafeLemmas.{end_kind}
 use Rattle.routes_audited.proofs.EndLemmas.{Ends, Hangs, hangs_at}
 use Rattle.routes_audited.proofs.HeldLemmas.{hop_of, row_of_hop}
 use Rattle.routes_audited.proofs.TurnLemmas.{comes_far, comes_own, far_way, goes_on, leaves, own_way}
@@ -40,7 +41,7 @@ pub record IsEndOf (net : NetState) (lid : ℕ) (end : PortRef) : Type 0 where
   pub is : port_of net.plan.nodes guid ≡ Some end
 
 pub end_is : (net : NetState) (lid : ℕ) (end : PortRef) → end_port_of net lid ≡ Some end → IsEndOf net lid end
-end_is net lid end is = by (end_of lid (rows_of net.dump.tables)) refl is
+end_is net lid end is = by (end_of lid (rows_of net.dump.tables)) refl (end_kind net lid (end_of lid (rows_of net.dump.tables)) end is).0
   where
     by : (o : Option ℕ) → end_of lid (rows_of net.dump.tables) ≡ o → option_and_then (port_of net.plan.nodes) o ≡ Some end → IsEndOf net lid end
     by None said is = absurd (none-some end is)

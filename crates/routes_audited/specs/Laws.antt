@@ -2,15 +2,17 @@
 use Rattle.std.specs.Prelude.{ℕ, ◌≡◌, ◌<◌, Bool, true, false, List, None, Some}
 use Rattle.dump_file.specs.Dump.{DumpState}
 use Rattle.dump_file.specs.Sound.{IsSound as IsSoundDump}
-use Rattle.fabric_parts.specs.Cable.{far_end, is_cabled, port}
+use Rattle.fabric_parts.specs.Cable.{is_cabled, port}
 use Rattle.fabric_parts.specs.declared.cable.PortRef.{PortRef}
 use Rattle.route_audit.specs.Audit.{audit_of}
 use Rattle.route_audit.specs.Channels.{deadlock, leaves_by}
-use Rattle.route_audit.specs.Laws.{end_port_of}
+use Rattle.route_audit.specs.Laws.{CarriesAnAdapter, end_port_of}
 use Rattle.route_audit.specs.Net.{NetState}
 use Rattle.route_audit.specs.Pairs.{all_reached, pair_to}
 use Rattle.smp_wire.specs.FabricState.{FabricState}
 use Rattle.subnet_fabric.specs.BringUp.{IsBroughtUpBy}
+use Rattle.subnet_fabric.specs.Recabled.{with_cables}
+use Rattle.subnet_fabric.specs.Standing.{IsStanding}
 use Rattle.topo_file.specs.Node.{is_switch_at}
 use Rattle.topo_file.specs.Sound.{IsSound}
 use Rattle.topo_file.specs.Topology.{TopologyState}
@@ -42,17 +44,9 @@ ItNamesEachPort =
     → (lid : ℕ) × (lid < 65536) × (end_port_of (over plan (dump_of plan routes.lids fabric)) lid ≡ Some end)
 
 -- ---- what the audit finds
--- a cable joins a port of the switch there and a port of an adapter
-pub record CarriesAnAdapter (plan : TopologyState) (place : ℕ) : Type 0 where
-  pub switch : is_switch_at plan.nodes place ≡ true
-  pub number : ℕ
-  pub at : PortRef
-  pub cable : far_end plan.cables (port place number) ≡ Some at
-  pub adapter : is_switch_at plan.nodes at.node ≡ false
-
--- as the switch does at which the subnet manager's port hangs
+-- an adapter is attached to some switch, as the subnet manager's
 abbrev pub SomeSwitchCarriesAnAdapter : Type 0
-SomeSwitchCarriesAnAdapter = (plan : TopologyState) → IsSound plan → (place : ℕ) × CarriesAnAdapter plan place
+SomeSwitchCarriesAnAdapter = (plan : TopologyState) (dump : DumpState) → IsSound plan → (place : ℕ) × CarriesAnAdapter (over plan dump) place
 
 -- what goes from the switch there to the LID comes to this port
 abbrev pub comes_to : NetState → ℕ → ℕ → PortRef → Bool
@@ -60,7 +54,7 @@ comes_to net place lid end = all_reached (pair_to net place lid (Some end))
 
 pub record PassesTheAudit (net : NetState) : Type 0 where
   -- from each switch that carries an adapter packets come to each adapter port that has a LID
-  pub reached : (place lid : ℕ) (end : PortRef) → CarriesAnAdapter net.plan place → end_port_of net lid ≡ Some end
+  pub reached : (place lid : ℕ) (end : PortRef) → CarriesAnAdapter net place → end_port_of net lid ≡ Some end
       → is_switch_at net.plan.nodes end.node ≡ false → comes_to net place lid end ≡ true
   -- and from each switch that has an entry for a LID they come to its port: to no other, not round a loop, and not into nothing
   pub led : (place lid number : ℕ) (end : PortRef) → is_switch_at net.plan.nodes place ≡ true → end_port_of net lid ≡ Some end
@@ -75,9 +69,14 @@ OwnRoutesPass =
     → IsBroughtUpBy plan keys routes fabric → Shows (over plan dump) routes.lids fabric → PassesTheAudit (over plan dump)
 
 -- ---- what the audit says
--- where each switch carries an adapter, of the dump of what the switches hold it says that routes are safe
+-- of the dump of what the switches hold it says that routes are safe
 abbrev pub OwnRoutesAreSafe : Type 0
 OwnRoutesAreSafe =
     (plan : TopologyState) (keys : List (List ℕ)) (routes : RoutesState) (fabric : FabricState) → IsSound plan → IsBroughtUpBy plan keys routes fabric
-    → ((place : ℕ) → is_switch_at plan.nodes place ≡ true → CarriesAnAdapter plan place)
     → (audit_of (over plan (dump_of plan routes.lids fabric))).is_safe ≡ true
+
+-- also while cables between switches are down, over the topology with those that are up
+abbrev pub RoutesAreSafeWithCablesDown : Type 0
+RoutesAreSafeWithCablesDown =
+    (plan : TopologyState) (keys : List (List ℕ)) (routes : RoutesState) (fabric : FabricState) → IsSound plan → IsStanding plan keys routes fabric
+    → (audit_of (over (with_cables fabric.cables plan) (dump_of plan routes.lids fabric))).is_safe ≡ true

@@ -9,13 +9,13 @@ use Rattle.fabric_parts.specs.declared.cable.Cable.{Cable}
 use Rattle.fabric_parts.specs.declared.node_type.NodeType.TheVariants.{ChannelAdapter}
 use Rattle.route_audit.specs.Channels.{deadlock}
 use Rattle.route_audit.specs.Net.{NetState}
-use Rattle.route_audit.specs.WrongRules.{a_hole, a_switch, a_table}
+use Rattle.route_audit.specs.WrongRules.{a_plan, a_switch, a_table}
 use Rattle.topo_file.specs.declared.node.Node.{Node}
 use Rattle.routes_audited.specs.Laws.{PassesTheAudit, comes_to}
 
 -- the adapter hangs at port 1 of the first switch, whose port 2 has a cable to port 1 of the second
 abbrev pub two_entries : ℕ → ℕ → NetState
-two_entries first second = record { plan = a_hole.plan; dump = record { tables = a_table 16 first ∷ a_table 32 second ∷ [] } }
+two_entries first second = record { plan = a_plan; dump = record { tables = a_table 16 first ∷ a_table 32 second ∷ [] } }
 
 -- the first has no entry
 abbrev pub AHoleDoesNotPass : Type 0
