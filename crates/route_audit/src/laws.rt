@@ -1,19 +1,19 @@
-//! What is so of all audits. The functions do nothing; their clauses are the theorems.
+//! Laws of all audits. The functions do nothing; their clauses are the theorems.
 
 ghost use Rattle.route_audit.specs.Laws.{ChannelsAreTold, CountsAddUp, EachTroubleHasALine, LoopsNeverEnd, NoCircleIsMissed};
 ghost use Rattle.route_audit.specs.Laws.{SafeRoutesAreTold, ToldCirclesWait, ToldLoopsGoRound, WaysAreFollowed};
 
-/// What does not end within as many switches as there are never ends.
+/// A packet that does not end within as many switches as there are never ends.
 pub fn loops_never_end()
     ensures { LoopsNeverEnd }
 {}
 
-/// An end is told exactly where a way along the entries comes to it.
+/// `end_from` gives an end if and only if a path along the LFT entries leads to it.
 pub fn ways_are_followed()
     ensures { WaysAreFollowed }
 {}
 
-/// A loop that is told is one, from the switch on where it is told.
+/// A loop that is printed is one, from the switch on at which it is printed.
 pub fn told_loops_go_round()
     ensures { ToldLoopsGoRound }
 {}
@@ -28,24 +28,27 @@ pub fn channels_are_told()
     ensures { ChannelsAreTold }
 {}
 
-/// Of each switch and each LID of an end port from which packets do not come there, a line tells it, at a switch on their way:
-/// where they end, or on the loop that they go round.
+/// If packets from a switch to the LID of an end port do not arrive there, a switch on their path has a line, unless the dump
+/// says nothing of the entry where they stop. So it is if packets to the LID of a port that the topology lacks come to a
+/// switch without an entry, and if packets to any LID go round in a loop.
 pub fn each_trouble_has_a_line()
     ensures { EachTroubleHasALine }
 {}
 
-/// A circle that is told is one, of channels.
+/// A credit loop that is printed is a cycle of channels in the dependency graph.
 pub fn told_circles_wait()
     ensures { ToldCirclesWait }
 {}
 
-/// Where none is told there is none, however long.
+/// If none is printed there is none, however long.
 pub fn no_circle_is_missed()
     ensures { NoCircleIsMissed }
 {}
 
-/// Routes are told to be safe exactly where each port of an adapter that has a cable has a LID, from each switch a way along
-/// the entries leads to the adapter port of each LID, and along these LIDs no channels wait for one another in a circle.
+/// The verdict is safe if and only if each cabled port of an adapter has a LID; from each switch to which an adapter is attached
+/// a path along the entries leads to the adapter port of each LID; there is no credit loop along all LIDs except the switches'
+/// own; and the dump and the topology name the same switches and adapter ports. (That safe routes are called safe needs
+/// that some adapter port has a cable, as the SM's has.)
 pub fn safe_routes_are_told()
     ensures { SafeRoutesAreTold }
 {}
