@@ -1,0 +1,33 @@
+"""The crates of the repository, and sums of what `rt try` compiles of them."""
+import hashlib
+import os
+import pathlib
+import shutil
+
+TOP = pathlib.Path(__file__).resolve().parent.parent
+
+
+def kit():
+    """The folder of the kit; `None` if its command rt is not on the PATH."""
+    rt = shutil.which("rt")
+    return pathlib.Path(rt).resolve().parent.parent if rt else None
+
+
+def crates():
+    """Each crate of crates.txt with those of the repository that it names."""
+    lines = [line.split("#")[0].split(":") for line in (TOP / "crates.txt").read_text().splitlines()]
+    named = {parts[0].split()[0]: parts[1].split() for parts in lines if len(parts) == 2}
+    return {name: [other for other in others if other in named] for name, others in named.items()}
+
+
+def sum_of(name, below):
+    """The sum of the sources of a crate, of those of the crates below it, and of the kit's own line."""
+    names, found = [name], {name}
+    for one in names:
+        new = [other for other in below[one] if other not in found]
+        found.update(new)
+        names += new
+    total = hashlib.sha256((kit() / "KIT-ID").read_bytes())
+    for file in sorted(file for one in found for file in (TOP / "crates" / one / "src").rglob("*.rt")):
+        total.update(os.fsencode(file.relative_to(TOP)) + hashlib.sha256(file.read_bytes()).digest())
+    return total.hexdigest()
