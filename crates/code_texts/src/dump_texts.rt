@@ -44,7 +44,8 @@ FT1: dump_fts prints no such line, or not here
 A table is a heading, two lines of titles, rows and the count of these, as dump_fts and ibroute of
 infiniband-diags print them, with their option -a or without, and as `fabric tables` does. Multicast
 tables are allowed between tables, and comments and empty lines anywhere. The file that OpenSM
-itself writes has another format.
+itself writes has another format. A dump shows no virtual lanes: `fabric audit` judges routes as if
+all packets used one virtual lane, and does not judge multicast.
 ",
     "fault FT1 dump line 4",
     "    Unicast lids [0x0-0x3] of switch Lid 2 guid 0x0000000000000010 (A):
