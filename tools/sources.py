@@ -24,15 +24,18 @@ def crates():
     return {name: [other for other in others if other in named] for name, others in named.items()}
 
 
+def with_below(name, below):
+    """A crate and all crates below it."""
+    names = [name]
+    for one in names:
+        names += [other for other in below[one] if other not in names]
+    return names
+
+
 def sum_of(name, below):
     """The sum of the sources of a crate, of those of the crates below it, and of the kit's own line."""
-    names, found = [name], {name}
-    for one in names:
-        new = [other for other in below[one] if other not in found]
-        found.update(new)
-        names += new
     total = hashlib.sha256((kit() / "KIT-ID").read_bytes())
-    for file in sorted(file for one in found for file in (TOP / "crates" / one / "src").rglob("*.rt")):
+    for file in sorted(file for one in with_below(name, below) for file in (TOP / "crates" / one / "src").rglob("*.rt")):
         total.update(os.fsencode(file.relative_to(TOP)) + hashlib.sha256(file.read_bytes()).digest())
     return total.hexdigest()
 
