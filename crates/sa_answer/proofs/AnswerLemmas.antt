@@ -21,8 +21,9 @@ use Rattle.sa_replies.specs.Reply.{refusal_reply, table_header}
 use Rattle.sa_replies.specs.Request.{Request, request_in}
 use Rattle.sa_replies.specs.Success.{Success as Brought}
 use Rattle.sa_replies.specs.Transfers.{PortTransfer, with_table}
-use Rattle.sa_answer.specs.Answering.{Answers, Brings, BringsAbout, CanBeTold, IsListed, answer_to_port}
-use Rattle.sa_answer.specs.Registry.{RegistryState, place_with_guid}
+use Rattle.sa_answer.specs.Answering.{Answers, Brings, BringsAbout, CanBeTold, answer_to_port}
+use Rattle.sa_store.specs.Registry.{IsListed}
+use Rattle.sa_store.specs.Registry.{RegistryState, place_with_guid}
 use Rattle.sa_answer.specs.Replying.{padded, reply_with}
 use Rattle.sa_answer.specs.declared.outcome.Success.{Success}
 use Rattle.sa_answer.specs.declared.outcome.Success.TheVariants.{Reply, Table}

@@ -16,7 +16,8 @@ use Rattle.sa_queries.specs.Visible.{SaState, may_know, visible_nodes}
 use Rattle.sa_replies.specs.Answer.{all_records, get_outcome, one_record, table_outcome}
 use Rattle.sa_answer.specs.Answering.{Brings}
 use Rattle.sa_answer.specs.Asked.{is_told}
-use Rattle.sa_answer.specs.Replying.{node_bytes, node_data, only_one, path_bytes}
+use Rattle.sa_answer.specs.Replying.{node_data, only_one, path_bytes}
+use Rattle.sa_store.specs.Kept.{node_bytes}
 use Rattle.sa_answer.specs.declared.outcome.Success.{Success}
 use Rattle.sa_answer.specs.declared.outcome.Success.TheVariants.{Reply, Table}
 use Rattle.sa_answer.proofs.SelectLemmas.{filter_both}

@@ -17,7 +17,7 @@ use Rattle.sa_services.specs.Services.{Service}
 use Rattle.sa_queries.specs.Selected.{services_selected}
 use Rattle.sa_queries.specs.Shown.{service_record_of}
 use Rattle.sa_queries.specs.Visible.{ServiceOfPort}
-use Rattle.sa_answer.specs.Kept.{ServicesOfBase}
+use Rattle.sa_store.specs.Kept.{ServicesOfBase}
 use Rattle.sa_answer.specs.Offers.{is_offered, offer, offers_shown, offers_some}
 use Rattle.sa_answer.specs.Replying.{only_one}
 

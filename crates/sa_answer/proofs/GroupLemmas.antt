@@ -1,15 +1,11 @@
 -- Groups of partitions, as they are gone through: what is passed over does not agree, and what a slot more brings.
-use Rattle.std.proofs.Common.{◌≡◌, ℕ, ◌+◌, ◌^◌, ◌<◌, ◌≤◌, ◌==◌, Bool, true, false, not, ◌&&◌, ◌||◌, bit_and, nat_le, nat_lt, List, [], ◌∷◌, ◌++◌, length, map, take, drop, get_or, Option, Some, None, Result, Ok, Vec, Global}
-use Rattle.std.proofs.Common.{refl, sym, ◌∙◌, ap, inl, inr, arith, append-nil, append_assoc}
-use Rattle.std.specs.List.{flat_map, list_all}
+use Rattle.std.proofs.Common.{◌≡◌, ℕ, ◌+◌, ◌^◌, ◌<◌, ◌≤◌, ◌==◌, Bool, true, false, not, ◌&&◌, ◌||◌, bit_and, nat_le, nat_lt, List, [], ◌∷◌, ◌++◌, length, map, take, drop, get_or, Option, Some, None, Result, Ok, Vec, Global, refl, sym, ◌∙◌, ap, inl, inr, arith, append-nil, append_assoc}
+use Rattle.std.specs.List.{flat_map}
 use Rattle.std.proofs.lemmas.Bool.{and_parts, cases_Bool, false≢true, le-leb, lt-ltb, ltb-true, ne_eqb}
 use Rattle.std.proofs.lemmas.List.{length-append, length-take-le, map-append, take-append-drop, take_more}
 use Rattle.std.proofs.lemmas.List.Concat.{flat_map-append}
 use Rattle.std.proofs.lemmas.List.Elements.{filter-append}
-use Rattle.std.proofs.lemmas.List.Folds.{list_all-map, list_all_at}
-use Rattle.partition_file.specs.Members.{AreSoundHeadings}
-use Rattle.partition_file.specs.declared.heading.Heading.{Heading}
-use Rattle.pkey_rules.specs.PKey.{is_base, key_of}
+use Rattle.pkey_rules.specs.PKey.{key_of}
 use Rattle.pkey_rules.specs.KeyTable.{same_base}
 use Rattle.sa_records.specs.Component.{on, passes}
 use Rattle.sa_records.specs.McMemberRecord.{mc_member_record_selected}
@@ -32,20 +28,8 @@ use Rattle.sa_answer.specs.Groups.{group_bytes, group_data, group_of, groups_agr
 use Rattle.sa_answer.specs.Replying.{only_one}
 use Rattle.sa_answer.specs.declared.outcome.Success.TheVariants.{Table}
 use Rattle.sa_answer.proofs.BroughtLemmas.{as_reply, bytes_of_shown, get_taken, table_taken}
-use Rattle.sa_answer.specs.Slots.{SlotGroup, groups_in, partition_in, with_mlid}
-
--- ---- each of the partitions of a file has a base, and a group that fits
-pub passed_at : {X : Type 0} (test : X → Bool) (xs : List X) (i : ℕ) (x : X) → i < length xs → x ≡ get_or xs i x → list_all test xs ≡ true → test x ≡ true
-passed_at test xs i x within is all = elim (cases_Bool (test x)) [
-  | inl does ↦ does
-  | inr fails ↦ absurd (false≢true (sym (list_all_at test xs i x within (ap test (sym is) ∙ fails)) ∙ all))
-]
-
-pub heading_based : (headings : List Heading) (i : ℕ) (heading : Heading) → AreSoundHeadings headings → i < length headings → heading ≡ get_or headings i heading
-    → is_base heading.base ≡ true
-heading_based headings i heading sound within is =
-    passed_at (λ (one : Heading). is_base one.base) headings i heading within is
-    (sym (list_all-map is_base (λ (one : Heading). one.base) headings) ∙ sound.bases.valid)
+use Rattle.sa_store.specs.MlidRange.{SlotGroup, groups_in, partition_in, with_mlid}
+use Rattle.sa_store.proofs.SlotLemmas.{groups_joined}
 
 -- ---- what is fixed for a group fits the fields of its record
 pub record IsNarrow (parameters : GroupParameters) : Type 0 where
@@ -174,11 +158,6 @@ not_searched own mask asked partition slots is all not_so = elim (cases_Bool (is
     only_second false h = refl
 
 -- ---- one slot more
-pub groups_joined : (mlid next : ℕ) (xs ys : List (Option SlotGroup)) → next ≡ mlid + length xs → groups_in mlid (xs ++ ys) ≡ groups_in mlid xs ++ groups_in next ys
-groups_joined mlid next [] ys is = let e : next ≡ mlid = omega arith in rw e refl
-groups_joined mlid next (None ∷ xs) ys is = groups_joined (mlid + 1) next xs ys (omega arith)
-groups_joined mlid next (Some group ∷ xs) ys is = ap (λ rest. with_mlid mlid group ∷ rest) (groups_joined (mlid + 1) next xs ys (omega arith))
-
 agreeing_joined : (mask : ℕ) (asked : McMemberRecord) (base mlid next : ℕ) (xs ys : List (Option SlotGroup)) → next ≡ mlid + length xs
     → groups_agreeing mask asked base mlid (xs ++ ys) ≡ groups_agreeing mask asked base mlid xs ++ groups_agreeing mask asked base next ys
 agreeing_joined mask asked base mlid next xs ys is =

@@ -19,7 +19,7 @@ use Rattle.sa_replies.specs.Request.{Request, is_about}
 use Rattle.sa_replies.specs.Success.{Success}
 use Rattle.sa_replies.proofs.ChangedLemmas.{IsNone, others_leave}
 use Rattle.sa_answer.specs.Answering.{Answers, BringsChange, Reacts, is_join_or_leave}
-use Rattle.sa_answer.specs.Registry.{RegistryState, changed_between}
+use Rattle.sa_store.specs.Registry.{RegistryState, changed_between}
 use Rattle.sa_answer.specs.Replying.{reply_with}
 use Rattle.sa_answer.specs.declared.group_requests.Change.{Change}
 use Rattle.sa_answer.specs.declared.reaction.Reaction.{Reaction}

@@ -13,7 +13,7 @@ use Rattle.sa_replies.proofs.OpenTableLemmas.{filter_few}
 use Rattle.sa_queries.specs.Selected.{paths_selected}
 use Rattle.sa_queries.specs.Shown.{path_record_of}
 use Rattle.sa_queries.specs.Visible.{Path, paths_under}
-use Rattle.sa_answer.specs.Kept.{KeptPort, ports_of}
+use Rattle.sa_store.specs.Kept.{KeptPort, ports_of}
 use Rattle.sa_answer.specs.Replying.{only_one, path_bytes, path_data}
 
 -- those under some keys that the other port accepts, and that agree with a request

@@ -1,74 +1,29 @@
 -- What comes of a Set and a Delete of a ServiceRecord.
-use Rattle.std.proofs.Common.{◌≡◌, ℕ, ◌+◌, ◌<◌, ◌==◌, ◌&&◌, ◌||◌, Bool, true, false, not, List, [], ◌∷◌, Option, Some, None, Ok, Err, refl, sym, ◌∙◌, ap, inl, inr, arith}
+use Rattle.std.proofs.Common.{◌≡◌, ℕ, ◌+◌, ◌==◌, Bool, true, false, not, List, [], ◌∷◌, Option, Some, None, Ok, Err, refl, sym, ◌∙◌, ap, length}
 use Rattle.std.specs.List.{list_any}
-use Rattle.std.proofs.lemmas.Bool.{and_parts, cases_Bool, eqb-true, le-leb, ne_eqb}
-use Rattle.std.proofs.Common.{length}
+use Rattle.std.proofs.lemmas.Bool.{and_parts, eqb-true, ne_eqb}
 use Rattle.std.proofs.lemmas.List.{append-nil}
 use Rattle.std.proofs.lemmas.Option.{same_Some}
 use Rattle.sa_answer.specs.Replying.{padded}
 use Rattle.mad_layout.specs.declared.status.MadStatus.{MadStatus}
 use Rattle.mad_layout.specs.declared.status.MadStatus.TheVariants.{InsufficientComponents, InvalidGid, NoRecords, NoResources, RequestInvalid}
-use Rattle.pkey_rules.specs.KeyTable.{accepts, has_base}
-use Rattle.pkey_rules.specs.PKey.{base_of, is_full, key_of, matches}
+use Rattle.pkey_rules.specs.PKey.{base_of}
 use Rattle.sa_records.specs.declared.service_record.ServiceRecord.{ServiceRecord}
 use Rattle.subnet_model.specs.declared.subnet_port.SubnetPort.{SubnetPort}
 use Rattle.sa_groups.specs.Members.{is_in}
-use Rattle.sa_records.specs.ServiceMask as service_mask
 use Rattle.sa_queries.specs.Gid.{gid_of}
 use Rattle.sa_queries.specs.Selected.{asks}
 use Rattle.sa_queries.specs.Refusals.{first_refusal, refused_if}
 use Rattle.sa_queries.specs.Visible.{SaState}
 use Rattle.sa_services.specs.ServiceChange.{Deed, has_id, has_room}
 use Rattle.sa_records.specs.ServiceRecord.{service_in}
-use Rattle.sa_records.specs.declared.sa_attribute.SaAttribute.TheVariants as sa_attribute
 use Rattle.sa_replies.specs.Answer.{outcome}
 use Rattle.sa_replies.specs.Request.{Request, is_about}
 use Rattle.sa_answer.specs.Answering.{is_change}
 use Rattle.sa_replies.specs.ServiceRequests.{after_change, change_asked, owner_questions, service_asked, service_deleted, service_set, services_at, shown_bytes}
 use Rattle.sa_replies.specs.Success.{Success}
-
--- ---- who is in the partition of a base
-low_base : (base : ℕ) → base < 32768 → base_of (key_of base true) ≡ base
-low_base base low = omega (arith, low)
-
-one_matches : (base held : ℕ) → base < 32768 → matches held (key_of base true) ≡ ((base_of held == base) && not (base == 0))
-one_matches base held low = elim (cases_Bool (base_of held == base)) [
-  | inl same ↦
-      let here : base_of held ≡ base = eqb-true (base_of held) base same in
-      let full : is_full (key_of base true) ≡ true = le-leb 32768 (base + 32768) (omega arith) in
-      let own = low_base base low in
-      rw (own, same, here, full) (by (not (base == 0)) (is_full held))
-  | inr other ↦ let own = low_base base low in rw (own, other) refl
-]
-  where
-    by : (a b : Bool) → a && (b || true) ≡ a
-    by true true = refl
-    by true false = refl
-    by false b = refl
-
-both_or : (a b c : Bool) → (a && c) || (b && c) ≡ (a || b) && c
-both_or true true true = refl
-both_or true true false = refl
-both_or true false true = refl
-both_or true false false = refl
-both_or false b c = refl
-
-any_matches : (base : ℕ) (keys : List ℕ) → base < 32768 → accepts (key_of base true) keys ≡ (has_base base keys && not (base == 0))
-any_matches base [] low = refl
-any_matches base (key ∷ keys) low =
-    (λ i. one_matches base key low i || any_matches base keys low i) ∙ both_or (base_of key == base) (has_base base keys) (not (base == 0))
-
-turned : (a b : Bool) → a && b ≡ b && a
-turned true true = refl
-turned true false = refl
-turned false true = refl
-turned false false = refl
-
-pub in_base : (own : SubnetPort) (base : ℕ) → base < 32768 → is_in own base ≡ (not (base == 0) && has_base base own.keys)
-in_base own base low = any_matches base own.keys low ∙ turned (has_base base own.keys) (not (base == 0))
-
-pub holds_base : (own : SubnetPort) (base : ℕ) → base < 32768 → is_in own base ≡ true → has_base base own.keys ≡ true
-holds_base own base low within = (and_parts (not (base == 0)) (has_base base own.keys) (sym (in_base own base low) ∙ within)).1
+use Rattle.sa_records.specs.ServiceMask as service_mask
+use Rattle.sa_records.specs.declared.sa_attribute.SaAttribute.TheVariants as sa_attribute
 
 -- ---- a port that may set and delete
 pub may : (given : Option MadStatus) (port own : SubnetPort) (found : Option SubnetPort) (mask : ℕ) (asked : ServiceRecord) → Some port ≡ found → found ≡ Some own

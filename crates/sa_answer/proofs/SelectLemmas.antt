@@ -7,7 +7,7 @@ use Rattle.std.proofs.lemmas.Iterator.Adapters.{position_from-zero}
 use Rattle.std.proofs.lemmas.List.Quantifiers.{position-Some}
 use Rattle.mad_layout.specs.declared.status.MadStatus.TheVariants.{NoRecords, TooManyRecords}
 use Rattle.subnet_model.specs.declared.subnet_port.SubnetPort.{SubnetPort}
-use Rattle.sa_answer.specs.Kept.{KeptPort, ports_of}
+use Rattle.sa_store.specs.Kept.{KeptPort, ports_of}
 use Rattle.sa_answer.specs.Replying.{only_one}
 
 -- ---- of all that pass a test the first, and whether there is another

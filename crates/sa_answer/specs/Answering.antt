@@ -5,7 +5,6 @@ use Rattle.mad_layout.specs.declared.method.Method.TheVariants.{Set, Delete}
 use Rattle.mad_layout.specs.declared.status.MadStatus.{MadStatus}
 use Rattle.rmpp_core.specs.Segments.{payload_size}
 use Rattle.sa_records.specs.declared.sa_attribute.SaAttribute.{SaAttribute}
-use Rattle.sa_records.specs.declared.sa_attribute.SaAttribute.TheVariants as sa_attribute
 use Rattle.subnet_model.specs.Delivery.{port_with_guid}
 use Rattle.subnet_model.specs.declared.subnet_port.SubnetPort.{SubnetPort}
 use Rattle.sa_queries.specs.Visible.{SaState}
@@ -16,8 +15,9 @@ use Rattle.sa_answer.specs.declared.outcome.Success.{Success}
 use Rattle.sa_answer.specs.declared.outcome.Success.TheVariants.{Reply, Table}
 use Rattle.sa_answer.specs.declared.group_requests.Change.{Change}
 use Rattle.sa_answer.specs.declared.reaction.Reaction.{Reaction}
-use Rattle.sa_answer.specs.Registry.{RegistryState, changed_between, with_remembered}
+use Rattle.sa_store.specs.Registry.{RegistryState, changed_between, with_remembered}
 use Rattle.sa_answer.specs.Replying.{padded}
+use Rattle.sa_records.specs.declared.sa_attribute.SaAttribute.TheVariants as sa_attribute
 
 -- ---- a Set or a Delete
 abbrev pub is_change_of : SaAttribute → Request → Bool
@@ -56,10 +56,6 @@ BringsChange old (Ok (Brought.one_reply bytes next)) (Ok change) new =
     (change.«data» ≡ padded bytes) × ((new ≡ with_remembered next old) × (change.numbers.items ≡ changed_between old new))
 BringsChange old (Err status) (Err told) new = (told ≡ status) × (new ≡ old)
 BringsChange old _ _ new = ⊥
-
--- the port is one of these, and the first of its GUID
-abbrev pub IsListed : List SubnetPort → SubnetPort → Type 0
-IsListed ports own = port_with_guid ports own.guid ≡ Some own
 
 -- the length of a table can be told in the 32 bits that its first segment has for it
 abbrev pub CanBeTold : Result Success MadStatus → Type 0

@@ -1,11 +1,10 @@
 -- Which ports a request names, as code looks them up.
-use Rattle.std.specs.Prelude.{ℕ, Bool, ◌==◌, ◌&&◌, ◌/◌, ◌%◌, ◌^◌, if◌then◌else◌, List, filter, Option, Some, None}
+use Rattle.std.specs.Prelude.{ℕ, Bool, ◌==◌, ◌&&◌, ◌/◌, ◌%◌, ◌^◌, if◌then◌else◌, List, Option, Some, None}
 use Rattle.std.specs.List.{flat_map}
 use Rattle.sa_records.specs.declared.node_record.NodeRecord.{NodeRecord}
 use Rattle.sa_records.specs.declared.path_record.PathRecord.{PathRecord}
 use Rattle.sa_records.specs.NodeRecord.{node_record_selected}
 use Rattle.subnet_model.specs.declared.subnet_port.SubnetPort.{SubnetPort}
-use Rattle.sa_services.specs.Services.{PortServices}
 use Rattle.sa_queries.specs.Gid.{gid_prefix}
 use Rattle.sa_queries.specs.Selected.{Query, few_paths, paths_wanted}
 use Rattle.sa_queries.specs.Shown.{node_record_of}
@@ -14,17 +13,6 @@ use Rattle.sa_queries.specs.Visible.{Path, may_know}
 -- the GUID of the port that may have this GID
 abbrev pub guid_in : ℕ → Option ℕ
 guid_in gid = if gid / 2 ^ 64 == gid_prefix then Some (gid % 2 ^ 64) else None
-
--- ---- the ports of a LID and of a GUID
-abbrev pub of_lid : ℕ → List SubnetPort → List SubnetPort
-of_lid lid ports = filter (λ port. port.lid == lid) ports
-
-abbrev pub of_guid : ℕ → List SubnetPort → List SubnetPort
-of_guid guid ports = filter (λ port. port.guid == guid) ports
-
--- and the services of that port
-abbrev pub of_port : ℕ → List PortServices → List PortServices
-of_port guid places = filter (λ place. place.port == guid) places
 
 -- ---- a node is told: it agrees with the request, and may be known
 abbrev pub is_told : SubnetPort → ℕ → NodeRecord → SubnetPort → Bool

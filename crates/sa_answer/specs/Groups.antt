@@ -14,7 +14,7 @@ use Rattle.sa_queries.specs.Selected.{groups_selected}
 use Rattle.sa_queries.specs.Shown.{group_record_of}
 use Rattle.sa_queries.specs.Visible.{GroupOfBase, groups_of}
 use Rattle.sa_answer.specs.Replying.{padded}
-use Rattle.sa_answer.specs.Slots.{SlotGroup, groups_in}
+use Rattle.sa_store.specs.MlidRange.{SlotGroup, groups_in}
 
 -- ---- a group as it is shown
 abbrev pub group_bytes : GroupOfBase → List ℕ

@@ -1,15 +1,6 @@
-pub mod NodePorts
-pub mod Slots
-pub mod Kept
-pub mod Deeds
-pub mod Registry
 pub mod Asked
 pub mod Replying
 pub mod Answering
-pub mod Premises
 pub mod Offers
 pub mod Groups
-pub mod Joined
-pub mod Left
-pub mod Receiving
-pub mod Members
+pub mod JoinQuestions

@@ -9,7 +9,7 @@ use Rattle.sa_services.specs.Services.{Service}
 use Rattle.sa_queries.specs.Selected.{services_selected}
 use Rattle.sa_queries.specs.Shown.{service_record_of}
 use Rattle.sa_queries.specs.Visible.{ServiceOfPort}
-use Rattle.sa_answer.specs.Kept.{KeptPort, ServicesOfBase}
+use Rattle.sa_store.specs.Kept.{KeptPort, ServicesOfBase}
 use Rattle.sa_answer.specs.Replying.{padded}
 
 -- ---- a service as it is shown

@@ -4,14 +4,14 @@ use Rattle.mad_layout.specs.declared.status.MadStatus.{MadStatus}
 use Rattle.mad_layout.specs.declared.status.MadStatus.TheVariants.{NoRecords, TooManyRecords}
 use Rattle.mad_layout.specs.declared.sa_mad.SaMad.{SaMad}
 use Rattle.rmpp_core.specs.Reply.{reply_bytes}
-use Rattle.sa_records.specs.NodeRecord.{node_record_bytes}
 use Rattle.sa_records.specs.PathRecord.{path_record_bytes}
 use Rattle.sa_records.specs.SaRecord.{record_bytes}
 use Rattle.subnet_model.specs.declared.subnet_port.SubnetPort.{SubnetPort}
-use Rattle.sa_queries.specs.Shown.{Entry, node_record_of, path_record_of}
+use Rattle.sa_queries.specs.Shown.{Entry, path_record_of}
 use Rattle.sa_queries.specs.Visible.{Path}
 use Rattle.sa_replies.specs.Request.{Request}
 use Rattle.sa_replies.specs.Reply.{no_rmpp, reply_header}
+use Rattle.sa_store.specs.Kept.{node_bytes}
 
 -- the data of a MAD that begins with these bytes
 abbrev pub padded : List ℕ → List ℕ
@@ -39,9 +39,6 @@ abbrev pub only_one : {X : Type 0} → (X → List ℕ) → List X → Result (L
 only_one content [] = Err NoRecords
 only_one content (x ∷ []) = Ok (content x)
 only_one content (x ∷ y ∷ rest) = Err TooManyRecords
-
-abbrev pub node_bytes : SubnetPort → List ℕ
-node_bytes port = node_record_bytes (node_record_of port)
 
 abbrev pub node_data : SubnetPort → List ℕ
 node_data port = padded (node_bytes port)

@@ -9,25 +9,21 @@ ghost use Rattle.sa_replies.specs.Joins.{agrees_with, founding_by, is_join_state
 ghost use Rattle.sa_replies.specs.Joins.{leave_asked, leaving_by};
 ghost use Rattle.sa_replies.specs.Joins.{parameters_asked};
 ghost use Rattle.sa_replies.specs.State.{is_fit_group};
-ghost use Rattle.sa_answer.specs.Members.{questions_in};
-ghost use Rattle.sa_answer.specs.Slots.{with_mlid};
+ghost use Rattle.sa_answer.specs.JoinQuestions.{questions_in};
+ghost use Rattle.sa_store.specs.MlidRange.{with_mlid};
 
 use crate::gid::gid_of;
-use crate::group::Group;
-use crate::groups::group_record;
-use crate::joining::Join;
-use crate::leaving::Leave;
+use crate::mc_member::group_record;
 use crate::member_mask::{
     FLOW_LABEL, HOP_LIMIT, JOIN_STATE, MGID, MTU, P_KEY, PACKET_LIFE_TIME, PORT_GID, PROXY_JOIN,
     Q_KEY, RATE, SCOPE, SL, T_CLASS,
 };
-use crate::members::is_in;
 use crate::parameters::{life_taken, mtu_taken, parameters_asked, rate_taken};
 use crate::questions::{asks, asks_unknown_mtu, asks_unknown_rate, first_refusal, refused_if};
-use crate::slots::PartitionSlots;
 use mad_layout::{JoinState, MadStatus};
 use pkey_rules::base_of;
 use sa_records::McMemberRecord;
+use sa_store::{Group, Join, Leave, MlidRange, is_in};
 use subnet_model::SubnetPort;
 
 /// What a group is asked to agree with: all but what names it, and MLID and ProxyJoin.
@@ -71,7 +67,7 @@ pub(crate) fn join_refusal(own: &SubnetPort, mask: u64, asked: &McMemberRecord) 
 
 /// Why a join is refused by the groups of the partition of its base: whether the port may make one is known already.
 pub(crate) fn group_refusal(
-    partition: &PartitionSlots,
+    partition: &MlidRange,
     may_make: bool,
     mask: u64,
     asked: &McMemberRecord,
@@ -163,27 +159,23 @@ pub(crate) fn join_asked(port: u64, mask: u64, asked: &McMemberRecord) -> Join
     requires { is_fit_group (parameters_asked mask asked.now) ≡ true }
     ensures { (own : SubnetPort) → own.guid ≡ port → result ≡ join_asked own mask asked.now }
 {
-    Join {
+    Join::new(
         port,
-        base: base_of(asked.p_key),
-        mgid: asked.mgid,
-        join_state: JoinState(asked.join_state),
-        parameters: parameters_asked(mask, asked),
-    }
+        base_of(asked.p_key),
+        asked.mgid,
+        JoinState(asked.join_state),
+        parameters_asked(mask, asked),
+    )
 }
 
 /// The leave that a port asks: in the partition of its P_Key, if it asks one.
 pub(crate) fn leave_asked(port: u64, mask: u64, asked: &McMemberRecord) -> Leave
     ensures { (own : SubnetPort) → own.guid ≡ port → result ≡ leave_asked own mask asked.now }
 {
-    Leave {
-        port,
-        base: if asks(mask, P_KEY) {
-            Some(base_of(asked.p_key))
-        } else {
-            None
-        },
-        mgid: asked.mgid,
-        join_state: JoinState(asked.join_state),
-    }
+    let base = if asks(mask, P_KEY) {
+        Some(base_of(asked.p_key))
+    } else {
+        None
+    };
+    Leave::new(port, base, asked.mgid, JoinState(asked.join_state))
 }

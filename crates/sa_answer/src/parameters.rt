@@ -6,13 +6,13 @@ ghost use Rattle.sa_records.specs.McMemberMask as member_mask;
 ghost use Rattle.sa_records.specs.Speed.{rate_satisfies};
 ghost use Rattle.sa_queries.specs.Selected.{asks};
 ghost use Rattle.sa_replies.specs.Joins.{life_taken, mtu_taken, parameters_asked, rate_taken};
-ghost use Rattle.sa_answer.specs.Slots.{parameters_of};
+ghost use Rattle.sa_store.specs.MlidRange.{parameters_of};
 
-use crate::group::{GroupParameters, PACKET_LIFE_TIME as PACKETS_LIVE};
 use crate::member_mask::{HOP_LIMIT, MTU, PACKET_LIFE_TIME, RATE, SCOPE};
 use crate::questions::asks;
 use attr_tables::{Mtu, Rate};
 use sa_records::{McMemberRecord, code_satisfies, rate_satisfies};
+use sa_store::{GroupParameters, PACKET_LIFE_TIME as PACKETS_LIVE};
 
 /// The greatest MTU that we have and that satisfies what is asked.
 pub(crate) fn mtu_taken(mask: u64, asked: &McMemberRecord) -> Option<u8>

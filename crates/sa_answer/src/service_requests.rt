@@ -10,18 +10,16 @@ ghost use Rattle.sa_replies.specs.Answer.{outcome};
 ghost use Rattle.sa_replies.specs.ServiceRequests.{owner_questions, service_asked, service_deleted, service_set};
 ghost use Rattle.sa_replies.specs.State.{is_fit_service};
 ghost use Rattle.sa_answer.specs.Answering.{BringsAbout, is_change};
-ghost use Rattle.sa_answer.specs.Registry.{place_with_guid};
+ghost use Rattle.sa_store.specs.Registry.{IsRequester};
 
 use crate::gid::gid_of;
-use crate::members::is_in;
-use crate::offers::{data_of, service_record};
 use crate::questions::{asks, first_refusal, refused_if};
-use crate::registry::Registry;
 use crate::request::Request;
-use crate::services::Service;
+use crate::service::{data_of, service_record};
 use mad_layout::{MadStatus, Method, SA_DATA_BYTES};
 use pkey_rules::base_of;
 use sa_records::ServiceRecord;
+use sa_store::{Requester, Service, Store, is_in};
 use std::alloc::AllocError;
 use subnet_model::SubnetPort;
 
@@ -36,80 +34,75 @@ const NAME: u64 = 1 << 6;
 /// The data of the reply to a request that changes something, or the status by which it is refused.
 pub(crate) type Changed = Result<[u8; SA_DATA_BYTES], MadStatus>;
 
-impl Registry {
-    /// A Set or a Delete of a ServiceRecord.
-    pub(crate) fn changed(
-        &mut self,
-        port: u64,
-        place: usize,
-        request: &Request,
-    ) -> Result<Changed, AllocError>
-        requires place { place_with_guid self.old.configuration.ports port ≡ Some place }
-        requires change { is_change request.now ≡ true }
-        ensures brings { (own : SubnetPort) → port_with_guid self.old.configuration.ports port ≡ Some own → IfOk result (λ changed.
-            BringsAbout self.old (outcome self.old.configuration.ports own self.old.administration.remembered request.now)
-            changed self.new) }
-        ensures configuration { self.new.configuration ≡ self.old.configuration }
-    {
-        let mask = request.component_mask;
-        let asked = ServiceRecord::read(&request.content);
-        if request.header.method == Method::Set.code() {
-            let changed = self.service_set(port, place, mask, &asked)?;
-            Ok(changed)
-        } else {
-            let changed = self.service_deleted(port, place, mask, &asked, &request.content);
-            Ok(changed)
-        }
+/// A Set or a Delete of a ServiceRecord.
+pub(crate) fn changed(
+    store: &mut Store,
+    requester: Requester,
+    request: &Request,
+) -> Result<Changed, AllocError>
+    requires place { IsRequester store.old.configuration.ports requester }
+    requires change { is_change request.now ≡ true }
+    ensures brings { (own : SubnetPort) → port_with_guid store.old.configuration.ports requester.guid ≡ Some own → IfOk result (λ changed.
+        BringsAbout store.old (outcome store.old.configuration.ports own store.old.administration.remembered request.now)
+        changed store.new) }
+    ensures configuration { store.new.configuration ≡ store.old.configuration }
+{
+    let mask = request.component_mask;
+    let asked = ServiceRecord::read(&request.content);
+    if request.header.method == Method::Set.code() {
+        let changed = service_set(store, requester, mask, &asked)?;
+        Ok(changed)
+    } else {
+        let changed = service_deleted(store, requester, mask, &asked, &request.content);
+        Ok(changed)
     }
+}
 
-    /// A Set of a ServiceRecord: the reply is the record as it is shown.
-    fn service_set(
-        &mut self,
-        port: u64,
-        place: usize,
-        mask: u64,
-        asked: &ServiceRecord,
-    ) -> Result<Changed, AllocError>
-        requires { place_with_guid self.old.configuration.ports port ≡ Some place }
-        ensures brings { (own : SubnetPort) → port_with_guid self.old.configuration.ports port ≡ Some own → IfOk result (λ changed.
-            BringsAbout self.old (service_set own self.old.administration.remembered mask asked.now) changed self.new) }
-        ensures configuration { self.new.configuration ≡ self.old.configuration }
-    {
-        if let Some(status) = owner_refusal(self.kept_at(port, place).port(), mask, asked) {
-            return Ok(Err(status));
-        }
-        let base = base_of(asked.service_p_key);
-        let service = service_asked(mask, asked);
-        let data = data_of(&service_record(port, base, &service));
-        if !self.set_service(port, place, base, service)? {
-            return Ok(Err(MadStatus::NoResources));
-        }
-        Ok(Ok(data))
+/// A Set of a ServiceRecord: the reply is the record as it is shown.
+fn service_set(
+    store: &mut Store,
+    requester: Requester,
+    mask: u64,
+    asked: &ServiceRecord,
+) -> Result<Changed, AllocError>
+    requires { IsRequester store.old.configuration.ports requester }
+    ensures brings { (own : SubnetPort) → port_with_guid store.old.configuration.ports requester.guid ≡ Some own → IfOk result (λ changed.
+        BringsAbout store.old (service_set own store.old.administration.remembered mask asked.now) changed store.new) }
+    ensures configuration { store.new.configuration ≡ store.old.configuration }
+{
+    if let Some(status) = owner_refusal(store.kept_at(requester).port(), mask, asked) {
+        return Ok(Err(status));
     }
+    let base = base_of(asked.service_p_key);
+    let service = service_asked(mask, asked);
+    let data = data_of(&service_record(requester.guid, base, &service));
+    if !store.set_service(requester, base, service)? {
+        return Ok(Err(MadStatus::NoResources));
+    }
+    Ok(Ok(data))
+}
 
-    /// A Delete of a ServiceRecord: the reply has the data of the request.
-    fn service_deleted(
-        &mut self,
-        port: u64,
-        place: usize,
-        mask: u64,
-        asked: &ServiceRecord,
-        content: &[u8; SA_DATA_BYTES],
-    ) -> Changed
-        requires { place_with_guid self.old.configuration.ports port ≡ Some place }
-        ensures brings { (own : SubnetPort) → port_with_guid self.old.configuration.ports port ≡ Some own
-            → BringsAbout self.old (service_deleted own self.old.administration.remembered mask asked.now content.now) result self.new }
-        ensures configuration { self.new.configuration ≡ self.old.configuration }
-    {
-        if let Some(status) = owner_refusal(self.kept_at(port, place).port(), mask, asked) {
-            return Err(status);
-        }
-        let base = base_of(asked.service_p_key);
-        if !self.delete_service(port, place, base, asked.service_id) {
-            return Err(MadStatus::NoRecords);
-        }
-        Ok(*content)
+/// A Delete of a ServiceRecord: the reply has the data of the request.
+fn service_deleted(
+    store: &mut Store,
+    requester: Requester,
+    mask: u64,
+    asked: &ServiceRecord,
+    content: &[u8; SA_DATA_BYTES],
+) -> Changed
+    requires { IsRequester store.old.configuration.ports requester }
+    ensures brings { (own : SubnetPort) → port_with_guid store.old.configuration.ports requester.guid ≡ Some own
+        → BringsAbout store.old (service_deleted own store.old.administration.remembered mask asked.now content.now) result store.new }
+    ensures configuration { store.new.configuration ≡ store.old.configuration }
+{
+    if let Some(status) = owner_refusal(store.kept_at(requester).port(), mask, asked) {
+        return Err(status);
     }
+    let base = base_of(asked.service_p_key);
+    if !store.delete_service(requester, base, asked.service_id) {
+        return Err(MadStatus::NoRecords);
+    }
+    Ok(*content)
 }
 
 /// Why a port may not set or delete a service.
@@ -131,18 +124,15 @@ fn service_asked(mask: u64, asked: &ServiceRecord) -> Service
     ensures value { result ≡ service_asked mask asked.now }
     ensures fit { is_fit_service result ≡ true }
 {
-    Service {
-        service_id: asked.service_id,
-        lease: if asks(mask, LEASE) {
-            asked.service_lease
-        } else {
-            0
-        },
-        name: if asks(mask, NAME) {
-            asked.service_name
-        } else {
-            [0; 64]
-        },
-        numbers: asked.numbers_asked(mask),
-    }
+    let lease = if asks(mask, LEASE) {
+        asked.service_lease
+    } else {
+        0
+    };
+    let name = if asks(mask, NAME) {
+        asked.service_name
+    } else {
+        [0; 64]
+    };
+    Service::new(asked.service_id, lease, name, asked.numbers_asked(mask))
 }

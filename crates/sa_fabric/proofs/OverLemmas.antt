@@ -17,7 +17,7 @@ use Rattle.fabric_parts.specs.declared.lid.TheConstants.{FIRST_MULTICAST_LID}
 use Rattle.pkey_rules.specs.declared.key_table.TheConstants.{PARTITIONS}
 use Rattle.result_words.proofs.ListLemmas.{range_at}
 use Rattle.result_words.proofs.RangeLemmas.{range_more}
-use Rattle.sa_answer.specs.Registry.{RegistryState}
+use Rattle.sa_store.specs.Registry.{RegistryState}
 use Rattle.sa_groups.specs.Groups.{PartitionGroups}
 use Rattle.sa_groups.specs.Receivers.{receivers_of}
 use Rattle.sa_groups.specs.Sound.{is_sound}

@@ -8,7 +8,7 @@ use Rattle.partition_file.specs.Sound.{IsSound as ArePartitions}
 use Rattle.partition_file.specs.declared.partition.Partition.{Partition}
 use Rattle.result_words.proofs.ElementLemmas.{get_same}
 use Rattle.result_words.proofs.PlaceLemmas.{not_there}
-use Rattle.sa_answer.specs.Registry.{RegistryState}
+use Rattle.sa_store.specs.Registry.{RegistryState}
 use Rattle.smp_wire.specs.FabricState.{FabricState}
 use Rattle.smp_wire.specs.declared.node.Node.{Node}
 use Rattle.smp_wire.specs.declared.node.Node.TheVariants.{Switch, Adapter}

@@ -2,7 +2,7 @@
 use Rattle.std.proofs.Common.{ℕ, ◌≡◌, ◌∙◌, ap, subst, sym, Bool, true, nat_lt, List}
 use Rattle.std.specs.List.{list_all}
 use Rattle.pkey_rules.specs.declared.key_table.TheConstants.{PARTITIONS}
-use Rattle.sa_answer.specs.Registry.{RegistryState, changed_between}
+use Rattle.sa_store.specs.Registry.{RegistryState, changed_between}
 use Rattle.sa_groups.specs.Groups.{PartitionGroups}
 use Rattle.sa_replies.specs.State.{IsRememberedOf}
 use Rattle.fabric_wire.specs.Recabling.{cabling_of}

@@ -8,7 +8,7 @@ use Rattle.std.proofs.lemmas.Option.{get_or_from_slice_get, same_Some}
 use Rattle.fabric_wire.specs.Recabling.{cabling_of}
 use Rattle.fabric_parts.specs.declared.lid.TheConstants.{FIRST_MULTICAST_LID}
 use Rattle.result_words.proofs.ElementLemmas.{get_other}
-use Rattle.sa_answer.specs.Registry.{RegistryState}
+use Rattle.sa_store.specs.Registry.{RegistryState}
 use Rattle.sa_groups.specs.Receivers.{receivers_of}
 use Rattle.smp_wire.specs.FabricState.{FabricState, is_switch, port_count}
 use Rattle.smp_wire.specs.Good.{node_guid}

@@ -5,7 +5,7 @@ use Rattle.std.specs.List.{list_any}
 use Rattle.fabric_parts.specs.NodeType.{is_switch_type}
 use Rattle.partition_file.specs.Sound.{IsSound as ArePartitions}
 use Rattle.partition_file.specs.declared.partition.Partition.{Partition}
-use Rattle.sa_answer.specs.Registry.{RegistryState}
+use Rattle.sa_store.specs.Registry.{RegistryState}
 use Rattle.sa_groups.specs.Delivery.{is_receiver_of}
 use Rattle.sa_groups.specs.Groups.{PartitionGroups}
 use Rattle.smp_wire.specs.FabricState.{FabricState}

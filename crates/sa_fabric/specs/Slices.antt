@@ -1,7 +1,7 @@
 -- The slices of partitions, pushed one after another: the clauses of `src/slices.rt`.
 use Rattle.std.specs.Prelude.{ℕ, ◌≡◌, ◌==◌, Bool, true, false, not, if◌then◌else◌, List, filter, length, slice_get, Some}
 use Rattle.std.specs.List.{fold, list_any}
-use Rattle.sa_answer.specs.Registry.{RegistryState}
+use Rattle.sa_store.specs.Registry.{RegistryState}
 use Rattle.sa_groups.specs.Receivers.{receivers_of}
 use Rattle.smp_wire.specs.FabricState.{FabricState}
 use Rattle.smp_wire.specs.Good.{IsGood}

@@ -21,7 +21,7 @@ pub struct Administrator {
 }
 
 impl Model for Administrator {
-    ghost use Rattle.sa_answer.specs.Registry.{RegistryState};
+    ghost use Rattle.sa_store.specs.Registry.{RegistryState};
     ghost use Rattle.sa_fabric.specs.Served.{IsInformed};
 
     ghost Value = { RegistryState };

@@ -9,7 +9,7 @@ use Rattle.packet_ways.specs.Deliveries.{DeliveryState}
 use Rattle.partition_file.proofs.MemberLemmas.{sound_headings}
 use Rattle.pkey_rules.specs.KeyTable.{holds}
 use Rattle.sa_answer.specs.Answering.{Answers, answer_from, answer_to_port}
-use Rattle.sa_answer.specs.Registry.{RegistryState}
+use Rattle.sa_store.specs.Registry.{RegistryState}
 use Rattle.sa_fabric.proofs.ListedLemmas.{a_served_fabric_is_as_listed}
 use Rattle.sa_fabric.proofs.StartLemmas.{starts_are_served}
 use Rattle.sa_fabric.specs.Served.{IsServed, Serves}

@@ -1,7 +1,7 @@
 -- A command to cut a cable, or to mend it; and what any command leaves of a subnet.
 use Rattle.std.proofs.Common.{◌≡◌, ap, refl, subst, sym, Bool, false, List, [], map}
 use Rattle.fabric_wire.specs.Recabling.{cabling_of}
-use Rattle.sa_answer.specs.Registry.{RegistryState}
+use Rattle.sa_store.specs.Registry.{RegistryState}
 use Rattle.sa_fabric.specs.Served.{IsServed, Serves}
 use Rattle.smp_wire.specs.FabricState.{FabricState}
 use Rattle.subnet_core.specs.Answering.{IsNext, StepsTo}

@@ -11,7 +11,7 @@ use Rattle.packet_ways.specs.Deliveries.{DeliveryState, adapter_at}
 use Rattle.pkey_rules.specs.KeyTable.{holds}
 use Rattle.pkey_rules.specs.PKey.{default_base, key_of}
 use Rattle.port_model.specs.AdapterState.{AdapterState}
-use Rattle.sa_answer.specs.Registry.{RegistryState}
+use Rattle.sa_store.specs.Registry.{RegistryState}
 use Rattle.sa_fabric.specs.declared.answering.AnswerFault.{AnswerFault}
 use Rattle.sa_groups.specs.Delivery.{is_receiver_of}
 use Rattle.sa_replies.specs.Answer.{Administration, Answered, answer}

@@ -7,7 +7,7 @@ use Rattle.fabric_wire.specs.Recabling.{cabling_of}
 use Rattle.packet_ways.specs.Deliveries.{DeliveryState, HasPort, adapter_at}
 use Rattle.pkey_rules.specs.KeyTable.{holds}
 use Rattle.port_model.specs.AdapterState.{AdapterState}
-use Rattle.sa_answer.specs.Registry.{RegistryState}
+use Rattle.sa_store.specs.Registry.{RegistryState}
 use Rattle.sa_groups.specs.Delivery.{is_receiver_of}
 use Rattle.sa_replies.specs.Answer.{Administration, Answered, answer}
 use Rattle.sa_runs.specs.Administration.{subnet_administration}

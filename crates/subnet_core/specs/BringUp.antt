@@ -8,7 +8,7 @@ use Rattle.subnet_core.specs.declared.fault.RunFault.TheVariants.{NoMemory, Topo
 use Rattle.subnet_core.specs.Roster.{IsRostered, RosterState, fault_in}
 use Rattle.subnet_fabric.specs.BringUp.{HasNoPath, IsBroughtUpBy, IsUnfound, BroughtUpState}
 use Rattle.subnet_fabric.specs.Laws.{all_keys}
-use Rattle.sa_answer.specs.Registry.{RegistryState}
+use Rattle.sa_store.specs.Registry.{RegistryState}
 use Rattle.sa_fabric.specs.Served.{IsServed}
 use Rattle.sa_replies.specs.Answer.{Administration}
 use Rattle.sa_replies.specs.State.{IsStateOf, at_start}

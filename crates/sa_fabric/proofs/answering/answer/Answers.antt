@@ -1,5 +1,5 @@
 use Rattle.std.proofs.Common.{ℕ, ◌∙◌, ap, subst, sym, List}
-use Rattle.sa_answer.specs.Registry.{RegistryState}
+use Rattle.sa_store.specs.Registry.{RegistryState}
 use Rattle.sa_fabric.proofs.ReceiveLemmas.{in_its_slice}
 use Rattle.fabric_wire.specs.Recabling.{cabling_of}
 use Rattle.sa_fabric.proofs.SliceLemmas.{slices_keep_cables}

@@ -1,7 +1,7 @@
 use Rattle.std.proofs.Common.{ℕ, ◌∙◌, ap, subst, sym, List}
 use Rattle.fabric_wire.specs.Cabling.{CablingState}
 use Rattle.fabric_wire.specs.Recabling.{cabling_of}
-use Rattle.sa_answer.specs.Registry.{RegistryState}
+use Rattle.sa_store.specs.Registry.{RegistryState}
 use Rattle.subnet_fabric.specs.Laws.{all_keys}
 use Rattle.subnet_fabric.specs.Standing.{IsNextCabling, IsStanding}
 use Rattle.sa_fabric.proofs.RecableLemmas.{can_be_pushed_again, no_stray_bits, serves_over, stands_masked, still_none}

@@ -1,5 +1,5 @@
 use Rattle.std.proofs.Common.{ap, refl}
-use Rattle.sa_answer.specs.Registry.{RegistryState}
+use Rattle.sa_store.specs.Registry.{RegistryState}
 use Rattle.subnet_core.proofs.AnswerLemmas.{roster_is_configured, stands_at_start}
 use Rattle.subnet_core.proofs.subnet.Subnet.new.Goals as goal
 

@@ -1,5 +1,0 @@
-use Rattle.sa_answer.proofs.LeaveLemmas.{joined_bits}
-use Rattle.sa_answer.proofs.leaving.is_joined.Goals as goal
-
-pub returns : goal.returns
-returns c = joined_bits c.args.join_state.0

@@ -1,7 +1,0 @@
-use Rattle.std.proofs.Common.{◌≡◌, drop}
-use Rattle.sa_groups.specs.Sound.{pairwise}
-use Rattle.sa_answer.specs.Premises.{other_guid}
-use Rattle.sa_answer.proofs.premises.have_own_guids.Given as goal
-
-abbrev pub invariant-loop-place : goal.invariant-loop-place
-invariant-loop-place l = pairwise other_guid (drop l.place l.ports) ≡ pairwise other_guid l.ports

@@ -1,5 +1,0 @@
-use Rattle.sa_answer.proofs.LostLemmas.{receiver_bits}
-use Rattle.sa_answer.proofs.receivers.is_receiver.Goals as goal
-
-pub returns : goal.returns
-returns c = receiver_bits c.args.join_state.0

@@ -1,6 +1,0 @@
-use Rattle.sa_answer.proofs.SlotLemmas.{some_free}
-use Rattle.sa_answer.proofs.slots.PartitionSlots.has_free.Goals as goal
-
-pub returns : goal.returns
-returns c =
-    some_free c.self.inside.number c.self.inside.base c.self.inside.free c.self.inside.slots.items c.args.self.now c.self.invariant.all c.self.invariant.told c.self.view_is

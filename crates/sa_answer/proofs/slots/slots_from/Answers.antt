@@ -1,7 +1,0 @@
-use Rattle.std.proofs.Common.{◌≡◌, arith}
-use Rattle.sa_answer.proofs.slots.slots_from.Goals as goal
-
-pub returns : goal.returns
-returns c =
-    let all : c.loop-slot._slot ≡ 31 = omega (arith, c.loop-slot-test.false) in
-    rw all at c.loop-slot.invariant

@@ -1,0 +1,17 @@
+pub mod BaseLemmas
+pub mod DeedLemmas
+pub mod GainLemmas
+pub mod GuidLemmas
+pub mod JoinLemmas
+pub mod KeyLemmas
+pub mod LeaveLemmas
+pub mod LostLemmas
+pub mod MemberLemmas
+pub mod PlaceLemmas
+pub mod PortServiceLemmas
+pub mod PremiseLemmas
+pub mod PushedLemmas
+pub mod ReceiverLemmas
+pub mod RegistryLemmas
+pub mod SlotLemmas
+pub mod StartLemmas

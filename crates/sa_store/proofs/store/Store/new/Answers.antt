@@ -1,0 +1,26 @@
+use Rattle.std.proofs.Common.{◌≡◌, false, IfOk, subst, sym}
+use Rattle.subnet_model.specs.Configuration.{ConfigurationState}
+use Rattle.subnet_model.specs.Configured.{IsConfigured}
+use Rattle.sa_replies.specs.State.{at_start}
+use Rattle.sa_store.specs.NodePorts.{all_with_keys}
+use Rattle.sa_store.proofs.StartLemmas.{did_nothing, same_configuration}
+use Rattle.sa_store.proofs.store.Store.new.Goals as goal
+
+pub before_commands-requires-clause-configured : goal.before_commands-requires-clause-configured
+before_commands-requires-clause-configured c =
+    subst IsConfigured
+    (sym (same_configuration c.in_ok-kept.kept.items (all_with_keys c.args.ports.now c.args.members.now.keys) c.headings.result.now c.args.members.now.headings
+    (rw c.keys.ensures at c.in_ok-kept.ensures) c.headings.ensures.value))
+    c.requires.configured
+
+pub before_commands-requires-clause-start : goal.before_commands-requires-clause-start
+before_commands-requires-clause-start c =
+    did_nothing c.in_ok-kept.kept.items (all_with_keys c.args.ports.now c.args.members.now.keys) (rw c.keys.ensures at c.in_ok-kept.ensures)
+
+pub returns : goal.returns
+returns c =
+    subst (λ (configuration : ConfigurationState).
+    IfOk c.before_commands.result (λ registry. registry ≡ record { configuration = configuration; administration = at_start configuration; is_broken = false }))
+    (same_configuration c.in_ok-kept.kept.items (all_with_keys c.args.ports.now c.args.members.now.keys) c.headings.result.now c.args.members.now.headings
+    (rw c.keys.ensures at c.in_ok-kept.ensures) c.headings.ensures.value)
+    c.before_commands.ensures

@@ -1,0 +1,10 @@
+pub mod NodePorts
+pub mod MlidRange
+pub mod Kept
+pub mod Deeds
+pub mod Registry
+pub mod Premises
+pub mod Joined
+pub mod Left
+pub mod Receiving
+pub mod Members
