@@ -1,6 +1,5 @@
 -- What a MAD changes of the tables that are open, and which port it comes from.
-use Rattle.std.proofs.Common.{◌≡◌, ℕ, ◌+◌, Vec, Global, ◌==◌, ◌&&◌, Bool, true, false, if◌then◌else◌, List, [], ◌∷◌, length, Option, Some, None, Result, Ok, Err}
-use Rattle.std.proofs.Common.{refl, sym, ◌∙◌, ap, inl, inr}
+use Rattle.std.proofs.Common.{◌≡◌, ℕ, ◌+◌, Vec, Global, ◌==◌, ◌&&◌, Bool, true, false, if◌then◌else◌, List, [], ◌∷◌, length, Option, Some, None, Result, Ok, Err, refl, sym, ◌∙◌, ap, inl, inr}
 use Rattle.std.proofs.lemmas.Bool.{cases_Bool, eqb-true, eq-eqb}
 use Rattle.std.specs.List.{position_from}
 use Rattle.std.proofs.lemmas.Iterator.Adapters.{position_from-zero}
@@ -21,10 +20,11 @@ use Rattle.sa_replies.specs.Reply.{refusal_reply, table_header}
 use Rattle.sa_replies.specs.Request.{Request, request_in}
 use Rattle.sa_replies.specs.Success.{Success as Brought}
 use Rattle.sa_replies.specs.Transfers.{PortTransfer, with_table}
-use Rattle.sa_answer.specs.Answering.{Answers, Brings, BringsAbout, CanBeTold, answer_to_port}
-use Rattle.sa_store.specs.Registry.{IsListed}
-use Rattle.sa_store.specs.Registry.{RegistryState, place_with_guid}
+use Rattle.sa_answer.specs.Answering.{Brings, CanBeTold, Reacts, answer_to_port}
+use Rattle.sa_store.specs.Registry.{IsListed, RegistryState, place_with_guid}
 use Rattle.sa_answer.specs.Replying.{padded, reply_with}
+use Rattle.sa_answer.proofs.MembershipLemmas.{quiet}
+use Rattle.sa_answer.specs.declared.reaction.Reaction.{Reaction}
 use Rattle.sa_answer.specs.declared.outcome.Success.{Success}
 use Rattle.sa_answer.specs.declared.outcome.Success.TheVariants.{Reply, Table}
 
@@ -60,40 +60,26 @@ tabled_is state (Err other) spacing held h = absurd h
 tabled_is state (Ok (Brought.one_reply bytes next)) spacing held h = absurd h
 tabled_is state (Ok (Brought.whole_table offset bytes)) spacing held h = rw (h.0, h.1) refl
 
--- ---- the answers
-pub refused_answers : (own : SubnetPort) (request : Request) (old : RegistryState) (brought : Result Brought MadStatus) (mads : List (List ℕ)) (status : MadStatus)
-    → brought ≡ Err status → mads ≡ refusal_reply request status ∷ [] → Answers (answered_with own request old.administration brought) mads old old
-refused_answers own request old brought mads status is told = rw is (record { mads_are = told; next = refl })
+-- ---- the answers: nobody else receives then
+pub refused_answers : (own : SubnetPort) (request : Request) (old : RegistryState) (brought : Result Brought MadStatus) (reaction : Reaction) (status : MadStatus)
+    → brought ≡ Err status → reaction.replies.items ≡ refusal_reply request status ∷ [] → reaction.changed.items ≡ []
+    → Reacts (answered_with own request old.administration brought) reaction old old
+refused_answers own request old brought reaction status is told none = rw is (quiet _ reaction old old (record { mads_are = told; next = refl }) none refl)
 
-pub replied_answers : (own : SubnetPort) (request : Request) (old : RegistryState) (brought : Result Brought MadStatus) (mads : List (List ℕ)) (content : List ℕ)
-    → IsReplied old.administration.remembered brought content → mads ≡ reply_with request 0 content ∷ []
-    → Answers (answered_with own request old.administration brought) mads old old
-replied_answers own request old brought mads content replied told =
+pub replied_answers : (own : SubnetPort) (request : Request) (old : RegistryState) (brought : Result Brought MadStatus) (reaction : Reaction) (content : List ℕ)
+    → IsReplied old.administration.remembered brought content → reaction.replies.items ≡ reply_with request 0 content ∷ [] → reaction.changed.items ≡ []
+    → Reacts (answered_with own request old.administration brought) reaction old old
+replied_answers own request old brought reaction content replied told none =
     let whole = replied.whole in
-    rw replied.is (record { mads_are = rw whole at told; next = refl })
+    rw replied.is (quiet _ reaction old old (record { mads_are = rw whole at told; next = refl }) none refl)
 
-pub tabled_answers : (own : SubnetPort) (request : Request) (old new : RegistryState) (brought : Result Brought MadStatus) (mads : List (List ℕ)) (spacing : ℕ)
-    (bytes : List ℕ) → brought ≡ Ok (Brought.whole_table spacing bytes) → mads ≡ segment_mad (opened (table_header request spacing) bytes) 1 ∷ []
+pub tabled_answers : (own : SubnetPort) (request : Request) (old new : RegistryState) (brought : Result Brought MadStatus) (reaction : Reaction) (spacing : ℕ)
+    (bytes : List ℕ) → brought ≡ Ok (Brought.whole_table spacing bytes)
+    → reaction.replies.items ≡ segment_mad (opened (table_header request spacing) bytes) 1 ∷ []
     → new ≡ record old { administration = record old.administration { transfers = with_table own.guid (Some (opened (table_header request spacing) bytes)) old.administration.transfers } }
-    → Answers (answered_with own request old.administration brought) mads old new
-tabled_answers own request old new brought mads spacing bytes is told next = rw is (record { mads_are = told; next = next })
-
--- ---- what is changed
-pub changed_answers : (own : SubnetPort) (request : Request) (old new : RegistryState) (brought : Result Brought MadStatus) (content : List ℕ) (mads : List (List ℕ))
-    → BringsAbout old brought (Ok content) new → mads ≡ reply_with request 0 content ∷ [] → Answers (answered_with own request old.administration brought) mads old new
-changed_answers own request old new (Err status) content mads h told = absurd h
-changed_answers own request old new (Ok (Brought.whole_table offset bytes)) content mads h told = absurd h
-changed_answers own request old new (Ok (Brought.one_reply bytes next)) content mads h told =
-    let whole = h.0 in
-    record { mads_are = rw whole at told; next = h.1 }
-
-pub unchanged_answers : (own : SubnetPort) (request : Request) (old new : RegistryState) (brought : Result Brought MadStatus) (status : MadStatus) (mads : List (List ℕ))
-    → BringsAbout old brought (Err status) new → mads ≡ refusal_reply request status ∷ [] → Answers (answered_with own request old.administration brought) mads old new
-unchanged_answers own request old new (Ok (Brought.whole_table offset bytes)) status mads h told = absurd h
-unchanged_answers own request old new (Ok (Brought.one_reply bytes next)) status mads h told = absurd h
-unchanged_answers own request old new (Err other) status mads h told =
-    let same = h.0 in
-    record { mads_are = rw same at told; next = h.1 }
+    → reaction.changed.items ≡ [] → Reacts (answered_with own request old.administration brought) reaction old new
+tabled_answers own request old new brought reaction spacing bytes is told next none =
+    rw is (quiet _ reaction old new (record { mads_are = told; next = next }) none refl)
 
 -- ---- the length of a table can be told
 can_be_told : (state : SaState) (brought : Result Brought MadStatus) (found : Result Success MadStatus) → Brings state brought found → Ends TableLow brought → CanBeTold found

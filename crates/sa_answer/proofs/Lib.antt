@@ -9,3 +9,4 @@ pub mod OutLemmas
 pub mod PathLemmas
 pub mod RequestLemmas
 pub mod SelectLemmas
+pub mod WantedLemmas

@@ -1,27 +1,23 @@
 -- What comes of a join and of a leave, and of all else that ports send.
-use Rattle.std.proofs.Common.{◌≡◌, ℕ, ◌==◌, ◌&&◌, ◌||◌, Bool, true, false, List, [], ◌∷◌, Option, Some, None, Result, Ok, Err, refl, sym, ◌∙◌, ap}
-use Rattle.std.proofs.lemmas.Bool.{and_parts, eqb-true, ne_eqb}
+use Rattle.std.proofs.Common.{◌≡◌, ℕ, List, [], ◌∷◌, Option, Some, None, Result, Ok, Err, refl, sym, ◌∙◌, ap}
 use Rattle.std.proofs.lemmas.Option.{same_Some}
 use Rattle.mad_layout.specs.declared.status.MadStatus.{MadStatus}
 use Rattle.sa_records.specs.declared.mc_member_record.McMemberRecord.{McMemberRecord}
-use Rattle.sa_records.specs.McMemberRecord.{group_in}
-use Rattle.sa_records.specs.declared.sa_attribute.SaAttribute.TheVariants as sa_attribute
 use Rattle.subnet_model.specs.declared.subnet_port.SubnetPort.{SubnetPort}
 use Rattle.sa_groups.specs.Leaving.{left}
 use Rattle.sa_groups.specs.Receivers.{changed_numbers}
 use Rattle.sa_groups.proofs.ReceiverLemmas.{nothing_changes_alone}
 use Rattle.sa_queries.specs.Refusals.{Question, first_refusal}
 use Rattle.sa_queries.specs.Visible.{SaState}
-use Rattle.sa_replies.specs.Answer.{Administration, Answered, answered_with, outcome}
-use Rattle.sa_replies.specs.Joins.{join_outcome, leave_asked, leave_outcome, leave_questions}
+use Rattle.sa_replies.specs.Answer.{Answered, answered_with}
+use Rattle.sa_replies.specs.Joins.{leave_asked, leave_outcome, leave_questions}
 use Rattle.sa_replies.specs.Reply.{refusal_reply}
-use Rattle.sa_replies.specs.Request.{Request, is_about}
+use Rattle.sa_replies.specs.Request.{Request}
 use Rattle.sa_replies.specs.Success.{Success}
-use Rattle.sa_replies.proofs.ChangedLemmas.{IsNone, others_leave}
-use Rattle.sa_answer.specs.Answering.{Answers, BringsChange, Reacts, is_join_or_leave}
-use Rattle.sa_store.specs.Registry.{RegistryState, changed_between}
+use Rattle.sa_answer.specs.Answering.{Answers, BringsChange, Reacts}
+use Rattle.sa_store.specs.Registry.{RegistryState, changed_between, with_remembered}
 use Rattle.sa_answer.specs.Replying.{reply_with}
-use Rattle.sa_answer.specs.declared.group_requests.Change.{Change}
+use Rattle.sa_answer.specs.declared.change.Change.{Change}
 use Rattle.sa_answer.specs.declared.reaction.Reaction.{Reaction}
 
 -- ---- who asks is the port that is found
@@ -42,28 +38,18 @@ pub leave_is_done : (ports : List SubnetPort) (own : SubnetPort) (state : SaStat
     ≡ Ok (Success.one_reply content (record state { partitions = left ports (leave_asked own mask asked) state.partitions }))
 leave_is_done ports own state mask asked content none = rw none refl
 
--- ---- which of both a request is
-pub is_join : (ports : List SubnetPort) (own : SubnetPort) (state : SaState) (request : Request) → is_join_or_leave request ≡ true → request.header.method ≡ 2
-    → outcome ports own state request ≡ join_outcome ports own state request.component_mask (group_in request.content)
-is_join ports own state request change method =
-    let parts = and_parts (is_about sa_attribute.McMemberRecord request) _ change in
-    let attribute : request.header.attribute_id ≡ 0x38 = eqb-true request.header.attribute_id 0x38 parts.0 in
-    rw (method, attribute) refl
-
-pub is_leave : (ports : List SubnetPort) (own : SubnetPort) (state : SaState) (request : Request) → is_join_or_leave request ≡ true
-    → (request.header.method ≡ 2 → ⊥)
-    → outcome ports own state request ≡ leave_outcome ports own state request.component_mask (group_in request.content) request.content
-is_leave ports own state request change other =
-    let parts = and_parts (is_about sa_attribute.McMemberRecord request) _ change in
-    let attribute : request.header.attribute_id ≡ 0x38 = eqb-true request.header.attribute_id 0x38 parts.0 in
-    let no_set : (request.header.method == 2) ≡ false = ne_eqb request.header.method 2 other in
-    let method : request.header.method ≡ 0x15 = eqb-true request.header.method 0x15 (rw no_set at parts.1) in
-    rw (method, attribute) refl
-
 -- ---- what comes of a change
 nothing_alone : (old new : RegistryState) → new ≡ old → [] ≡ changed_between old new
 nothing_alone old new same =
     sym (ap (changed_between old) same ∙ nothing_changes_alone old.configuration.ports old.administration.remembered.partitions)
+
+-- a service is no group
+pub services_alone : (old new : RegistryState) (next : SaState) → new ≡ with_remembered next old → next.partitions ≡ old.administration.remembered.partitions
+    → [] ≡ changed_between old new
+services_alone old new next is same =
+    sym (ap (changed_between old) is
+    ∙ ap (changed_numbers old.configuration.ports old.administration.remembered.partitions) same
+    ∙ nothing_changes_alone old.configuration.ports old.administration.remembered.partitions)
 
 pub refused_reacts : (own : SubnetPort) (request : Request) (old new : RegistryState) (brought : Result Success MadStatus) (status : MadStatus) (reaction : Reaction)
     → BringsChange old brought (Err status) new → reaction.replies.items ≡ refusal_reply request status ∷ [] → reaction.changed.items ≡ []
@@ -97,18 +83,3 @@ quiet answered reaction old new answers none same = record {
 pub same_replies : (answered : Answered) (mads replies : List (List ℕ)) (old new : RegistryState) → replies ≡ mads → Answers answered mads old new
     → Answers answered replies old new
 same_replies answered mads replies old new same answers = record { mads_are = same ∙ answers.mads_are; next = answers.next }
-
-no_change : (about set deletion : Bool) → about && (set || deletion) ≡ false → (set && about) || (deletion && about) ≡ false
-no_change false true true none = refl
-no_change false true false none = refl
-no_change false false true none = refl
-no_change false false false none = refl
-no_change true true deletion none = none
-no_change true false true none = none
-no_change true false false none = refl
-
-pub others_stay : (ports : List SubnetPort) (own : SubnetPort) (request : Request) (state : Administration) → is_join_or_leave request ≡ false
-    → (answered_with own request state (outcome ports own state.remembered request)).1.remembered.partitions ≡ state.remembered.partitions
-others_stay ports own request state none =
-    let neither : IsNone request = no_change (is_about sa_attribute.McMemberRecord request) (request.header.method == 2) (request.header.method == 0x15) none in
-    others_leave ports own request state neither

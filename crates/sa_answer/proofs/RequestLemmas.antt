@@ -1,7 +1,6 @@
 -- What comes of a Set and a Delete of a ServiceRecord.
 use Rattle.std.proofs.Common.{◌≡◌, ℕ, ◌+◌, ◌==◌, Bool, true, false, not, List, [], ◌∷◌, Option, Some, None, Ok, Err, refl, sym, ◌∙◌, ap, length}
 use Rattle.std.specs.List.{list_any}
-use Rattle.std.proofs.lemmas.Bool.{and_parts, eqb-true, ne_eqb}
 use Rattle.std.proofs.lemmas.List.{append-nil}
 use Rattle.std.proofs.lemmas.Option.{same_Some}
 use Rattle.sa_answer.specs.Replying.{padded}
@@ -16,14 +15,9 @@ use Rattle.sa_queries.specs.Selected.{asks}
 use Rattle.sa_queries.specs.Refusals.{first_refusal, refused_if}
 use Rattle.sa_queries.specs.Visible.{SaState}
 use Rattle.sa_services.specs.ServiceChange.{Deed, has_id, has_room}
-use Rattle.sa_records.specs.ServiceRecord.{service_in}
-use Rattle.sa_replies.specs.Answer.{outcome}
-use Rattle.sa_replies.specs.Request.{Request, is_about}
-use Rattle.sa_answer.specs.Answering.{is_change}
 use Rattle.sa_replies.specs.ServiceRequests.{after_change, change_asked, owner_questions, service_asked, service_deleted, service_set, services_at, shown_bytes}
 use Rattle.sa_replies.specs.Success.{Success}
 use Rattle.sa_records.specs.ServiceMask as service_mask
-use Rattle.sa_records.specs.declared.sa_attribute.SaAttribute.TheVariants as sa_attribute
 
 -- ---- a port that may set and delete
 pub may : (given : Option MadStatus) (port own : SubnetPort) (found : Option SubnetPort) (mask : ℕ) (asked : ServiceRecord) → Some port ≡ found → found ≡ Some own
@@ -71,20 +65,3 @@ deleted_done own state mask asked content none there = rw (none, there) refl
 -- all the data of a request
 pub whole_content : (content : List ℕ) → length content ≡ 200 → padded content ≡ content
 whole_content content long = rw long (append-nil content)
-
--- ---- which of both a request is
-pub is_set : (ports : List SubnetPort) (own : SubnetPort) (state : SaState) (request : Request) → is_change request ≡ true → request.header.method ≡ 2
-    → outcome ports own state request ≡ service_set own state request.component_mask (service_in request.content)
-is_set ports own state request change method =
-    let parts = and_parts (is_about sa_attribute.ServiceRecord request) _ change in
-    let attribute : request.header.attribute_id ≡ 0x31 = eqb-true request.header.attribute_id 0x31 parts.0 in
-    rw (method, attribute) refl
-
-pub is_deleted : (ports : List SubnetPort) (own : SubnetPort) (state : SaState) (request : Request) → is_change request ≡ true → (request.header.method ≡ 2 → ⊥)
-    → outcome ports own state request ≡ service_deleted own state request.component_mask (service_in request.content) request.content
-is_deleted ports own state request change other =
-    let parts = and_parts (is_about sa_attribute.ServiceRecord request) _ change in
-    let attribute : request.header.attribute_id ≡ 0x31 = eqb-true request.header.attribute_id 0x31 parts.0 in
-    let no_set : (request.header.method == 2) ≡ false = ne_eqb request.header.method 2 other in
-    let method : request.header.method ≡ 0x15 = eqb-true request.header.method 0x15 (rw no_set at parts.1) in
-    rw (method, attribute) refl

@@ -1,36 +1,18 @@
 -- What comes of what a port sends, in words that code computes.
-use Rattle.std.specs.Prelude.{ℕ, ◌≡◌, ◌==◌, ◌<◌, ◌^◌, Bool, ◌&&◌, ◌||◌, List, [], Option, Some, None, Result, Ok, Err}
-use Rattle.mad_layout.specs.Method.{method_code}
-use Rattle.mad_layout.specs.declared.method.Method.TheVariants.{Set, Delete}
+use Rattle.std.specs.Prelude.{ℕ, ◌≡◌, ◌<◌, ◌^◌, List, [], Option, Some, None, Result, Ok, Err}
 use Rattle.mad_layout.specs.declared.status.MadStatus.{MadStatus}
 use Rattle.rmpp_core.specs.Segments.{payload_size}
-use Rattle.sa_records.specs.declared.sa_attribute.SaAttribute.{SaAttribute}
 use Rattle.subnet_model.specs.Delivery.{port_with_guid}
 use Rattle.subnet_model.specs.declared.subnet_port.SubnetPort.{SubnetPort}
 use Rattle.sa_queries.specs.Visible.{SaState}
 use Rattle.sa_replies.specs.Answer.{Administration, Answered, answer}
-use Rattle.sa_replies.specs.Request.{Request, is_about}
 use Rattle.sa_replies.specs.Success.{Success as Brought}
 use Rattle.sa_answer.specs.declared.outcome.Success.{Success}
 use Rattle.sa_answer.specs.declared.outcome.Success.TheVariants.{Reply, Table}
-use Rattle.sa_answer.specs.declared.group_requests.Change.{Change}
+use Rattle.sa_answer.specs.declared.change.Change.{Change}
 use Rattle.sa_answer.specs.declared.reaction.Reaction.{Reaction}
 use Rattle.sa_store.specs.Registry.{RegistryState, changed_between, with_remembered}
 use Rattle.sa_answer.specs.Replying.{padded}
-use Rattle.sa_records.specs.declared.sa_attribute.SaAttribute.TheVariants as sa_attribute
-
--- ---- a Set or a Delete
-abbrev pub is_change_of : SaAttribute → Request → Bool
-is_change_of attribute request =
-    is_about attribute request && ((request.header.method == method_code Set) || (request.header.method == method_code Delete))
-
--- of a service
-abbrev pub is_change : Request → Bool
-is_change request = is_change_of sa_attribute.ServiceRecord request
-
--- of a membership in a group: a join or a leave
-abbrev pub is_join_or_leave : Request → Bool
-is_join_or_leave request = is_change_of sa_attribute.McMemberRecord request
 
 -- ---- the same comes of a request, in the data of a reply or in the bytes of a table; what is remembered stays
 abbrev pub IsBrought : SaState → Brought → Success → Type 0
@@ -43,14 +25,8 @@ Brings state (Ok brought) (Ok found) = IsBrought state brought found
 Brings state (Err status) (Err told) = told ≡ status
 Brings state _ _ = ⊥
 
--- a Set or a Delete brings this data for its reply, and what is remembered then is as it says; or it is refused, and changes
--- nothing
-abbrev pub BringsAbout : RegistryState → Result Brought MadStatus → Result (List ℕ) MadStatus → RegistryState → Type 0
-BringsAbout old (Ok (Brought.one_reply bytes next)) (Ok content) new = (content ≡ padded bytes) × (new ≡ with_remembered next old)
-BringsAbout old (Err status) (Err told) new = (told ≡ status) × (new ≡ old)
-BringsAbout old _ _ new = ⊥
-
--- so does a join or a leave, with the numbers of the partitions whose receivers are others then
+-- a Set or a Delete brings this data for its reply, with the numbers of the partitions whose receivers are others then, and what is
+-- remembered then is as it says; or it is refused, and changes nothing
 abbrev pub BringsChange : RegistryState → Result Brought MadStatus → Result Change MadStatus → RegistryState → Type 0
 BringsChange old (Ok (Brought.one_reply bytes next)) (Ok change) new =
     (change.«data» ≡ padded bytes) × ((new ≡ with_remembered next old) × (change.numbers.items ≡ changed_between old new))

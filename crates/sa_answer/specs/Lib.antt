@@ -4,3 +4,4 @@ pub mod Answering
 pub mod Offers
 pub mod Groups
 pub mod JoinQuestions
+pub mod Wanted

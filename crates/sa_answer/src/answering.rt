@@ -1,28 +1,29 @@
 //! What comes of what ports send to subnet administration.
 
-ghost use Rattle.std.specs.Prelude.{◌≡◌, ◌==◌, ◌&&◌, ◌<◌, true, false, length, Some, None, option_map};
+ghost use Rattle.std.specs.Prelude.{◌≡◌, ◌==◌, ◌&&◌, ◌<◌, true, length, Some, None, Result, option_map};
 ghost use Rattle.std.specs.Prelude.{if◌then◌else◌, IfOk, OnErr, IsErr};
 ghost use Rattle.mad_layout.specs.Bits.{field};
 ghost use Rattle.subnet_model.specs.Delivery.{port_with_guid};
 ghost use Rattle.subnet_model.specs.declared.subnet_port.SubnetPort.{SubnetPort};
-ghost use Rattle.sa_replies.specs.Answer.{after_rmpp, answer_to, answered_with, outcome, version_refused};
+ghost use Rattle.mad_layout.specs.declared.status.MadStatus.{MadStatus};
+ghost use Rattle.sa_replies.specs.Answer.{after_rmpp, answer_to, answered_with, version_refused};
+ghost use Rattle.sa_replies.specs.Success.{Success as Brought};
 ghost use Rattle.sa_replies.specs.Transfers.{on_rmpp, table_of};
-ghost use Rattle.sa_answer.specs.Answering.{Answers, Reacts, answer_to_port, is_change, is_change_of, is_join_or_leave};
-ghost use Rattle.sa_store.specs.Registry.{IsRequester};
+ghost use Rattle.sa_answer.specs.Answering.{Answers, Brings, BringsChange, CanBeTold, Reacts, answer_to_port};
+ghost use Rattle.sa_store.specs.Registry.{IsRequester, RegistryState};
 
-use crate::group_requests::answered_with_membership;
-use crate::outcome::{Success, outcome};
+use crate::change::ChangeOutcome;
+use crate::dispatch::answered;
+use crate::outcome::{Outcome, Success};
 use crate::reaction::Reaction;
 use crate::registry::Registry;
 use crate::reply::{refusal_reply, reply, table_header};
 use crate::request::{Request, SA_CLASS};
-use crate::service_requests::changed;
 use crate::transfers::{on_rmpp, only};
-use mad_layout::{Mad, MadStatus, Method, get_bits};
+use mad_layout::{Mad, MadStatus, get_bits};
 use rmpp_core::Sender;
-use sa_records::SaAttribute;
 use sa_store::{Requester, Store};
-use std::alloc::AllocError;
+use std::alloc::{AllocError, Global};
 
 impl Registry {
     /// Takes what the port of a GUID sends, and answers it. What is no MAD of subnet administration, or comes from no port of
@@ -89,10 +90,8 @@ fn reaction_to(
     if request.is_response() {
         return Ok(Reaction::answered(Vec::new(store.alloc())));
     }
-    if is_join_or_leave(request) {
-        return answered_with_membership(store, requester, request);
-    }
-    Ok(Reaction::answered(answered_with(store, requester, request)?))
+    let reaction = answered(store, requester, request)?;
+    Ok(reaction)
 }
 
 /// Refuses a request of a version that is not ours.
@@ -123,87 +122,63 @@ fn after_rmpp(
     Ok(mads)
 }
 
-/// Answers a request.
-fn answered_with(
+/// Answers a query: by one reply, or by the first segment of a table, whose transfer takes the place of one that is in progress to
+/// the port.
+pub(crate) fn records_answered(
     store: &mut Store,
     requester: Requester,
     request: &Request,
-) -> Result<Vec<Mad>, AllocError>
+    outcome: Outcome,
+) -> Result<Reaction, AllocError>
     requires place { IsRequester store.old.configuration.ports requester }
-    requires left { is_join_or_leave request.now ≡ false }
     requires method { request.now.header.method < 128 }
+    requires told { CanBeTold outcome }
     ensures configuration { store.new.configuration ≡ store.old.configuration }
-    ensures answers { (own : SubnetPort) → port_with_guid store.old.configuration.ports requester.guid ≡ Some own → IfOk result (λ mads.
-        Answers (answered_with own request.now store.old.administration
-        (outcome store.old.configuration.ports own store.old.administration.remembered request.now)) mads.items store.old store.new) }
-{
-    if is_change(request) {
-        answered_with_change(store, requester, request)
-    } else {
-        answered_with_records(store, requester, request)
-    }
-}
-
-/// Answers a request that changes a service, by one reply.
-fn answered_with_change(
-    store: &mut Store,
-    requester: Requester,
-    request: &Request,
-) -> Result<Vec<Mad>, AllocError>
-    requires place { IsRequester store.old.configuration.ports requester }
-    requires change { is_change request.now ≡ true }
-    requires method { request.now.header.method < 128 }
-    ensures configuration { store.new.configuration ≡ store.old.configuration }
-    ensures answers { (own : SubnetPort) → port_with_guid store.old.configuration.ports requester.guid ≡ Some own → IfOk result (λ mads.
-        Answers (answered_with own request.now store.old.administration
-        (outcome store.old.configuration.ports own store.old.administration.remembered request.now)) mads.items store.old store.new) }
+    ensures reacts { (own : SubnetPort) (brought : Result Brought MadStatus) → own.guid ≡ requester.guid
+        → Brings store.old.administration.remembered brought outcome → IfOk result (λ reaction.
+        Reacts (answered_with own request.now store.old.administration brought) reaction store.old store.new) }
 {
     let alloc = store.alloc();
-    match changed(store, requester, request)? {
+    match outcome {
         Err(status) => {
-            let mads = only(alloc, refusal_reply(request, status))?;
-            Ok(mads)
-        }
-        Ok(data) => {
-            let mads = only(alloc, reply(request, &data))?;
-            Ok(mads)
-        }
-    }
-}
-
-/// Answers a request for records: by one reply, or by the first segment of a table, which takes the place of the one that
-/// is open to the port.
-fn answered_with_records(
-    store: &mut Store,
-    requester: Requester,
-    request: &Request,
-) -> Result<Vec<Mad>, AllocError>
-    requires place { IsRequester store.old.configuration.ports requester }
-    requires left { is_join_or_leave request.now ≡ false }
-    requires change { is_change request.now ≡ false }
-    requires method { request.now.header.method < 128 }
-    ensures configuration { store.new.configuration ≡ store.old.configuration }
-    ensures answers { (own : SubnetPort) → port_with_guid store.old.configuration.ports requester.guid ≡ Some own → IfOk result (λ mads.
-        Answers (answered_with own request.now store.old.administration
-        (outcome store.old.configuration.ports own store.old.administration.remembered request.now)) mads.items store.old store.new) }
-{
-    let alloc = store.alloc();
-    // What may be remembered of the subnet, and so how long a table can be, is known once it is said.
-    store.known();
-    match outcome(store, store.kept_at(requester), request)? {
-        Err(status) => {
-            let mads = only(alloc, refusal_reply(request, status))?;
-            Ok(mads)
+            let replies = only(alloc, refusal_reply(request, status))?;
+            Ok(Reaction::answered(replies))
         }
         Ok(Success::Reply(data)) => {
-            let mads = only(alloc, reply(request, &data))?;
-            Ok(mads)
+            let replies = only(alloc, reply(request, &data))?;
+            Ok(Reaction::answered(replies))
         }
         Ok(Success::Table { spacing, bytes }) => {
             let sender = Sender::open(alloc, table_header(request, spacing), &bytes)?;
-            let mads = only(alloc, sender.segment(1))?;
+            let replies = only(alloc, sender.segment(1))?;
             store.replace_table(requester, Some(sender));
-            Ok(mads)
+            Ok(Reaction::answered(replies))
+        }
+    }
+}
+
+/// Answers a Set or a Delete, by one reply.
+pub(crate) fn change_answered(
+    alloc: Global,
+    request: &Request,
+    outcome: ChangeOutcome,
+) -> Result<Reaction, AllocError>
+    requires { request.now.header.method < 128 }
+    ensures { (own : SubnetPort) (brought : Result Brought MadStatus) (before after : RegistryState)
+        → BringsChange before brought outcome after → IfOk result (λ reaction.
+        Reacts (answered_with own request.now before.administration brought) reaction before after) }
+{
+    match outcome {
+        Err(status) => {
+            let replies = only(alloc, refusal_reply(request, status))?;
+            Ok(Reaction::answered(replies))
+        }
+        Ok(change) => {
+            let replies = only(alloc, reply(request, &change.data))?;
+            Ok(Reaction {
+                replies,
+                changed: change.numbers,
+            })
         }
     }
 }
@@ -219,27 +194,4 @@ fn sa_mad_of(payload: &[u8]) -> Option<&Mad>
     } else {
         None
     }
-}
-
-/// Whether a request sets or deletes a service.
-fn is_change(request: &Request) -> bool
-    ensures { result ≡ is_change request.now }
-{
-    is_change_of(SaAttribute::ServiceRecord, request)
-}
-
-/// Whether a request joins or leaves a group.
-fn is_join_or_leave(request: &Request) -> bool
-    ensures { result ≡ is_join_or_leave request.now }
-{
-    is_change_of(SaAttribute::McMemberRecord, request)
-}
-
-/// Whether a request sets or deletes by a record of this kind.
-fn is_change_of(attribute: SaAttribute, request: &Request) -> bool
-    ensures { result ≡ is_change_of attribute request.now }
-{
-    let method = request.header.method;
-    request.header.attribute_id == attribute.code()
-        && (method == Method::Set.code() || method == Method::Delete.code())
 }

@@ -1,95 +1,26 @@
 //! Joins and leaves: Sets and Deletes by MCMemberRecord.
 
-ghost use Rattle.std.specs.Prelude.{◌≡◌, ◌<◌, true, Some, IfOk};
+ghost use Rattle.std.specs.Prelude.{◌≡◌, true, Some, IfOk};
 ghost use Rattle.subnet_model.specs.Delivery.{port_with_guid};
 ghost use Rattle.subnet_model.specs.declared.subnet_port.SubnetPort.{SubnetPort};
-ghost use Rattle.sa_replies.specs.Answer.{answered_with, outcome};
 ghost use Rattle.sa_replies.specs.Joins.{join_asked, join_outcome, join_refusal, leave_outcome, parameters_asked};
 ghost use Rattle.pkey_rules.specs.PKey.{base_of};
 ghost use Rattle.sa_store.specs.Members.{place_with_base};
 ghost use Rattle.sa_replies.specs.State.{is_fit_group};
-ghost use Rattle.sa_answer.specs.Answering.{BringsChange, Reacts, is_join_or_leave};
+ghost use Rattle.sa_answer.specs.Answering.{BringsChange};
 ghost use Rattle.sa_store.specs.Registry.{IsRequester};
 
+use crate::change::{Change, ChangeOutcome};
 use crate::joins::{group_refusal, join_asked, join_refusal, leave_asked, leave_refusal};
 use crate::mc_member::member_data;
-use crate::reaction::Reaction;
-use crate::reply::{refusal_reply, reply};
-use crate::request::Request;
-use crate::transfers::only;
-use arrayvec::ArrayVec;
-use mad_layout::{MadStatus, Method, SA_DATA_BYTES};
-use pkey_rules::{PARTITIONS, base_of};
+use mad_layout::{MadStatus, SA_DATA_BYTES};
+use pkey_rules::base_of;
 use sa_records::McMemberRecord;
 use sa_store::{Join, Requester, Store};
 use std::alloc::AllocError;
 
-/// What comes of a join or a leave that is not refused: the data of its reply, and the numbers of the partitions whose
-/// receivers are others then.
-#[derive(Drop)]
-pub(crate) struct Change {
-    pub(crate) data: [u8; SA_DATA_BYTES],
-    pub(crate) numbers: ArrayVec<u16, PARTITIONS>,
-}
-
-/// A change, or the status by which a join or a leave is refused.
-pub(crate) type ChangeOutcome = Result<Change, MadStatus>;
-
-/// Answers a join or a leave, by one reply.
-pub(crate) fn answered_with_membership(
-    store: &mut Store,
-    requester: Requester,
-    request: &Request,
-) -> Result<Reaction, AllocError>
-    requires place { IsRequester store.old.configuration.ports requester }
-    requires membership { is_join_or_leave request.now ≡ true }
-    requires method { request.now.header.method < 128 }
-    ensures configuration { store.new.configuration ≡ store.old.configuration }
-    ensures reacts { (own : SubnetPort) → port_with_guid store.old.configuration.ports requester.guid ≡ Some own → IfOk result (λ reaction.
-        Reacts (answered_with own request.now store.old.administration
-        (outcome store.old.configuration.ports own store.old.administration.remembered request.now)) reaction store.old store.new) }
-{
-    let alloc = store.alloc();
-    match membership_changed(store, requester, request)? {
-        Err(status) => {
-            let replies = only(alloc, refusal_reply(request, status))?;
-            Ok(Reaction::answered(replies))
-        }
-        Ok(change) => {
-            let replies = only(alloc, reply(request, &change.data))?;
-            Ok(Reaction {
-                replies,
-                changed: change.numbers,
-            })
-        }
-    }
-}
-
-fn membership_changed(
-    store: &mut Store,
-    requester: Requester,
-    request: &Request,
-) -> Result<ChangeOutcome, AllocError>
-    requires place { IsRequester store.old.configuration.ports requester }
-    requires membership { is_join_or_leave request.now ≡ true }
-    ensures brings { (own : SubnetPort) → port_with_guid store.old.configuration.ports requester.guid ≡ Some own → IfOk result (λ changed.
-        BringsChange store.old (outcome store.old.configuration.ports own store.old.administration.remembered request.now)
-        changed store.new) }
-    ensures configuration { store.new.configuration ≡ store.old.configuration }
-{
-    let mask = request.component_mask;
-    let asked = McMemberRecord::read(&request.content);
-    if request.header.method == Method::Set.code() {
-        let changed = group_joined(store, requester, mask, &asked)?;
-        Ok(changed)
-    } else {
-        let changed = group_left(store, requester, mask, &asked, &request.content);
-        Ok(changed)
-    }
-}
-
 /// A join: the reply is the record of the group, with the port in it.
-fn group_joined(
+pub(crate) fn group_joined(
     store: &mut Store,
     requester: Requester,
     mask: u64,
@@ -137,7 +68,7 @@ fn join_refused(
 }
 
 /// A leave: the reply has the data of the request.
-fn group_left(
+pub(crate) fn group_left(
     store: &mut Store,
     requester: Requester,
     mask: u64,

@@ -7,6 +7,8 @@
 #![tactic(auto)]
 
 mod answering;
+mod change;
+mod dispatch;
 mod gid;
 mod group_requests;
 mod joins;
@@ -24,6 +26,7 @@ mod request;
 mod service;
 mod service_requests;
 mod transfers;
+mod wanted;
 
 pub use crate::reaction::Reaction;
 pub use crate::registry::Registry;

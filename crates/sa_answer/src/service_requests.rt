@@ -6,17 +6,16 @@ ghost use Rattle.subnet_model.specs.Delivery.{port_with_guid};
 ghost use Rattle.subnet_model.specs.declared.subnet_port.SubnetPort.{SubnetPort};
 ghost use Rattle.sa_groups.specs.Members.{is_in};
 ghost use Rattle.sa_queries.specs.Refusals.{first_refusal};
-ghost use Rattle.sa_replies.specs.Answer.{outcome};
 ghost use Rattle.sa_replies.specs.ServiceRequests.{owner_questions, service_asked, service_deleted, service_set};
 ghost use Rattle.sa_replies.specs.State.{is_fit_service};
-ghost use Rattle.sa_answer.specs.Answering.{BringsAbout, is_change};
+ghost use Rattle.sa_answer.specs.Answering.{BringsChange};
 ghost use Rattle.sa_store.specs.Registry.{IsRequester};
 
+use crate::change::{Change, ChangeOutcome};
 use crate::gid::gid_of;
 use crate::questions::{asks, first_refusal, refused_if};
-use crate::request::Request;
 use crate::service::{data_of, service_record};
-use mad_layout::{MadStatus, Method, SA_DATA_BYTES};
+use mad_layout::{MadStatus, SA_DATA_BYTES};
 use pkey_rules::base_of;
 use sa_records::ServiceRecord;
 use sa_store::{Requester, Service, Store, is_in};
@@ -31,43 +30,16 @@ const LEASE: u64 = 1 << 4;
 
 const NAME: u64 = 1 << 6;
 
-/// The data of the reply to a request that changes something, or the status by which it is refused.
-pub(crate) type Changed = Result<[u8; SA_DATA_BYTES], MadStatus>;
-
-/// A Set or a Delete of a ServiceRecord.
-pub(crate) fn changed(
-    store: &mut Store,
-    requester: Requester,
-    request: &Request,
-) -> Result<Changed, AllocError>
-    requires place { IsRequester store.old.configuration.ports requester }
-    requires change { is_change request.now ≡ true }
-    ensures brings { (own : SubnetPort) → port_with_guid store.old.configuration.ports requester.guid ≡ Some own → IfOk result (λ changed.
-        BringsAbout store.old (outcome store.old.configuration.ports own store.old.administration.remembered request.now)
-        changed store.new) }
-    ensures configuration { store.new.configuration ≡ store.old.configuration }
-{
-    let mask = request.component_mask;
-    let asked = ServiceRecord::read(&request.content);
-    if request.header.method == Method::Set.code() {
-        let changed = service_set(store, requester, mask, &asked)?;
-        Ok(changed)
-    } else {
-        let changed = service_deleted(store, requester, mask, &asked, &request.content);
-        Ok(changed)
-    }
-}
-
 /// A Set of a ServiceRecord: the reply is the record as it is shown.
-fn service_set(
+pub(crate) fn service_set(
     store: &mut Store,
     requester: Requester,
     mask: u64,
     asked: &ServiceRecord,
-) -> Result<Changed, AllocError>
+) -> Result<ChangeOutcome, AllocError>
     requires { IsRequester store.old.configuration.ports requester }
     ensures brings { (own : SubnetPort) → port_with_guid store.old.configuration.ports requester.guid ≡ Some own → IfOk result (λ changed.
-        BringsAbout store.old (service_set own store.old.administration.remembered mask asked.now) changed store.new) }
+        BringsChange store.old (service_set own store.old.administration.remembered mask asked.now) changed store.new) }
     ensures configuration { store.new.configuration ≡ store.old.configuration }
 {
     if let Some(status) = owner_refusal(store.kept_at(requester).port(), mask, asked) {
@@ -79,20 +51,20 @@ fn service_set(
     if !store.set_service(requester, base, service)? {
         return Ok(Err(MadStatus::NoResources));
     }
-    Ok(Ok(data))
+    Ok(Ok(Change::of_no_receivers(data)))
 }
 
 /// A Delete of a ServiceRecord: the reply has the data of the request.
-fn service_deleted(
+pub(crate) fn service_deleted(
     store: &mut Store,
     requester: Requester,
     mask: u64,
     asked: &ServiceRecord,
     content: &[u8; SA_DATA_BYTES],
-) -> Changed
+) -> ChangeOutcome
     requires { IsRequester store.old.configuration.ports requester }
     ensures brings { (own : SubnetPort) → port_with_guid store.old.configuration.ports requester.guid ≡ Some own
-        → BringsAbout store.old (service_deleted own store.old.administration.remembered mask asked.now content.now) result store.new }
+        → BringsChange store.old (service_deleted own store.old.administration.remembered mask asked.now content.now) result store.new }
     ensures configuration { store.new.configuration ≡ store.old.configuration }
 {
     if let Some(status) = owner_refusal(store.kept_at(requester).port(), mask, asked) {
@@ -102,7 +74,7 @@ fn service_deleted(
     if !store.delete_service(requester, base, asked.service_id) {
         return Err(MadStatus::NoRecords);
     }
-    Ok(*content)
+    Ok(Change::of_no_receivers(*content))
 }
 
 /// Why a port may not set or delete a service.

@@ -1,8 +1,7 @@
 use Rattle.std.proofs.Common.{◌≡◌, ◌==◌, ◌∙◌, ap, bit_and, false, refl, sym, true}
 use Rattle.sa_replies.specs.Request.{has_versions, is_response}
-use Rattle.sa_answer.specs.Answering.{is_join_or_leave}
 use Rattle.sa_answer.proofs.AnswerLemmas.{guid_of_found}
-use Rattle.sa_answer.proofs.MembershipLemmas.{others_stay, quiet, same_replies}
+use Rattle.sa_answer.proofs.MembershipLemmas.{quiet, same_replies}
 use Rattle.sa_answer.proofs.answering.reaction_to.Goals as goal
 
 pub returns-then-not-has_versions-clause-reacts : goal.returns-then-not-has_versions-clause-reacts
@@ -31,21 +30,9 @@ returns-then-is_response-clause-reacts c = λ own found.
     (quiet _ c.answered-then-is_response.result c.args.store.now c.args.store.now (record { mads_are = replies ∙ c.new.ensures.items; next = refl })
     c.answered-then-is_response.ensures.changed refl)
 
-pub returns-then-is_join_or_leave-clause-reacts : goal.returns-then-is_join_or_leave-clause-reacts
-returns-then-is_join_or_leave-clause-reacts c = λ own found.
-    let versions : has_versions c.args.request.now.header ≡ true = sym c.has_versions.ensures ∙ c.if-not-has_versions.false in
-    let passive : (bit_and c.args.request.now.rmpp.flags 1 == 1) ≡ false = sym c.is_active.ensures ∙ c.if-is_active.false in
-    let asks : is_response c.args.request.now.header ≡ false = sym c.is_response.ensures ∙ c.if-is_response.false in
-    rw (versions, passive, asks) (c.answered_with_membership.ensures.reacts own found)
-
 pub returns-clause-reacts : goal.returns-clause-reacts
 returns-clause-reacts c = λ own found.
-    let state = c.args.store.now in
     let versions : has_versions c.args.request.now.header ≡ true = sym c.has_versions.ensures ∙ c.if-not-has_versions.false in
     let passive : (bit_and c.args.request.now.rmpp.flags 1 == 1) ≡ false = sym c.is_active.ensures ∙ c.if-is_active.false in
     let asks : is_response c.args.request.now.header ≡ false = sym c.is_response.ensures ∙ c.if-is_response.false in
-    let other : is_join_or_leave c.args.request.now ≡ false = sym c.is_join_or_leave.ensures ∙ c.if-is_join_or_leave.false in
-    let replies = ap (λ replies. replies.items) c.answered-2.ensures.replies in
-    rw (versions, passive, asks)
-    (quiet _ c.answered-2.result state c.answered_with.new.store (same_replies _ _ _ _ _ replies (c.in_ok-answered_with.ensures.answers own found))
-    c.answered-2.ensures.changed (others_stay state.configuration.ports own c.args.request.now state.administration other))
+    rw (versions, passive, asks) (c.in_ok-reaction.ensures.reacts own found)

@@ -2,9 +2,10 @@ use Rattle.std.proofs.Common.{◌≡◌, true, false, sym, ◌∙◌, ap, refl}
 use Rattle.std.specs.List.{list_any}
 use Rattle.sa_groups.specs.Members.{is_in}
 use Rattle.sa_services.specs.ServiceChange.{Deed, ServiceChange, has_id}
-use Rattle.sa_replies.specs.ServiceRequests.{change_asked, services_at}
+use Rattle.sa_replies.specs.ServiceRequests.{after_change, change_asked, services_at}
 use Rattle.sa_store.specs.Registry.{deleted_by}
 use Rattle.sa_answer.proofs.AnswerLemmas.{guid_of_found}
+use Rattle.sa_answer.proofs.MembershipLemmas.{services_alone}
 use Rattle.sa_store.proofs.KeyLemmas.{holds_base}
 use Rattle.sa_answer.proofs.RequestLemmas.{deleted_done, deleted_none, is_member, may, whole_content}
 use Rattle.sa_answer.proofs.service_requests.service_deleted.Goals as goal
@@ -42,5 +43,12 @@ returns-clause-brings c own found =
     let there : list_any (has_id asked.service_id) (services_at (change_asked own asked (Deed.deletes asked.service_id)) state.services) ≡ true =
     ap (λ (one : ServiceChange). list_any (has_id asked.service_id) (services_at one state.services)) (sym change)
     ∙ sym c.delete_service.ensures.found ∙ c.if-not-delete_service.false in
-    rw (deleted_done own state c.args.mask asked c.args.content.now none there)
-    (sym (whole_content c.args.content.now c.told-content), rw change at c.delete_service.ensures.next)
+    let next = rw change at c.delete_service.ensures.next in
+    rw (deleted_done own state c.args.mask asked c.args.content.now none there) (
+      c.of_no_receivers.ensures.reply ∙ sym (whole_content c.args.content.now c.told-content),
+      (
+        next,
+        c.of_no_receivers.ensures.numbers
+            ∙ services_alone c.args.store.now c.delete_service.new.self (after_change state (change_asked own asked (Deed.deletes asked.service_id))) next refl,
+      ),
+    )

@@ -1,10 +1,11 @@
 use Rattle.std.proofs.Common.{◌≡◌, true, false, sym, ◌∙◌, ap, refl}
 use Rattle.sa_groups.specs.Members.{is_in}
 use Rattle.sa_services.specs.ServiceChange.{Deed, has_room}
-use Rattle.sa_replies.specs.ServiceRequests.{change_asked, service_asked, services_at, shown_bytes}
+use Rattle.sa_replies.specs.ServiceRequests.{after_change, change_asked, service_asked, services_at, shown_bytes}
 use Rattle.sa_store.specs.Registry.{set_by}
 use Rattle.sa_answer.specs.Replying.{padded}
 use Rattle.sa_answer.proofs.AnswerLemmas.{guid_of_found}
+use Rattle.sa_answer.proofs.MembershipLemmas.{services_alone}
 use Rattle.sa_store.proofs.KeyLemmas.{holds_base}
 use Rattle.sa_answer.proofs.RequestLemmas.{is_member, may, set_done, set_full}
 use Rattle.sa_answer.proofs.service_requests.service_set.Goals as goal
@@ -46,4 +47,12 @@ returns-clause-brings c own found =
     ∙ sym c.in_ok-set_service.ensures.room ∙ c.if-not-branch.false in
     let shown : c.data_of-data.result ≡ padded (shown_bytes own asked service) =
     rw (c.service_record.ensures, c.service_asked-service.ensures.value, c.base_of-base.ensures.value, ← guid) at c.data_of-data.ensures in
-    rw (set_done own state c.args.mask asked none room) (shown, rw change at c.in_ok-set_service.ensures.next)
+    let next = rw change at c.in_ok-set_service.ensures.next in
+    rw (set_done own state c.args.mask asked none room) (
+      c.of_no_receivers.ensures.reply ∙ shown,
+      (
+        next,
+        c.of_no_receivers.ensures.numbers
+            ∙ services_alone c.args.store.now c.set_service.new.self (after_change state (change_asked own asked (Deed.sets service))) next refl,
+      ),
+    )
