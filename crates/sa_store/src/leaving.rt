@@ -22,16 +22,16 @@ use crate::kept_port::KeptPort;
 use crate::mlid_range::MlidRange;
 use crate::receivers::{is_receiver, some_receiving};
 use arrayvec::ArrayVec;
+use bitflags::Flags;
 use indexmap::IndexMap;
 use mad_layout::JoinState;
 use pkey_rules::PARTITIONS;
 use std::marker::Model;
 
-/// The bit of a JoinState that a full member has (IBA volume 1, 15.2.5).
-const FULL_MEMBER: u8 = 1 << 0;
-
-/// The bits of a JoinState, each a way to take part (IBA volume 1, 15.2.5).
-pub(crate) const JOIN_STATES: u8 = 0b111;
+/// The bits of a JoinState, each a way to take part.
+pub(crate) const JOIN_STATES: u8 = JoinState::FULL_MEMBER.0
+    | JoinState::NON_MEMBER.0
+    | JoinState::SEND_ONLY_NON_MEMBER.0;
 
 /// The port of this GUID leaves the group of an MGID in the partition of a base, or in each partition where no base is asked.
 #[derive(Drop)]
@@ -227,7 +227,7 @@ impl Membership {
         ensures { (ports : List SubnetPort) (base : ℕ) → TellsFull (F.post is_full_member.now) ports base
             → result ≡ anchors ports base self.now }
     {
-        self.join_state.0 & FULL_MEMBER != 0 && is_full_member(self.port)
+        self.join_state.contains(JoinState::FULL_MEMBER) && is_full_member(self.port)
     }
 }
 

@@ -21,8 +21,8 @@ use mad_layout::JoinState;
 use std::alloc::AllocError;
 use subnet_model::{GroupReceiver, SubnetPort};
 
-// The bits of a JoinState by which a port receives: FullMember and NonMember (IBA volume 1, 15.2.5).
-const RECEIVERS: u8 = 0b011;
+/// The bits of a JoinState by which a port receives (IBA volume 1, 15.2.5).
+const RECEIVERS: u8 = JoinState::FULL_MEMBER.0 | JoinState::NON_MEMBER.0;
 
 impl Store {
     /// Who receives what is sent to the multicast groups of the partition of this number: pairs of an MLID and the LID of a
