@@ -1,6 +1,7 @@
 -- A fabric under subnet administration: its switches have the masks of the ports that receive what is sent to groups (IBA
 -- volume 1, chapters 14 and 15).
-use Rattle.std.specs.Prelude.{ℕ, ◌≡◌, ◌==◌, ◌&&◌, not, Bool, List}
+use Rattle.std.specs.Prelude.{ℕ, ◌≡◌, ◌==◌, ◌&&◌, not, Bool, List, length}
+use Rattle.pkey_rules.specs.declared.key_table.TheConstants.{PARTITIONS}
 use Rattle.std.specs.List.{list_any}
 use Rattle.fabric_parts.specs.NodeType.{is_switch_type}
 use Rattle.partition_file.specs.Sound.{IsSound as ArePartitions}
@@ -40,7 +41,7 @@ pub record Serves (plan : TopologyState) (routes : RoutesState) (registry : Regi
   pub configured : registry.configuration ≡ configuration_of partitions plan
   pub served : IsServed plan registry.configuration.ports registry.administration.remembered.partitions routes fabric
 
--- who is kept to receive in a partition receives there by what the registry remembers
-abbrev pub IsInformed : RegistryState → List (List GroupReceiver) → Type 0
-IsInformed registry received =
-    AreRight (receives_at registry.configuration.ports registry.administration.remembered.partitions) received
+-- it is kept for each partition who receives in it, and these receive there by what the registry remembers
+pub record IsInformed (registry : RegistryState) (received : List (List GroupReceiver)) : Type 0 where
+  pub whole : length received ≡ PARTITIONS
+  pub right : AreRight (receives_at registry.configuration.ports registry.administration.remembered.partitions) received

@@ -1,6 +1,7 @@
 //! Subnet administration over a fabric.
 
-ghost use Rattle.std.specs.Prelude.{◌≡◌, [], false, All, IfOk};
+ghost use Rattle.std.specs.Prelude.{◌≡◌, [], false, length, All, IfOk};
+ghost use Rattle.pkey_rules.specs.declared.key_table.TheConstants.{PARTITIONS};
 ghost use Rattle.subnet_model.specs.Configured.{IsConfigured};
 ghost use Rattle.sa_replies.specs.State.{at_start};
 
@@ -11,16 +12,18 @@ use std::alloc::{AllocError, Global};
 use std::marker::Model;
 use subnet_model::Configuration;
 
-/// Subnet administration over a fabric: a registry, and who received in the slice of each partition when it was pushed last, so
-/// that where that changes only what changes is pushed. Its value is the registry's.
+/// The SA over a fabric: its database, and who received in the MLID range of each partition when its MFT entries were set last, so
+/// that if that changes, only the blocks that differ are set. Its value is the database's. Once an allocation failed both are
+/// broken; else it is kept for each partition who receives in it.
 #[derive(Drop)]
 pub struct Administrator {
     pub(crate) registry: Registry,
-    /// By the number of the partition; of none once memory was refused.
+    /// By the number of the partition.
     pub(crate) received: Vec<Received>,
 }
 
 impl Model for Administrator {
+    ghost use Rattle.std.specs.Prelude.{◌≡◌, false};
     ghost use Rattle.sa_store.specs.Registry.{RegistryState};
     ghost use Rattle.sa_fabric.specs.Served.{IsInformed};
 
@@ -28,7 +31,8 @@ impl Model for Administrator {
 
     ghost view = { λ administrator. administrator.registry };
 
-    ghost invariant = { λ administrator. IsInformed administrator.registry administrator.received.items };
+    ghost invariant = { λ administrator.
+        administrator.registry.is_broken ≡ false → IsInformed administrator.registry administrator.received.items };
 }
 
 impl Administrator {
@@ -49,7 +53,8 @@ impl Administrator {
 
 /// Nobody, for each partition.
 fn nobody_anywhere(alloc: Global) -> Result<Vec<Received>, AllocError>
-    ensures { IfOk result (λ received. All (λ receivers. receivers ≡ []) received.items) }
+    ensures nobody { IfOk result (λ received. All (λ receivers. receivers ≡ []) received.items) }
+    ensures whole { IfOk result (λ received. length received.items ≡ PARTITIONS) }
 {
     let mut received = Vec::new(alloc);
     for _number in 0..PARTITIONS {

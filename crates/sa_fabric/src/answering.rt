@@ -1,6 +1,6 @@
 //! How a fabric under subnet administration answers.
 
-ghost use Rattle.std.specs.Prelude.{◌≡◌, false, IfErr, IfOk, OnOk};
+ghost use Rattle.std.specs.Prelude.{◌≡◌, true, false, IfErr, IfOk, OnErr, OnOk};
 ghost use Rattle.fabric_wire.specs.Recabling.{cabling_of};
 ghost use Rattle.sa_answer.specs.Answering.{Answers, answer_to_port};
 ghost use Rattle.sa_fabric.specs.Served.{Serves};
@@ -11,8 +11,7 @@ use crate::administrator::Administrator;
 use crate::slices::push_slices;
 use fabric_wire::Fabric;
 use mad_layout::Mad;
-use std::alloc::{AllocError, Global};
-use std::mem;
+use std::alloc::AllocError;
 use table_push::PushFault;
 use thiserror::Error;
 use updn_routes::Routes;
@@ -42,9 +41,8 @@ impl From<AllocError> for AnswerFault {
 /// What subnet administration answers where the port of a GUID sends it these bytes; in the fabric the masks of all who
 /// receive then stand. Of these only what changes is pushed.
 ///
-/// Memory alone can be refused. Then the fabric may have other masks, and the registry may be broken for good.
+/// Memory alone can be refused. Then the fabric may have other masks, and the SA is broken for good.
 pub fn answer(
-    alloc: Global,
     fabric: &mut Fabric,
     routes: &Routes,
     administrator: &mut Administrator,
@@ -60,20 +58,24 @@ pub fn answer(
         → Serves plan routes.now administrator.new fabric.new) }
     ensures cabling { OnOk result (cabling_of fabric.new ≡ cabling_of fabric.old) }
     ensures no_push { IfErr result (λ fault. fault ≡ AnswerFault.NoMemory) }
+    ensures broken { OnErr result (administrator.new.is_broken ≡ true) }
     ensures configuration { administrator.new.configuration ≡ administrator.old.configuration }
 {
-    // What is remembered is sound before and after, so each slice is that of its own partition, and numbers are few.
+    // What is remembered is sound before and after, so each MLID range is that of its own partition, and numbers are few.
     administrator.registry.known_remembered();
-    let mut received = mem::replace(&mut administrator.received, Vec::new(alloc));
     let reaction = administrator.registry.handle(port, payload)?;
     administrator.registry.known_remembered();
-    push_slices(
+    match push_slices(
         fabric,
         routes,
         &administrator.registry,
-        &mut received,
+        &mut administrator.received,
         reaction.changed.as_slice(),
-    )?;
-    administrator.received = received;
-    Ok(reaction.replies)
+    ) {
+        Ok(()) => Ok(reaction.replies),
+        Err(fault) => {
+            administrator.registry.fail();
+            Err(fault)
+        }
+    }
 }

@@ -34,6 +34,8 @@ pub(crate) fn push_slices(
     requires numbers { list_all (λ number. nat_lt number PARTITIONS) numbers.now ≡ true }
     requires sound { is_sound registry.now.configuration.ports registry.now.administration.remembered.partitions ≡ true }
     requires kept { (base : FabricState) × (was : ℕ → ℕ → Bool) × IsKept routes.now base was fabric.old received.old.items }
+    requires whole { length received.old.items ≡ PARTITIONS }
+    ensures whole { OnOk result (length received.new.items ≡ PARTITIONS) }
     ensures pushed { OnOk result
         (IsPushed routes.now (slices_pushed routes.now registry.now numbers.now fabric.old) fabric.new) }
     ensures right { OnOk result ((was now : ℕ → ℕ → Bool) → AgreesWith registry.now now → AreRight was received.old.items
@@ -57,6 +59,7 @@ fn push_slice(
     requires stands { CanBePushed routes.now fabric.old }
     requires number { number < PARTITIONS }
     requires kept { (base : FabricState) × (was : ℕ → ℕ → Bool) × IsKept routes.now base was fabric.old received.old.items }
+    requires whole { length received.old.items ≡ PARTITIONS }
     ensures pushed { OnOk result
         (IsPushed routes.now (slice_pushed routes.now registry.now fabric.old number) fabric.new) }
     ensures received { OnOk result (received.new.items ≡ slice_set received.old.items number
@@ -73,7 +76,7 @@ fn push_slice(
     }
 }
 
-/// Pushes the slice of a partition with these receivers: what changes of it, where it is kept who received before.
+/// Pushes what changes of the slice of a partition, which gets these receivers.
 fn push_receivers(
     fabric: &mut Fabric,
     routes: &Routes,
@@ -84,33 +87,30 @@ fn push_receivers(
     requires stands { CanBePushed routes.now fabric.old }
     requires number { number < PARTITIONS }
     requires kept { (base : FabricState) × (was : ℕ → ℕ → Bool) × IsKept routes.now base was fabric.old received.now }
+    requires whole { length received.now ≡ PARTITIONS }
     ensures { Leaves result (Some fabric.new) fabric.old (masks_pushed routes.now number (receives_of receivers.now) fabric.old) }
 {
     let place = usize::from(number);
-    if place < received.len() {
-        match push_changed(
-            fabric,
-            routes,
-            number,
-            received[place].receivers(),
-            receivers,
-        ) {
-            Ok(_) => Ok(()),
-            Err(fault) => Err(fault),
-        }
-    } else {
-        push_multicast(fabric, routes, number, receivers)
+    match push_changed(
+        fabric,
+        routes,
+        number,
+        received[place].receivers(),
+        receivers,
+    ) {
+        Ok(_) => Ok(()),
+        Err(fault) => Err(fault),
     }
 }
 
-/// Keeps who receives in the partition of a number, if it is kept of that.
+/// Keeps who receives in the partition of a number.
 fn keep(received: &mut Vec<Received>, number: u16, receivers: Vec<GroupReceiver>)
+    requires number { number < PARTITIONS }
+    requires whole { length received.old.items ≡ PARTITIONS }
     ensures { received.new.items ≡ slice_set received.old.items number receivers.items }
 {
     let place = usize::from(number);
-    if place < received.len() {
-        received[place] = Received::of(receivers);
-    }
+    received[place] = Received::of(receivers);
 }
 
 /// Pushes the slice of each partition in which somebody receives, over the fabric of the routes' graph, whose masks may be those

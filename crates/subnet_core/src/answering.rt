@@ -204,7 +204,6 @@ fn answered(
         return Ok(Answer::none(alloc, Vec::new(alloc)));
     };
     let mads = answer(
-        alloc,
         fabric,
         routes,
         administrator,

@@ -1,4 +1,5 @@
-use Rattle.std.proofs.Common.{◌∙◌, ap, refl, take}
+use Rattle.std.proofs.Common.{◌∙◌, ap, length, refl, take}
+use Rattle.std.proofs.lemmas.List.{length-set}
 use Rattle.std.proofs.lemmas.Option.{slice_get-get_or}
 use Rattle.sa_fabric.proofs.ReceiveLemmas.{in_its_slice}
 use Rattle.sa_fabric.proofs.SliceLemmas.{more_kept, one_kept, slices_make, slices_more}
@@ -27,6 +28,7 @@ push_slice-requires-clause-kept c =
 
 pub loop-number-preserved : goal.loop-number-preserved
 loop-number-preserved c = record {
+  whole = ap length c.in_ok-push_slice.ensures.received ∙ length-set c.loop-number.received.items _ _ ∙ c.loop-number.invariant.whole;
   pushed = slices_more c.args.routes.now c.args.registry.now c.args.numbers.now c.loop-number.number-index _ c.args.fabric.now c.loop-number.fabric c.push_slice.new.fabric
       (slice_get-get_or c.args.numbers.now c.loop-number.number-index _ c.loop-number-test.true) c.loop-number.invariant.pushed c.in_ok-push_slice.ensures.pushed;
   right = λ was now agrees right.

@@ -1,10 +1,12 @@
-use Rattle.std.proofs.Common.{ℕ, Bool, take}
+use Rattle.std.proofs.Common.{ℕ, ◌≡◌, Bool, length, take}
+use Rattle.pkey_rules.specs.declared.key_table.TheConstants.{PARTITIONS}
 use Rattle.sa_fabric.specs.Slices.{AgreesWith, AreRight, IsPushed, slices_pushed, where_in}
 use Rattle.sa_fabric.proofs.slices.push_slices.Given as goal
 
--- the slices of the first numbers are pushed
+-- the slices of the first numbers are pushed, and it is kept for each partition who receives in it
 abbrev pub invariant-loop-number : goal.invariant-loop-number
 invariant-loop-number l = record {
+  whole : length l.received.items ≡ PARTITIONS;
   pushed : IsPushed l.fn.routes (slices_pushed l.fn.routes l.fn.registry (take l.number-index l.fn.numbers) l.fn.fabric) l.fabric;
   right : (was now : ℕ → ℕ → Bool) → AgreesWith l.fn.registry now → AreRight was l.fn.received.items
       → AreRight (where_in (take l.number-index l.fn.numbers) now was) l.received.items;
