@@ -1,25 +1,24 @@
 -- What requests for nodes and paths bring.
-use Rattle.std.proofs.Common.{◌≡◌, ℕ, Vec, Global, ◌++◌, List, [], ◌∷◌, filter, map, Option, Some, None, Result, Ok, Err, refl, sym, ◌∙◌, ap}
+use Rattle.std.proofs.Common.{◌≡◌, ℕ, ◌++◌, List, [], ◌∷◌, filter, map, Option, Some, None, Ok, Err, refl, sym, ◌∙◌, ap, inl, inr}
 use Rattle.std.specs.List.{flat_map}
+use Rattle.std.proofs.lemmas.Bool.{cases_Bool}
+use Rattle.sa_store.specs.Kept.{KeptPort, ports_of, node_bytes}
 use Rattle.mad_layout.specs.declared.status.MadStatus.{MadStatus}
 use Rattle.sa_records.specs.declared.node_record.NodeRecord.{NodeRecord}
 use Rattle.sa_records.specs.declared.path_record.PathRecord.{PathRecord}
 use Rattle.sa_records.specs.NodeRecord.{node_record_selected}
-use Rattle.sa_records.specs.SaRecord.{record_bytes}
-use Rattle.sa_records.specs.declared.path_record.TheConstants.{PATH_RECORD_OFFSET}
 use Rattle.subnet_model.specs.declared.subnet_port.SubnetPort.{SubnetPort}
 use Rattle.sa_queries.specs.Outcome.{the_only_one, unless_status}
 use Rattle.sa_queries.specs.Refusals.{refusal}
 use Rattle.sa_queries.specs.Selected.{Query, few_paths, nodes_selected, paths_wanted, selected}
-use Rattle.sa_queries.specs.Shown.{Entry, node_entry, node_record_of, path_entry}
-use Rattle.sa_queries.specs.Visible.{SaState, may_know, visible_nodes}
+use Rattle.sa_queries.specs.Shown.{node_entry, node_record_of, path_entry}
+use Rattle.sa_queries.specs.Visible.{Path, SaState, may_know, visible_nodes}
 use Rattle.sa_replies.specs.Answer.{all_records, get_outcome, one_record, table_outcome}
 use Rattle.sa_answer.specs.Answering.{Brings}
-use Rattle.sa_answer.specs.Asked.{is_told}
-use Rattle.sa_answer.specs.Replying.{node_data, only_one, path_bytes}
-use Rattle.sa_store.specs.Kept.{node_bytes}
-use Rattle.sa_answer.specs.declared.outcome.Success.{Success}
-use Rattle.sa_answer.specs.declared.outcome.Success.TheVariants.{Reply, Table}
+use Rattle.sa_answer.specs.Asked.{is_told, node_told, paths_told}
+use Rattle.sa_answer.specs.Replying.{path_bytes}
+use Rattle.sa_answer.specs.Taken.{bytes_of}
+use Rattle.sa_answer.proofs.TakenLemmas.{bytes_are, flat_told}
 use Rattle.sa_answer.proofs.SelectLemmas.{filter_both}
 
 -- ---- refused
@@ -50,45 +49,32 @@ pub table_taken : (ports : List SubnetPort) (own : SubnetPort) (state : SaState)
     → table_outcome ports own state (Some query) ≡ all_records query (Ok (selected (paths_wanted query) ports own state query))
 table_taken ports own state query none = ap (λ told. all_records query (unless_status told (Ok (selected (paths_wanted query) ports own state query)))) none
 
--- data that are found, as what a request brings
-abbrev pub as_reply : Result (List ℕ) MadStatus → Result Success MadStatus
-as_reply (Ok content) = Ok (Reply content)
-as_reply (Err status) = Err status
-
-one_node : (state : SaState) (nodes : List SubnetPort)
-    → Brings state (one_record state (the_only_one (map node_entry nodes))) (as_reply (only_one node_data nodes))
-one_node state [] = refl
-one_node state (node ∷ []) = (refl, refl)
-one_node state (node ∷ other ∷ nodes) = refl
-
 pub told_nodes : (ports : List SubnetPort) (own : SubnetPort) (mask : ℕ) (asked : NodeRecord)
     → filter (is_told own mask asked) ports ≡ nodes_selected mask asked (visible_nodes ports own)
 told_nodes ports own mask asked = filter_both (λ node. node_record_selected mask (node_record_of node) asked) (may_know own) ports
 
-pub node_brought : (ports : List SubnetPort) (own : SubnetPort) (state : SaState) (mask : ℕ) (asked : NodeRecord) (found : Result (List ℕ) MadStatus)
-    → found ≡ only_one node_data (filter (is_told own mask asked) ports)
-    → Brings state (get_outcome ports own state (Some (Query.for_nodes mask asked))) (as_reply found)
-node_brought ports own state mask asked found is =
-    let told : found ≡ only_one node_data (nodes_selected mask asked (visible_nodes ports own)) = is ∙ ap (only_one node_data) (told_nodes ports own mask asked) in
-    rw told (one_node state (nodes_selected mask asked (visible_nodes ports own)))
+nodes_walked : (own : SubnetPort) (mask : ℕ) (asked : NodeRecord) (kept : List KeptPort)
+    → flat_map (node_told own mask asked) kept ≡ map node_bytes (filter (is_told own mask asked) (ports_of kept))
+nodes_walked own mask asked [] = refl
+nodes_walked own mask asked (one ∷ kept) = elim (cases_Bool (is_told own mask asked one.port)) [
+  | inl does ↦ rw does (ap (λ (rest : List (List ℕ)). node_bytes one.port ∷ rest) (nodes_walked own mask asked kept))
+  | inr differs ↦ rw differs (nodes_walked own mask asked kept)
+]
 
--- ---- tables
-pub bytes_of_shown : {X : Type 0} (entry : X → Entry) (xs : List X) → flat_map (λ one. record_bytes one.shown) (map entry xs) ≡ flat_map (λ x. record_bytes (entry x).shown) xs
-bytes_of_shown entry [] = refl
-bytes_of_shown entry (x ∷ xs) = ap (λ (rest : List ℕ). record_bytes (entry x).shown ++ rest) (bytes_of_shown entry xs)
+pub nodes_shown : (ports : List SubnetPort) (own : SubnetPort) (mask : ℕ) (asked : NodeRecord) (kept : List KeptPort)
+    → filter (is_told own mask asked) (ports_of kept) ≡ filter (is_told own mask asked) ports
+    → flat_map (node_told own mask asked) kept ≡ bytes_of (map node_entry (nodes_selected mask asked (visible_nodes ports own)))
+nodes_shown ports own mask asked kept same =
+    nodes_walked own mask asked kept
+    ∙ (ap (map node_bytes) (same ∙ told_nodes ports own mask asked) ∙ sym (bytes_are node_entry (nodes_selected mask asked (visible_nodes ports own))))
 
-pub nodes_shown : (ports : List SubnetPort) (own : SubnetPort) (mask : ℕ) (asked : NodeRecord)
-    → flat_map node_bytes (filter (is_told own mask asked) ports)
-    ≡ flat_map (λ one. record_bytes one.shown) (map node_entry (nodes_selected mask asked (visible_nodes ports own)))
-nodes_shown ports own mask asked =
-    ap (flat_map node_bytes) (told_nodes ports own mask asked) ∙ sym (bytes_of_shown node_entry (nodes_selected mask asked (visible_nodes ports own)))
+few_of : (few : SubnetPort → List Path) (kept : List KeptPort) → flat_map (λ one. few one.port) kept ≡ flat_map few (ports_of kept)
+few_of few [] = refl
+few_of few (one ∷ kept) = ap (λ (rest : List Path). few one.port ++ rest) (few_of few kept)
 
-pub paths_brought : (ports : List SubnetPort) (own : SubnetPort) (state : SaState) (mask : ℕ) (asked : PathRecord) (bytes : Vec ℕ Global)
-    → refusal own (Query.for_paths mask asked) ≡ None
-    → bytes.items ≡ flat_map path_bytes (flat_map (few_paths (paths_wanted (Query.for_paths mask asked)) mask asked own) ports)
-    → Brings state (table_outcome ports own state (Some (Query.for_paths mask asked))) (Ok (Table PATH_RECORD_OFFSET bytes))
-paths_brought ports own state mask asked bytes none is =
-    rw (table_taken ports own state (Query.for_paths mask asked) none)
-    (refl, is ∙ sym (bytes_of_shown path_entry (flat_map (few_paths (paths_wanted (Query.for_paths mask asked)) mask asked own) ports)))
-
--- ---- and how long they can be
+pub paths_shown : (ports : List SubnetPort) (own : SubnetPort) (most : Option ℕ) (mask : ℕ) (asked : PathRecord) (kept : List KeptPort)
+    → flat_map (few_paths most mask asked own) (ports_of kept) ≡ flat_map (few_paths most mask asked own) ports
+    → flat_map (paths_told most mask asked own) kept ≡ bytes_of (map path_entry (flat_map (few_paths most mask asked own) ports))
+paths_shown ports own most mask asked kept same =
+    flat_told path_bytes (λ (one : KeptPort). few_paths most mask asked own one.port) kept
+    ∙ (ap (map path_bytes) (few_of (few_paths most mask asked own) kept ∙ same) ∙ sym (bytes_are path_entry (flat_map (few_paths most mask asked own) ports)))

@@ -1,9 +1,8 @@
 -- Groups of partitions, as they are gone through: what is passed over does not agree, and what a slot more brings.
-use Rattle.std.proofs.Common.{◌≡◌, ℕ, ◌+◌, ◌^◌, ◌<◌, ◌≤◌, ◌==◌, Bool, true, false, not, ◌&&◌, ◌||◌, bit_and, nat_le, nat_lt, List, [], ◌∷◌, ◌++◌, length, map, take, drop, get_or, Option, Some, None, Result, Ok, Vec, Global, refl, sym, ◌∙◌, ap, inl, inr, arith, append-nil, append_assoc}
+use Rattle.std.proofs.Common.{◌≡◌, ℕ, ◌+◌, ◌^◌, ◌<◌, ◌≤◌, ◌==◌, Bool, true, false, not, ◌&&◌, ◌||◌, bit_and, nat_le, nat_lt, List, [], ◌∷◌, ◌++◌, length, map, drop, get_or, Option, Some, None, refl, sym, ◌∙◌, ap, inl, inr, arith}
 use Rattle.std.specs.List.{flat_map}
 use Rattle.std.proofs.lemmas.Bool.{and_parts, cases_Bool, false≢true, le-leb, lt-ltb, ltb-true, ne_eqb}
-use Rattle.std.proofs.lemmas.List.{length-append, length-take-le, map-append, take-append-drop, take_more}
-use Rattle.std.proofs.lemmas.List.Concat.{flat_map-append}
+use Rattle.std.proofs.lemmas.List.{drop_more, map-append}
 use Rattle.std.proofs.lemmas.List.Elements.{filter-append}
 use Rattle.pkey_rules.specs.PKey.{key_of}
 use Rattle.pkey_rules.specs.KeyTable.{same_base}
@@ -14,20 +13,13 @@ use Rattle.subnet_model.specs.declared.subnet_port.SubnetPort.{SubnetPort}
 use Rattle.sa_groups.specs.Groups.{GroupParameters, PartitionGroups, first_mlid}
 use Rattle.sa_groups.specs.Members.{is_in}
 use Rattle.sa_groups.specs.Sound.{is_in_range}
-use Rattle.mad_layout.specs.declared.status.MadStatus.{MadStatus}
-use Rattle.sa_records.specs.declared.mc_member_record.TheConstants.{MC_MEMBER_RECORD_OFFSET}
-use Rattle.sa_queries.specs.Outcome.{the_only_one}
-use Rattle.sa_queries.specs.Refusals.{refusal}
-use Rattle.sa_queries.specs.Selected.{Query, groups_selected}
+use Rattle.sa_queries.specs.Selected.{groups_selected}
 use Rattle.sa_queries.specs.Shown.{group_entry, group_record_of}
-use Rattle.sa_queries.specs.Visible.{GroupOfBase, SaState, groups_of, visible_groups}
-use Rattle.sa_replies.specs.Answer.{get_outcome, one_record, table_outcome}
+use Rattle.sa_queries.specs.Visible.{GroupOfBase, groups_of, visible_groups}
 use Rattle.sa_replies.specs.State.{is_fit_group}
-use Rattle.sa_answer.specs.Answering.{Brings}
-use Rattle.sa_answer.specs.Groups.{group_bytes, group_data, group_of, groups_agreeing, groups_shown, is_named, is_searched}
-use Rattle.sa_answer.specs.Replying.{only_one}
-use Rattle.sa_answer.specs.declared.outcome.Success.TheVariants.{Table}
-use Rattle.sa_answer.proofs.BroughtLemmas.{as_reply, bytes_of_shown, get_taken, table_taken}
+use Rattle.sa_answer.specs.Taken.{bytes_of}
+use Rattle.sa_answer.proofs.TakenLemmas.{bytes_are, flat_told}
+use Rattle.sa_answer.specs.Groups.{group_bytes, group_of, groups_agreeing, groups_shown, groups_told, is_named, is_searched}
 use Rattle.sa_store.specs.MlidRange.{SlotGroup, groups_in, partition_in, with_mlid}
 use Rattle.sa_store.proofs.SlotLemmas.{groups_joined}
 
@@ -165,50 +157,22 @@ agreeing_joined mask asked base mlid next xs ys is =
     ∙ (ap (groups_selected mask asked) (map-append (group_of base) (groups_in mlid xs) (groups_in next ys))
     ∙ filter-append (agrees mask asked) (map (group_of base) (groups_in mlid xs)) (map (group_of base) (groups_in next ys)))
 
-pub slot_more : (mask : ℕ) (asked : McMemberRecord) (base mlid : ℕ) (slots : List (Option SlotGroup)) (i : ℕ) (slot : Option SlotGroup) → i < length slots
-    → slot ≡ get_or slots i slot
-    → groups_agreeing mask asked base mlid (take (i + 1) slots) ≡ groups_agreeing mask asked base mlid (take i slots) ++ groups_agreeing mask asked base (mlid + i) (slot ∷ [])
-slot_more mask asked base mlid slots i slot within is =
-    let long = length-take-le i slots (omega arith) in
-    ap (groups_agreeing mask asked base mlid) (take_more slots i slot within ∙ ap (λ (one : Option SlotGroup). take i slots ++ one ∷ []) (sym is))
-    ∙ agreeing_joined mask asked base mlid (mlid + i) (take i slots) (slot ∷ []) (omega arith)
-
-pub slot_empty : (mask : ℕ) (asked : McMemberRecord) (base mlid : ℕ) (slots : List (Option SlotGroup)) (i : ℕ) (slot : Option SlotGroup) → i < length slots
-    → slot ≡ get_or slots i slot → groups_agreeing mask asked base (mlid + i) (slot ∷ []) ≡ []
-    → groups_agreeing mask asked base mlid (take (i + 1) slots) ≡ groups_agreeing mask asked base mlid (take i slots)
-slot_empty mask asked base mlid slots i slot within is none =
-    slot_more mask asked base mlid slots i slot within is
-    ∙ (ap (λ some. groups_agreeing mask asked base mlid (take i slots) ++ some) none ∙ append-nil (groups_agreeing mask asked base mlid (take i slots)))
-
--- and so there are as many at least
-pub slots_low : (mask : ℕ) (asked : McMemberRecord) (base mlid : ℕ) (slots : List (Option SlotGroup)) (i : ℕ) → i ≤ length slots
-    → length (groups_agreeing mask asked base mlid (take i slots)) ≤ length (groups_agreeing mask asked base mlid slots)
-slots_low mask asked base mlid slots i within =
-    let long = length-take-le i slots within in
-    let parts = agreeing_joined mask asked base mlid (mlid + i) (take i slots) (drop i slots) (omega arith) in
-    let cut = ap (groups_agreeing mask asked base mlid) (take-append-drop i slots) in
-    let both = length-append (groups_agreeing mask asked base mlid (take i slots)) (groups_agreeing mask asked base (mlid + i) (drop i slots)) in
-    let whole : length (groups_agreeing mask asked base mlid slots) ≡ length (groups_agreeing mask asked base mlid (take i slots) ++ groups_agreeing mask asked base (mlid + i) (drop i slots)) =
-    ap length (sym cut ∙ parts) in
-    omega arith
+-- what is left from a slot on
+pub slot_next : (mask : ℕ) (asked : McMemberRecord) (base mlid : ℕ) (slots : List (Option SlotGroup)) (i : ℕ) (slot : Option SlotGroup) (here : List (List ℕ))
+    → i < length slots → slot ≡ get_or slots i slot → map group_bytes (groups_agreeing mask asked base (mlid + i) (slot ∷ [])) ≡ here
+    → map group_bytes (groups_agreeing mask asked base (mlid + i) (drop i slots))
+    ≡ here ++ map group_bytes (groups_agreeing mask asked base (mlid + (i + 1)) (drop (i + 1) slots))
+slot_next mask asked base mlid slots i slot here within is told =
+    ap (λ some. map group_bytes (groups_agreeing mask asked base (mlid + i) some))
+    (drop_more slots i slot within ∙ ap (λ (one : Option SlotGroup). one ∷ drop (i + 1) slots) (sym is))
+    ∙ (ap (map group_bytes) (agreeing_joined mask asked base (mlid + i) (mlid + (i + 1)) (slot ∷ []) (drop (i + 1) slots) (omega arith))
+    ∙ (map-append group_bytes (groups_agreeing mask asked base (mlid + i) (slot ∷ [])) (groups_agreeing mask asked base (mlid + (i + 1)) (drop (i + 1) slots))
+    ∙ ap (λ (some : List (List ℕ)). some ++ map group_bytes (groups_agreeing mask asked base (mlid + (i + 1)) (drop (i + 1) slots))) told))
 
 -- what shows nothing is nothing
 pub nothing_told : (groups : List GroupOfBase) → [] ≡ map group_bytes groups → groups ≡ []
 nothing_told [] h = refl
 nothing_told (one ∷ groups) h = absurd (cc)
-
--- the bytes of what a slot shows
-pub bytes_more : (first bytes : List ℕ) (before here : List GroupOfBase) (shown : List ℕ) → bytes ≡ first ++ flat_map group_bytes before
-    → shown ∷ [] ≡ map group_bytes here → bytes ++ shown ≡ first ++ flat_map group_bytes (before ++ here)
-bytes_more first bytes before here shown is told =
-    ap (λ (some : List ℕ). some ++ shown) is
-    ∙ (append_assoc first (flat_map group_bytes before) shown
-    ∙ ap (λ (some : List ℕ). first ++ some) (ap (λ (some : List ℕ). flat_map group_bytes before ++ some) (one here told) ∙ sym (flat_map-append group_bytes before here)))
-  where
-    one : (groups : List GroupOfBase) → shown ∷ [] ≡ map group_bytes groups → shown ≡ flat_map group_bytes groups
-    one [] h = absurd (cc)
-    one (group ∷ []) h = let e : shown ≡ group_bytes group = cc in e ∙ sym (append-nil (group_bytes group))
-    one (group ∷ other ∷ groups) h = absurd (cc)
 
 -- ---- what is shown partition by partition is what is visible of all
 pub shown_is : (own : SubnetPort) (mask : ℕ) (asked : McMemberRecord) (partitions : List PartitionGroups)
@@ -224,26 +188,8 @@ shown_is own mask asked (partition ∷ partitions) =
       | inr foreign ↦ rw foreign rest
     ]
 
--- ---- what requests bring
-one_group : (state : SaState) (groups : List GroupOfBase)
-    → Brings state (one_record state (the_only_one (map group_entry groups))) (as_reply (only_one group_data groups))
-one_group state [] = refl
-one_group state (one ∷ []) = (refl, refl)
-one_group state (one ∷ other ∷ groups) = refl
-
-pub group_brought : (ports : List SubnetPort) (own : SubnetPort) (state : SaState) (mask : ℕ) (asked : McMemberRecord) (found : Result (List ℕ) MadStatus)
-    → refusal own (Query.for_groups mask asked) ≡ None
-    → found ≡ only_one group_data (flat_map (groups_shown own mask asked) state.partitions)
-    → Brings state (get_outcome ports own state (Some (Query.for_groups mask asked))) (as_reply found)
-group_brought ports own state mask asked found none is =
-    let told : found ≡ only_one group_data (groups_selected mask asked (visible_groups own state.partitions)) =
-    is ∙ ap (only_one group_data) (shown_is own mask asked state.partitions) in
-    rw (get_taken ports own state (Query.for_groups mask asked) none, told) (one_group state (groups_selected mask asked (visible_groups own state.partitions)))
-
-pub groups_brought : (ports : List SubnetPort) (own : SubnetPort) (state : SaState) (mask : ℕ) (asked : McMemberRecord) (bytes : Vec ℕ Global)
-    → refusal own (Query.for_groups mask asked) ≡ None
-    → bytes.items ≡ flat_map group_bytes (flat_map (groups_shown own mask asked) state.partitions)
-    → Brings state (table_outcome ports own state (Some (Query.for_groups mask asked))) (Ok (Table MC_MEMBER_RECORD_OFFSET bytes))
-groups_brought ports own state mask asked bytes none is =
-    rw (table_taken ports own state (Query.for_groups mask asked) none)
-    (refl, is ∙ ap (flat_map group_bytes) (shown_is own mask asked state.partitions) ∙ sym (bytes_of_shown group_entry (groups_selected mask asked (visible_groups own state.partitions))))
+pub groups_are : (own : SubnetPort) (mask : ℕ) (asked : McMemberRecord) (partitions : List PartitionGroups)
+    → flat_map (groups_told own mask asked) partitions ≡ bytes_of (map group_entry (groups_selected mask asked (visible_groups own partitions)))
+groups_are own mask asked partitions =
+    flat_told group_bytes (groups_shown own mask asked) partitions
+    ∙ (ap (map group_bytes) (shown_is own mask asked partitions) ∙ sym (bytes_are group_entry (groups_selected mask asked (visible_groups own partitions))))

@@ -10,3 +10,4 @@ pub mod PathLemmas
 pub mod RequestLemmas
 pub mod SelectLemmas
 pub mod WantedLemmas
+pub mod TakenLemmas

@@ -1,5 +1,5 @@
 -- What is offered port by port is what is visible of the services of all.
-use Rattle.std.proofs.Common.{◌≡◌, ℕ, ◌==◌, Bool, true, false, ◌&&◌, ◌||◌, List, [], ◌∷◌, ◌++◌, map, Some, Result, refl, sym, ◌∙◌, ap, subst, inl, inr, append-nil}
+use Rattle.std.proofs.Common.{◌≡◌, ℕ, ◌==◌, Bool, true, false, ◌&&◌, ◌||◌, List, [], ◌∷◌, ◌++◌, map, Some, refl, sym, ◌∙◌, ap, subst, inl, inr, append-nil}
 use Rattle.std.specs.List.{AllByRecursion, IsDistinct, flat_map}
 use Rattle.std.proofs.lemmas.Bool.{cases_Bool, eq-eqb}
 use Rattle.std.proofs.lemmas.List.Concat.{flat_map-append}
@@ -16,21 +16,16 @@ use Rattle.sa_services.specs.ServiceSight.{is_shown, ports_share_base, services_
 use Rattle.sa_queries.proofs.SourceLemmas.{all_filtered}
 use Rattle.sa_queries.proofs.ShareLemmas.{of_one_port}
 use Rattle.sa_queries.specs.Gid.{gid_of}
-use Rattle.sa_queries.specs.Outcome.{the_only_one}
-use Rattle.sa_queries.specs.Selected.{Query, asks, services_selected}
+use Rattle.sa_queries.specs.Selected.{asks, services_selected}
 use Rattle.sa_queries.specs.Shown.{service_entry}
-use Rattle.sa_replies.specs.Answer.{get_outcome, one_record}
-use Rattle.sa_records.specs.SaRecord.{record_bytes}
-use Rattle.mad_layout.specs.declared.status.MadStatus.{MadStatus}
-use Rattle.sa_queries.specs.Visible.{SaState, ServiceOfPort, visible_services}
+use Rattle.sa_queries.specs.Visible.{ServiceOfPort, visible_services}
 use Rattle.sa_store.specs.Registry.{IsListed, of_guid, of_port}
 use Rattle.sa_store.proofs.PortServiceLemmas.{place_of}
-use Rattle.sa_answer.specs.Answering.{Brings}
+use Rattle.sa_answer.specs.Taken.{bytes_of}
+use Rattle.sa_answer.proofs.TakenLemmas.{bytes_are, flat_told}
 use Rattle.sa_store.specs.Kept.{KeptPort, ServicesOfBase, ports_of, services_of, services_of_port}
 use Rattle.sa_answer.specs.Asked.{guid_in}
-use Rattle.sa_answer.specs.Offers.{is_offered, offer, offers_of, offers_shown, service_bytes, service_data, services_offered}
-use Rattle.sa_answer.specs.Replying.{only_one}
-use Rattle.sa_answer.proofs.BroughtLemmas.{as_reply, bytes_of_shown}
+use Rattle.sa_answer.specs.Offers.{is_offered, offer, offers_of, offers_shown, service_bytes, services_offered, services_told}
 use Rattle.sa_answer.proofs.FoundLemmas.{agrees}
 use Rattle.sa_answer.proofs.OutLemmas.{gids_differ}
 use Rattle.sa_queries.specs.Visible as visible
@@ -154,19 +149,13 @@ offered_by ports own mask asked guid kept services once own_listed named is port
     ∙ (ap (λ (some : List PortServices). services_selected mask asked (visible_services ports own some)) services_are
     ∙ left_out ports own mask asked guid named is services)
 
--- ---- what requests bring
-one_service : (state : SaState) (services : List ServiceOfPort)
-    → Brings state (one_record state (the_only_one (map service_entry services))) (as_reply (only_one service_data services))
-one_service state [] = refl
-one_service state (one ∷ []) = (refl, refl)
-one_service state (one ∷ other ∷ services) = refl
-
-pub service_brought : (ports : List SubnetPort) (own : SubnetPort) (state : SaState) (mask : ℕ) (asked : ServiceRecord) (offered : List ServiceOfPort)
-    (found : Result (List ℕ) MadStatus) → offered ≡ services_selected mask asked (visible_services ports own state.services)
-    → found ≡ only_one service_data offered
-    → Brings state (get_outcome ports own state (Some (Query.for_services mask asked))) (as_reply found)
-service_brought ports own state mask asked offered found offered_are is =
-    rw (is, offered_are) (one_service state (services_selected mask asked (visible_services ports own state.services)))
-
-pub services_shown : (services : List ServiceOfPort) → flat_map service_bytes services ≡ flat_map (λ one. record_bytes one.shown) (map service_entry services)
-services_shown services = sym (bytes_of_shown service_entry services)
+-- ---- and as it is gone through
+pub services_are : (own : SubnetPort) (mask : ℕ) (asked : ServiceRecord) (others : List KeptPort) (services : List ServiceOfPort)
+    → flat_map (services_offered own mask asked) others ≡ services → flat_map (services_told own mask asked) others ≡ bytes_of (map service_entry services)
+services_are own mask asked others services same =
+    each others
+    ∙ (flat_told service_bytes (services_offered own mask asked) others ∙ (ap (map service_bytes) same ∙ sym (bytes_are service_entry services)))
+  where
+    each : (some : List KeptPort) → flat_map (services_told own mask asked) some ≡ flat_map (λ other. map service_bytes (services_offered own mask asked other)) some
+    each [] = refl
+    each (other ∷ some) = λ i. flat_told service_bytes (offers_shown own mask asked other.port) other.services i ++ each some i

@@ -1,14 +1,15 @@
 -- Which ports a request names, as code looks them up.
-use Rattle.std.specs.Prelude.{ℕ, Bool, ◌==◌, ◌&&◌, ◌/◌, ◌%◌, ◌^◌, if◌then◌else◌, List, Option, Some, None}
-use Rattle.std.specs.List.{flat_map}
+use Rattle.std.specs.Prelude.{ℕ, Bool, ◌==◌, ◌&&◌, ◌/◌, ◌%◌, ◌^◌, if◌then◌else◌, List, [], ◌∷◌, map, Option, Some, None}
+use Rattle.sa_store.specs.Kept.{KeptPort, node_bytes}
+use Rattle.sa_answer.specs.Replying.{path_bytes}
 use Rattle.sa_records.specs.declared.node_record.NodeRecord.{NodeRecord}
 use Rattle.sa_records.specs.declared.path_record.PathRecord.{PathRecord}
 use Rattle.sa_records.specs.NodeRecord.{node_record_selected}
 use Rattle.subnet_model.specs.declared.subnet_port.SubnetPort.{SubnetPort}
 use Rattle.sa_queries.specs.Gid.{gid_prefix}
-use Rattle.sa_queries.specs.Selected.{Query, few_paths, paths_wanted}
+use Rattle.sa_queries.specs.Selected.{few_paths}
 use Rattle.sa_queries.specs.Shown.{node_record_of}
-use Rattle.sa_queries.specs.Visible.{Path, may_know}
+use Rattle.sa_queries.specs.Visible.{may_know}
 
 -- the GUID of the port that may have this GID
 abbrev pub guid_in : ℕ → Option ℕ
@@ -18,6 +19,10 @@ guid_in gid = if gid / 2 ^ 64 == gid_prefix then Some (gid % 2 ^ 64) else None
 abbrev pub is_told : SubnetPort → ℕ → NodeRecord → SubnetPort → Bool
 is_told own mask asked node = node_record_selected mask (node_record_of node) asked && may_know own node
 
--- ---- the paths to these ports that a table has: as many to each as the request wants
-abbrev pub wanted_paths : ℕ → PathRecord → SubnetPort → List SubnetPort → List Path
-wanted_paths mask asked own ports = flat_map (few_paths (paths_wanted (Query.for_paths mask asked)) mask asked own) ports
+-- the bytes of a node that is told
+abbrev pub node_told : SubnetPort → ℕ → NodeRecord → KeptPort → List (List ℕ)
+node_told own mask asked node = if is_told own mask asked node.port then node_bytes node.port ∷ [] else []
+
+-- ---- the bytes of the paths to a port
+abbrev pub paths_told : Option ℕ → ℕ → PathRecord → SubnetPort → KeptPort → List (List ℕ)
+paths_told most mask asked own other = map path_bytes (few_paths most mask asked own other.port)

@@ -4,7 +4,6 @@ use Rattle.pkey_rules.specs.PKey.{key_of}
 use Rattle.pkey_rules.specs.KeyTable.{same_base}
 use Rattle.sa_records.specs.declared.mc_member_record.McMemberRecord.{McMemberRecord}
 use Rattle.sa_records.specs.Component.{on, passes}
-use Rattle.sa_records.specs.McMemberMask as member_mask
 use Rattle.sa_records.specs.McMemberRecord.{mc_member_record_bytes}
 use Rattle.subnet_model.specs.declared.subnet_port.SubnetPort.{SubnetPort}
 use Rattle.sa_groups.specs.Groups.{MulticastGroup, PartitionGroups}
@@ -13,19 +12,20 @@ use Rattle.sa_groups.specs.Sound.{is_in_range}
 use Rattle.sa_queries.specs.Selected.{groups_selected}
 use Rattle.sa_queries.specs.Shown.{group_record_of}
 use Rattle.sa_queries.specs.Visible.{GroupOfBase, groups_of}
-use Rattle.sa_answer.specs.Replying.{padded}
 use Rattle.sa_store.specs.MlidRange.{SlotGroup, groups_in}
+use Rattle.sa_records.specs.McMemberMask as member_mask
 
 -- ---- a group as it is shown
 abbrev pub group_bytes : GroupOfBase → List ℕ
 group_bytes one = mc_member_record_bytes (group_record_of one)
 
-abbrev pub group_data : GroupOfBase → List ℕ
-group_data one = padded (group_bytes one)
-
 -- ---- the groups of a partition that agree with a request, if the port is in it
 abbrev pub groups_shown : SubnetPort → ℕ → McMemberRecord → PartitionGroups → List GroupOfBase
 groups_shown own mask asked partition = if is_in own partition.base then groups_selected mask asked (groups_of partition) else []
+
+-- their bytes
+abbrev pub groups_told : SubnetPort → ℕ → McMemberRecord → PartitionGroups → List (List ℕ)
+groups_told own mask asked partition = map group_bytes (groups_shown own mask asked partition)
 
 -- a group of the partition of this base
 abbrev pub group_of : ℕ → MulticastGroup → GroupOfBase

@@ -5,3 +5,4 @@ pub mod Offers
 pub mod Groups
 pub mod JoinQuestions
 pub mod Wanted
+pub mod Taken

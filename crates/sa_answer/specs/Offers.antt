@@ -10,14 +10,10 @@ use Rattle.sa_queries.specs.Selected.{services_selected}
 use Rattle.sa_queries.specs.Shown.{service_record_of}
 use Rattle.sa_queries.specs.Visible.{ServiceOfPort}
 use Rattle.sa_store.specs.Kept.{KeptPort, ServicesOfBase}
-use Rattle.sa_answer.specs.Replying.{padded}
 
 -- ---- a service as it is shown
 abbrev pub service_bytes : ServiceOfPort → List ℕ
 service_bytes one = service_record_bytes (service_record_of one)
-
-abbrev pub service_data : ServiceOfPort → List ℕ
-service_data one = padded (service_bytes one)
 
 -- ---- a port is shown its own services, and those that another offers in a partition that they share
 abbrev pub is_offered : SubnetPort → SubnetPort → ℕ → Bool
@@ -42,3 +38,7 @@ offers_shown own mask asked other place = if is_offered own other place.base the
 -- those of a port in all of its bases
 abbrev pub services_offered : SubnetPort → ℕ → ServiceRecord → KeptPort → List ServiceOfPort
 services_offered own mask asked other = flat_map (offers_shown own mask asked other.port) other.services
+
+-- their bytes
+abbrev pub services_told : SubnetPort → ℕ → ServiceRecord → KeptPort → List (List ℕ)
+services_told own mask asked other = flat_map (λ place. map service_bytes (offers_shown own mask asked other.port place)) other.services

@@ -1,6 +1,6 @@
 //! The GIDs of ports.
 
-ghost use Rattle.std.specs.Prelude.{◌≡◌, ◌^◌, ◌/◌, ◌%◌, ◌==◌, if◌then◌else◌};
+ghost use Rattle.std.specs.Prelude.{◌≡◌, ◌/◌, ◌%◌, ◌==◌};
 ghost use Rattle.sa_queries.specs.Gid.{gid_of};
 ghost use Rattle.sa_answer.specs.Asked.{guid_in};
 

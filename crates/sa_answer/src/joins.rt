@@ -1,6 +1,6 @@
 //! Why a port may not join a multicast group or leave it, and what a group is made of.
 
-ghost use Rattle.std.specs.Prelude.{◌≡◌, ◌<◌, ◌/◌, ◌%◌, ◌^◌, true, not, ◌||◌, if◌then◌else◌, Some, None, List};
+ghost use Rattle.std.specs.Prelude.{◌≡◌, ◌<◌, ◌/◌, true, not, Some, None, List};
 ghost use Rattle.subnet_model.specs.declared.subnet_port.SubnetPort.{SubnetPort};
 ghost use Rattle.sa_groups.specs.Joining.{may_create};
 ghost use Rattle.sa_queries.specs.Refusals.{first_refusal};

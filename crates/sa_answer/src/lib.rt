@@ -25,6 +25,7 @@ mod reply;
 mod request;
 mod service;
 mod service_requests;
+mod taken;
 mod transfers;
 mod wanted;
 

@@ -1,10 +1,9 @@
 //! Queries by MCMemberRecord, and the record that a join is answered by.
 
-ghost use Rattle.std.specs.Prelude.{◌≡◌, ◌≤◌, ◌<◌, ◌+◌, ◌++◌, ◌∷◌, [], length, map};
-ghost use Rattle.std.specs.Prelude.{ℕ, Some, find, option_to_list, OnOk, IfOk, IfErr};
+ghost use Rattle.std.specs.Prelude.{◌≡◌, ◌<◌, ◌∷◌, [], length, map};
+ghost use Rattle.std.specs.Prelude.{ℕ, Some, find, option_to_list, IfOk};
 ghost use Rattle.std.specs.List.{flat_map};
 ghost use Rattle.mad_layout.specs.Layout.{Fits};
-ghost use Rattle.mad_layout.specs.declared.status.MadStatus.TheVariants.{TooManyRecords};
 ghost use Rattle.sa_records.specs.McMemberRecord.{mc_member_record, mc_member_record_bytes};
 ghost use Rattle.subnet_model.specs.declared.subnet_port.SubnetPort.{SubnetPort as Port};
 ghost use Rattle.sa_queries.specs.Refusals.{refusal};
@@ -15,15 +14,17 @@ ghost use Rattle.sa_groups.specs.Joining.{has_mgid};
 ghost use Rattle.sa_replies.specs.Joins.{group_named, member_bytes, member_record};
 ghost use Rattle.sa_answer.specs.Answering.{Brings};
 ghost use Rattle.sa_store.specs.Members.{place_with_base};
-ghost use Rattle.sa_answer.specs.Groups.{group_bytes, group_data, group_of, groups_agreeing, groups_shown, is_named, is_searched};
-ghost use Rattle.sa_answer.specs.Replying.{only_one, padded};
+ghost use Rattle.sa_answer.specs.Taken.{Walks};
+ghost use Rattle.sa_answer.specs.Groups.{groups_told, group_bytes, group_of, groups_agreeing, is_named, is_searched};
+ghost use Rattle.sa_answer.specs.Replying.{padded};
 ghost use Rattle.sa_store.specs.MlidRange.{with_mlid};
 
 use crate::gid::gid_of;
 use crate::member_mask::{MGID, MLID, MTU, P_KEY, RATE};
-use crate::outcome::{Outcome, Success};
+use crate::outcome::Outcome;
 use crate::path::EXACTLY;
 use crate::questions::{asks, asks_unknown_mtu, asks_unknown_rate, first_refusal, refused_if};
+use crate::taken::{Stopped, Taken, got_by, table_by};
 use mad_layout::{MadStatus, SA_DATA_BYTES};
 use pkey_rules::{base_of, key_of};
 use sa_records::{MC_MEMBER_RECORD_BYTES, MC_MEMBER_RECORD_OFFSET, McMemberRecord};
@@ -39,10 +40,9 @@ pub(crate) fn got(store: &Store, own: &KeptPort, mask: u64, asked: &McMemberReco
     if let Some(status) = group_refusal(mask, asked) {
         return Err(status);
     }
-    match got_group(own.port(), store.partitions(), mask, asked) {
-        Ok(data) => Ok(Success::Reply(data)),
-        Err(status) => Err(status),
-    }
+    let mut taken = Taken::One(None);
+    let walked = walk(own.port(), store.partitions(), mask, asked, &mut taken);
+    got_by(taken, walked)
 }
 
 /// A GetTable by MCMemberRecord.
@@ -58,12 +58,10 @@ pub(crate) fn table(
     if let Some(status) = group_refusal(mask, asked) {
         return Ok(Err(status));
     }
-    let mut bytes = Vec::new(store.alloc());
-    push_groups(&mut bytes, own.port(), store.partitions(), mask, asked)?;
-    Ok(Ok(Success::Table {
-        spacing: MC_MEMBER_RECORD_OFFSET,
-        bytes,
-    }))
+    let mut taken = Taken::All(Vec::new(store.alloc()));
+    let walked = walk(own.port(), store.partitions(), mask, asked, &mut taken);
+    let outcome = table_by(taken, walked, MC_MEMBER_RECORD_OFFSET)?;
+    Ok(outcome)
 }
 
 /// Why a request by MCMemberRecord is refused.
@@ -82,84 +80,31 @@ fn group_refusal(mask: u64, asked: &McMemberRecord) -> Option<MadStatus>
     ])
 }
 
-/// The data of the reply with the one group of these partitions that a port is shown and that agrees with a request; a refusal
-/// where none does, or several do.
-fn got_group(
+/// Takes the groups of these partitions that a port is shown and that agree with a request.
+fn walk(
     own: &SubnetPort,
     partitions: &[MlidRange],
     mask: u64,
     asked: &McMemberRecord,
-) -> Result<[u8; SA_DATA_BYTES], MadStatus>
-    ensures { result ≡ only_one group_data (flat_map (groups_shown own.now mask asked.now) partitions.now) }
+    taken: &mut Taken,
+) -> Result<(), Stopped>
+    ensures { Walks (flat_map (groups_told own.now mask asked.now) partitions.now) taken.old taken.new result }
 {
-    let mut found = None;
     for partition in partitions {
-        find_of_partition(&mut found, own, partition, mask, asked)?;
-    }
-    match found {
-        Some(bytes) => Ok(data_of(&bytes)),
-        None => Err(MadStatus::NoRecords),
-    }
-}
-
-/// Looks for such groups of one partition, beside what was found before; a second one is refused.
-fn find_of_partition(
-    found: &mut Option<[u8; MC_MEMBER_RECORD_BYTES]>,
-    own: &SubnetPort,
-    partition: &MlidRange,
-    mask: u64,
-    asked: &McMemberRecord,
-) -> Result<(), MadStatus>
-    ensures found { OnOk result (option_to_list found.new
-        ≡ option_to_list found.old ++ map group_bytes (groups_shown own.now mask asked.now partition.now)) }
-    ensures more { IfErr result (λ status. (status ≡ TooManyRecords)
-        × (2 ≤ length (option_to_list found.old) + length (groups_shown own.now mask asked.now partition.now))) }
-{
-    let slots = partition.as_slice();
-    if !is_searched(own, partition, mask, asked) {
-        return Ok(());
-    }
-    for (place, slot) in slots.iter().enumerate() {
-        let mlid = partition.mlid_of(place);
-        if is_named(slot, mlid, mask, asked) {
-            if let Some(bytes) = agreeing(slot, partition.base(), mlid, mask, asked) {
-                if found.is_some() {
-                    return Err(MadStatus::TooManyRecords);
-                }
-                *found = Some(bytes);
-            }
-        }
+        walk_partition(own, partition, mask, asked, taken)?;
     }
     Ok(())
 }
 
-/// Adds the records of the groups of these partitions that a port is shown and that agree with a request.
-fn push_groups(
-    bytes: &mut Vec<u8>,
-    own: &SubnetPort,
-    partitions: &[MlidRange],
-    mask: u64,
-    asked: &McMemberRecord,
-) -> Result<(), AllocError>
-    ensures { OnOk result (bytes.new.items
-        ≡ bytes.old.items ++ flat_map group_bytes (flat_map (groups_shown own.now mask asked.now) partitions.now)) }
-{
-    for partition in partitions {
-        push_groups_of_partition(bytes, own, partition, mask, asked)?;
-    }
-    Ok(())
-}
-
-/// Adds those of one partition.
-fn push_groups_of_partition(
-    bytes: &mut Vec<u8>,
+/// Takes those of one partition.
+fn walk_partition(
     own: &SubnetPort,
     partition: &MlidRange,
     mask: u64,
     asked: &McMemberRecord,
-) -> Result<(), AllocError>
-    ensures { OnOk result (bytes.new.items
-        ≡ bytes.old.items ++ flat_map group_bytes (groups_shown own.now mask asked.now partition.now)) }
+    taken: &mut Taken,
+) -> Result<(), Stopped>
+    ensures { Walks (groups_told own.now mask asked.now partition.now) taken.old taken.new result }
 {
     let slots = partition.as_slice();
     if !is_searched(own, partition, mask, asked) {
@@ -169,7 +114,7 @@ fn push_groups_of_partition(
         let mlid = partition.mlid_of(place);
         if is_named(slot, mlid, mask, asked) {
             if let Some(shown) = agreeing(slot, partition.base(), mlid, mask, asked) {
-                bytes.extend_from_slice(&shown)?;
+                taken.take(&shown)?;
             }
         }
     }

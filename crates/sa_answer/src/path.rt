@@ -1,6 +1,6 @@
 //! Queries by PathRecord.
 
-ghost use Rattle.std.specs.Prelude.{ℕ, ◌≡◌, ◌++◌, Option, Some, map, option_to_list, OnOk, IfOk, IfSome};
+ghost use Rattle.std.specs.Prelude.{ℕ, ◌≡◌, Option, Some, map, IfOk};
 ghost use Rattle.std.specs.List.{flat_map};
 ghost use Rattle.mad_layout.specs.Layout.{Fits};
 ghost use Rattle.sa_records.specs.PathRecord.{path_record, path_record_bytes};
@@ -11,15 +11,17 @@ ghost use Rattle.sa_queries.specs.Visible.{Path};
 ghost use Rattle.subnet_model.specs.declared.subnet_port.SubnetPort.{SubnetPort as Port};
 ghost use Rattle.sa_replies.specs.Answer.{get_outcome, table_outcome};
 ghost use Rattle.sa_answer.specs.Answering.{Brings};
-ghost use Rattle.sa_answer.specs.Asked.{wanted_paths};
+ghost use Rattle.sa_answer.specs.Asked.{paths_told};
+ghost use Rattle.sa_answer.specs.Taken.{Walks};
 ghost use Rattle.sa_store.specs.Kept.{ports_of};
-ghost use Rattle.sa_answer.specs.Replying.{only_one, padded, path_bytes, path_data};
+ghost use Rattle.sa_answer.specs.Replying.{path_bytes};
 
 use crate::gid::{gid_of, guid_in};
-use crate::outcome::{Outcome, Success};
+use crate::outcome::Outcome;
 use crate::questions::{asks, asks_unknown_mtu, asks_unknown_rate, first_refusal, refused_if};
+use crate::taken::{Stopped, Taken, got_by, table_by};
 use attr_tables::{Mtu, Rate};
-use mad_layout::{MadStatus, SA_DATA_BYTES};
+use mad_layout::MadStatus;
 use pkey_rules::PKey;
 use sa_records::{PATH_RECORD_BYTES, PATH_RECORD_OFFSET, PathRecord};
 use sa_store::{KeptPort, PACKET_LIFE_TIME, Store};
@@ -53,10 +55,9 @@ pub(crate) fn got(store: &Store, own: &KeptPort, mask: u64, asked: &PathRecord) 
         return Err(status);
     }
     let others = destinations_asked(store, mask, asked);
-    match got_path(own, others, mask, asked) {
-        Ok(data) => Ok(Success::Reply(data)),
-        Err(status) => Err(status),
-    }
+    let mut taken = Taken::One(None);
+    let walked = walk(own, others, mask, asked, Some(1), &mut taken);
+    got_by(taken, walked)
 }
 
 /// A GetTable by PathRecord.
@@ -73,12 +74,11 @@ pub(crate) fn table(
         return Ok(Err(status));
     }
     let others = destinations_asked(store, mask, asked);
-    let mut bytes = Vec::new(store.alloc());
-    push_paths(&mut bytes, own, others, mask, asked)?;
-    Ok(Ok(Success::Table {
-        spacing: PATH_RECORD_OFFSET,
-        bytes,
-    }))
+    let mut taken = Taken::All(Vec::new(store.alloc()));
+    let most = paths_wanted(mask, asked);
+    let walked = walk(own, others, mask, asked, most, &mut taken);
+    let outcome = table_by(taken, walked, PATH_RECORD_OFFSET)?;
+    Ok(outcome)
 }
 
 /// The ports to which a request can name paths: that of the GID or the LID that it asks, or all.
@@ -148,81 +148,33 @@ fn paths_wanted(mask: u64, asked: &PathRecord) -> Option<u8>
     }
 }
 
-/// The data of the reply with the one path to these ports that agrees with a request; of several paths to one port the
-/// first is enough. A refusal where none agrees, or paths to several ports do.
-fn got_path(
+/// Takes the paths to these ports that agree with a request, at most so many to each.
+fn walk(
     own: &KeptPort,
     others: &[KeptPort],
     mask: u64,
     asked: &PathRecord,
-) -> Result<[u8; SA_DATA_BYTES], MadStatus>
-    ensures { result ≡ only_one path_data (flat_map (few_paths (Some 1) mask asked.now own.now.port) (ports_of others.now)) }
+    most: Option<u8>,
+    taken: &mut Taken,
+) -> Result<(), Stopped>
+    ensures { Walks (flat_map (paths_told most mask asked.now own.now.port) others.now) taken.old taken.new result }
 {
-    let mut found = None;
     for other in others {
-        if let Some(path) = first_path(own, other.port(), mask, asked) {
-            if found.is_some() {
-                return Err(MadStatus::TooManyRecords);
-            }
-            found = Some(path);
-        }
-    }
-    match found {
-        Some(path) => Ok(data_of(&path)),
-        None => Err(MadStatus::NoRecords),
-    }
-}
-
-/// The first path to a port that agrees with a request.
-fn first_path(
-    own: &KeptPort,
-    other: &SubnetPort,
-    mask: u64,
-    asked: &PathRecord,
-) -> Option<PathRecord>
-    ensures value { option_to_list result ≡ map path_record_of (few_paths (Some 1) mask asked.now own.now.port other.now) }
-    ensures fits { IfSome result (λ path. Fits (path_record path)) }
-{
-    for key in own.keys() {
-        if other.keys.accepts(*key) {
-            let path = path_record(own.port(), other, *key);
-            if path.selected_by(mask, asked) {
-                return Some(path);
-            }
-        }
-    }
-    None
-}
-
-/// Adds the records of the paths to these ports that agree with a request, at most so many to each.
-fn push_paths(
-    bytes: &mut Vec<u8>,
-    own: &KeptPort,
-    others: &[KeptPort],
-    mask: u64,
-    asked: &PathRecord,
-) -> Result<(), AllocError>
-    ensures { OnOk result (bytes.new.items ≡ bytes.old.items
-        ++ flat_map path_bytes (wanted_paths mask asked.now own.now.port (ports_of others.now))) }
-{
-    let most = paths_wanted(mask, asked);
-    for other in others {
-        push_paths_to(bytes, own, other.port(), mask, asked, most)?;
+        walk_to(own, other.port(), mask, asked, most, taken)?;
     }
     Ok(())
 }
 
-/// Adds those to one port.
-fn push_paths_to(
-    bytes: &mut Vec<u8>,
+/// Takes those to one port.
+fn walk_to(
     own: &KeptPort,
     other: &SubnetPort,
     mask: u64,
     asked: &PathRecord,
     most: Option<u8>,
-) -> Result<(), AllocError>
-    ensures { OnOk result (bytes.new.items
-        ≡ bytes.old.items ++ flat_map path_bytes (few_paths most mask asked.now own.now.port other.now)) }
+    taken: &mut Taken,
+) -> Result<(), Stopped>
+    ensures { Walks (map path_bytes (few_paths most mask asked.now own.now.port other.now)) taken.old taken.new result }
 {
     let mut left = match most {
         Some(most) => most as usize,
@@ -232,7 +184,7 @@ fn push_paths_to(
         if left > 0 && other.keys.accepts(*key) {
             let path = path_record(own.port(), other, *key);
             if path.selected_by(mask, asked) {
-                bytes.extend_from_slice(&bytes_of(&path))?;
+                taken.take(&bytes_of(&path))?;
                 left -= 1;
             }
         }
@@ -289,14 +241,4 @@ fn bytes_of(path: &PathRecord) -> [u8; PATH_RECORD_BYTES]
     let mut bytes = [0; PATH_RECORD_BYTES];
     path.write(&mut bytes);
     bytes
-}
-
-/// The data of a reply with it.
-fn data_of(path: &PathRecord) -> [u8; SA_DATA_BYTES]
-    requires { Fits (path_record path.now) }
-    ensures { result ≡ padded (path_record_bytes path.now) }
-{
-    let mut data = [0; SA_DATA_BYTES];
-    data[..PATH_RECORD_BYTES].copy_from_slice(&bytes_of(path));
-    data
 }

@@ -1,6 +1,6 @@
 //! Why a request is refused: questions that are asked of it in turn.
 
-ghost use Rattle.std.specs.Prelude.{◌≡◌, ◌==◌, not, bit_and};
+ghost use Rattle.std.specs.Prelude.{◌≡◌, ◌==◌};
 ghost use Rattle.sa_queries.specs.Refusals.{asks_unknown_mtu, asks_unknown_rate, first_refusal, is_mtu_code, is_rate_code, refused_if};
 ghost use Rattle.sa_queries.specs.Selected.{asks};
 

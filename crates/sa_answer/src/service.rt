@@ -1,9 +1,8 @@
 //! Queries by ServiceRecord.
 
-ghost use Rattle.std.specs.Prelude.{◌≡◌, ◌≤◌, ◌<◌, ◌+◌, ◌++◌, ◌==◌, if◌then◌else◌, length, map};
-ghost use Rattle.std.specs.Prelude.{Some, None, option_to_list, OnOk, IfOk, IfErr};
+ghost use Rattle.std.specs.Prelude.{◌≡◌, ◌<◌, ◌==◌, if◌then◌else◌, map};
+ghost use Rattle.std.specs.Prelude.{Some, None, IfOk};
 ghost use Rattle.std.specs.List.{flat_map};
-ghost use Rattle.mad_layout.specs.declared.status.MadStatus.TheVariants.{TooManyRecords};
 ghost use Rattle.pkey_rules.specs.KeyTable.{shares_base};
 ghost use Rattle.sa_records.specs.Component.{on, passes};
 ghost use Rattle.sa_records.specs.ServiceMask as service_mask;
@@ -16,13 +15,15 @@ ghost use Rattle.subnet_model.specs.declared.subnet_port.SubnetPort.{SubnetPort}
 ghost use Rattle.sa_queries.specs.Visible.{visible_services};
 ghost use Rattle.sa_answer.specs.Answering.{Brings};
 ghost use Rattle.sa_store.specs.Registry.{IsListed};
-ghost use Rattle.sa_answer.specs.Offers.{is_offered, offer, offers_of, offers_some, service_bytes, service_data, services_offered};
-ghost use Rattle.sa_answer.specs.Replying.{only_one, padded};
+ghost use Rattle.sa_answer.specs.Taken.{Walks};
+ghost use Rattle.sa_answer.specs.Offers.{services_told, is_offered, offer, offers_of, offers_some, service_bytes, services_offered};
+ghost use Rattle.sa_answer.specs.Replying.{padded};
 
 use crate::gid::{gid_of, guid_in};
-use crate::outcome::{Outcome, Success};
+use crate::outcome::Outcome;
 use crate::questions::asks;
-use mad_layout::{MadStatus, SA_DATA_BYTES};
+use crate::taken::{Stopped, Taken, got_by, table_by};
+use mad_layout::SA_DATA_BYTES;
 use pkey_rules::key_of;
 use sa_records::{SERVICE_RECORD_BYTES, SERVICE_RECORD_OFFSET, ServiceRecord};
 use sa_store::{KeptPort, Service, ServicesOfBase, Store};
@@ -40,10 +41,9 @@ pub(crate) fn got(store: &Store, own: &KeptPort, mask: u64, asked: &ServiceRecor
         (get_outcome store.now.configuration.ports own.now.port state (Some (Query.for_services mask asked.now))) result }
 {
     let others = offerers_asked(store, mask, asked);
-    match got_service(own, others, mask, asked) {
-        Ok(data) => Ok(Success::Reply(data)),
-        Err(status) => Err(status),
-    }
+    let mut taken = Taken::One(None);
+    let walked = walk(own, others, mask, asked, &mut taken);
+    got_by(taken, walked)
 }
 
 /// A GetTable by ServiceRecord.
@@ -57,12 +57,10 @@ pub(crate) fn table(
         (Brings state (table_outcome store.now.configuration.ports own.now.port state (Some (Query.for_services mask asked.now)))) }
 {
     let others = offerers_asked(store, mask, asked);
-    let mut bytes = Vec::new(store.alloc());
-    push_services(&mut bytes, own, others, mask, asked)?;
-    Ok(Ok(Success::Table {
-        spacing: SERVICE_RECORD_OFFSET,
-        bytes,
-    }))
+    let mut taken = Taken::All(Vec::new(store.alloc()));
+    let walked = walk(own, others, mask, asked, &mut taken);
+    let outcome = table_by(taken, walked, SERVICE_RECORD_OFFSET)?;
+    Ok(outcome)
 }
 
 /// The ports whose services a request can name: that of the GID that it asks, or all.
@@ -82,125 +80,55 @@ fn offerers_asked<'a>(store: &'a Store, mask: u64, asked: &ServiceRecord) -> &'a
     all
 }
 
-/// The data of the reply with the one service of these ports that a port is shown and that agrees with a request; a refusal
-/// where none does, or several do.
-fn got_service(
+/// Takes the services of these ports that a port is shown and that agree with a request.
+fn walk(
     own: &KeptPort,
     others: &[KeptPort],
     mask: u64,
     asked: &ServiceRecord,
-) -> Result<[u8; SA_DATA_BYTES], MadStatus>
-    ensures { result ≡ only_one service_data (flat_map (services_offered own.now.port mask asked.now) others.now) }
+    taken: &mut Taken,
+) -> Result<(), Stopped>
+    ensures { Walks (flat_map (services_told own.now.port mask asked.now) others.now) taken.old taken.new result }
 {
-    let mut found = None;
     for other in others {
-        find_of_port(&mut found, own, other, mask, asked)?;
+        walk_port(own, other, mask, asked, taken)?;
     }
-    match found {
-        Some(service) => Ok(data_of(&service)),
-        None => Err(MadStatus::NoRecords),
-    }
+    Ok(())
 }
 
-/// Looks for such services of one port, beside what was found before; a second one is refused.
-fn find_of_port(
-    found: &mut Option<ServiceRecord>,
+/// Takes those of one port.
+fn walk_port(
     own: &KeptPort,
     other: &KeptPort,
     mask: u64,
     asked: &ServiceRecord,
-) -> Result<(), MadStatus>
-    ensures found { OnOk result (option_to_list found.new
-        ≡ option_to_list found.old ++ map service_record_of (services_offered own.now.port mask asked.now other.now)) }
-    ensures more { IfErr result (λ status. (status ≡ TooManyRecords)
-        × (2 ≤ length (option_to_list found.old) + length (services_offered own.now.port mask asked.now other.now))) }
+    taken: &mut Taken,
+) -> Result<(), Stopped>
+    ensures { Walks (services_told own.now.port mask asked.now other.now) taken.old taken.new result }
 {
     for place in other.services() {
         if offers_some(own.port(), other.port(), place) {
-            find_of_base(found, other.guid(), place, mask, asked)?;
+            walk_base(other.guid(), place, mask, asked, taken)?;
         }
     }
     Ok(())
 }
 
-/// Looks for those that the port of a GUID has in one base.
-fn find_of_base(
-    found: &mut Option<ServiceRecord>,
+/// Takes those that the port of a GUID has in one base.
+fn walk_base(
     guid: u64,
     place: &ServicesOfBase,
     mask: u64,
     asked: &ServiceRecord,
-) -> Result<(), MadStatus>
+    taken: &mut Taken,
+) -> Result<(), Stopped>
     requires { place.now.base < 0x8000 }
-    ensures found { OnOk result (option_to_list found.new
-        ≡ option_to_list found.old ++ map service_record_of (offers_of mask asked.now guid place.now)) }
-    ensures more { IfErr result (λ status. (status ≡ TooManyRecords)
-        × (2 ≤ length (option_to_list found.old) + length (offers_of mask asked.now guid place.now))) }
+    ensures { Walks (map service_bytes (offers_of mask asked.now guid place.now)) taken.old taken.new result }
 {
     for service in place.as_slice() {
         if is_of_id(service, mask, asked) {
             if let Some(shown) = agreeing(guid, place.base(), service, mask, asked) {
-                if found.is_some() {
-                    return Err(MadStatus::TooManyRecords);
-                }
-                *found = Some(shown);
-            }
-        }
-    }
-    Ok(())
-}
-
-/// Adds the records of the services of these ports that a port is shown and that agree with a request.
-fn push_services(
-    bytes: &mut Vec<u8>,
-    own: &KeptPort,
-    others: &[KeptPort],
-    mask: u64,
-    asked: &ServiceRecord,
-) -> Result<(), AllocError>
-    ensures { OnOk result (bytes.new.items
-        ≡ bytes.old.items ++ flat_map service_bytes (flat_map (services_offered own.now.port mask asked.now) others.now)) }
-{
-    for other in others {
-        push_services_of_port(bytes, own, other, mask, asked)?;
-    }
-    Ok(())
-}
-
-/// Adds those of one port.
-fn push_services_of_port(
-    bytes: &mut Vec<u8>,
-    own: &KeptPort,
-    other: &KeptPort,
-    mask: u64,
-    asked: &ServiceRecord,
-) -> Result<(), AllocError>
-    ensures { OnOk result (bytes.new.items
-        ≡ bytes.old.items ++ flat_map service_bytes (services_offered own.now.port mask asked.now other.now)) }
-{
-    for place in other.services() {
-        if offers_some(own.port(), other.port(), place) {
-            push_services_of_base(bytes, other.guid(), place, mask, asked)?;
-        }
-    }
-    Ok(())
-}
-
-/// Adds those of the port of a GUID in one base.
-fn push_services_of_base(
-    bytes: &mut Vec<u8>,
-    guid: u64,
-    place: &ServicesOfBase,
-    mask: u64,
-    asked: &ServiceRecord,
-) -> Result<(), AllocError>
-    requires { place.now.base < 0x8000 }
-    ensures { OnOk result (bytes.new.items ≡ bytes.old.items ++ flat_map service_bytes (offers_of mask asked.now guid place.now)) }
-{
-    for service in place.as_slice() {
-        if is_of_id(service, mask, asked) {
-            if let Some(shown) = agreeing(guid, place.base(), service, mask, asked) {
-                bytes.extend_from_slice(&bytes_of(&shown))?;
+                taken.take(&bytes_of(&shown))?;
             }
         }
     }

@@ -1,25 +1,25 @@
-use Rattle.std.proofs.Common.{Ok, Err, sym}
-use Rattle.sa_queries.specs.Selected.{Query}
-use Rattle.sa_answer.proofs.BroughtLemmas.{get_refused}
-use Rattle.sa_answer.proofs.GroupLemmas.{group_brought}
+use Rattle.std.proofs.Common.{List, None, map, subst, sym, ℕ}
+use Rattle.sa_queries.specs.Selected.{groups_selected, Query}
+use Rattle.sa_queries.specs.Shown.{group_entry}
+use Rattle.sa_queries.specs.Visible.{visible_groups}
+use Rattle.sa_answer.proofs.GroupLemmas.{groups_are}
+use Rattle.sa_answer.proofs.BroughtLemmas.{get_refused, get_taken}
+use Rattle.sa_answer.specs.Taken.{Walks}
+use Rattle.sa_answer.specs.declared.taken.Taken.TheVariants.{One}
 use Rattle.sa_answer.proofs.mc_member.got.Goals as goal
 
 pub returns-in-Some : goal.returns-in-Some
 returns-in-Some c =
-    let own = c.args.own.now.port in
-    let state = c.args.store.now in
-    get_refused state.configuration.ports own state.administration.remembered (Query.for_groups c.args.mask c.args.asked.now) c.in-Some.status (sym (c.in-Some.ensures own))
+    get_refused c.args.store.now.configuration.ports c.args.own.now.port c.args.store.now.administration.remembered (Query.for_groups c.args.mask c.args.asked.now) c.in-Some.status (sym (c.in-Some.ensures c.args.own.now.port))
 
-pub returns-in-Ok : goal.returns-in-Ok
-returns-in-Ok c =
+pub returns : goal.returns
+returns c =
     let own = c.args.own.now.port in
+    let mask = c.args.mask in
+    let asked = c.args.asked.now in
     let state = c.args.store.now in
-    group_brought state.configuration.ports own state.administration.remembered c.args.mask c.args.asked.now (Ok c.in-Ok.data) (sym (c.in_default.ensures own))
-    (rw (c.port.ensures, c.partitions.ensures) at c.in-Ok.ensures)
-
-pub returns-in-Err : goal.returns-in-Err
-returns-in-Err c =
-    let own = c.args.own.now.port in
-    let state = c.args.store.now in
-    group_brought state.configuration.ports own state.administration.remembered c.args.mask c.args.asked.now (Err c.in-Err.status) (sym (c.in_default.ensures own))
-    (rw (c.port.ensures, c.partitions.ensures) at c.in-Err.ensures)
+    let entries = map group_entry (groups_selected mask asked (visible_groups own state.administration.remembered.partitions)) in
+    let shown = groups_are own mask asked state.administration.remembered.partitions in
+    let walks = subst (λ (shown : List (List ℕ)). Walks shown (One None) c.walk-walked.new.taken c.walk-walked.result) shown (rw (c.port.ensures, c.partitions.ensures) at c.walk-walked.ensures) in
+    rw (get_taken state.configuration.ports own state.administration.remembered (Query.for_groups mask asked) (sym (c.in_default.ensures own)))
+    (c.got_by.ensures state.administration.remembered entries walks)

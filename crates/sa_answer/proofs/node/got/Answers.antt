@@ -1,18 +1,20 @@
-use Rattle.std.proofs.Common.{Ok, Err, ◌∙◌, ap}
-use Rattle.sa_answer.specs.Replying.{node_data, only_one}
-use Rattle.sa_answer.proofs.BroughtLemmas.{node_brought}
+use Rattle.std.proofs.Common.{List, None, map, refl, subst, ℕ}
+use Rattle.sa_queries.specs.Selected.{nodes_selected, Query}
+use Rattle.sa_queries.specs.Shown.{node_entry}
+use Rattle.sa_queries.specs.Visible.{visible_nodes}
+use Rattle.sa_answer.proofs.BroughtLemmas.{get_taken, nodes_shown}
+use Rattle.sa_answer.specs.Taken.{Walks}
+use Rattle.sa_answer.specs.declared.taken.Taken.TheVariants.{One}
 use Rattle.sa_answer.proofs.node.got.Goals as goal
 
-pub returns-in-Ok : goal.returns-in-Ok
-returns-in-Ok c =
+pub returns : goal.returns
+returns c =
     let own = c.args.own.now.port in
-    let found = rw c.port.ensures at c.in-Ok.ensures in
-    node_brought c.args.store.now.configuration.ports own c.args.store.now.administration.remembered c.args.mask c.args.asked.now (Ok c.in-Ok.data)
-    (found ∙ ap (only_one node_data) (c.nodes_asked-nodes.ensures own))
-
-pub returns-in-Err : goal.returns-in-Err
-returns-in-Err c =
-    let own = c.args.own.now.port in
-    let found = rw c.port.ensures at c.in-Err.ensures in
-    node_brought c.args.store.now.configuration.ports own c.args.store.now.administration.remembered c.args.mask c.args.asked.now (Err c.in-Err.status)
-    (found ∙ ap (only_one node_data) (c.nodes_asked-nodes.ensures own))
+    let mask = c.args.mask in
+    let asked = c.args.asked.now in
+    let state = c.args.store.now in
+    let entries = map node_entry (nodes_selected mask asked (visible_nodes state.configuration.ports own)) in
+    let shown = nodes_shown state.configuration.ports own mask asked c.nodes_asked-nodes.result.now (c.nodes_asked-nodes.ensures own) in
+    let walks = subst (λ (shown : List (List ℕ)). Walks shown (One None) c.walk-walked.new.taken c.walk-walked.result) shown (rw c.port.ensures at c.walk-walked.ensures) in
+    rw (get_taken state.configuration.ports own state.administration.remembered (Query.for_nodes mask asked) refl)
+    (c.got_by.ensures state.administration.remembered entries walks)

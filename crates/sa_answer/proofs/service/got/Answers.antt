@@ -1,23 +1,21 @@
-use Rattle.std.proofs.Common.{Ok, Err}
-use Rattle.std.specs.List.{flat_map}
-use Rattle.sa_answer.specs.Offers.{services_offered}
-use Rattle.sa_answer.proofs.OfferLemmas.{service_brought}
+use Rattle.std.proofs.Common.{List, None, map, refl, subst, ℕ}
+use Rattle.sa_queries.specs.Selected.{services_selected, Query}
+use Rattle.sa_queries.specs.Shown.{service_entry}
+use Rattle.sa_queries.specs.Visible.{visible_services}
+use Rattle.sa_answer.proofs.OfferLemmas.{services_are}
+use Rattle.sa_answer.proofs.BroughtLemmas.{get_taken}
+use Rattle.sa_answer.specs.Taken.{Walks}
+use Rattle.sa_answer.specs.declared.taken.Taken.TheVariants.{One}
 use Rattle.sa_answer.proofs.service.got.Goals as goal
 
-pub returns-in-Ok : goal.returns-in-Ok
-returns-in-Ok c = λ listed.
+pub returns : goal.returns
+returns c = λ listed.
     let own = c.args.own.now.port in
     let mask = c.args.mask in
     let asked = c.args.asked.now in
     let state = c.args.store.now in
-    service_brought state.configuration.ports own state.administration.remembered mask asked (flat_map (services_offered own mask asked) c.offerers_asked-others.result.now)
-    (Ok c.in-Ok.data) (c.offerers_asked-others.ensures own listed) c.in-Ok.ensures
-
-pub returns-in-Err : goal.returns-in-Err
-returns-in-Err c = λ listed.
-    let own = c.args.own.now.port in
-    let mask = c.args.mask in
-    let asked = c.args.asked.now in
-    let state = c.args.store.now in
-    service_brought state.configuration.ports own state.administration.remembered mask asked (flat_map (services_offered own mask asked) c.offerers_asked-others.result.now)
-    (Err c.in-Err.status) (c.offerers_asked-others.ensures own listed) c.in-Err.ensures
+    let entries = map service_entry (services_selected mask asked (visible_services state.configuration.ports own state.administration.remembered.services)) in
+    let shown = services_are own mask asked c.offerers_asked-others.result.now (services_selected mask asked (visible_services state.configuration.ports own state.administration.remembered.services)) (c.offerers_asked-others.ensures own listed) in
+    let walks = subst (λ (shown : List (List ℕ)). Walks shown (One None) c.walk-walked.new.taken c.walk-walked.result) shown c.walk-walked.ensures in
+    rw (get_taken state.configuration.ports own state.administration.remembered (Query.for_services mask asked) refl)
+    (c.got_by.ensures state.administration.remembered entries walks)
