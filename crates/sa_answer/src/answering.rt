@@ -1,6 +1,6 @@
 //! What comes of what ports send to subnet administration.
 
-ghost use Rattle.std.specs.Prelude.{◌≡◌, ◌==◌, ◌&&◌, ◌<◌, true, length, Some, None, Result, option_map};
+ghost use Rattle.std.specs.Prelude.{◌≡◌, ◌==◌, ◌&&◌, ◌<◌, true, length, Some, None, Result, Err, option_map};
 ghost use Rattle.std.specs.Prelude.{if◌then◌else◌, IfOk, OnErr, IsErr};
 ghost use Rattle.mad_layout.specs.Bits.{field};
 ghost use Rattle.subnet_model.specs.Delivery.{port_with_guid};
@@ -155,6 +155,20 @@ pub(crate) fn records_answered(
             Ok(Reaction::answered(replies))
         }
     }
+}
+
+/// Refuses a request.
+pub(crate) fn refused(
+    alloc: Global,
+    request: &Request,
+    status: MadStatus,
+) -> Result<Reaction, AllocError>
+    requires { request.now.header.method < 128 }
+    ensures { (own : SubnetPort) (state : RegistryState) → IfOk result (λ reaction.
+        Reacts (answered_with own request.now state.administration (Err status)) reaction state state) }
+{
+    let replies = only(alloc, refusal_reply(request, status))?;
+    Ok(Reaction::answered(replies))
 }
 
 /// Answers a Set or a Delete, by one reply.

@@ -8,14 +8,12 @@ ghost use Rattle.sa_answer.specs.Answering.{Brings, Reacts};
 ghost use Rattle.sa_answer.specs.Wanted.{query_about};
 ghost use Rattle.sa_store.specs.Registry.{IsListed, IsRequester};
 
-use crate::answering::{change_answered, records_answered};
+use crate::answering::{change_answered, records_answered, refused};
 use crate::group_requests::{group_joined, group_left};
 use crate::outcome::Outcome;
 use crate::reaction::Reaction;
-use crate::reply::refusal_reply;
 use crate::request::Request;
 use crate::service_requests::{service_deleted, service_set};
-use crate::transfers::only;
 use crate::wanted::Wanted;
 use crate::{mc_member, node, path, service};
 use sa_records::{McMemberRecord, NodeRecord, PathRecord, SaAttribute, ServiceRecord};
@@ -43,42 +41,31 @@ pub(crate) fn answered(
     match request.wanted() {
         Wanted::Get(attribute) => {
             let outcome = got(store, store.kept_at(requester), attribute, request);
-            let reaction = records_answered(store, requester, request, outcome)?;
-            Ok(reaction)
+            records_answered(store, requester, request, outcome)
         }
         Wanted::GetTable(attribute) => {
             let outcome = table(store, store.kept_at(requester), attribute, request)?;
-            let reaction = records_answered(store, requester, request, outcome)?;
-            Ok(reaction)
+            records_answered(store, requester, request, outcome)
         }
         Wanted::Join => {
-            let asked = McMemberRecord::read(content);
-            let outcome = group_joined(store, requester, mask, &asked)?;
-            let reaction = change_answered(alloc, request, outcome)?;
-            Ok(reaction)
+            let outcome = group_joined(store, requester, mask, &McMemberRecord::read(content))?;
+            change_answered(alloc, request, outcome)
         }
         Wanted::Leave => {
             let asked = McMemberRecord::read(content);
             let outcome = group_left(store, requester, mask, &asked, content);
-            let reaction = change_answered(alloc, request, outcome)?;
-            Ok(reaction)
+            change_answered(alloc, request, outcome)
         }
         Wanted::SetService => {
-            let asked = ServiceRecord::read(content);
-            let outcome = service_set(store, requester, mask, &asked)?;
-            let reaction = change_answered(alloc, request, outcome)?;
-            Ok(reaction)
+            let outcome = service_set(store, requester, mask, &ServiceRecord::read(content))?;
+            change_answered(alloc, request, outcome)
         }
         Wanted::DeleteService => {
             let asked = ServiceRecord::read(content);
             let outcome = service_deleted(store, requester, mask, &asked, content);
-            let reaction = change_answered(alloc, request, outcome)?;
-            Ok(reaction)
+            change_answered(alloc, request, outcome)
         }
-        Wanted::Refused(status) => {
-            let replies = only(alloc, refusal_reply(request, status))?;
-            Ok(Reaction::answered(replies))
-        }
+        Wanted::Refused(status) => refused(alloc, request, status),
     }
 }
 

@@ -1,4 +1,4 @@
-use Rattle.std.proofs.Common.{◌≡◌, ◌∙◌, ℕ, List, Result, Some, ap, subst, sym}
+use Rattle.std.proofs.Common.{IfOk, ◌≡◌, ◌∙◌, ℕ, List, Result, Some, ap, subst, sym}
 use Rattle.mad_layout.specs.declared.status.MadStatus.{MadStatus}
 use Rattle.sa_replies.specs.Success.{Success as Brought}
 use Rattle.sa_answer.specs.Answering.{Brings, Reacts}
@@ -16,7 +16,7 @@ use Rattle.sa_replies.proofs.StateLemmas.{parameters_fit}
 use Rattle.sa_answer.specs.declared.wanted.Wanted.TheVariants.{Get, GetTable, Refused}
 use Rattle.sa_store.specs.Kept.{KeptPort}
 use Rattle.sa_store.specs.Registry.{IsListed, RegistryState}
-use Rattle.sa_answer.proofs.AnswerLemmas.{guid_of_found, refused_answers, told_of}
+use Rattle.sa_answer.proofs.AnswerLemmas.{guid_of_found, told_of}
 use Rattle.sa_answer.proofs.WantedLemmas.{by_wish, of_join, of_leave, of_service_deleted, of_service_set}
 use Rattle.sa_answer.proofs.dispatch.answered.Goals as goal
 
@@ -28,11 +28,12 @@ same_port kept ports guid own here found = cc
 listed_port : (kept : KeptPort) (ports : List SubnetPort) (guid : ℕ) → Some kept.port ≡ port_with_guid ports guid → IsListed ports kept.port
 listed_port kept ports guid here = ap (port_with_guid ports) (guid_of_found ports guid kept.port (sym here)) ∙ sym here
 
-reacts_so : (own : SubnetPort) (request : Request) (ports : List SubnetPort) (old new : RegistryState) (reaction : Reaction) (brought : Result Brought MadStatus)
-    → brought ≡ outcome ports own old.administration.remembered request → Reacts (answered_with own request old.administration brought) reaction old new
-    → Reacts (answered_with own request old.administration (outcome ports own old.administration.remembered request)) reaction old new
-reacts_so own request ports old new reaction brought is reacts =
-    subst (λ (brought : Result Brought MadStatus). Reacts (answered_with own request old.administration brought) reaction old new) is reacts
+reacts_so : {E : Type 0} (own : SubnetPort) (request : Request) (ports : List SubnetPort) (old new : RegistryState) (result : Result Reaction E)
+    (brought : Result Brought MadStatus) → brought ≡ outcome ports own old.administration.remembered request
+    → IfOk result (λ reaction. Reacts (answered_with own request old.administration brought) reaction old new)
+    → IfOk result (λ reaction. Reacts (answered_with own request old.administration (outcome ports own old.administration.remembered request)) reaction old new)
+reacts_so own request ports old new result brought is reacts =
+    subst (λ (brought : Result Brought MadStatus). IfOk result (λ reaction. Reacts (answered_with own request old.administration brought) reaction old new)) is reacts
 
 pub records_answered-requires-clause-told : goal.records_answered-requires-clause-told
 records_answered-requires-clause-told c =
@@ -56,76 +57,76 @@ records_answered-requires-in-GetTable-clause-told c =
 
 pub group_joined-requires-clause-fit : goal.group_joined-requires-clause-fit
 group_joined-requires-clause-fit c =
-    ap (λ (asked : McMemberRecord). is_fit_group (parameters_asked c.request.inside.component_mask asked)) c.read-asked.ensures.value
+    ap (λ (asked : McMemberRecord). is_fit_group (parameters_asked c.request.inside.component_mask asked)) c.read.ensures.value
     ∙ parameters_fit c.request.inside.component_mask c.request.inside.content
 
-pub returns-in_ok-reaction-in-Get-clause-reacts : goal.returns-in_ok-reaction-in-Get-clause-reacts
-returns-in_ok-reaction-in-Get-clause-reacts c = λ own found.
+pub returns-in-Get-clause-reacts : goal.returns-in-Get-clause-reacts
+returns-in-Get-clause-reacts c = λ own found.
     let state = c.args.store.now in
     let ports = state.configuration.ports in
     let same = same_port c.kept_at.result.now ports c.args.requester.guid own c.kept_at.ensures found in
     let brings = rw same at (c.got-outcome.ensures (listed_port c.kept_at.result.now ports c.args.requester.guid c.kept_at.ensures)) in
     let wish = by_wish ports own state.administration.remembered c.args.request.now (Get c.in-Get.attribute) (sym c.in-Get.is ∙ c.wanted.ensures) in
-    reacts_so own c.args.request.now ports state c.records_answered.new.store c.in_ok-reaction-in-Get.reaction _ wish
-    (c.in_ok-reaction-in-Get.ensures.reacts own _ (guid_of_found ports c.args.requester.guid own found) brings)
+    reacts_so own c.args.request.now ports state c.records_answered.new.store c.records_answered.result _ wish
+    (c.records_answered.ensures.reacts own _ (guid_of_found ports c.args.requester.guid own found) brings)
 
-pub returns-in_ok-reaction-in-GetTable-clause-reacts : goal.returns-in_ok-reaction-in-GetTable-clause-reacts
-returns-in_ok-reaction-in-GetTable-clause-reacts c = λ own found.
+pub returns-in_ok-outcome-in-GetTable-clause-reacts : goal.returns-in_ok-outcome-in-GetTable-clause-reacts
+returns-in_ok-outcome-in-GetTable-clause-reacts c = λ own found.
     let state = c.args.store.now in
     let ports = state.configuration.ports in
     let same = same_port c.kept_at-in-GetTable.result.now ports c.args.requester.guid own c.kept_at-in-GetTable.ensures found in
     let brings = rw same at (c.in_ok-outcome-in-GetTable.ensures (listed_port c.kept_at-in-GetTable.result.now ports c.args.requester.guid c.kept_at-in-GetTable.ensures)) in
     let wish = by_wish ports own state.administration.remembered c.args.request.now (GetTable c.in-GetTable.attribute) (sym c.in-GetTable.is ∙ c.wanted.ensures) in
-    reacts_so own c.args.request.now ports state c.records_answered-in-GetTable.new.store c.in_ok-reaction-in-GetTable.reaction _ wish
-    (c.in_ok-reaction-in-GetTable.ensures.reacts own _ (guid_of_found ports c.args.requester.guid own found) brings)
+    reacts_so own c.args.request.now ports state c.records_answered-in-GetTable.new.store c.records_answered-in-GetTable.result _ wish
+    (c.records_answered-in-GetTable.ensures.reacts own _ (guid_of_found ports c.args.requester.guid own found) brings)
 
-pub returns-in_ok-reaction-in-Join-clause-reacts : goal.returns-in_ok-reaction-in-Join-clause-reacts
-returns-in_ok-reaction-in-Join-clause-reacts c = λ own found.
+pub returns-in_ok-outcome-in-Join-clause-reacts : goal.returns-in_ok-outcome-in-Join-clause-reacts
+returns-in_ok-outcome-in-Join-clause-reacts c = λ own found.
+    let state = c.args.store.now in
+    let ports = state.configuration.ports in
+    let mask = ap (λ (request : Request). request.component_mask) c.request.view_is in
+    let content = ap (λ (request : Request). request.content) c.request.view_is in
+    let read = c.read.ensures.value ∙ ap group_in content in
+    let is = of_join ports own state.administration.remembered c.args.request.now c.request.inside.component_mask c.read.result mask read (sym c.in-Join.is ∙ c.wanted.ensures) in
+    reacts_so own c.args.request.now ports state c.group_joined.new.store c.change_answered.result _ is
+    (c.change_answered.ensures own _ state c.group_joined.new.store (c.in_ok-outcome-in-Join.ensures.brings own found))
+
+pub returns-in-Leave-clause-reacts : goal.returns-in-Leave-clause-reacts
+returns-in-Leave-clause-reacts c = λ own found.
     let state = c.args.store.now in
     let ports = state.configuration.ports in
     let mask = ap (λ (request : Request). request.component_mask) c.request.view_is in
     let content = ap (λ (request : Request). request.content) c.request.view_is in
     let read = c.read-asked.ensures.value ∙ ap group_in content in
-    let is = of_join ports own state.administration.remembered c.args.request.now c.request.inside.component_mask c.read-asked.result mask read (sym c.in-Join.is ∙ c.wanted.ensures) in
-    reacts_so own c.args.request.now ports state c.group_joined.new.store c.in_ok-reaction-in-Join.reaction _ is
-    (c.in_ok-reaction-in-Join.ensures own _ state c.group_joined.new.store (c.in_ok-outcome-in-Join.ensures.brings own found))
+    let is = of_leave ports own state.administration.remembered c.args.request.now c.request.inside.component_mask c.read-asked.result c.request.inside.content mask read content (sym c.in-Leave.is ∙ c.wanted.ensures) in
+    reacts_so own c.args.request.now ports state c.group_left-outcome.new.store c.change_answered-in-Leave.result _ is
+    (c.change_answered-in-Leave.ensures own _ state c.group_left-outcome.new.store (c.group_left-outcome.ensures.brings own found))
 
-pub returns-in_ok-reaction-in-Leave-clause-reacts : goal.returns-in_ok-reaction-in-Leave-clause-reacts
-returns-in_ok-reaction-in-Leave-clause-reacts c = λ own found.
+pub returns-in_ok-outcome-in-SetService-clause-reacts : goal.returns-in_ok-outcome-in-SetService-clause-reacts
+returns-in_ok-outcome-in-SetService-clause-reacts c = λ own found.
     let state = c.args.store.now in
     let ports = state.configuration.ports in
     let mask = ap (λ (request : Request). request.component_mask) c.request.view_is in
     let content = ap (λ (request : Request). request.content) c.request.view_is in
-    let read = c.read-asked-in-Leave.ensures.value ∙ ap group_in content in
-    let is = of_leave ports own state.administration.remembered c.args.request.now c.request.inside.component_mask c.read-asked-in-Leave.result c.request.inside.content mask read content (sym c.in-Leave.is ∙ c.wanted.ensures) in
-    reacts_so own c.args.request.now ports state c.group_left-outcome.new.store c.in_ok-reaction-in-Leave.reaction _ is
-    (c.in_ok-reaction-in-Leave.ensures own _ state c.group_left-outcome.new.store (c.group_left-outcome.ensures.brings own found))
+    let read = c.read-in-SetService.ensures.value ∙ ap service_in content in
+    let is = of_service_set ports own state.administration.remembered c.args.request.now c.request.inside.component_mask c.read-in-SetService.result mask read (sym c.in-SetService.is ∙ c.wanted.ensures) in
+    reacts_so own c.args.request.now ports state c.service_set.new.store c.change_answered-in-SetService.result _ is
+    (c.change_answered-in-SetService.ensures own _ state c.service_set.new.store (c.in_ok-outcome-in-SetService.ensures.brings own found))
 
-pub returns-in_ok-reaction-in-SetService-clause-reacts : goal.returns-in_ok-reaction-in-SetService-clause-reacts
-returns-in_ok-reaction-in-SetService-clause-reacts c = λ own found.
-    let state = c.args.store.now in
-    let ports = state.configuration.ports in
-    let mask = ap (λ (request : Request). request.component_mask) c.request.view_is in
-    let content = ap (λ (request : Request). request.content) c.request.view_is in
-    let read = c.read-asked-in-SetService.ensures.value ∙ ap service_in content in
-    let is = of_service_set ports own state.administration.remembered c.args.request.now c.request.inside.component_mask c.read-asked-in-SetService.result mask read (sym c.in-SetService.is ∙ c.wanted.ensures) in
-    reacts_so own c.args.request.now ports state c.service_set.new.store c.in_ok-reaction-in-SetService.reaction _ is
-    (c.in_ok-reaction-in-SetService.ensures own _ state c.service_set.new.store (c.in_ok-outcome-in-SetService.ensures.brings own found))
-
-pub returns-in_ok-reaction-in-DeleteService-clause-reacts : goal.returns-in_ok-reaction-in-DeleteService-clause-reacts
-returns-in_ok-reaction-in-DeleteService-clause-reacts c = λ own found.
+pub returns-in-DeleteService-clause-reacts : goal.returns-in-DeleteService-clause-reacts
+returns-in-DeleteService-clause-reacts c = λ own found.
     let state = c.args.store.now in
     let ports = state.configuration.ports in
     let mask = ap (λ (request : Request). request.component_mask) c.request.view_is in
     let content = ap (λ (request : Request). request.content) c.request.view_is in
     let read = c.read-asked-in-DeleteService.ensures.value ∙ ap service_in content in
     let is = of_service_deleted ports own state.administration.remembered c.args.request.now c.request.inside.component_mask c.read-asked-in-DeleteService.result c.request.inside.content mask read content (sym c.in-DeleteService.is ∙ c.wanted.ensures) in
-    reacts_so own c.args.request.now ports state c.service_deleted-outcome.new.store c.in_ok-reaction-in-DeleteService.reaction _ is
-    (c.in_ok-reaction-in-DeleteService.ensures own _ state c.service_deleted-outcome.new.store (c.service_deleted-outcome.ensures.brings own found))
+    reacts_so own c.args.request.now ports state c.service_deleted-outcome.new.store c.change_answered-in-DeleteService.result _ is
+    (c.change_answered-in-DeleteService.ensures own _ state c.service_deleted-outcome.new.store (c.service_deleted-outcome.ensures.brings own found))
 
-pub returns-in_ok-replies-in-Refused-clause-reacts : goal.returns-in_ok-replies-in-Refused-clause-reacts
-returns-in_ok-replies-in-Refused-clause-reacts c = λ own found.
+pub returns-in-Refused-clause-reacts : goal.returns-in-Refused-clause-reacts
+returns-in-Refused-clause-reacts c = λ own found.
     let state = c.args.store.now in
-    let wish = by_wish state.configuration.ports own state.administration.remembered c.args.request.now (Refused c.in-Refused.status) (sym c.in-Refused.is ∙ c.wanted.ensures) in
-    let replies = rw c.refusal_reply.ensures at c.in_ok-replies-in-Refused.ensures in
-    refused_answers own c.args.request.now state _ _ c.in-Refused.status (sym wish) (ap (λ replies. replies.items) c.answered.ensures.replies ∙ replies) c.answered.ensures.changed
+    let ports = state.configuration.ports in
+    let wish = by_wish ports own state.administration.remembered c.args.request.now (Refused c.in-Refused.status) (sym c.in-Refused.is ∙ c.wanted.ensures) in
+    reacts_so own c.args.request.now ports state state c.refused.result _ wish (c.refused.ensures own state)
