@@ -11,7 +11,6 @@ use Rattle.sa_queries.specs.Refusals.{Question, first_refusal}
 use Rattle.sa_queries.specs.Visible.{SaState}
 use Rattle.sa_replies.specs.Answer.{Answered, answered_with}
 use Rattle.sa_replies.specs.Joins.{leave_asked, leave_outcome, leave_questions}
-use Rattle.sa_replies.specs.Reply.{refusal_reply}
 use Rattle.sa_replies.specs.Request.{Request}
 use Rattle.sa_replies.specs.Success.{Success}
 use Rattle.sa_answer.specs.Answering.{Answers, BringsChange, Reacts}
@@ -39,10 +38,6 @@ pub leave_is_done : (ports : List SubnetPort) (own : SubnetPort) (state : SaStat
 leave_is_done ports own state mask asked content none = rw none refl
 
 -- ---- what comes of a change
-nothing_alone : (old new : RegistryState) → new ≡ old → [] ≡ changed_between old new
-nothing_alone old new same =
-    sym (ap (changed_between old) same ∙ nothing_changes_alone old.configuration.ports old.administration.remembered.partitions)
-
 -- a service is no group
 pub services_alone : (old new : RegistryState) (next : SaState) → new ≡ with_remembered next old → next.partitions ≡ old.administration.remembered.partitions
     → [] ≡ changed_between old new
@@ -51,14 +46,11 @@ services_alone old new next is same =
     ∙ ap (changed_numbers old.configuration.ports old.administration.remembered.partitions) same
     ∙ nothing_changes_alone old.configuration.ports old.administration.remembered.partitions)
 
-pub refused_reacts : (own : SubnetPort) (request : Request) (old new : RegistryState) (brought : Result Success MadStatus) (status : MadStatus) (reaction : Reaction)
-    → BringsChange old brought (Err status) new → reaction.replies.items ≡ refusal_reply request status ∷ [] → reaction.changed.items ≡ []
-    → Reacts (answered_with own request old.administration brought) reaction old new
-refused_reacts own request old new (Ok (Success.whole_table offset bytes)) status reaction h told none = absurd h
-refused_reacts own request old new (Ok (Success.one_reply bytes next)) status reaction h told none = absurd h
-refused_reacts own request old new (Err other) status reaction h told none =
-    let same = h.0 in
-    record { answers = record { mads_are = rw same at told; next = h.1 }; changed = none ∙ nothing_alone old new h.1 }
+pub refused_change : (old new : RegistryState) (brought : Result Success MadStatus) (status : MadStatus) → BringsChange old brought (Err status) new
+    → (brought ≡ Err status) × (new ≡ old)
+refused_change old new (Ok (Success.whole_table offset bytes)) status h = absurd h
+refused_change old new (Ok (Success.one_reply bytes next)) status h = absurd h
+refused_change old new (Err other) status h = (ap (λ (s : MadStatus). Err s) (sym h.0), h.1)
 
 pub change_reacts : (own : SubnetPort) (request : Request) (old new : RegistryState) (brought : Result Success MadStatus) (change : Change) (reaction : Reaction)
     → BringsChange old brought (Ok change) new → reaction.replies.items ≡ reply_with request 0 change.«data» ∷ [] → reaction.changed.items ≡ change.numbers.items

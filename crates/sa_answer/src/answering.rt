@@ -140,10 +140,7 @@ pub(crate) fn records_answered(
 {
     let alloc = store.alloc();
     match outcome {
-        Err(status) => {
-            let replies = only(alloc, refusal_reply(request, status))?;
-            Ok(Reaction::answered(replies))
-        }
+        Err(status) => refused(alloc, request, status),
         Ok(Success::Reply(data)) => {
             let replies = only(alloc, reply(request, &data))?;
             Ok(Reaction::answered(replies))
@@ -183,10 +180,7 @@ pub(crate) fn change_answered(
         Reacts (answered_with own request.now before.administration brought) reaction before after) }
 {
     match outcome {
-        Err(status) => {
-            let replies = only(alloc, refusal_reply(request, status))?;
-            Ok(Reaction::answered(replies))
-        }
+        Err(status) => refused(alloc, request, status),
         Ok(change) => {
             let replies = only(alloc, reply(request, &change.data))?;
             Ok(Reaction {

@@ -1,13 +1,11 @@
-use Rattle.std.proofs.Common.{◌∙◌, ap, refl}
-use Rattle.sa_answer.proofs.MembershipLemmas.{change_reacts, refused_reacts}
+use Rattle.std.proofs.Common.{refl}
+use Rattle.sa_answer.proofs.MembershipLemmas.{change_reacts, refused_change}
 use Rattle.sa_answer.proofs.answering.change_answered.Goals as goal
 
-pub returns-in_ok-replies-in-Err : goal.returns-in_ok-replies-in-Err
-returns-in_ok-replies-in-Err c = λ own brought before after brings.
-    let refused = rw c.in-Err.is at brings in
-    let replies = rw c.refusal_reply.ensures at c.in_ok-replies-in-Err.ensures in
-    refused_reacts own c.args.request.now before after brought c.in-Err.status _ refused (ap (λ replies. replies.items) c.answered.ensures.replies ∙ replies)
-    c.answered.ensures.changed
+pub returns-in-Err : goal.returns-in-Err
+returns-in-Err c = λ own brought before after brings.
+    let refusal = refused_change before after brought c.in-Err.status (rw c.in-Err.is at brings) in
+    rw (refusal.0, refusal.1) (c.refused.ensures own before)
 
 pub returns-in_ok-replies-in-Ok : goal.returns-in_ok-replies-in-Ok
 returns-in_ok-replies-in-Ok c = λ own brought before after brings.
