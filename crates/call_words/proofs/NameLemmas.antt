@@ -9,13 +9,13 @@ use Rattle.clap.proofs.OnLiterals.{clap_on_literals}
 use Rattle.code_texts.specs.Codes.{code_of}
 use Rattle.code_texts.specs.declared.code.Code.{Code}
 use Rattle.call_words.specs.Laws.{FilesAreNamedAsGiven, FilesStandInOrder, IsWordOf, NamesKeepTheirBlanks}
-use Rattle.call_words.specs.Words.{Names, audit_by, asked_by, asked_by_command, asked_of, asked_or, call_in, compare_by, cuts_by, diff_by, explain_by, file_in, graph_with, guid_by, import_by, is_given, in_subnet, inspect_by, opened_for, run_by, scripts_by}
+use Rattle.call_words.specs.Words.{Names, audit_by, asked_by, asked_by_command, asked_of, asked_or, call_in, compare_by, cuts_by, diff_by, explain_by, file_in, graph_with, guid_by, import_by, is_given, in_subnet, inspect_by, opened_for, run_by, scripts_by, smps_by}
 use Rattle.call_words.specs.Words.{subcommand_in, text_for, trace_by, work_names}
 use Rattle.call_words.specs.declared.call.Call.{Call}
 use Rattle.call_words.specs.declared.call.CutView.TheVariants.{All as AllCuts, One, Picture}
 use Rattle.call_words.specs.declared.call.Call.TheVariants.{Explain}
 use Rattle.call_words.specs.declared.call.Work.{Work}
-use Rattle.call_words.specs.declared.call.Work.TheVariants.{Check, Compare, Cuts, Diff, Inspect, Run, Shares}
+use Rattle.call_words.specs.declared.call.Work.TheVariants.{Check, Compare, Cuts, Diff, Inspect, Run, Shares, Smps}
 use Rattle.call_words.specs.declared.call.Inspection.{Inspection}
 use Rattle.call_words.specs.declared.call.Inspection.TheVariants.{Graph, Keys, Tables}
 use Rattle.call_words.specs.declared.call.Subcommand.{Subcommand}
@@ -79,6 +79,21 @@ run_given rows asked e = by (first_of (codes "SCRIPT") rows) refl e
     by (Some word) at is =
         let same : Run word ≡ asked = cc in
         subst (λ (w : Work Text Text). All (IsWordOf rows) (work_names w)) same (All-cons (IsWordOf rows) word [] (codes "SCRIPT", at) (All-nil (IsWordOf rows)))
+
+smps_given : (rows : List Row) → WorkIsGiven rows (smps_by (first_of (codes "SMPS") rows) (first_of (codes "SCRIPT") rows))
+smps_given rows asked e = by (first_of (codes "SMPS") rows) refl (first_of (codes "SCRIPT") rows) refl e
+  where
+    by : (smps : Option Text) → first_of (codes "SMPS") rows ≡ smps → (script : Option Text) → first_of (codes "SCRIPT") rows ≡ script
+        → smps_by smps script ≡ Some asked → All (IsWordOf rows) (work_names asked)
+    by None at script behind is = absurd cc
+    by (Some word) at None behind is =
+        let same : Smps None word ≡ asked = cc in
+        subst (λ (w : Work Text Text). All (IsWordOf rows) (work_names w)) same (All-cons (IsWordOf rows) word [] (codes "SMPS", at) (All-nil (IsWordOf rows)))
+    by (Some word) at (Some script) behind is =
+        let same : Smps (Some script) word ≡ asked = cc in
+        subst (λ (w : Work Text Text). All (IsWordOf rows) (work_names w)) same
+        (All-cons (IsWordOf rows) script (word ∷ []) (codes "SCRIPT", behind)
+        (All-cons (IsWordOf rows) word [] (codes "SMPS", at) (All-nil (IsWordOf rows))))
 
 cuts_given : (rows : List Row) (first second : Option Text) → WorkIsGiven rows (cuts_by first second)
 cuts_given rows None None asked e = without_file rows (Cuts AllCuts) refl asked e
@@ -160,6 +175,7 @@ command_given command.Keys rows = subnet_given rows _ (inspect_given rows (Some 
 command_given command.Trace rows = subnet_given rows _ (inspect_given rows (trace_by rows))
 command_given command.Graph rows = subnet_given rows _ (graph_given rows (is_given rows (codes "CUTS")))
 command_given command.Run rows = subnet_given rows _ (run_given rows)
+command_given command.Smp rows = subnet_given rows _ (smps_given rows)
 command_given command.Compare rows = subnet_given rows _ (compare_given rows)
 command_given command.Cuts rows = subnet_given rows _ (cuts_given rows (first_of (codes "PORT") rows) (first_of (codes "PORT2") rows))
 command_given command.Import rows = import_given rows (guid_by (first_of (codes "SM") rows))
@@ -182,7 +198,7 @@ files_are_given word rows call is = by (subcommand_in word) is
 
 pub blanks_are_kept : NamesKeepTheirBlanks
 unfolding clap_on_literals asked_of
-blanks_are_kept = record { plain = refl; before = refl; behind = refl; script = refl; looked = refl; dashes = refl; traced = refl; compared = refl; import = refl; audit = refl; dash = refl }
+blanks_are_kept = record { plain = refl; before = refl; behind = refl; script = refl; looked = refl; dashes = refl; traced = refl; answered = refl; compared = refl; import = refl; audit = refl; dash = refl }
 
 pub files_stand_in_order : FilesStandInOrder
 unfolding clap_on_literals asked_of
@@ -196,6 +212,7 @@ files_stand_in_order = record {
   graph = refl;
   picture = refl;
   run = refl;
+  smp = refl;
   compare = refl;
   cuts = refl;
   audit = refl;

@@ -46,6 +46,13 @@ graph_command = with_rule (with_rule (subnet_command (codes "graph")) (optional 
 abbrev pub run_command : App
 run_command = with_rule (subnet_command (codes "run")) (wanted (codes "SCRIPT"))
 
+-- `--script SCRIPT`
+abbrev pub script_option : Rule
+script_option = record (new_rule (codes "SCRIPT")) { long = Some (codes "script"); action = Some Set; value_names = 1 }
+
+abbrev pub smp_command : App
+smp_command = with_rule (with_rule (subnet_command (codes "smp")) (wanted (codes "SMPS"))) script_option
+
 abbrev pub compare_command : App
 compare_command =
     let scripts = with_rule (with_rule (subnet_command (codes "compare")) (wanted (codes "S1"))) (wanted (codes "S2")) in
@@ -81,7 +88,8 @@ fabric_command =
     let traces = with_subcommand keys trace_command.top in
     let graphs = with_subcommand traces graph_command.top in
     let runs = with_subcommand graphs run_command.top in
-    let compares = with_subcommand runs compare_command.top in
+    let smps = with_subcommand runs smp_command.top in
+    let compares = with_subcommand smps compare_command.top in
     let cuts = with_subcommand compares cuts_command.top in
     let imports = with_subcommand cuts import_command.top in
     let audits = with_subcommand imports audit_command.top in

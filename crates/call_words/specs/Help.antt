@@ -40,6 +40,9 @@ about_graph = codes "Draws a subnet's fabric, as input for Graphviz"
 abbrev pub about_run : List ℕ
 about_run = codes "Runs a script in a subnet, and prints what its ports receive"
 
+abbrev pub about_smp : List ℕ
+about_smp = codes "Answers SMPs at the SM port of a subnet, one after the other"
+
 abbrev pub about_compare : List ℕ
 about_compare = codes "Checks whether two scripts agree for a port, and whether its events are equal"
 
@@ -80,10 +83,13 @@ abbrev pub help_of_code : List ℕ
 help_of_code = codes "A code as it is printed: `PF2`, or `memory`"
 
 abbrev pub help_of_script : List ℕ
-help_of_script = codes "The script: what ports send and ask, and which cables are cut"
+help_of_script = codes "The script: what ports send and ask, and which cables are cut; `-` for standard input"
 
 abbrev pub help_of_script_before : List ℕ
 help_of_script_before = codes "A script that is run before"
+
+abbrev pub help_of_smps : List ℕ
+help_of_smps = codes "The SMPs, one on a line: `256:HEX`; `-` for standard input"
 
 abbrev pub help_of_first_script : List ℕ
 help_of_first_script = codes "The first script"

@@ -28,6 +28,7 @@ pub record NamesKeepTheirBlanks : Type 0 where
   pub looked : opened_by (codes "keys" ∷ codes "net" ∷ codes "-" ∷ codes "sends " ∷ []) ≡ codes "net" ∷ codes "sends " ∷ []
   pub dashes : opened_by (codes "graph" ∷ codes "net" ∷ codes "-" ∷ codes "-" ∷ []) ≡ codes "net" ∷ codes "-" ∷ []
   pub traced : opened_by (codes "trace" ∷ codes "net" ∷ codes "-" ∷ codes "h1/1" ∷ codes "5" ∷ codes "7" ∷ codes "sends" ∷ []) ≡ codes "net" ∷ codes "sends" ∷ []
+  pub answered : opened_by (codes "smp" ∷ codes "net" ∷ codes "-" ∷ codes " -" ∷ codes "--script" ∷ codes "sends " ∷ []) ≡ codes "net" ∷ codes "sends " ∷ codes " -" ∷ []
   pub compared : opened_by (codes "compare" ∷ codes "net" ∷ codes "-" ∷ codes "one" ∷ codes "two" ∷ codes "h1/1" ∷ []) ≡ codes "net" ∷ codes "one" ∷ codes "two" ∷ []
   pub import : opened_by (codes "import" ∷ codes " net" ∷ codes "--sm" ∷ codes "7" ∷ []) ≡ codes " net" ∷ []
   pub audit : opened_by (codes "audit" ∷ codes "net " ∷ codes "-" ∷ []) ≡ codes "net " ∷ codes "-" ∷ []
@@ -45,6 +46,7 @@ pub record FilesStandInOrder : Type 0 where
   pub graph : opened_by (codes "graph" ∷ codes "net" ∷ codes "parts" ∷ codes "sends" ∷ []) ≡ codes "net" ∷ codes "parts" ∷ codes "sends" ∷ []
   pub picture : opened_by (codes "graph" ∷ codes "net" ∷ codes "parts" ∷ codes "--cuts" ∷ []) ≡ codes "net" ∷ codes "parts" ∷ []
   pub run : opened_by (codes "run" ∷ codes "net" ∷ codes "parts" ∷ codes "sends" ∷ []) ≡ codes "net" ∷ codes "parts" ∷ codes "sends" ∷ []
+  pub smp : opened_by (codes "smp" ∷ codes "net" ∷ codes "parts" ∷ codes "smps" ∷ []) ≡ codes "net" ∷ codes "parts" ∷ codes "smps" ∷ []
   pub compare : opened_by (codes "compare" ∷ codes "net" ∷ codes "parts" ∷ codes "one" ∷ codes "two" ∷ codes "h1/1" ∷ [])
       ≡ codes "net" ∷ codes "parts" ∷ codes "one" ∷ codes "two" ∷ []
   pub cuts : opened_by (codes "cuts" ∷ codes "net" ∷ codes "parts" ∷ codes "h1/1" ∷ codes "h2/1" ∷ []) ≡ codes "net" ∷ codes "parts" ∷ []

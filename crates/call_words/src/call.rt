@@ -25,6 +25,8 @@ pub enum Subcommand {
     Graph,
     /// `run`, which runs a script in it.
     Run,
+    /// `smp`, which answers SMPs at its SM port.
+    Smp,
     /// `compare`, which compares two scripts for a port.
     Compare,
     /// `cuts`, which prints what the loss of cables would do.
@@ -57,6 +59,13 @@ pub enum Work<W, S> {
     Cuts(CutView<W>),
     /// Run a script.
     Run(S),
+    /// Answer SMPs at the SM port.
+    Smps {
+        /// The script that runs before; without one, the state is that after bring-up.
+        script: Option<S>,
+        /// The SMPs.
+        smps: S,
+    },
     /// Compare two scripts for a port.
     Compare {
         /// The first script.

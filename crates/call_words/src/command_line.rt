@@ -4,28 +4,28 @@ ghost use Rattle.std.specs.Prelude.{◌≡◌, false, List, ℕ, Option, None, S
 ghost use Rattle.clap.specs.Words.{app_of, rule_of, subcommand_rows_of};
 ghost use Rattle.clap.specs.declared.builder.command.Command.TheViews.{out-Command as fields_of};
 ghost use Rattle.call_words.specs.CommandLine.{audit_command, check_command, compare_command, diff_command, explain_command, fabric_command, graph_command};
-ghost use Rattle.call_words.specs.CommandLine.{cuts_command, cuts_flag, import_command, keys_command, manager_option, optional, run_command, shares_command};
-ghost use Rattle.call_words.specs.CommandLine.{subnet_command, tables_command, trace_command};
+ghost use Rattle.call_words.specs.CommandLine.{cuts_command, cuts_flag, import_command, keys_command, manager_option, optional, run_command, script_option, shares_command};
+ghost use Rattle.call_words.specs.CommandLine.{smp_command, subnet_command, tables_command, trace_command};
 ghost use Rattle.call_words.specs.CommandLine.{wanted};
 ghost use Rattle.call_words.specs.Help.{about_audit, about_check, about_compare, about_cuts, about_diff, about_explain, about_graph, about_import, about_keys};
-ghost use Rattle.call_words.specs.Help.{about_program, about_run};
+ghost use Rattle.call_words.specs.Help.{about_program, about_run, about_smp};
 ghost use Rattle.call_words.specs.Help.{about_shares, about_tables, about_trace, help_of_code, help_of_dlid, help_of_key};
 ghost use Rattle.call_words.specs.Help.{help_of_compared, help_of_first_script, help_of_partitions, help_of_second_script};
 ghost use Rattle.call_words.specs.Help.{help_of_cuts, help_of_dump, help_of_first_end, help_of_second_end};
-ghost use Rattle.call_words.specs.Help.{help_of_manager, help_of_netdiscover, help_of_port, help_of_script, help_of_script_before};
+ghost use Rattle.call_words.specs.Help.{help_of_manager, help_of_netdiscover, help_of_port, help_of_script, help_of_script_before, help_of_smps};
 ghost use Rattle.call_words.specs.Help.{help_of_second_partitions, help_of_sender, help_of_topology};
 ghost use Rattle.call_words.specs.Help.{program_name, program_version, text_in};
 ghost use Rattle.call_words.specs.Refusals.{IsShown};
 ghost use Rattle.call_words.specs.Words.{asked_in, asked_of};
 ghost use Rattle.call_words.specs.declared.help.TheConstants.{AUDIT, CHANGES, CODES, COMPARISON, CUTS, GRAPH, IMPORT, KEYS, LISTING, REPORT, SHARES, STATUSES, TABLES};
-ghost use Rattle.call_words.specs.declared.help.TheConstants.{TRACE};
+ghost use Rattle.call_words.specs.declared.help.TheConstants.{SMPS, TRACE};
 
 use crate::call::Refused;
 use crate::help::{
     ABOUT, ABOUT_AUDIT, ABOUT_CHECK, ABOUT_COMPARE, ABOUT_CUTS, ABOUT_DIFF, ABOUT_EXPLAIN,
-    ABOUT_GRAPH, ABOUT_IMPORT, ABOUT_KEYS, ABOUT_RUN, ABOUT_SHARES, ABOUT_TABLES, ABOUT_TRACE,
-    AUDIT, CHANGES, CODES, COMPARISON, CUTS, GRAPH, IMPORT, KEYS, LISTING, REPORT, SHARES,
-    STATUSES, TABLES, TRACE,
+    ABOUT_GRAPH, ABOUT_IMPORT, ABOUT_KEYS, ABOUT_RUN, ABOUT_SHARES, ABOUT_SMP, ABOUT_TABLES,
+    ABOUT_TRACE, AUDIT, CHANGES, CODES, COMPARISON, CUTS, GRAPH, IMPORT, KEYS, LISTING, REPORT,
+    SHARES, SMPS, STATUSES, TABLES, TRACE,
 };
 use clap::error::ErrorKind;
 use clap::{Arg, ArgAction, ArgMatches, Command, Error};
@@ -108,8 +108,33 @@ fn wanted_script<'a>(alloc: Global) -> Arg<'a>
     wanted(
         alloc,
         "SCRIPT",
-        "The script: what ports send and ask, and which cables are cut",
+        "The script: what ports send and ask, and which cables are cut; `-` for standard input",
     )
+}
+
+fn wanted_smps<'a>(alloc: Global) -> Arg<'a>
+    ensures global { result.global ≡ false }
+    ensures rule { rule_of result ≡ wanted (codes "SMPS") }
+    ensures help { text_in result.help ≡ Some help_of_smps }
+{
+    wanted(
+        alloc,
+        "SMPS",
+        "The SMPs, one on a line: `256:HEX`; `-` for standard input",
+    )
+}
+
+/// `--script SCRIPT`.
+fn script_option<'a>(alloc: Global) -> Arg<'a>
+    ensures global { result.global ≡ false }
+    ensures rule { rule_of result ≡ script_option }
+    ensures help { text_in result.help ≡ Some help_of_script_before }
+{
+    Arg::new(alloc, "SCRIPT")
+        .long("script")
+        .value_name("SCRIPT")
+        .action(ArgAction::Set)
+        .help("A script that is run before")
 }
 
 fn wanted_first_script<'a>(alloc: Global) -> Arg<'a>
@@ -337,6 +362,18 @@ fn run_command<'a>(alloc: Global) -> Result<Command<'a>, AllocError>
     Ok(command.about(ABOUT_RUN).after_help(REPORT))
 }
 
+/// The command that answers SMPs.
+fn smp_command<'a>(alloc: Global) -> Result<Command<'a>, AllocError>
+    ensures words { IfOk result (λ command. app_of command ≡ smp_command) }
+    ensures about { IfOk result (λ command. text_in (fields_of command).about ≡ Some about_smp) }
+    ensures help { IfOk result (λ command. text_in (fields_of command).after_help ≡ Some SMPS.now) }
+{
+    let command = subnet_command(alloc, "smp")?
+        .arg(wanted_smps(alloc))?
+        .arg(script_option(alloc))?;
+    Ok(command.about(ABOUT_SMP).after_help(SMPS))
+}
+
 /// The command that compares two scripts.
 fn compare_command<'a>(alloc: Global) -> Result<Command<'a>, AllocError>
     ensures words { IfOk result (λ command. app_of command ≡ compare_command) }
@@ -414,6 +451,7 @@ fn fabric_command<'a>(alloc: Global) -> Result<Command<'a>, AllocError>
         .subcommand(trace_command(alloc)?)?
         .subcommand(graph_command(alloc)?)?
         .subcommand(run_command(alloc)?)?
+        .subcommand(smp_command(alloc)?)?
         .subcommand(compare_command(alloc)?)?
         .subcommand(cuts_command(alloc)?)?
         .subcommand(import_command(alloc)?)?

@@ -22,6 +22,8 @@ pub(crate) const ABOUT_GRAPH: &str = "Draws a subnet's fabric, as input for Grap
 
 pub(crate) const ABOUT_RUN: &str = "Runs a script in a subnet, and prints what its ports receive";
 
+pub(crate) const ABOUT_SMP: &str = "Answers SMPs at the SM port of a subnet, one after the other";
+
 pub(crate) const ABOUT_COMPARE: &str =
     "Checks whether two scripts agree for a port, and whether its events are equal";
 
@@ -81,7 +83,7 @@ and the SM the subnet manager.
 
 An error is printed as `fault CODE topology line L`, `fault CODE partitions line L`,
 `fault CODE partitions2 line L`, `fault CODE script line L`, `fault CODE script2 line L`,
-`fault CODE netdiscover line L`, `fault CODE dump line L`, `fault CODE port`, `fault CODE`,
+`fault CODE netdiscover line L`, `fault CODE dump line L`, `fault CODE smps line L`, `fault CODE port`, `fault CODE`,
 `fault UR1 SWITCH PORT`, `fault memory`, `fault read NAME` or `fault write`. An audit of routes that
 are not safe has status 1, and prints no such line."
 );
@@ -239,6 +241,21 @@ For example, after the line `send h1/1 5 0xffff 7 2:beef` of a script:
   h2/1 recv 0x0004 0x0005 0xffff 0x000007 2:beef
 
 HEX leaves out the zero bytes at the end of the N bytes.
+
+",
+    "help",
+    ""
+);
+
+pub(crate) const SMPS: &str = with_statuses!(
+    "Each line of SMPS is an SMP with a directed route, as the SM port sends it:
+  256:HEX    its 256 bytes; HEX may leave out zero bytes at the end
+
+For each there is a line, before the next is read: the reply as it comes to the SM port, or `none`:
+  256:HEX
+  none
+
+Empty lines and comments are passed over. What an SMP sets stays set for those after it.
 
 ",
     "help",

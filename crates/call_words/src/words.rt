@@ -7,7 +7,7 @@ ghost use Rattle.call_words.specs.Words.{asked_in, asked_of, audit_by, call_in, 
 ghost use Rattle.call_words.specs.Words.{import_by, in_subnet};
 ghost use Rattle.text_words.specs.Number.{if_under, number_in};
 ghost use Rattle.call_words.specs.Words.{graph_by, graph_with, inspect_by, is_given, named_call, named_found, named_inspection};
-ghost use Rattle.call_words.specs.Words.{named_work, run_by, subcommand_in, text_for, trace_by, u16_by};
+ghost use Rattle.call_words.specs.Words.{named_work, run_by, smps_by, subcommand_in, text_for, trace_by, u16_by};
 
 use crate::call::{Asked, Call, CutView, Inspection, Refused, Subcommand, Work};
 use crate::command_line::Parser;
@@ -93,6 +93,7 @@ fn subcommand_in(word: &str) -> Option<Subcommand>
         "trace" => Some(Subcommand::Trace),
         "graph" => Some(Subcommand::Graph),
         "run" => Some(Subcommand::Run),
+        "smp" => Some(Subcommand::Smp),
         "compare" => Some(Subcommand::Compare),
         "cuts" => Some(Subcommand::Cuts),
         "import" => Some(Subcommand::Import),
@@ -128,6 +129,10 @@ fn call_of<'a>(command: Subcommand, found: &ArgMatches<'a>) -> Option<Call<Asked
         Subcommand::Trace => in_subnet(found, inspect_by(found, traced(found))),
         Subcommand::Graph => in_subnet(found, graph_by(found)),
         Subcommand::Run => in_subnet(found, run_by(word_of(found, "SCRIPT"))),
+        Subcommand::Smp => {
+            let smps = smps_by(word_of(found, "SMPS"), word_of(found, "SCRIPT"));
+            in_subnet(found, smps)
+        }
         Subcommand::Compare => in_subnet(found, compared(found)),
         Subcommand::Cuts => {
             let ends = cuts_by(word_of(found, "PORT"), word_of(found, "PORT2"));
@@ -188,6 +193,16 @@ fn run_by(script: Option<&str>) -> Option<Work<&str, &str>>
     ensures { option_map named_work result ≡ run_by (option_map (λ word. word.now) script.entry) }
 {
     Some(Work::Run(script?))
+}
+
+/// SMPs, after the commands of a script if one is given.
+fn smps_by<'a>(smps: Option<&'a str>, script: Option<&'a str>) -> Option<Work<&'a str, &'a str>>
+    ensures { option_map named_work result ≡ smps_by (option_map (λ word. word.now) smps.entry) (option_map (λ word. word.now) script.entry) }
+{
+    Some(Work::Smps {
+        script,
+        smps: smps?,
+    })
 }
 
 /// A look at this, after the commands of a script if one is given.

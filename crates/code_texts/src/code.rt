@@ -10,6 +10,7 @@ use crate::fabric_texts::{SW1, SW2, SW3, SW4, TP1, TP2, TP3, UR1};
 use crate::machine_texts::{MEMORY, READ, WRITE};
 use crate::partition_texts::{PF1, PF2, PF3, PF4, PF5, PF6, PF7, PF8, PF9};
 use crate::script_texts::{AR1, AR2, AR3, AR4, SF1, SF2, SF3, SF4, SF5, SF6, SF7};
+use crate::smp_texts::MF1;
 use crate::topology_texts::{TF1, TF2, TF3, TF4, TF5, TF6, TF7, TF8, TF9, TF10, TF11, TF12};
 
 /// A code for the cause of an error, or of a refusal: two letters for the input that has the error and a number, or a
@@ -108,6 +109,8 @@ pub enum Code {
     Ft6,
     /// A LID that an earlier row has for another end port.
     Ft7,
+    /// A line that is no SMP.
+    Mf1,
     /// A discovery request without a reply.
     Sw1,
     /// A wrong discovery reply.
@@ -133,7 +136,7 @@ pub enum Code {
 }
 
 /// All codes, in the order in which they are listed.
-pub const ALL: [Code; 57] = [
+pub const ALL: [Code; 58] = [
     Code::Tf1,
     Code::Tf2,
     Code::Tf3,
@@ -180,6 +183,7 @@ pub const ALL: [Code; 57] = [
     Code::Ft5,
     Code::Ft6,
     Code::Ft7,
+    Code::Mf1,
     Code::Sw1,
     Code::Sw2,
     Code::Sw3,
@@ -245,6 +249,7 @@ impl Code {
             Code::Ft5 => "FT5",
             Code::Ft6 => "FT6",
             Code::Ft7 => "FT7",
+            Code::Mf1 => "MF1",
             Code::Sw1 => "SW1",
             Code::Sw2 => "SW2",
             Code::Sw3 => "SW3",
@@ -320,6 +325,7 @@ impl Code {
             Code::Ft5 => FT5,
             Code::Ft6 => FT6,
             Code::Ft7 => FT7,
+            Code::Mf1 => MF1,
             Code::Sw1 => SW1,
             Code::Sw2 => SW2,
             Code::Sw3 => SW3,

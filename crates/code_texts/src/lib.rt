@@ -13,6 +13,7 @@ mod lines;
 mod machine_texts;
 mod partition_texts;
 mod script_texts;
+mod smp_texts;
 mod topology_texts;
 
 pub use crate::code::Code;

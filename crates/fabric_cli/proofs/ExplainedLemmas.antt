@@ -29,7 +29,7 @@ use Rattle.netdiscover_file.specs.declared.fault.DiscoveryCause.{DiscoveryCause}
 use Rattle.netdiscover_file.specs.declared.fault.DiscoveryCause.TheVariants as discovery
 use Rattle.topology_import.specs.declared.fault.ImportCause.TheVariants as import
 use Rattle.fabric_cli.specs.declared.faults.ForeignCause.{ForeignCause}
-use Rattle.fabric_cli.specs.declared.faults.ForeignCause.TheVariants.{Discovery, Dump, Import}
+use Rattle.fabric_cli.specs.declared.faults.ForeignCause.TheVariants.{Discovery, Dump, Import, Smps}
 use Rattle.fabric_cli.specs.Faults.{foreign_line, partitions_line, port_line, run_line, script_line, second_line, second_script_line, topology_line}
 use Rattle.fabric_cli.specs.declared.faults.Stop.{Stop}
 use Rattle.fabric_cli.specs.declared.faults.Stop.TheVariants.{Words, NoMemory, Unread, Unwritten, Run, Second, Foreign}
@@ -152,6 +152,7 @@ foreign_told (Import import.UnknownManager) number = told_as code.Nd6 _ refl ref
 foreign_told (Import import.Unlike) number = told_as code.Nd7 _ refl refl refl
 foreign_told (Import (import.Refused cause)) number = refused_told cause number
 foreign_told (Dump cause) number = dump_told cause number
+foreign_told Smps number = told_as code.Mf1 _ refl refl refl
 
 pub stops_are_told : (stop : Stop) → NamesCode stop
 stops_are_told (Words text) = tt

@@ -1,6 +1,6 @@
 -- What comes of texts and of their fabric.
-use Rattle.std.proofs.Common.{ℕ, ◌≡◌, false, List, [], Option, Some, None, Result, Ok, Err, Vec, Global, inl, inr, refl, sym, ◌∙◌, ap, subst}
-use Rattle.std.specs.Prelude.{IfErr, IfOk, IsErr}
+use Rattle.std.proofs.Common.{ℕ, ◌≡◌, Bool, false, List, [], Option, Some, None, Result, Ok, Err, Vec, Global, inl, inr, refl, sym, ◌∙◌, ap, subst}
+use Rattle.std.specs.Prelude.{◌⊎◌, IfErr, IfOk, IsErr}
 use Rattle.std.specs.declared.alloc.AllocError.{AllocError}
 use Rattle.result_words.specs.AtLine.{AtLine}
 use Rattle.result_words.specs.Gives.{Fails}
@@ -23,14 +23,16 @@ use Rattle.subnet_fabric.specs.BringUp.{BroughtUpState}
 use Rattle.subnet_model.specs.declared.command.Command.{Command}
 use Rattle.sweep.specs.declared.fault.SweepFault.TheVariants as sweep
 use Rattle.fabric_cli.specs.Faults.{port_line, run_line, run_status, IsOfRun}
-use Rattle.fabric_cli.specs.Serving.{Bytes, Comes, ComesTo, CutComes, CutsAreTold, Ending, Finding, ForEnding, RunStops, Stops, TellsCuts, cut_told, cuts_in, comparison_text, complete, ending_over, faulted, inspected, looked_at, run_in, second_stop, shares_in, changes_in, texts_with}
+use Rattle.fabric_cli.specs.Serving.{Answers, AppendsSome, BreaksOff, Bytes, Comes, ComesTo, CutComes, CutsAreTold, Ending, Finding, ForEnding, RunStops, Stops, TellsCuts, cut_told, cuts_in, comparison_text, complete, ending_over, faulted, looked_at, run_in, seen_after, smps_seen, second_stop, shares_in, changes_in, texts_with}
 use Rattle.call_words.specs.declared.call.Inspection.{Inspection}
 use Rattle.fabric_cli.specs.declared.faults.Stop.{Stop}
 use Rattle.fabric_cli.specs.declared.faults.Stop.TheVariants.{Words, NoMemory, Unread, Unwritten, Run, Second, Foreign}
 use Rattle.call_words.specs.declared.call.CutView.{CutView}
 use Rattle.script_lines.specs.ScriptCause.{code_of as script_code}
 use Rattle.subnet_core.proofs.BringUpLemmas.{same_roster}
+use Rattle.std.specs.Io.KnownBytes.{Keeps}
 use Rattle.call_words.specs.declared.call.Work.{Work}
+use Rattle.fabric_cli.specs.declared.answering.Answer.{Answer}
 use Rattle.call_words.specs.declared.call.Work.TheVariants as work
 
 -- ---- no fault of a text or of its fabric has another status than 1
@@ -210,6 +212,25 @@ module _ (topology : List ℕ) (partitions : Option (List ℕ)) (asked : Work (L
     stops_over (Second line cause) is = for_over _ is
     stops_over (Foreign line cause) is = for_over _ is
 
+    some_over : (out out' : Option (List ℕ)) → AppendsSome over out out' → AppendsSome texts out out'
+    some_over out out' (inl keeps) = inl keeps
+    some_over out out' (inr is) = inr (for_over _ is)
+
+    either_over : (stop : Stop) (out out' : Option (List ℕ)) → (Stops over stop × Keeps out out') ⊎ ForEnding over (λ ending. BreaksOff stop ending out out')
+        → (Stops texts stop × Keeps out out') ⊎ ForEnding texts (λ ending. BreaksOff stop ending out out')
+    either_over stop out out' (inl is) = inl (stops_over stop is.0, is.1)
+    either_over stop out out' (inr is) = inr (for_over _ is)
+
+    pub answers_over : (result : Result Answer Stop) (sure : Bool) (out out' : Option (List ℕ)) → Answers over result sure out out' → Answers texts result sure out out'
+    answers_over (Ok answer) sure out out' is = for_over _ is
+    answers_over (Err NoMemory) sure out out' is = some_over out out' is
+    answers_over (Err (Unread name)) sure out out' is = some_over out out' is
+    answers_over (Err Unwritten) sure out out' is = (is.0, for_over _ is.1)
+    answers_over (Err (Words text)) sure out out' is = either_over (Words text) out out' is
+    answers_over (Err (Run fault)) sure out out' is = either_over (Run fault) out out' is
+    answers_over (Err (Second line cause)) sure out out' is = either_over (Second line cause) out out' is
+    answers_over (Err (Foreign line cause)) sure out out' is = either_over (Foreign line cause) out out' is
+
     pub comes_over : (result : Result (Vec ℕ Global) Stop) → ComesTo (λ text. text.items) over result → ComesTo (λ text. text.items) texts result
     comes_over (Ok text) is = for_over _ is
     comes_over (Err stop) is = stops_over stop is
@@ -218,20 +239,20 @@ module _ (topology : List ℕ) (partitions : Option (List ℕ)) (asked : Work (L
 stop_turns : (found : Result RosterState RunFault) (script : Option (List ℕ)) (stop : Option RunFault) (fault : RunFault) → Becomes found stop
     → left_from found script stop ≡ Err fault
     → (outcome : Result BroughtUpState RunFault) × TurnsAfter found script outcome
-    × ((what : Inspection (List ℕ)) → inspected found what script outcome ≡ faulted (run_status fault) (run_line fault))
+    × ((see : RosterState → BroughtUpState → Ending) → seen_after found see script outcome ≡ faulted (run_status fault) (run_line fault))
 unfolding left_from up_from
 stop_turns (Ok roster) None None fault becomes is = absurd cc
 stop_turns (Ok roster) (Some script) None fault becomes is = by (commands_in roster.plan script) refl
   where
     by : (read : Result (List Command) (AtLine ScriptCause)) → commands_in roster.plan script ≡ read
         → (outcome : Result BroughtUpState RunFault) × TurnsAfter (Ok roster) (Some script) outcome
-        × ((what : Inspection (List ℕ)) → inspected (Ok roster) what (Some script) outcome ≡ faulted (run_status fault) (run_line fault))
+        × ((see : RosterState → BroughtUpState → Ending) → seen_after (Ok roster) see (Some script) outcome ≡ faulted (run_status fault) (run_line fault))
     by (Ok commands) e = let none : Ok commands ≡ Err fault = rw e at is in absurd cc
     by (Err at) e =
         let same : run.Script at.line at.cause ≡ fault = same_err _ _ (rw e at is) in
-        (Ok becomes.0, rw e becomes.1, λ what. rw (e, sym same) refl)
-stop_turns (Ok roster) script (Some other) fault becomes is = (Err fault, rw (same_err other fault is) at becomes, λ what. refl)
-stop_turns (Err other) script stop fault becomes is = (Err fault, tt, λ what. rw (same_err other fault is) refl)
+        (Ok becomes.0, rw e becomes.1, λ see. rw (e, sym same) refl)
+stop_turns (Ok roster) script (Some other) fault becomes is = (Err fault, rw (same_err other fault is) at becomes, λ see. refl)
+stop_turns (Err other) script stop fault becomes is = (Err fault, tt, λ see. rw (same_err other fault is) refl)
 
 -- where the fabric is not brought up, nothing is told of its cables
 cuts_turn : (found : Result RosterState RunFault) (stop : Option RunFault) (fault : RunFault) (view : CutView (List ℕ)) → Becomes found stop
@@ -355,16 +376,16 @@ module _ (topology : List ℕ) (partitions : Option (List ℕ)) where
 
   -- ---- what a fabric holds, after a script, if there is one
   left_turns : (found : Result RosterState RunFault) (script : Option (List ℕ)) (left : SubnetState) → found ≡ Ok left.roster → IsLeftBy script left
-      → TurnsAfter found script (Ok (up_in left)) × ((what : Inspection (List ℕ)) → inspected found what script (Ok (up_in left)) ≡ looked_at left.roster (up_in left) what)
-  left_turns found None left is by = (rw is by.up, λ what. rw is refl)
-  left_turns found (Some script) left is by = (rw (is, by.1) by.2.up, λ what. rw (is, by.1) refl)
+      → TurnsAfter found script (Ok (up_in left)) × ((see : RosterState → BroughtUpState → Ending) → seen_after found see script (Ok (up_in left)) ≡ see left.roster (up_in left))
+  left_turns found None left is by = (rw is by.up, λ see. rw is refl)
+  left_turns found (Some script) left is by = (rw (is, by.1) by.2.up, λ see. rw (is, by.1) refl)
 
   pub is_inspected : (what : Inspection (List ℕ)) (script : Option (List ℕ)) (left : SubnetState) (result : Result (Vec ℕ Global) Stop)
       → given ≡ Ok left.roster → IsLeftBy script left → ComesTo (λ text. text.items) (Err (looked_at left.roster (up_in left) what)) result
       → ComesTo (λ text. text.items) (texts_with topology partitions (work.Inspect what script)) result
   is_inspected what script left result is by comes =
       let turns = left_turns given script left is by in
-      comes_over topology partitions (work.Inspect what script) (Ok (up_in left)) nothing_found turns.0 result (rw (turns.1 what) comes)
+      comes_over topology partitions (work.Inspect what script) (Ok (up_in left)) nothing_found turns.0 result (rw (turns.1 (λ roster up. looked_at roster up what)) comes)
 
   script_at_one : (plan : TopologyState) (script : Option (List ℕ)) (fault : RunFault) → script_read plan script ≡ Err fault → run_status fault ≡ 1
   script_at_one plan None fault is = absurd cc
@@ -379,14 +400,43 @@ module _ (topology : List ℕ) (partitions : Option (List ℕ)) where
       by (Err other) e = let same : other ≡ fault = same_err _ _ (rw e at is) in up_at_one topology partitions stop fault becomes (e ∙ ap Err same)
       by (Ok roster) e = script_at_one roster.plan script fault (rw e at is)
 
+  seen_stops : (task : Work (List ℕ) (List ℕ)) (see : RosterState → BroughtUpState → Ending) (script : Option (List ℕ)) (fault : RunFault)
+      → ((outcome : Result BroughtUpState RunFault) → TurnsAfter given script outcome → Comes topology partitions task outcome nothing_found)
+      → ((outcome : Result BroughtUpState RunFault) → ending_over topology partitions task outcome nothing_found ≡ seen_after given see script outcome)
+      → FailsWith given (fault_in fault) (left_from given script) → RunStops (texts_with topology partitions task) fault
+  seen_stops task see script fault comes over fails =
+      stopped_by (texts_with topology partitions task) fault (λ told.
+      let up : WithFabric given (λ stop. left_from given script stop ≡ Err fault) = rw told at fails in
+      let one : run_status fault ≡ 1 = left_at_one script up.stop fault up.becomes up.is in
+      let turns = stop_turns given script up.stop fault up.becomes up.is in (
+        one,
+        record {
+          outcome = turns.0;
+          finding = nothing_found;
+          comes = comes turns.0 turns.1;
+          is = over turns.0 ∙ turns.2 see ∙ ap (λ (status : ℕ). faulted status (run_line fault)) one;
+        },
+      ))
+
   pub inspection_stops : (what : Inspection (List ℕ)) (script : Option (List ℕ)) (fault : RunFault) → FailsWith given (fault_in fault) (left_from given script)
       → RunStops (texts_with topology partitions (work.Inspect what script)) fault
   inspection_stops what script fault fails =
-      stopped_by (texts_with topology partitions (work.Inspect what script)) fault (λ told.
-      let up : WithFabric given (λ stop. left_from given script stop ≡ Err fault) = rw told at fails in
-      let one : run_status fault ≡ 1 = left_at_one script up.stop fault up.becomes up.is in
-      let turns = stop_turns given script up.stop fault up.becomes up.is in
-      (one, record { outcome = turns.0; finding = nothing_found; comes = turns.1; is = turns.2 what ∙ ap (λ (status : ℕ). faulted status (run_line fault)) one }))
+      seen_stops (work.Inspect what script) (λ roster up. looked_at roster up what) script fault (λ outcome turns. turns) (λ outcome. refl) fails
+
+  -- ---- SMPs, after a script, if there is one
+  pub smps_stop : (script : Option (List ℕ)) (smps : List ℕ) (fault : RunFault) → FailsWith given (fault_in fault) (left_from given script)
+      → RunStops (texts_with topology partitions (work.Smps script smps)) fault
+  smps_stop script smps fault fails =
+      seen_stops (work.Smps script smps) (λ roster up. smps_seen up smps) script fault (λ outcome turns. turns) (λ outcome. refl) fails
+
+  pub smps_over : (script : Option (List ℕ)) (smps : List ℕ) (left : SubnetState) (result : Result Answer Stop) (sure : Bool) (out out' : Option (List ℕ))
+      → given ≡ Ok left.roster → IsLeftBy script left → Answers (Err (smps_seen (up_in left) smps)) result sure out out'
+      → Answers (texts_with topology partitions (work.Smps script smps)) result sure out out'
+  smps_over script smps left result sure out out' is by answers =
+      let turns = left_turns given script left is by in
+      let same = turns.1 (λ roster up. smps_seen up smps) in
+      answers_over topology partitions (work.Smps script smps) (Ok (up_in left)) nothing_found turns.0 result sure out out'
+      (subst (λ (ending : Ending). Answers (Err ending) result sure out out') (sym same) answers)
 
   -- ---- shares and changes, which take no fabric
   pub roster_stops : (fault : RunFault) (ending : Ending) → Fails (fault_in fault) given → (given ≡ Err fault → ending ≡ faulted (run_status fault) (run_line fault))

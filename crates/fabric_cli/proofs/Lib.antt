@@ -1,5 +1,6 @@
 pub mod FilesLemmas
 pub mod ServingLemmas
+pub mod SmpsLemmas
 pub mod JudgedLemmas
 pub mod CutLemmas
 pub mod EndingLemmas

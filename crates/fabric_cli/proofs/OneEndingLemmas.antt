@@ -74,6 +74,7 @@ module _ (topology : List ℕ) (partitions : Option (List ℕ)) where
   ended (work.Inspect what script) free one other a b so too = absurd (false≢true free)
   ended (work.Cuts view) free one other a b so too = absurd (false≢true free)
   ended (work.Run script) free one other a b so too = ap (λ (up : Result RosterState RunFault). run_in up script) (same_up one other so too)
+  ended (work.Smps script smps) free one other a b so too = absurd (false≢true free)
   ended (work.Compare first second port) free one other a b so too =
       let runs = same_runs first second port one other so.0 too.0 in
       let is = so.1 in

@@ -136,7 +136,7 @@ stopped_answers name judged (run.Push fault) sure out stops = inl (stops, kept o
 stopped_answers name judged (run.Port cause) sure out stops = inl (stops, kept out)
 stopped_answers name judged (run.SecondScript line cause) sure out stops = inl (stops, kept out)
 
-what_is_known : (known : Option (List ℕ)) → IfSome known (λ all. unwrap_or known [] ≡ all)
+pub what_is_known : (known : Option (List ℕ)) → IfSome known (λ all. unwrap_or known [] ≡ all)
 what_is_known None = tt
 what_is_known (Some all) = refl
 

@@ -16,12 +16,14 @@ use Rattle.subnet_core.specs.declared.fault.RunFault.{RunFault}
 use Rattle.subnet_core.specs.declared.fault.RunFault.TheVariants as run
 use Rattle.fabric_cli.specs.Files.{Contents, Opened, StopsAt}
 use Rattle.fabric_cli.specs.declared.faults.ForeignCause.{ForeignCause}
-use Rattle.fabric_cli.specs.declared.faults.ForeignCause.TheVariants.{Discovery, Dump, Import}
+use Rattle.fabric_cli.specs.declared.faults.ForeignCause.TheVariants.{Discovery, Dump, Import, Smps}
 use Rattle.fabric_cli.specs.declared.faults.Stop.{Stop}
 use Rattle.fabric_cli.specs.declared.faults.Stop.TheVariants.{Words, NoMemory, Unread, Unwritten, Run, Second, Foreign}
 use Rattle.dump_file.specs.Fault.{code_of as dump_code}
 use Rattle.line_parts.specs.Parts.{hex_text}
 use Rattle.netdiscover_file.specs.Fault.{code_of as discovery_code}
+use Rattle.smp_lines.specs.declared.stop.SmpStop.{SmpStop}
+use Rattle.smp_lines.specs.declared.stop.SmpStop.TheVariants as smp
 use Rattle.topology_import.specs.Fault.{code_of as import_code}
 use Rattle.topology_import.specs.declared.fault.ImportCause.TheVariants.{GuidTaken}
 use Rattle.std.specs.Int.{w64, to_be_bytes}
@@ -65,6 +67,10 @@ netdiscover_line code number = codes "fault " ++ (code ++ (codes " netdiscover l
 abbrev pub dump_line : List ℕ → ℕ → List ℕ
 dump_line code number = codes "fault " ++ (code ++ (codes " dump line " ++ (decimal number ++ codes "\n")))
 
+-- `fault MF1 smps line L`
+abbrev pub smps_line : ℕ → List ℕ
+smps_line number = codes "fault MF1 smps line " ++ (decimal number ++ codes "\n")
+
 -- with the GUID of a port, and the one that its CA would have
 abbrev pub guid_word : ℕ → List ℕ
 guid_word guid = codes " " ++ hex_text (to_be_bytes w64 guid)
@@ -77,6 +83,7 @@ foreign_line (Discovery cause) number = netdiscover_line (discovery_code cause) 
 foreign_line (Import (GuidTaken port guid)) number = guids_line number port guid
 foreign_line (Import cause) number = netdiscover_line (import_code cause) number
 foreign_line (Dump cause) number = dump_line (dump_code cause) number
+foreign_line Smps number = smps_line number
 
 abbrev pub memory_line : List ℕ
 memory_line = codes "fault memory\n"
@@ -143,6 +150,13 @@ run_stop script run.NoMemory = NoMemory
 run_stop script run.Read = Unread script
 run_stop script run.Write = Unwritten
 run_stop script fault = Run fault
+
+-- the end of SMPs of this name whose replies are written
+abbrev pub smps_stop : Bor (List ℕ) → SmpStop → Stop
+smps_stop smps smp.NoMemory = NoMemory
+smps_stop smps smp.Read = Unread smps
+smps_stop smps smp.Write = Unwritten
+smps_stop smps (smp.Line line) = Foreign line Smps
 
 -- reading files ends only in these
 abbrev pub IsOfFiles : Stop → Type 0

@@ -30,6 +30,7 @@ RunsEndAsReports =
 -- a look at a fabric, and at the loss of its cables, depends on its routes
 abbrev pub needs_no_routes : {W S : Type 0} → Work W S → Bool
 needs_no_routes (work.Inspect what script) = false
+needs_no_routes (work.Smps script smps) = false
 needs_no_routes (work.Cuts view) = false
 needs_no_routes _ = true
 

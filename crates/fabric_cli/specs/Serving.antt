@@ -53,7 +53,8 @@ use Rattle.call_words.specs.declared.call.Inspection.TheVariants.{Graph, Keys, T
 use Rattle.call_words.specs.declared.call.Work.{Work}
 use Rattle.call_words.specs.declared.call.Work.TheVariants as work
 use Rattle.fabric_cli.specs.declared.faults.Stop.TheVariants.{Words, NoMemory, Unread, Unwritten, Run, Second, Foreign}
-use Rattle.fabric_cli.specs.declared.faults.ForeignCause.TheVariants.{Discovery, Dump, Import}
+use Rattle.fabric_cli.specs.declared.faults.ForeignCause.TheVariants.{Discovery, Dump, Import, Smps}
+use Rattle.smp_lines.specs.SmpLines.{Answered, answered}
 use Rattle.fabric_cli.specs.declared.answering.Answer.{Answer}
 use Rattle.fabric_cli.specs.declared.answering.Answer.TheVariants.{Complete, Warned}
 use Rattle.dump_file.specs.Dump.{DumpState, dump_of}
@@ -102,6 +103,7 @@ task_work script (task.Diff second) = work.Diff (option_map (λ bytes. bytes.ite
 task_work script (task.Inspect what before) = work.Inspect (named_inspection what) (option_map (λ bytes. bytes.items) before)
 task_work script (task.Cuts view) = work.Cuts (named_view view)
 task_work script (task.Run name input) = work.Run script
+task_work script (task.Smps before name input) = work.Smps (option_map (λ bytes. bytes.items) before) script
 task_work script (task.Compare first second port) = work.Compare first.items second.items port.now
 
 abbrev pub texts_in : {I : Type 0} → List ℕ → Texts I → Bytes
@@ -114,6 +116,7 @@ texts_in script texts = record {
 -- the bytes of the open script, if they are known, or none if no script is open
 abbrev pub left_in : {I : Type 0} → (I → Option (List ℕ)) → Task I → Option (List ℕ)
 left_in remaining (task.Run name input) = remaining input
+left_in remaining (task.Smps before name input) = remaining input
 left_in remaining _ = Some []
 
 -- these bytes, if they are known
@@ -123,6 +126,7 @@ script_in remaining open_task = unwrap_or (left_in remaining open_task) []
 -- the script of this name is open, and reading it stops only if a read of it may fail, or at bytes without an end
 abbrev pub IsOpenScript : {I : Type 0} → (I → Option (List ℕ)) → (I → Bool) → Task I → List ℕ → Type 0
 IsOpenScript remaining is_sure (task.Run name input) word = (word ≡ name.now) × (is_sure input ≡ true → IsEndless (remaining input))
+IsOpenScript remaining is_sure (task.Smps before name input) word = (word ≡ name.now) × (is_sure input ≡ true → IsEndless (remaining input))
 IsOpenScript remaining is_sure _ word = ⊥
 
 -- these contents, to be checked
@@ -148,6 +152,10 @@ work_of file (work.Diff name) = bytes_if_named file name >>= λ bytes. Ok (work.
 work_of file (work.Inspect what script) = bytes_if_named file script >>= λ bytes. Ok (work.Inspect what bytes)
 work_of file (work.Cuts view) = Ok (work.Cuts view)
 work_of file (work.Run name) = bytes_of file name >>= λ bytes. Ok (work.Run bytes)
+work_of file (work.Smps script name) = do
+  before ← bytes_if_named file script
+  bytes ← bytes_of file name
+  Ok (work.Smps before bytes)
 work_of file (work.Compare first second port) = do
   bytes ← bytes_of file first
   others ← bytes_of file second
@@ -233,22 +241,33 @@ looked_at roster up Keys = complete (keys_text roster.plan.nodes roster.configur
 looked_at roster up (Trace port dlid p_key) = traced roster up dlid p_key (adapter_place roster.plan port)
 looked_at roster up Graph = complete (graph_text roster.plan roster.configuration up.routes up.fabric [])
 
--- what a script left of it, or the script's error
-abbrev pub looked_after : RosterState → BroughtUpState → Inspection (List ℕ) → Result (List Command) (AtLine ScriptCause) → Ending
-looked_after roster up what (Ok commands) = looked_at roster up what
-looked_after roster up what (Err at) = faulted 1 (script_line (script_code at.cause) at.line)
+-- ---- SMPs that its fabric answers, one after the other: all of them, or those before the first faulty line
+abbrev pub smps_told : List ℕ → Option ℕ → Ending
+smps_told output None = complete output
+smps_told output (Some line) = broken_off (foreign_line Smps line) output
 
-abbrev pub looked_by : RosterState → BroughtUpState → Inspection (List ℕ) → Option (List ℕ) → Ending
-looked_by roster up what None = looked_at roster up what
-looked_by roster up what (Some script) = looked_after roster up what (commands_in roster.plan script)
+abbrev pub smps_by : Answered → Ending
+smps_by all = smps_told all.output all.faulty
 
-abbrev pub looked_in : RosterState → Inspection (List ℕ) → Option (List ℕ) → Result BroughtUpState RunFault → Ending
-looked_in roster what script (Ok up) = looked_by roster up what script
-looked_in roster what script (Err fault) = faulted (run_status fault) (run_line fault)
+abbrev pub smps_seen : BroughtUpState → List ℕ → Ending
+smps_seen up smps = smps_by (answered 1 up.fabric (lines smps))
 
-abbrev pub inspected : Result RosterState RunFault → Inspection (List ℕ) → Option (List ℕ) → Result BroughtUpState RunFault → Ending
-inspected (Ok roster) what script outcome = looked_in roster what script outcome
-inspected (Err fault) what script outcome = faulted (run_status fault) (run_line fault)
+-- ---- what is seen of a fabric that is up, or after a script, or the script's error
+abbrev pub seen_if_read : RosterState → BroughtUpState → (RosterState → BroughtUpState → Ending) → Result (List Command) (AtLine ScriptCause) → Ending
+seen_if_read roster up see (Ok commands) = see roster up
+seen_if_read roster up see (Err at) = faulted 1 (script_line (script_code at.cause) at.line)
+
+abbrev pub seen_by : RosterState → BroughtUpState → (RosterState → BroughtUpState → Ending) → Option (List ℕ) → Ending
+seen_by roster up see None = see roster up
+seen_by roster up see (Some script) = seen_if_read roster up see (commands_in roster.plan script)
+
+abbrev pub seen_in : RosterState → (RosterState → BroughtUpState → Ending) → Option (List ℕ) → Result BroughtUpState RunFault → Ending
+seen_in roster see script (Ok up) = seen_by roster up see script
+seen_in roster see script (Err fault) = faulted (run_status fault) (run_line fault)
+
+abbrev pub seen_after : Result RosterState RunFault → (RosterState → BroughtUpState → Ending) → Option (List ℕ) → Result BroughtUpState RunFault → Ending
+seen_after (Ok roster) see script outcome = seen_in roster see script outcome
+seen_after (Err fault) see script outcome = faulted (run_status fault) (run_line fault)
 
 -- ---- a topology from the output of another program, without a subnet
 abbrev pub imported_as : Result (List ℕ) (AtLine ImportCause) → Ending
@@ -324,11 +343,13 @@ ending_over topology partitions (work.Shares port) outcome finding = shares_in (
 ending_over topology partitions (work.Diff second) outcome finding =
     changes_in (roster_of topology partitions) (roster_of topology second)
 ending_over topology partitions (work.Inspect what script) outcome finding =
-    inspected (roster_of topology partitions) what script outcome
+    seen_after (roster_of topology partitions) (λ roster up. looked_at roster up what) script outcome
 ending_over topology partitions (work.Cuts view) outcome finding =
     cuts_in (up_from (roster_of topology partitions) (stop_of outcome)) view finding.cuts
 ending_over topology partitions (work.Run script) outcome finding =
     run_in (up_from (roster_of topology partitions) (stop_of outcome)) script
+ending_over topology partitions (work.Smps script smps) outcome finding =
+    seen_after (roster_of topology partitions) (λ roster up. smps_seen up smps) script outcome
 ending_over topology partitions (work.Compare first second port) outcome finding =
     ending_by (compared (two_runs_of topology partitions first second port (stop_of outcome)) finding.comparison)
 
@@ -341,6 +362,7 @@ Comes topology partitions (work.Inspect what script) outcome finding = TurnsAfte
 Comes topology partitions (work.Cuts view) outcome finding =
     Turns (roster_of topology partitions) outcome × CutsAreTold (roster_of topology partitions) outcome view finding.cuts
 Comes topology partitions (work.Run script) outcome finding = Turns (roster_of topology partitions) outcome
+Comes topology partitions (work.Smps script smps) outcome finding = TurnsAfter (roster_of topology partitions) script outcome
 Comes topology partitions (work.Compare first second port) outcome finding =
     Turns (roster_of topology partitions) outcome
     × IfOk (two_runs_of topology partitions first second port (stop_of outcome)) (λ runs. Compares runs finding.comparison)
@@ -376,6 +398,7 @@ without_files (work.Diff second) = work.Diff (option_map (λ file. tt) second)
 without_files (work.Inspect what script) = work.Inspect what (option_map (λ file. tt) script)
 without_files (work.Cuts view) = work.Cuts view
 without_files (work.Run script) = work.Run tt
+without_files (work.Smps script smps) = work.Smps (option_map (λ file. tt) script) tt
 without_files (work.Compare first second port) = work.Compare tt tt port
 
 -- bytes for each of the files that are needed, and for no other

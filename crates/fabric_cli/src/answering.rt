@@ -4,16 +4,18 @@
 ghost use Rattle.std.specs.Prelude.{◌≡◌, true, Ok, Result, List, ℕ, option_copied, option_map, IfErr};
 ghost use Rattle.call_words.specs.declared.call.Work.TheVariants as work;
 ghost use Rattle.fabric_cli.specs.Faults.{IsOfRun, LeavesUnread};
-ghost use Rattle.fabric_cli.specs.Serving.{audit_ending, ending_of, left_in, status_in, texts_in, texts_with, Answers, Bytes, ComesTo, Ending, EndsIn};
+ghost use Rattle.fabric_cli.specs.Serving.{audit_ending, ending_of, left_in, smps_seen, status_in, texts_in, texts_with, Answers, Bytes, ComesTo, Ending, EndsIn};
 ghost use Rattle.fabric_cli.specs.Serving.{ForEnding, IsOpenScript, OfScript};
+ghost use Rattle.subnet_core.specs.BringUp.{up_in};
 ghost use Rattle.text_streams.specs.Reading.{IsEndless};
 
 use crate::faults::{COMPLETE, FAULT, Stop};
 use crate::outputs::{changed, compared, cut, inspected, listed, shared};
 use crate::texts::{Task, Texts};
 use route_audit::Audit;
+use smp_lines::answer_smps;
 use std::alloc::Global;
-use subnet_core::run_stream;
+use subnet_core::{Subnet, left_by, run_stream};
 use text_streams::{Output, Reader, write_whole};
 
 /// The result once the output is written.
@@ -69,6 +71,14 @@ pub fn answered_of_texts<'a, I: Reader + Drop, O: Output>(
         Task::Run { name, mut input } => {
             streamed(alloc, topology, partitions, name, &mut input, out)
         }
+        Task::Smps {
+            script,
+            name,
+            mut input,
+        } => match left_by(alloc, topology, partitions, slice_of(&script)) {
+            Ok(subnet) => smps_answered(alloc, subnet, name, &mut input, out),
+            Err(fault) => Err(Stop::Run(fault)),
+        },
         Task::Compare {
             first,
             second,
@@ -154,6 +164,26 @@ fn streamed<'a, R: Reader, O: Output>(
     match run_stream(alloc, topology, partitions, input, out) {
         Ok(()) => Ok(Answer::Complete),
         Err(fault) => Err(Stop::of_run(name, fault)),
+    }
+}
+
+/// Answers SMPs by the fabric of a subnet, and writes the replies meanwhile.
+fn smps_answered<'a, R: Reader, O: Output>(
+    alloc: Global,
+    subnet: Subnet,
+    name: &'a str,
+    input: &mut R,
+    out: &mut O,
+) -> Result<Answer, Stop<'a>>
+    ensures exact { OfScript (R.remaining input.old) (λ smps. Answers (Err (smps_seen (up_in subnet) smps)) result
+        (O.is_sure out.old) (O.contents out.old) (O.contents out.new)) }
+    ensures unread { IfErr result (LeavesUnread (λ word.
+        (word ≡ name.entry.now) × (R.is_sure input.old ≡ true → IsEndless (R.remaining input.old)))) }
+{
+    let (_, mut fabric) = subnet.into_parts();
+    match answer_smps(alloc, &mut fabric, input, out) {
+        Ok(()) => Ok(Answer::Complete),
+        Err(stop) => Err(Stop::of_smps(name, stop)),
     }
 }
 

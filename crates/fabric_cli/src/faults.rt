@@ -2,9 +2,9 @@
 
 ghost use Rattle.std.specs.Prelude.{◌≡◌, ◌++◌, IfOk, OnOk, option_map};
 ghost use Rattle.std.specs.Option.{option_map_or};
-ghost use Rattle.fabric_cli.specs.Faults.{dump_line, foreign_line, guid_word, guids_line, netdiscover_line};
+ghost use Rattle.fabric_cli.specs.Faults.{dump_line, foreign_line, guid_word, guids_line, netdiscover_line, smps_line};
 ghost use Rattle.fabric_cli.specs.Faults.{fabric_line, line_of, memory_line, no_path_line, port_line, run_line, run_status, unwritten_line};
-ghost use Rattle.fabric_cli.specs.Faults.{run_stop, second_line, status_of, stop_of, sweep_status};
+ghost use Rattle.fabric_cli.specs.Faults.{run_stop, second_line, smps_stop, status_of, stop_of, sweep_status};
 ghost use Rattle.fabric_cli.specs.declared.faults.Stop.TheVariants.{NoMemory};
 ghost use Rattle.script_lines.specs.ScriptCause.{code_of as script_code};
 ghost use Rattle.partition_file.specs.Fault.{code_of as partitions_code};
@@ -14,6 +14,7 @@ use dump_file::DumpCause;
 use line_parts::push_hex;
 use netdiscover_file::DiscoveryCause;
 use partition_file::PartitionCause;
+use smp_lines::SmpStop;
 use std::alloc::{AllocError, AllocFailed, Global};
 use subnet_core::{RunFault, ScriptCause};
 use sweep::SweepFault;
@@ -51,7 +52,7 @@ pub enum Stop<'a> {
         /// What is wrong there.
         cause: PartitionCause,
     },
-    /// The output of another program has an error, or describes nothing that is printed here.
+    /// The output of another program has an error, or describes nothing that is printed here; or SMPs have one.
     Foreign {
         /// The line of the error, from 1; 0 if it belongs to no line.
         line: usize,
@@ -60,7 +61,7 @@ pub enum Stop<'a> {
     },
 }
 
-/// What is wrong with the output of another program.
+/// What is wrong with what another program printed or sends.
 #[derive(Clone, Copy)]
 pub enum ForeignCause {
     /// In the output of `ibnetdiscover`.
@@ -69,6 +70,8 @@ pub enum ForeignCause {
     Import(ImportCause),
     /// In dumped LFTs.
     Dump(DumpCause),
+    /// In SMPs: the line is none.
+    Smps,
 }
 
 impl<'a> Stop<'a> {
@@ -91,6 +94,21 @@ impl<'a> Stop<'a> {
             RunFault::Read => Stop::Unread(script),
             RunFault::Write => Stop::Unwritten,
             other => Stop::Run(other),
+        }
+    }
+
+    /// The stop for the end of SMPs of this name whose replies are written.
+    pub fn of_smps(smps: &'a str, stop: SmpStop) -> Self
+        ensures { result ≡ smps_stop smps.entry stop }
+    {
+        match stop {
+            SmpStop::NoMemory => Stop::NoMemory,
+            SmpStop::Read => Stop::Unread(smps),
+            SmpStop::Write => Stop::Unwritten,
+            SmpStop::Line(line) => Stop::Foreign {
+                line: line as usize,
+                cause: ForeignCause::Smps,
+            },
         }
     }
 
@@ -241,6 +259,7 @@ fn foreign_line(alloc: Global, line: usize, cause: ForeignCause) -> Result<Vec<u
         }
         ForeignCause::Import(cause) => netdiscover_line(alloc, cause.code(), line),
         ForeignCause::Dump(cause) => dump_line(alloc, cause.code(), line),
+        ForeignCause::Smps => smps_line(alloc, line),
     }
 }
 
@@ -254,6 +273,12 @@ fn dump_line(alloc: Global, code: &str, line: usize) -> Result<Vec<u8>, AllocErr
     ensures { IfOk result (λ text. text.items ≡ dump_line code.now line) }
 {
     Ok(format!(in alloc; "fault {code} dump line {line}\n")?.into_bytes())
+}
+
+fn smps_line(alloc: Global, line: usize) -> Result<Vec<u8>, AllocError>
+    ensures { IfOk result (λ text. text.items ≡ smps_line line) }
+{
+    Ok(format!(in alloc; "fault MF1 smps line {line}\n")?.into_bytes())
 }
 
 /// The line with a port's GUID and the one that its CA would have.

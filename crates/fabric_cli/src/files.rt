@@ -3,8 +3,10 @@
 ghost use Rattle.fabric_cli.specs.Files.{Contents, Opens, OpensAll};
 ghost use Rattle.std.specs.Prelude.{◌≡◌, List, [], ◌∷◌, ℕ, Bool, true, false, Option, None, IfSome};
 
-use std::{fs, rt};
-use text_streams::Reader;
+use std::fs::OpenFile;
+use std::io::{Input, Read};
+use std::{fs, io, rt};
+use text_streams::{Output, Reader};
 
 /// A source that opens names to readers.
 ///
@@ -30,23 +32,40 @@ pub trait Files {
         ensures bytes { Opens Self.Input.remaining (told self.old) name.now result };
 }
 
-/// The machine's files. Contracts know nothing of their contents.
+/// The machine's files, and `-` for its standard input. Contracts know nothing of their contents.
 #[derive(Drop)]
-pub struct MachineFiles<'a, R: rt::Files> {
+pub struct MachineFiles<'a, R: rt::Files + Input> {
     rt: &'a R,
+    is_standard_open: bool,
 }
 
-impl<'a, R: rt::Files> MachineFiles<'a, R> {
+/// The reader of one of them.
+#[derive(Drop)]
+pub struct MachineInput<R: rt::Files + Input> {
+    source: Source<R>,
+    may_wait: bool,
+}
+
+#[derive(Drop)]
+enum Source<R: rt::Files + Input> {
+    File(R::File),
+    Standard(R::Reader),
+}
+
+impl<'a, R: rt::Files + Input> MachineFiles<'a, R> {
     /// The files that the runtime opens.
     pub fn new(rt: &'a R) -> Self
         ensures { result.rt ≡ rt.entry }
     {
-        MachineFiles { rt }
+        MachineFiles {
+            rt,
+            is_standard_open: false,
+        }
     }
 }
 
-impl<'a, R: rt::Files> Files for MachineFiles<'a, R> {
-    type Input = R::File;
+impl<'a, R: rt::Files + Input> Files for MachineFiles<'a, R> {
+    type Input = MachineInput<R>;
 
     ghost told = { λ _. None };
 
@@ -54,7 +73,52 @@ impl<'a, R: rt::Files> Files for MachineFiles<'a, R> {
 
     ghost reads = { λ _. false };
 
-    fn open(&mut self, name: &str) -> Option<R::File> {
-        fs::open(self.rt, name).ok()
+    /// Standard input is opened once: a second `-` would find it empty.
+    fn open(&mut self, name: &str) -> Option<MachineInput<R>> {
+        if name == "-" {
+            if self.is_standard_open {
+                return None;
+            }
+            self.is_standard_open = true;
+            return Some(MachineInput {
+                source: Source::Standard(self.rt.reader()),
+                may_wait: true,
+            });
+        }
+        let file = fs::open(self.rt, name).ok()?;
+        let may_wait = may_wait(&file);
+        Some(MachineInput {
+            source: Source::File(file),
+            may_wait,
+        })
+    }
+}
+
+/// Whether a read may have to wait for a partner: of what is no file on a disk, such as a pipe or a terminal.
+fn may_wait<F: OpenFile>(file: &F) -> bool {
+    match file.metadata() {
+        Ok(metadata) => !metadata.is_file(),
+        Err(_) => true,
+    }
+}
+
+impl<R: rt::Files + Input> Reader for MachineInput<R> {
+    ghost remaining = { λ _. None };
+
+    ghost is_sure = { λ _. false };
+
+    ghost waits = { λ input. input.may_wait };
+
+    ghost moments = { λ _. None };
+
+    fn may_wait(&self) -> bool {
+        self.may_wait
+    }
+
+    fn next_piece<O: Output>(&mut self, piece: &mut [u8], _output: &O) -> io::Result<usize> {
+        match &mut self.source {
+            Source::File(file) => file.read(piece),
+            Source::Standard(input) => input.read(piece),
+        }
     }
 }

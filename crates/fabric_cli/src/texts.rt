@@ -1,4 +1,4 @@
-//! The files of an invocation, each read in its turn, except a script that is run: that is only opened.
+//! The files of an invocation, each read in its turn, except a script that is run, or SMPs: those are only opened.
 
 ghost use Rattle.std.specs.Prelude.{◌≡◌, ℕ, List, Ok, true, is_some, option_copied, option_map, IfErr, IfOk, IfSome, OnOk};
 ghost use Rattle.std.specs.Option.{option_to_list};
@@ -39,6 +39,15 @@ pub enum Task<'a, I> {
         /// Its reader; nothing of it is read yet.
         input: I,
     },
+    /// Answer SMPs at the SM port.
+    Smps {
+        /// The script that runs before, if there is one.
+        script: Option<Vec<u8>>,
+        /// The name of the SMPs.
+        name: &'a str,
+        /// Their reader; nothing of them is read yet.
+        input: I,
+    },
     /// Compare two scripts for a port.
     Compare {
         /// The first script.
@@ -61,7 +70,7 @@ pub struct Texts<'a, I> {
     pub task: Task<'a, I>,
 }
 
-/// The bytes of the files that are needed, each read in its turn; a script that is to be run is opened last.
+/// The bytes of the files that are needed, each read in its turn; a script that is to be run, or SMPs, are opened last.
 pub fn read_texts<'a, F: Files>(
     alloc: Global,
     asked: &Asked<'a>,
@@ -157,6 +166,11 @@ fn task_of<'a, F: Files>(
         Work::Run(script) => Ok(Task::Run {
             name: *script,
             input: open_file(files, *script)?,
+        }),
+        Work::Smps { script, smps } => Ok(Task::Smps {
+            script: read_if_named(alloc, files, *script)?,
+            name: *smps,
+            input: open_file(files, *smps)?,
         }),
         Work::Compare {
             first,

@@ -3,7 +3,8 @@ use Rattle.std.proofs.Common.{◌≡◌, ℕ, ◌+◌, ◌-◌, ◌*◌, ◌/◌
 use Rattle.std.proofs.Common.{MatchResult, inl, inr, refl, sym, ◌∙◌, ap, arith}
 use Rattle.std.proofs.lemmas.Bool.{cases_Bool, le-leb, leb-true}
 use Rattle.std.proofs.lemmas.Bool.Decides.{nat_tests}
-use Rattle.std.proofs.lemmas.List.{append_assoc, drop-replicate, length-append, length-replicate, length-take-le, replicate-append-replicate}
+use Rattle.std.specs.Result.{result_ok}
+use Rattle.std.proofs.lemmas.List.{append_assoc, append-nil, drop-replicate, length-append, length-replicate, length-take-le, replicate-append-replicate}
 use Rattle.std.proofs.Math.Seq.{take-append_seam}
 use Rattle.hex.specs.Hex.{decode_of, decode_sized}
 use Rattle.hex.specs.declared.error.FromHexError.{FromHexError}
@@ -119,3 +120,29 @@ spelt_wrong size room digits cause within h = by (decode_of digits) h
           absurd (cc (rw (fits, le-leb (length (some ++ zeros)) room whole) at h))
       | inr too_many ↦ rw too_many (rw too_many at h)
     ]
+
+-- what is spelt fills a room of its size
+spelt_fills : (size : ℕ) (digits some : List ℕ) → spelt size digits ≡ Ok some → length some ≡ size
+unfolding spelt
+spelt_fills size digits some h = by (decode_of digits) h
+  where
+    by : (decoded : Result (List ℕ) FromHexError) → (bytes_or_fault decoded >>= λ bytes. filled size bytes) ≡ Ok some → length some ≡ size
+    by (Err why) h = absurd cc
+    by (Ok bytes) h =
+        let zeros : List ℕ = replicate (size - length bytes) 0 in
+        let through = let_through (nat_le (length bytes) size) (Ok (bytes ++ zeros)) BadField some h in
+        let same = same_ok (bytes ++ zeros) some through.1 in
+        let small = leb-true (length bytes) size through.0 in
+        let long = length-append bytes zeros in
+        let more = length-replicate {A = ℕ} (size - length bytes) 0 in
+        rw (← same) (omega (arith, long, more, small))
+
+pub same_room : (size : ℕ) (digits : List ℕ) → result_ok (in_room size (spelt size digits)) ≡ result_ok (spelt size digits)
+same_room size digits = by (spelt size digits) refl
+  where
+    by : (given : Result (List ℕ) ScriptCause) → spelt size digits ≡ given → result_ok (in_room size given) ≡ result_ok given
+    by (Err cause) e = refl
+    by (Ok some) e =
+        let whole = spelt_fills size digits some e in
+        let none : size - length some ≡ 0 = omega arith in
+        rw (le-leb (length some) size (omega arith), none, append-nil some) refl

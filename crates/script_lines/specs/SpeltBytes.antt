@@ -1,6 +1,7 @@
 -- Bytes that a word writes, as `N:HEX`.
-use Rattle.std.specs.Prelude.{ℕ, ◌-◌, Bool, ◌==◌, nat_le, List, ◌++◌, length, replicate, Option, Result, Ok, Err, if◌then◌else◌}
+use Rattle.std.specs.Prelude.{ℕ, ◌-◌, Bool, ◌==◌, nat_le, List, ◌++◌, length, replicate, Option, None, Result, Ok, Err, if◌then◌else◌}
 use Rattle.std.specs.Option.{option_and_then, option_map}
+use Rattle.std.specs.Result.{result_ok}
 use Rattle.hex.specs.Hex.{decode_of}
 use Rattle.text_words.specs.Cut.{cut_at}
 use Rattle.text_words.specs.Number.{number_in}
@@ -35,3 +36,10 @@ spelt n digits = bytes_or_fault (decode_of digits) >>= λ bytes. filled n bytes
 -- bytes, then zero bytes up to this many
 abbrev pub in_room : ℕ → Result (List ℕ) ScriptCause → Result (List ℕ) ScriptCause
 in_room room bytes = bytes >>= λ some. filled room some
+
+-- ---- a MAD: 256 bytes
+abbrev pub mad_of : Written → Option (List ℕ)
+mad_of written = if written.size == 256 then result_ok (spelt 256 written.digits) else None
+
+abbrev pub mad_in : List ℕ → Option (List ℕ)
+mad_in word = option_and_then mad_of (written_in word)

@@ -21,4 +21,5 @@ pub use crate::laws::commands_name_what_is_there;
 pub use crate::naming::{adapter_place, named_adapter_port, named_port};
 pub use crate::script::command_of;
 pub use crate::script_cause::ScriptCause;
+pub use crate::spelt_bytes::mad_in;
 pub use crate::switch_cable::named_cable;

@@ -2,11 +2,13 @@
 
 ghost use Rattle.std.specs.Prelude.{◌≡◌, ◌≤◌};
 ghost use Rattle.std.specs.Option.{option_map};
+ghost use Rattle.std.specs.Result.{result_ok};
 ghost use Rattle.script_lines.specs.Seen.{written};
-ghost use Rattle.script_lines.specs.SpeltBytes.{in_room, spelt, written_in};
+ghost use Rattle.script_lines.specs.SpeltBytes.{in_room, mad_in, spelt, written_in};
 
 use crate::script_cause::ScriptCause;
 use hex::decode_to_slice;
+use mad_layout::Mad;
 use text_words::{cut_at, number_in};
 
 /// Bytes as a word writes them.
@@ -43,4 +45,20 @@ pub(crate) fn spelt<const ROOM: usize>(
         Ok(()) => Ok(bytes),
         Err(_) => Err(ScriptCause::BadField),
     }
+}
+
+/// The MAD that a word writes as `256:HEX`: its first bytes, and zero bytes behind them.
+pub fn mad_in(word: &[u8]) -> Option<Mad>
+    ensures { result ≡ mad_in word.now }
+{
+    match written_in(word) {
+        Some(written) if written.size == 256 => mad_spelt(written.digits),
+        _ => None,
+    }
+}
+
+fn mad_spelt(digits: &[u8]) -> Option<Mad>
+    ensures { result ≡ result_ok (spelt 256 digits.now) }
+{
+    spelt::<256>(256, digits).ok()
 }

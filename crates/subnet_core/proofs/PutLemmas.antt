@@ -4,12 +4,8 @@ use Rattle.std.proofs.Math.Seq.{take-append_seam}
 use Rattle.std.proofs.lemmas.List.{take-append-drop}
 use Rattle.std.specs.Io.KnownBytes.{Appends}
 use Rattle.text_streams.specs.Writing.{AppendsPart}
-use Rattle.text_streams.proofs.KnownBytesLemmas.{write_more}
+use Rattle.text_streams.proofs.KnownBytesLemmas.{appends_nothing, begins_with, write_more}
 use Rattle.subnet_core.specs.StreamSteps.{Puts, PutsSome}
-
-pub appends_nothing : (known : Option (List ℕ)) → Appends known known []
-appends_nothing None = tt
-appends_nothing (Some xs) = sym (append-nil xs)
 
 -- ---- one text, and then another
 module _ (first second text between text' : List ℕ) (old middle new : Option (List ℕ)) where
@@ -80,10 +76,6 @@ part_written text old new part = record {
 }
 
 -- ---- at the end, where nothing waited before the first
-begins_with : (told front rest : List ℕ) (old new : Option (List ℕ)) → told ≡ front ++ rest → Appends old new front → AppendsPart old new told
-begins_with told front rest old new same appended =
-    (length front, rw (ap (take (length front)) same ∙ take-append_seam front rest) appended)
-
 module _ (told text : List ℕ) (old middle new : Option (List ℕ)) where
   pub ends_whole : Puts told [] text old middle → Appends middle new text → Appends old new told
   ends_whole puts appended = rw puts.same (write_more old middle new puts.written text puts.appended appended)

@@ -2,32 +2,17 @@
 use Rattle.std.proofs.Common.{ℕ, true, false, ◌≡◌, ◌≤◌, ◌∙◌, arith, length, length-take, ap, refl, sym, subst, inl, inr, List, [], ◌++◌, append_assoc, append-nil, take, Option, Some, None, Result, Ok, Err}
 use Rattle.std.specs.Prelude.{OnOk}
 use Rattle.std.specs.Io.KnownBytes.{Consumes, IsAtEnd, Keeps}
+use Rattle.text_streams.proofs.KnownBytesLemmas.{consumes_more}
 use Rattle.text_words.specs.Lines.{lines}
 use Rattle.subnet_core.proofs.PartLemmas.{lines_are, pieces_on, same_lines, whole_lines_are}
 use Rattle.subnet_core.proofs.TakeLemmas.{carries_on, takes_on, takes_nothing}
 use Rattle.subnet_core.specs.StreamSteps.{begun_behind, begun_by_parts, lines_behind, lines_of_parts, rest_of}
-use Rattle.subnet_core.specs.StreamSteps.{Carries, ReadsOn, StopsSo, StreamState, Takes}
+use Rattle.subnet_core.proofs.PutLemmas.{puts_on, puts_some_on}
+use Rattle.subnet_core.specs.StreamSteps.{Carries, Puts, PutsSome, ReadsOn, StopsSo, StreamState, Takes, Tells, told_from}
 use Rattle.subnet_core.specs.declared.fault.RunFault.{RunFault}
 use Rattle.subnet_core.specs.declared.fault.RunFault.TheVariants.{NoMemory, Topology, Partitions, Sweep, NoLegalPath, Push, Port, Script, SecondScript, Read, Write}
 
 -- ---- bytes that are read
-pub consumes_nothing : (known : Option (List ℕ)) → Consumes known known []
-consumes_nothing None = tt
-consumes_nothing (Some xs) = refl
-
-pub consumes_more : (first before after : Option (List ℕ)) (read more : List ℕ) → Consumes first before read → Consumes before after more
-    → Consumes first after (read ++ more)
-consumes_more None before after read more one two = tt
-consumes_more (Some xs) None after read more one two = absurd one
-consumes_more (Some xs) (Some ys) None read more one two = absurd two
-consumes_more (Some xs) (Some ys) (Some zs) read more one two = one ∙ ap (λ (s : List ℕ). read ++ s) two ∙ sym (append_assoc read more zs)
-
-pub consumes_still : (first before after : Option (List ℕ)) (read : List ℕ) → Consumes first before read → Keeps before after → Consumes first after read
-consumes_still None before after read one two = tt
-consumes_still (Some xs) None after read one two = absurd one
-consumes_still (Some xs) (Some ys) None read one two = absurd two
-consumes_still (Some xs) (Some ys) (Some zs) read one two = one ∙ ap (λ (s : List ℕ). read ++ s) (sym two)
-
 pub consumes_none : (first before after : Option (List ℕ)) (read piece : List ℕ) (count : ℕ) → count ≡ 0 → Consumes first before read
     → Consumes before after (take count piece) → Consumes first after read
 consumes_none first before after read piece count none one two =
@@ -63,6 +48,34 @@ same_end X Y (NoLegalPath switch node number) taken was left old new stops = abs
 same_end X Y (Push fault) taken was left old new stops = absurd stops
 same_end X Y (Port cause) taken was left old new stops = absurd stops
 same_end X Y (SecondScript line cause) taken was left old new stops = absurd stops
+
+-- ---- what waits is written
+module _ (lines : List (List ℕ)) (was between left : StreamState) (old middle new : Option (List ℕ)) (carries : Carries lines was between old middle) where
+  pub carries_written : Puts [] between.text left.text middle new × (left.subnet ≡ between.subnet) × (left.taken ≡ between.taken) → Carries lines was left old new
+  carries_written written = record {
+    puts = rw (append-nil (told_from was.subnet lines)) at (puts_on (told_from was.subnet lines) [] was.text between.text left.text old middle new carries.puts written.0);
+    roster = rw written.1 carries.roster;
+    administration = rw written.1 carries.administration;
+    taken = written.2 ∙ carries.taken;
+    sound = carries.sound;
+  }
+
+  some_written : PutsSome [] between.text left.text middle new → PutsSome (told_from was.subnet lines) was.text left.text old new
+  some_written some = rw (append-nil (told_from was.subnet lines)) at (puts_some_on (told_from was.subnet lines) [] was.text between.text left.text old middle new carries.puts some)
+
+  pub stops_unwritten : (X Y : Type 0) (fault : RunFault) → let answer : Result X RunFault = Err fault in Tells [] answer between left middle new
+      → let ends : Result Y RunFault = Err fault in Takes lines ends was left old new
+  stops_unwritten X Y NoMemory stops = some_written stops
+  stops_unwritten X Y Write stops = some_written stops
+  stops_unwritten X Y (Script line cause) stops = absurd stops
+  stops_unwritten X Y Read stops = absurd stops
+  stops_unwritten X Y (Topology line cause) stops = absurd stops
+  stops_unwritten X Y (Partitions line cause) stops = absurd stops
+  stops_unwritten X Y (Sweep fault) stops = absurd stops
+  stops_unwritten X Y (NoLegalPath switch node number) stops = absurd stops
+  stops_unwritten X Y (Push fault) stops = absurd stops
+  stops_unwritten X Y (Port cause) stops = absurd stops
+  stops_unwritten X Y (SecondScript line cause) stops = absurd stops
 
 -- ---- one piece more
 module _ (read piece begun : List ℕ) (is_begun : begun ≡ begun_behind [] read) where

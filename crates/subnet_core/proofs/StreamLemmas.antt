@@ -1,19 +1,25 @@
 -- What a stream comes to once all that waits was written, or some of it.
-use Rattle.std.proofs.Common.{ℕ, ◌+◌, ◌≡◌, ◌∙◌, ap, refl, subst, List, [], Option, Some, None, Result, Ok, Err}
-use Rattle.std.specs.Io.KnownBytes.{Appends}
+use Rattle.std.proofs.Common.{ℕ, ◌+◌, ◌≡◌, ◌∙◌, ap, refl, subst, sym, List, [], ◌∷◌, Option, Some, None, Result, Ok, Err}
+use Rattle.std.specs.Io.KnownBytes.{Appends, Consumes}
 use Rattle.partition_file.specs.declared.partition.Partition.{Partition}
 use Rattle.result_words.specs.AtLine.{AtLine}
 use Rattle.result_words.proofs.StepLemmas.{same_err}
 use Rattle.sa_replies.specs.State.{at_start}
 use Rattle.script_lines.specs.declared.script_cause.ScriptCause.{ScriptCause}
 use Rattle.subnet_core.proofs.LineCommandLemmas.{are_judged}
+use Rattle.subnet_core.proofs.PartLemmas.{whole_lines_are}
 use Rattle.subnet_core.proofs.PutLemmas.{ends_in_part, ends_whole, some_ends_in_part, some_ends_whole}
-use Rattle.subnet_core.specs.BringUp.{Becomes, FailsWith, IsStopped, up_from}
+use Rattle.std.specs.Prelude.{IfOk}
+use Rattle.subnet_core.proofs.BringUpLemmas.{same_roster}
+use Rattle.subnet_core.specs.BringUp.{Becomes, FailsWith, IsStopped, WithFabric, up_from}
 use Rattle.subnet_core.specs.Roster.{RosterState, fault_in, of_text, partitions_for, roster_of}
-use Rattle.subnet_core.specs.Stream.{CarriesOut, EndsSo, commands_before_fault, judged, told_of_lines}
-use Rattle.subnet_core.specs.StreamSteps.{Carries, ReadsOn, StopsSo, StreamState, first_fault, told_from}
+use Rattle.subnet_core.specs.Stream.{CarriesOut, EndsSo, commands_before_fault, judged, reported, told_of_lines}
+use Rattle.subnet_core.specs.StreamSteps.{Carries, Puts, ReadsOn, StopsSo, StreamState, first_fault, lines_behind, told_from}
 use Rattle.subnet_core.specs.declared.fault.RunFault.{RunFault}
 use Rattle.subnet_core.specs.declared.fault.RunFault.TheVariants.{NoMemory, Topology, Partitions, Sweep, NoLegalPath, Push, Port, Script, SecondScript, Read, Write}
+use Rattle.text_streams.proofs.KnownBytesLemmas.{appends_nothing}
+use Rattle.text_streams.proofs.TimeLemmas.{more_in_time, nothing_in_time}
+use Rattle.text_streams.specs.Reading.{AreInTime, IsInTime, Moment, Notes}
 use Rattle.text_streams.specs.Writing.{AppendsPart}
 use Rattle.topo_file.specs.Topology.{TopologyState, topology_of}
 
@@ -73,6 +79,25 @@ module _ (was : StreamState) (text : was.text ≡ []) (count : was.taken ≡ 0) 
       ends_unwritten (Err (Push fault)) stops = absurd stops
       ends_unwritten (Err (Port cause)) stops = absurd stops
       ends_unwritten (Err (SecondScript line cause)) stops = absurd stops
+
+  -- if nothing waits, the report of what was read is written
+  pub reads_in_time : (read : List ℕ) (left : StreamState) (script rest old now : Option (List ℕ)) → left.text ≡ [] → Consumes script rest read
+      → Carries (lines_behind [] read) was left old now → IsInTime (reported roster) script old (record { left = rest; written = now })
+  reads_in_time read left script rest old now empty consumed carries = record {
+    read = read;
+    consumed = consumed;
+    reported =
+        let told = told_of_lines roster (lines_behind [] read) in
+        let puts : Puts told [] [] old now = rw (text, empty, same_told (lines_behind [] read)) at carries.puts in
+        subst (λ taken. Appends old now (told_of_lines roster taken)) (sym (whole_lines_are read)) (ends_whole told [] old now now puts (appends_nothing now));
+  }
+
+  pub more_reads : (read : List ℕ) (left : StreamState) (script rest old now : Option (List ℕ)) (first before after : Option (List Moment))
+      → AreInTime (reported roster) script old first before → left.text ≡ [] → Consumes script rest read → Carries (lines_behind [] read) was left old now
+      → Notes before after (record { left = rest; written = now } ∷ []) → AreInTime (reported roster) script old first after
+  more_reads read left script rest old now first before after so_far empty consumed carries noted =
+      more_in_time (reported roster) script old first before after (record { left = rest; written = now }) so_far noted
+      (reads_in_time read left script rest old now empty consumed carries)
 
   module _ (X : Type 0) (answer : Result X RunFault) (left : StreamState) (script rest old middle new : Option (List ℕ))
       (on : ReadsOn X answer was left script rest old middle) where
@@ -169,3 +194,20 @@ module _ (X : Type 0) (topology : List ℕ) (partitions : Option (List ℕ)) (fa
 
   pub no_write : answer ≡ Err Write → ⊥
   no_write is = subst IsOther (same_err _ _ is) (fails_other topology partitions fault fails)
+
+-- ---- reads in time, from the texts on
+module _ (topology : List ℕ) (partitions : Option (List ℕ)) where
+  -- without a read
+  pub none_read : (script old : Option (List ℕ)) (known : Option (List Moment))
+      → IfOk (roster_of topology partitions) (λ roster. AreInTime (reported roster) script old known known)
+  none_read script old known = by (roster_of topology partitions)
+    where
+      by : (given : Result RosterState RunFault) → IfOk given (λ roster. AreInTime (reported roster) script old known known)
+      by (Ok roster) = nothing_in_time (reported roster) script old known
+      by (Err fault) = tt
+
+  pub all_read : (roster : RosterState) → WithFabric (roster_of topology partitions) (λ stop. up_from (roster_of topology partitions) stop ≡ Ok roster)
+      → (script old : Option (List ℕ)) (before after : Option (List Moment)) → AreInTime (reported roster) script old before after
+      → IfOk (roster_of topology partitions) (λ given. AreInTime (reported given) script old before after)
+  all_read roster up script old before after in_time =
+      rw (same_roster (roster_of topology partitions) up.stop roster up.is) in_time

@@ -44,6 +44,10 @@ whole_lines read = filter (ends_in 10) (lines read)
 abbrev pub AreLinesOf : (read : List ℕ) → (left : Option (List ℕ)) → List (List ℕ) → Type 0
 AreLinesOf read left taken = (taken ≡ whole_lines read) ⊎ ((taken ≡ lines read) × IsAtEnd left)
 
+-- what is reported of the lines that end in what was read
+abbrev pub reported : RosterState → List ℕ → List ℕ
+reported roster read = told_of_lines roster (whole_lines read)
+
 -- ---- how it ends over them, and what the writer has then
 abbrev pub EndsSo : {X : Type 0} → RosterState → Result X RunFault → (read : List ℕ) → (left : Option (List ℕ)) → (taken : List (List ℕ))
     → (old new : Option (List ℕ)) → Type 0

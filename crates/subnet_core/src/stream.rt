@@ -2,12 +2,12 @@
 
 ghost use Rattle.std.specs.Prelude.{◌≡◌, ◌+◌, ◌≤◌, ◌<◌, ◌^◌, ◌∷◌, [], true, length, map, IfOk, IsErrOf, OnOk};
 ghost use Rattle.sa_replies.specs.State.{at_start};
-ghost use Rattle.subnet_core.specs.Stream.{CarriesOut};
+ghost use Rattle.subnet_core.specs.Stream.{CarriesOut, reported};
 ghost use Rattle.subnet_core.specs.EventLines.{line_text, report_text};
 ghost use Rattle.subnet_core.specs.StreamSteps.{ReadsOn, Takes, Tells, begun_by_parts, lines_of_parts, rest_of};
 ghost use Rattle.subnet_sends.specs.Sends.{event_of};
 ghost use Rattle.std.specs.Io.KnownBytes.{Appends};
-ghost use Rattle.text_streams.specs.Reading.{IsEndless};
+ghost use Rattle.text_streams.specs.Reading.{AreInTime, IsEndless};
 ghost use Rattle.text_streams.specs.Writing.{AppendsPart};
 ghost use Rattle.text_words.specs.Lines.{ends_in, lines};
 
@@ -20,7 +20,7 @@ use std::alloc::{AllocError, Global};
 use std::io::ErrorKind;
 use std::marker::Model;
 use subnet_sends::Event;
-use text_streams::{Output, PIECE, READS, Reader, write_text, write_whole};
+use text_streams::{Output, PIECE, READS, Reader, write_whole};
 use text_words::Lines;
 
 /// What is told waits until it has so many bytes.
@@ -78,6 +78,8 @@ impl Stream {
         requires fresh { self.old.subnet.administration ≡ at_start self.old.subnet.roster.configuration }
         ensures exact { CarriesOut _ self.old.subnet.roster result (R.remaining reader.old) (R.remaining reader.new)
             (W.contents writer.old) (W.contents writer.new) }
+        ensures in_time { R.waits reader.old ≡ true → AreInTime (reported self.old.subnet.roster) (R.remaining reader.old)
+            (W.contents writer.old) (R.moments reader.old) (R.moments reader.new) }
         ensures endless { R.is_sure reader.old ≡ true → IsErrOf result RunFault.Read → IsEndless (R.remaining reader.old) }
         ensures sure { W.is_sure writer.old ≡ true → IsErrOf result RunFault.Write → ⊥ }
     {
@@ -94,17 +96,22 @@ impl Stream {
         reader: &mut R,
         writer: &mut W,
     ) -> Result<(), RunFault>
-        requires { self.old.taken ≡ 0 }
+        requires text { self.old.text ≡ [] }
+        requires taken { self.old.taken ≡ 0 }
+        requires fresh { self.old.subnet.administration ≡ at_start self.old.subnet.roster.configuration }
         ensures reads { ReadsOn _ result self.old self.new (R.remaining reader.old) (R.remaining reader.new)
             (W.contents writer.old) (W.contents writer.new) }
+        ensures in_time { R.waits reader.old ≡ true → AreInTime (reported self.old.subnet.roster) (R.remaining reader.old)
+            (W.contents writer.old) (R.moments reader.old) (R.moments reader.new) }
         ensures endless { R.is_sure reader.old ≡ true → IsErrOf result RunFault.Read → IsEndless (R.remaining reader.old) }
         ensures sure { W.is_sure writer.old ≡ true → IsErrOf result RunFault.Write → ⊥ }
         ensures stays { W.is_sure writer.old ≡ true → W.is_sure writer.new ≡ true }
     {
         let mut begun = Vec::new(self.alloc);
         for _turn in 0..READS {
+            self.catch_up(reader, writer)?;
             let mut piece = [0u8; PIECE];
-            match reader.next_piece(&mut piece) {
+            match reader.next_piece(&mut piece, writer) {
                 Ok(0) => return self.take_last(&begun, writer),
                 Ok(count) => self.take_piece(&mut begun, &piece[..count], writer)?,
                 Err(error) if error.kind() == ErrorKind::Interrupted => {}
@@ -112,6 +119,19 @@ impl Stream {
             }
         }
         Err(RunFault::Read)
+    }
+
+    /// Writes what is told, if the next read may have to wait, so that a partner sees it before its next line.
+    fn catch_up<R: Reader, W: Output>(&mut self, reader: &R, writer: &mut W) -> Result<(), RunFault>
+        ensures tells { Tells [] result self.old self.new (W.contents writer.old) (W.contents writer.new) }
+        ensures written { R.waits reader.now ≡ true → OnOk result (self.new.text ≡ []) }
+        ensures sure { W.is_sure writer.old ≡ true → IsErrOf result RunFault.Write → ⊥ }
+        ensures stays { W.is_sure writer.old ≡ true → W.is_sure writer.new ≡ true }
+    {
+        if !reader.may_wait() || self.text.is_empty() {
+            return Ok(());
+        }
+        self.write_out(writer)
     }
 
     /// Takes the line at the end of a script, if it lacks its LF.
@@ -246,13 +266,14 @@ impl Stream {
         self.write_out(writer)
     }
 
-    /// Writes what is told. Where the writer refuses, the rest is lost.
+    /// Writes what is told, and flushes the writer. If the writer refuses, the rest is lost.
     fn write_out<W: Output>(&mut self, writer: &mut W) -> Result<(), RunFault>
         ensures tells { Tells [] result self.old self.new (W.contents writer.old) (W.contents writer.new) }
+        ensures written { self.new.text ≡ [] }
         ensures sure { W.is_sure writer.old ≡ true → IsErrOf result RunFault.Write → ⊥ }
         ensures stays { W.is_sure writer.old ≡ true → W.is_sure writer.new ≡ true }
     {
-        let is_written = write_text(writer, &self.text);
+        let is_written = write_whole(writer, &self.text);
         self.text.clear();
         if !is_written {
             return Err(RunFault::Write);

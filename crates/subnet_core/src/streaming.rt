@@ -1,10 +1,10 @@
 //! A run whose script comes from a reader, and whose report goes to a writer.
 
-ghost use Rattle.std.specs.Prelude.{◌≡◌, true, IsErrOf};
+ghost use Rattle.std.specs.Prelude.{◌≡◌, true, IfOk, IsErrOf};
 ghost use Rattle.std.specs.Option.{option_copied};
 ghost use Rattle.subnet_core.specs.Roster.{roster_of};
-ghost use Rattle.subnet_core.specs.Stream.{Streams};
-ghost use Rattle.text_streams.specs.Reading.{IsEndless};
+ghost use Rattle.subnet_core.specs.Stream.{Streams, reported};
+ghost use Rattle.text_streams.specs.Reading.{AreInTime, IsEndless};
 
 use crate::bringing_up::bring_up;
 use crate::fault::RunFault;
@@ -13,10 +13,13 @@ use std::alloc::Global;
 use text_streams::{Output, Reader};
 
 /// Runs a script on the subnet of a topology under a partition file, or without one, while it is read: each line is carried
-/// out once it is read whole, and what [`run`](crate::run) would report of it goes to the writer in pieces of some kilobytes.
+/// out once it is read whole, and what [`run`](crate::run) would report of it goes to the writer.
+///
+/// If a read may have to wait, all that was reported is written and flushed before it, so that a partner who writes line by
+/// line sees the events of each; otherwise the report is written in pieces of some kilobytes.
 ///
 /// The subnet is brought up before the script is read. A faulty line ends the run, and so does a reader that fails or has no
-/// end within 1,048,576 reads; what the lines before it tell has gone out then. The writer is flushed once, at the end.
+/// end within 1,048,576 reads; the report of the lines before it is written then.
 pub fn run_stream<R: Reader, W: Output>(
     alloc: Global,
     topology: &[u8],
@@ -26,7 +29,10 @@ pub fn run_stream<R: Reader, W: Output>(
 ) -> Result<(), RunFault>
     ensures exact { Streams result (roster_of topology.now (option_copied partitions.entry))
         (R.remaining reader.old) (R.remaining reader.new) (W.contents writer.old) (W.contents writer.new) }
-    // Where no read fails, the script is given up for its length alone; and what a writer takes for sure goes out.
+    // Before each read that may have to wait, what the lines read so far report is written: a partner who reads it can answer.
+    ensures in_time { R.waits reader.old ≡ true → IfOk (roster_of topology.now (option_copied partitions.entry)) (λ roster.
+        AreInTime (reported roster) (R.remaining reader.old) (W.contents writer.old) (R.moments reader.old) (R.moments reader.new)) }
+    // If no read fails, the script is given up for its length alone; and what a writer takes for sure goes out.
     ensures endless { R.is_sure reader.old ≡ true → IsErrOf result RunFault.Read → IsEndless (R.remaining reader.old) }
     ensures sure { W.is_sure writer.old ≡ true → IsErrOf result RunFault.Write → ⊥ }
 {

@@ -1,7 +1,7 @@
 -- What the words of the clauses rule out.
 use Rattle.std.proofs.Common.{◌≡◌, ap, sym, ℕ, zero, suc, ◌<◌, List, [], ◌++◌, codes, bytes_eq, take, arith}
 use Rattle.std.proofs.lemmas.Bool.{false≢true}
-use Rattle.text_streams.specs.Laws.{OthersAreNoPart, ShortTextsEnd}
+use Rattle.text_streams.specs.Laws.{LateReportsAreNotInTime, OthersAreNoPart, ShortTextsEnd}
 
 pub short_texts_end : ShortTextsEnd
 short_texts_end bytes short endless = omega (arith, short, endless)
@@ -24,4 +24,15 @@ others_are_no_part = record {
   twice = λ part. twice part.0 part.1;
   lost = λ part. lost part.0 part.1;
   nothing = λ takes. let some : 0 < 0 = takes (omega arith) in omega (arith, some);
+}
+
+-- ---- reads in time
+two_are_not_one : (read : List ℕ) → codes "ab" ≡ read ++ codes "b" → read ≡ codes "ab" → ⊥
+two_are_not_one read all is = let three : codes "ab" ≡ codes "abb" = rw is at all in cc
+
+pub late_is_not : LateReportsAreNotInTime
+late_is_not = record {
+  late = λ in_time. let none : in_time.read ≡ [] = sym in_time.reported in let one : codes "ab" ≡ codes "b" = rw none at in_time.consumed in cc;
+  early = λ in_time. two_are_not_one in_time.read in_time.consumed (sym in_time.reported);
+  unread = λ in_time. in_time.consumed;
 }

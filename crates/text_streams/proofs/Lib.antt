@@ -1,2 +1,4 @@
 pub mod KnownBytesLemmas
 pub mod LawLemmas
+pub mod LineLemmas
+pub mod TimeLemmas

@@ -2,7 +2,7 @@
 
 ghost use Rattle.std.specs.Prelude.{◌≡◌};
 ghost use Rattle.text_streams.specs.declared.reading.TheConstants.{PIECE, READS};
-ghost use Rattle.text_streams.specs.Laws.{OthersAreNoPart, ShortTextsEnd};
+ghost use Rattle.text_streams.specs.Laws.{LateReportsAreNotInTime, OthersAreNoPart, ShortTextsEnd};
 
 /// How often a text is read, and how many bytes a read takes at most, so that a text is read up to 256 MiB.
 /// Both numbers are ours. Like every law the function does nothing: its contract is the law.
@@ -19,4 +19,9 @@ pub fn short_texts_end()
 /// What has another byte than a text, or one too many, is no part of it.
 pub fn others_are_no_part()
     ensures { OthersAreNoPart }
+{}
+
+/// A read before which less than the report of what was read is written, or more, is not in time.
+pub fn late_reports_are_not_in_time()
+    ensures { LateReportsAreNotInTime }
 {}

@@ -27,7 +27,8 @@ pub trait Output {
     /// Passes on what it has taken.
     fn pass_on(&mut self) -> io::Result<()>
         ensures bytes { Keeps (contents self.old) (contents self.new) }
-        ensures sure { is_sure self.old ≡ true → IsOk result };
+        ensures sure { is_sure self.old ≡ true → IsOk result }
+        ensures stays { is_sure self.old ≡ true → is_sure self.new ≡ true };
 }
 
 /// A writer may refuse anything.
@@ -68,6 +69,7 @@ pub fn write_whole<O: Output>(output: &mut O, text: &[u8]) -> bool
     ensures whole { IsTrue result → Appends (O.contents output.old) (O.contents output.new) text.now }
     ensures part { AppendsPart (O.contents output.old) (O.contents output.new) text.now }
     ensures sure { O.is_sure output.old ≡ true → result ≡ true }
+    ensures stays { O.is_sure output.old ≡ true → O.is_sure output.new ≡ true }
 {
     write_text(output, text) && output.pass_on().is_ok()
 }

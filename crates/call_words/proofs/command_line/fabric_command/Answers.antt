@@ -1,6 +1,6 @@
 use Rattle.std.proofs.Common.{◌≡◌, ◌∙◌, true, ap, codes, refl}
 use Rattle.clap.specs.Words.{App, app_of, new_app, with_subcommand}
-use Rattle.call_words.specs.CommandLine.{audit_command, check_command, compare_command, cuts_command, diff_command, explain_command, graph_command, import_command, keys_command, run_command, shares_command, tables_command, trace_command}
+use Rattle.call_words.specs.CommandLine.{audit_command, check_command, compare_command, cuts_command, diff_command, explain_command, graph_command, import_command, keys_command, run_command, shares_command, smp_command, tables_command, trace_command}
 use Rattle.call_words.proofs.CommandLemmas.{adds_shape}
 use Rattle.call_words.proofs.command_line.fabric_command.Goals as goal
 
@@ -35,8 +35,11 @@ with_graph = with_subcommand with_trace graph_command.top
 abbrev with_run : App
 with_run = with_subcommand with_graph run_command.top
 
+abbrev with_smp : App
+with_smp = with_subcommand with_run smp_command.top
+
 abbrev with_compare : App
-with_compare = with_subcommand with_run compare_command.top
+with_compare = with_subcommand with_smp compare_command.top
 
 abbrev with_cuts : App
 with_cuts = with_subcommand with_compare cuts_command.top
@@ -75,18 +78,21 @@ returns-clause-words c =
     let runs : app_of c.in_ok-subcommand-8.field-0 ≡ with_run =
     adds_shape _ _ _ run_command c.in_ok-subcommand-8.ensures c.in_ok-run_command.ensures.words refl
     ∙ ap (λ (a : App). with_subcommand a run_command.top) graphs in
-    let compares : app_of c.in_ok-subcommand-9.field-0 ≡ with_compare =
-    adds_shape _ _ _ compare_command c.in_ok-subcommand-9.ensures c.in_ok-compare_command.ensures.words refl
-    ∙ ap (λ (a : App). with_subcommand a compare_command.top) runs in
-    let cuts : app_of c.in_ok-subcommand-10.field-0 ≡ with_cuts =
-    adds_shape _ _ _ cuts_command c.in_ok-subcommand-10.ensures c.in_ok-cuts_command.ensures.words refl
+    let smps : app_of c.in_ok-subcommand-9.field-0 ≡ with_smp =
+    adds_shape _ _ _ smp_command c.in_ok-subcommand-9.ensures c.in_ok-smp_command.ensures.words refl
+    ∙ ap (λ (a : App). with_subcommand a smp_command.top) runs in
+    let compares : app_of c.in_ok-subcommand-10.field-0 ≡ with_compare =
+    adds_shape _ _ _ compare_command c.in_ok-subcommand-10.ensures c.in_ok-compare_command.ensures.words refl
+    ∙ ap (λ (a : App). with_subcommand a compare_command.top) smps in
+    let cuts : app_of c.in_ok-subcommand-11.field-0 ≡ with_cuts =
+    adds_shape _ _ _ cuts_command c.in_ok-subcommand-11.ensures c.in_ok-cuts_command.ensures.words refl
     ∙ ap (λ (a : App). with_subcommand a cuts_command.top) compares in
-    let imports : app_of c.in_ok-subcommand-11.field-0 ≡ with_import =
-    adds_shape _ _ _ import_command c.in_ok-subcommand-11.ensures c.in_ok-import_command.ensures.words refl
+    let imports : app_of c.in_ok-subcommand-12.field-0 ≡ with_import =
+    adds_shape _ _ _ import_command c.in_ok-subcommand-12.ensures c.in_ok-import_command.ensures.words refl
     ∙ ap (λ (a : App). with_subcommand a import_command.top) cuts in
-    let audits : app_of c.in_ok-subcommand-12.field-0 ≡ with_audit =
-    adds_shape _ _ _ audit_command c.in_ok-subcommand-12.ensures c.in_ok-audit_command.ensures.words refl
+    let audits : app_of c.in_ok-subcommand-13.field-0 ≡ with_audit =
+    adds_shape _ _ _ audit_command c.in_ok-subcommand-13.ensures c.in_ok-audit_command.ensures.words refl
     ∙ ap (λ (a : App). with_subcommand a audit_command.top) imports in
-    let explains = adds_shape _ _ _ explain_command c.in_ok-subcommand-13.ensures c.in_ok-explain_command.ensures.words refl
+    let explains = adds_shape _ _ _ explain_command c.in_ok-subcommand-14.ensures c.in_ok-explain_command.ensures.words refl
     ∙ ap (λ (a : App). with_subcommand a explain_command.top) audits in
     rw (c.after_help.ensures, c.about.ensures, c.version.ensures, c.in_ok-command.ensures.0) (ap with_version explains)

@@ -1,7 +1,7 @@
 use Rattle.std.proofs.Common.{inl, inr, refl}
 use Rattle.std.proofs.lemmas.Result.{err_from_is_err_and}
 use Rattle.std.specs.Option.{option_copied}
-use Rattle.subnet_core.proofs.StreamLemmas.{no_read, no_write}
+use Rattle.subnet_core.proofs.StreamLemmas.{all_read, no_read, no_write, none_read}
 use Rattle.subnet_core.proofs.streaming.run_stream.Goals as goal
 
 pub returns-in_err-subnet-clause-endless : goal.returns-in_err-subnet-clause-endless
@@ -21,3 +21,13 @@ returns-in_err-stream-clause-exact g c =
 
 pub returns-clause-exact : goal.returns-clause-exact
 returns-clause-exact g c = inr (c.in_ok-subnet.subnet.roster, c.in_ok-subnet.ensures.rostered, c.in_ok-subnet.ensures.exact, rw c.in_ok-stream.ensures at c.run.ensures.exact)
+
+pub returns-in_err-subnet-clause-in_time : goal.returns-in_err-subnet-clause-in_time
+returns-in_err-subnet-clause-in_time g c waits = none_read (c.args.topology.now) (option_copied c.args.partitions) _ _ _
+
+pub returns-in_err-stream-clause-in_time : goal.returns-in_err-stream-clause-in_time
+returns-in_err-stream-clause-in_time g c waits = none_read (c.args.topology.now) (option_copied c.args.partitions) _ _ _
+
+pub returns-clause-in_time : goal.returns-clause-in_time
+returns-clause-in_time g c waits =
+    all_read (c.args.topology.now) (option_copied c.args.partitions) c.in_ok-subnet.subnet.roster c.in_ok-subnet.ensures.exact _ _ _ _ (rw c.in_ok-stream.ensures at c.run.ensures.in_time waits)

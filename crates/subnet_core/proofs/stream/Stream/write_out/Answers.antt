@@ -9,4 +9,4 @@ returns-clause-tells g c =
 
 pub returns-then-not-is_written-clause-tells : goal.returns-then-not-is_written-clause-tells
 returns-then-not-is_written-clause-tells g c =
-    rw (← c.self.view_is, c.clear.ensures.items) (part_written _ _ _ (rw c.deref.ensures.value at c.write_text-is_written.ensures.part))
+    rw (← c.self.view_is, c.clear.ensures.items) (part_written _ _ _ (rw c.deref.ensures.value at c.write_whole-is_written.ensures.part))

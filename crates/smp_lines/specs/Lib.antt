@@ -1,0 +1,3 @@
+pub mod SmpLines
+pub mod Steps
+pub mod Stop
