@@ -1,4 +1,4 @@
-// Loaded before the C library by tools/refused-memory: the allocation of number REFUSE_AT is
+// Loaded before the C library by tests/refused-memory: the allocation of number REFUSE_AT is
 // refused, and then the file REFUSE_MET is made. Allocations before main are not counted.
 #define _GNU_SOURCE
 #include <dlfcn.h>
