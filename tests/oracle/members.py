@@ -1,7 +1,7 @@
 #!/usr/bin/env python3
 """Joins and leaves by chance on the two-switch fabric, and what becomes of them, as it is read here a second time, plainly:
 
-    members.py COUNT
+    tests/oracle/members.py COUNT
 
 writes `partitions`, `script` and `stdout` into the current folder: COUNT MADs that three ports send, and now and then a packet to
 each group from two of them. What is kept is a list of who is in which group; a group is there while some port is in it."""

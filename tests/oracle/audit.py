@@ -1,6 +1,6 @@
 #!/usr/bin/env python3
 """Works out anew what `fabric audit` has to print of a topology and a dump, and its status:
-    tests/audit.py TOPOLOGY DUMP
+    tests/oracle/audit.py TOPOLOGY DUMP
 It knows nothing of the program: it reads lines by patterns, follows each LID with a set of switches seen, and looks for
 circles by a search from each channel.
 """

@@ -1,0 +1,49 @@
+"""A topology, as the other files of this folder read it."""
+
+
+def number(word):
+    return int(word, 16) if word.lower().startswith("0x") else int(word)
+
+
+def end(word):
+    """The name of a node, and the number of its port."""
+    name, port = word.split("/")
+    return name, number(port)
+
+
+class Topology:
+    def __init__(self, file):
+        self.switches, self.adapters = {}, {}  # the GUID and the number of ports, by name
+        self.cables, self.roots, self.manager = [], [], None
+        for line in open(file, errors="replace"):
+            kind, *words = line.split("#")[0].split() or [None]
+            if kind in ("switch", "adapter"):
+                nodes = self.switches if kind == "switch" else self.adapters
+                nodes[words[0]] = number(words[1]), number(words[2])
+            elif kind == "cable":
+                self.cables.append((end(words[0]), end(words[1])))
+            elif kind == "root":
+                self.roots.append(words[0])
+            elif kind == "sm":
+                self.manager = end(words[0])
+
+    def links(self):
+        """The cables between switches."""
+        return [cable for cable in self.cables if all(name in self.switches for name, _ in cable)]
+
+    def far(self):
+        """What each port that has a cable is cabled to."""
+        return {here: there for a, b in self.cables for here, there in ((a, b), (b, a))}
+
+    def guids(self):
+        """The GUID of each port that has a LID: port 0 of a switch, and a port with a cable of an adapter."""
+        far = self.far()
+        ports = {(name, 0): guid for name, (guid, _) in self.switches.items()}
+        for name, (guid, count) in self.adapters.items():
+            ports.update({(name, port): guid + port for port in range(1, count + 1) if (name, port) in far})
+        return ports
+
+    def by_lid(self):
+        """The ports in the order of their LIDs: the SM port has LID 1, then they go by GUID."""
+        guids = self.guids()
+        return sorted(guids, key=lambda port: (port != self.manager, guids[port]))
