@@ -8,21 +8,18 @@ import collections
 import re
 import sys
 
+sys.dont_write_bytecode = True
+from topology import Topology  # noqa: E402
+
 Node = collections.namedtuple("Node", "is_switch name guid ports")
 Row = collections.namedtuple("Row", "port guid kind")
 
 
 def read_topology(file):
-    nodes, cables, places = [], [], {}
-    for line in open(file):
-        words = line.split("#")[0].split()
-        if words and words[0] in ("switch", "adapter"):
-            places[words[1]] = len(nodes)
-            nodes.append(Node(words[0] == "switch", words[1], int(words[2], 0), int(words[3], 0)))
-        elif words and words[0] == "cable":
-            ends = [word.split("/") for word in words[1:3]]
-            cables.append([(places[name], int(number, 0)) for name, number in ends])
-    return nodes, cables
+    topology = Topology(file)
+    places = {name: place for place, name in enumerate(topology.nodes)}
+    nodes = [Node(node.is_switch, name, node.guid, node.ports) for name, node in topology.nodes.items()]
+    return nodes, [[(places[name], port) for name, port in cable] for cable in topology.cables]
 
 
 def read_dump(file):

@@ -1,4 +1,7 @@
 """A topology, as the other files of this folder read it."""
+import collections
+
+Node = collections.namedtuple("Node", "guid ports is_switch")
 
 
 def number(word):
@@ -13,19 +16,20 @@ def end(word):
 
 class Topology:
     def __init__(self, file):
-        self.switches, self.adapters = {}, {}  # the GUID and the number of ports, by name
+        self.nodes = {}  # by name
         self.cables, self.roots, self.manager = [], [], None
         for line in open(file, errors="replace"):
             kind, *words = line.split("#")[0].split() or [None]
             if kind in ("switch", "adapter"):
-                nodes = self.switches if kind == "switch" else self.adapters
-                nodes[words[0]] = number(words[1]), number(words[2])
+                self.nodes[words[0]] = Node(number(words[1]), number(words[2]), kind == "switch")
             elif kind == "cable":
                 self.cables.append((end(words[0]), end(words[1])))
             elif kind == "root":
                 self.roots.append(words[0])
             elif kind == "sm":
                 self.manager = end(words[0])
+        self.switches = {name: node for name, node in self.nodes.items() if node.is_switch}
+        self.adapters = {name: node for name, node in self.nodes.items() if not node.is_switch}
 
     def links(self):
         """The cables between switches."""
@@ -38,9 +42,9 @@ class Topology:
     def guids(self):
         """The GUID of each port that has a LID: port 0 of a switch, and a port with a cable of an adapter."""
         far = self.far()
-        ports = {(name, 0): guid for name, (guid, _) in self.switches.items()}
-        for name, (guid, count) in self.adapters.items():
-            ports.update({(name, port): guid + port for port in range(1, count + 1) if (name, port) in far})
+        ports = {(name, 0): node.guid for name, node in self.switches.items()}
+        for name, node in self.adapters.items():
+            ports.update({(name, port): node.guid + port for port in range(1, node.ports + 1) if (name, port) in far})
         return ports
 
     def by_lid(self):
