@@ -6,7 +6,7 @@ use example_texts::TWO_SWITCHES;
 use std::test::Fail;
 
 /// With enough memory the report; if an allocation fails, status 3 and the beginning of a line that says so.
-/// tools/refused-memory lets each allocation of this test fail in turn.
+/// tests/refused-memory lets each allocation of this test fail in turn.
 #[test]
 fn a_run_is_reported_or_its_want_of_memory_is_told(rt: HostRuntime) -> Result<(), Fail> {
     let Ok(told) = told_of(rt.alloc(), TWO_SWITCHES, SENDS) else {

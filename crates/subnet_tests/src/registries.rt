@@ -134,7 +134,7 @@ fn has_receivers(rt: &impl Abort, registry: &mut Registry) {
     }
 }
 
-/// tools/refused-memory refuses each allocation of this test in turn.
+/// tests/refused-memory refuses each allocation of this test in turn.
 #[test]
 fn a_registry_answers_or_memory_is_refused(rt: HostRuntime) -> Result<(), Fail> {
     if let Some(mut registry) = registry(&rt, rt.alloc()) {

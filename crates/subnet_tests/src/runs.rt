@@ -68,7 +68,7 @@ fn answers(rt: &impl Abort, alloc: Global) -> Option<Vec<u8>> {
     }
 }
 
-/// Of two runs at most one is refused memory, and what one tells the other tells. tools/refused-memory refuses each allocation
+/// Of two runs at most one is refused memory, and what one tells the other tells. tests/refused-memory refuses each allocation
 /// of this test, and of the last, in turn.
 #[test]
 fn a_run_that_asks_is_told_or_memory_is_refused(rt: HostRuntime) -> Result<(), Fail> {
